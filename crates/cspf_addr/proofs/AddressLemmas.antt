@@ -179,21 +179,21 @@ pub addresses_spelled_once : AreAddressesSpelledOnce
 addresses_spelled_once text n =
     (address_of-spelled text n, λ h. ap address_of h.1 ∙ address_of-address_text n h.0)
 
--- If an address was read, the text is that of the address.
+-- If an address was read, the text is the text of this address.
 pub address_ok : {E : Type 0} (text : List ℕ) (r : Result ℕ E) → result_ok r ≡ address_of text
     → IfOk r (λ n. text ≡ address_text n)
 address_ok text r same =
     ok_spelled r (address_of text) (λ n. text ≡ address_text n) same
     (λ n found. (address_of-spelled text n found).1)
 
--- If no address was read, the text isn't that of an address.
+-- If no address was read, the text isn't the text of an address.
 pub address_err : {E : Type 0} (text : List ℕ) (r : Result ℕ E) → result_ok r ≡ address_of text
     → OnErr r ((n : ℕ) → n < 2 ^ 32 → text ≢ address_text n)
 address_err text (Ok n) same = tt
 address_err text (Err e) same =
     λ n small spelled. let found = ap address_of spelled ∙ address_of-address_text n small in cc
 
--- If the text is that of an address, this address was read.
+-- If the text is the text of an address, this address was read.
 pub address_only : {E : Type 0} (text : List ℕ) (r : Result ℕ E) → result_ok r ≡ address_of text
     → (n : ℕ) → n < 2 ^ 32 → text ≡ address_text n → r ≡ Ok n
 address_only text r same n small spelled =

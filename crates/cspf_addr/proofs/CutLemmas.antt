@@ -21,7 +21,7 @@ place_none : (place whole : ℕ) (b : Bool) → ltb place whole ≡ b → place 
 place_none place whole true test most found = absurd (cc)
 place_none place whole false test most found = omega (arith, ltb-false _ _ test)
 
--- The index that is found is that of the first byte `mark`.
+-- The index that is found is the index of the first byte `mark`.
 pub position_some : (mark : ℕ) (text : List ℕ) (at : ℕ)
     → position (λ byte. eqb byte mark) text ≡ Some at
     → (position_or_len (λ byte. eqb byte mark) text ≡ at) × (at < length text)

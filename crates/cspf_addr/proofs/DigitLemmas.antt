@@ -43,7 +43,7 @@ digits_value_more_le base text at value least within same =
     rw same
     (rw (← digits_value_more base text at within) (digits_value-take-le base text (at + 1) least))
 
--- If appending the next digit gives no value below 2^64, the whole text has none.
+-- If appending the next digit gives no value below 2^64, the whole text has no value below 2^64.
 pub digits_more_none : (base : ℕ) (text : List ℕ) (at value : ℕ) → 1 ≤ base → at < length text
     → value ≡ digits_value base (take at text)
     → (digit_value (get_or text at 0) < base → 2 ^ 64 ≤ value * base + digit_value (get_or text at 0)) → are_digits base text ≡ true → 2 ^ 64 ≤ digits_value base text
@@ -61,7 +61,7 @@ digits_more_some base text at value more within before next = (
   next.1 ∙ rw before.1 (sym (digits_value_more base text at within)),
 )
 
--- After the last digit the value is that of the whole text.
+-- After the last digit the value is the value of the whole text.
 pub digits_whole : (base : ℕ) (text : List ℕ) (at value : ℕ) → length text ≤ at
     → AllDigits base (take at text) × (value ≡ digits_value base (take at text))
     → (are_digits base text ≡ true) × (value ≡ digits_value base text)

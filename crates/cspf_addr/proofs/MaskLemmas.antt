@@ -77,7 +77,7 @@ pub mask_ok : {E : Type 0} (text : List ℕ) (r : Result ℕ E) → result_ok r 
     → IfOk r (SpellsMask text)
 mask_ok text r same = ok_spelled r (mask_of text) (SpellsMask text) same (mask_of-spelled text)
 
--- If no mask was read, the text spells none.
+-- If no mask was read, the text spells no mask.
 pub mask_err : {E : Type 0} (text : List ℕ) (r : Result ℕ E) → result_ok r ≡ mask_of text
     → OnErr r ((n : ℕ) → SpellsMask text n → ⊥)
 mask_err text r same = err_unspelled r (mask_of text) (SpellsMask text) same (mask_of-spells text)

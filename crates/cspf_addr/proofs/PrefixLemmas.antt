@@ -70,7 +70,7 @@ prefix_of-whole address digits small passes =
     rw (before-front 47 (address_text address) digits (lacks_slash address small), after-front 47 (address_text address) digits (lacks_slash address small), address_of-address_text address small, passes)
     (with_length (leb (digits_value 10 digits) 32) (digits_value 10 digits) address)
 
--- A text of an address, a slash and digits is read as these.
+-- A text of an address, a slash and digits is read as this address and the value of these digits.
 pub prefix_texts_read : ArePrefixTextsRead
 prefix_texts_read text address digits spelled =
     ap prefix_of spelled.whole ∙ prefix_of-whole address digits spelled.small spelled.decimal

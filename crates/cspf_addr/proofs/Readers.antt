@@ -19,7 +19,7 @@ pub ok_spelled : {A E : Type 0} (r : Result A E) (o : Option A) (Spells : A → 
 ok_spelled (Ok a) o Spells same spelled = spelled a (sym same)
 ok_spelled (Err e) o Spells same spelled = tt
 
--- If no value was read, the text spells none.
+-- If no value was read, the text spells no value.
 pub err_unspelled : {A E : Type 0} (r : Result A E) (o : Option A) (Spells : A → Type 0)
     → result_ok r ≡ o → ((a : A) → Spells a → o ≡ Some a) → OnErr r ((a : A) → Spells a → ⊥)
 err_unspelled (Ok a) o Spells same read = tt

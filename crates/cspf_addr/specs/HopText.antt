@@ -10,7 +10,7 @@ use Rattle.cspf_addr.specs.declared.hop.Hop.{Hop}
 abbrev pub hop_letter : Bool → ℕ
 hop_letter loose = if loose then 108 else 115
 
--- whether a letter is that of a loose hop, or `None` if it isn't the letter of a hop
+-- whether a letter is the letter of a loose hop, or `None` if it isn't the letter of a hop
 unfoldable pub loose_of : ℕ → Option Bool
 loose_of letter = if letter == 108 then Some true else (if letter == 115 then Some false else None)
 

@@ -22,7 +22,7 @@ some_of : {A : Type 0} (o : Option A) → IsSome o → (x : A) × (o ≡ Some x)
 some_of (Some x) h = (x, refl)
 some_of None h = absurd (cc)
 
--- If two options have links with the same ends, or none, and one is `Some`, so is the other.
+-- If two options have the same ends and the second has a link, then the first has a link with the same ends.
 pub alike_some : (o p : Option Link) (l : Link) → option_map ends_of_link o ≡ option_map ends_of_link p → p ≡ Some l
     → (m : Link) × (o ≡ Some m) × (ends_of_link m ≡ ends_of_link l)
 alike_some (Some m) p l same is =
@@ -45,7 +45,7 @@ alike_is_some o p same = mapped o ∙ ap is_some same ∙ sym (mapped p)
 pub alike_itself : (d : Database) → AreAlike d d
 alike_itself d = record { marks = refl; count = refl; ends = λ k. refl }
 
--- If each link of the first database is at its own key, so is each link of the second.
+-- If each link of the first database is at its own key, each link of the second database is at its own key, too.
 pub alike_keyed : (d e : Database) → AreAlike d e → AreAtTheirKeys d → AreAtTheirKeys e
 alike_keyed d e alike keyed k m is =
     let other = alike_some (link_at d k) (link_at e k) m (sym (alike.ends k)) is in

@@ -82,15 +82,15 @@ module _ (links : List Link) (i : ℕ) (l : Link) (key : Key) (hold bandwidth : 
       both : (k : Key) → (has_key (take i links) k || eq_by_cmp key_cmp key k) ≡ has_key (take i links) k
       both k = either (has_key (take i links) k) (eq_by_cmp key_cmp key k) (λ tie. ap (has_key (take i links)) (sym (keys_same key k tie)) ∙ had)
 
--- If two steps leave the sums the same, both together do.
+-- If two steps each leave the sums the same, both steps together leave them the same.
 pub same_sums_on : (c d e : Counts) → HasSameSums c d → HasSameSums d e → HasSameSums c e
 same_sums_on c d e first second = record { at = λ k p. second.at k p ∙ first.at k p }
 
--- If two steps keep the keys, both together do.
+-- If two steps each keep the keys, both steps together keep the keys.
 pub keeps_keys_on : (c d e : Counts) → KeepsKeys c d → KeepsKeys d e → KeepsKeys c e
 keeps_keys_on c d e first second = record { at = λ k h. second.at k (first.at k h) }
 
--- The first i + 1 links have entries if the first i have, and so has the next link.
+-- If the first i links and the next link have entries, the first i + 1 links have entries.
 pub keys_more : (c d : Counts) (links : List Link) (i : ℕ) (l : Link) → i < length links → HasKeys c (take i links) → KeepsKeys c d
     → IsSome (get key_cmp d.sums (key_of (get_or links i l))) → HasKeys d (take (i + 1) links)
 keys_more c d links i l within keys keeps there = record {

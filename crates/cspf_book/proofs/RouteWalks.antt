@@ -45,7 +45,8 @@ from_same a b e = ap (λ (x : Key × ℕ). x.0.0) e
 to_same : (a b : Link) → ends_of_link a ≡ ends_of_link b → a.to ≡ b.to
 to_same a b e = ap (λ (x : Key × ℕ). x.1) e
 
--- If two links have the same ends, and so have two lists, then the longer lists have the same ends.
+-- If the first links of two lists have the same ends, and the other links have the same ends, then the lists have
+-- the same ends.
 both_ends : (a b : Link) (more rest : List Link) → ends_of_link a ≡ ends_of_link b → map ends_of_link more ≡ map ends_of_link rest
     → map ends_of_link (a ∷ more) ≡ map ends_of_link (b ∷ rest)
 both_ends a b more rest first later = λ i. first i ∷ later i

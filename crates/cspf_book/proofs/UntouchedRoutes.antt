@@ -79,7 +79,7 @@ module _ (d : Database) (cs : List Change) (q : Request) where
   kept_passed router [] left joined all = tt
   kept_passed router (l ∷ ls) left joined all = kept_routers l.to ls left.0 left.1 joined.1 all
 
-  -- The links of a walk run to the same routers as those of the route, so no change affects these routers.
+  -- The links of a walk run to the same routers as the links of the route, so no change affects these routers.
   left_of_route : (walk route : List Link) → map ends_of_link walk ≡ map ends_of_link route → list_any (λ l. changes_router cs l.to) route ≡ false
       → AllByRecursion (λ l. IsLeft l.to) walk
   left_of_route [] route along off = tt

@@ -36,7 +36,7 @@ NothingHeldIsBase =
     (l : Link) (p : ℕ) → p < 8
     → slice_index (effective_link [] l).free p ≡ least_up_to l.free p
 
--- A link is covered at a priority: the placements count at most the link's unreserved bandwidth there.
+-- A link is covered at a priority: the placements count at most the link's unreserved bandwidth at this priority.
 abbrev pub IsCovered : List Placement → Link → ℕ → Type 0
 IsCovered placements l priority = counted placements (key_of l) priority ≤ slice_index l.free priority
 

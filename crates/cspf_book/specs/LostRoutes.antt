@@ -23,8 +23,8 @@ pub record IsLost (before after : Database) (p : Placement) : Type 0 where
   pub admitted : AdmitsRoute before p
   pub broken : ¬ AdmitsRoute after p
 
--- The less important placement comes first: the one with the higher number of the holding priority, then with the
--- lower id.
+-- The less important placement comes first: the placement with the higher number of the holding priority, or with
+-- the lower id if these numbers are equal.
 abbrev pub ComesBefore : Placement → Placement → Type 0
 ComesBefore p r = (r.hold < p.hold) ⊎ ((r.hold ≡ p.hold) × (id_of p < id_of r))
 

@@ -10,7 +10,7 @@ use Rattle.cspf_book.specs.declared.placement.Placement.{Placement}
 use Rattle.cspf_book.specs.BookState.{IsPlacementOf}
 
 -- The placement that an answer offers: its route uses no link twice and has at most `room` links. Any other answer
--- offers none.
+-- offers no placement.
 abbrev pub IsOffered : Request → ℕ → ℕ → Answer → Option Placement → Type 0
 IsOffered q hold room unknown_from (Some p) = ⊥
 IsOffered q hold room unknown_from None = Unit {0}

@@ -24,7 +24,7 @@ bandwidth_on k priority p =
 abbrev pub counted : List Placement → Key → ℕ → ℕ
 counted placements k priority = sum_by (bandwidth_on k priority) placements
 
--- the id of a placement is that of its request
+-- the id of a placement, which is the id of its request
 abbrev pub id_of : Placement → ℕ
 id_of p = p.request.id
 

@@ -27,7 +27,7 @@ fn last_on(changes: &[Change], key: (Addr, Option<Addr>)) -> Option<&Change>
     changes.iter().rev().find(|change| is_on(change, key))
 }
 
-/// The link that the change leaves at its key. A removal leaves none.
+/// The link that the change leaves at its key. A removal leaves no link.
 fn link_left(change: &Change) -> Option<Link>
     ensures { result ≡ link_left change.now }
 {

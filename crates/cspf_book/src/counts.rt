@@ -44,7 +44,7 @@ fn lowered(mut sums: [u128; 8], hold: u8, bandwidth: u64) -> [u128; 8]
 }
 
 impl Counts {
-    /// No sums, so nothing is counted. It takes no memory.
+    /// Has no sums yet, so nothing is counted. It takes no memory.
     pub(crate) fn new(alloc: Global) -> Counts
         ensures { IsCountOf result [] }
     {

@@ -16,9 +16,9 @@ pub fn effective_databases()
     ensures none { NothingHeldIsBase }
 {}
 
-/// A link is *covered* if the placements count at most the bandwidth that the base has there. A
-/// placement and a release keep each link covered. Changes of the base keep it covered, too, except
-/// a link that `over` lists.
+/// A link is *covered* if the placements count at most its unreserved bandwidth in the base, at
+/// each priority. A placement and a release keep each link covered. Changes of the base keep it
+/// covered, too, except a link that `over` lists.
 pub fn covered_links()
     ensures placing { PlacingKeepsCovered }
     ensures releasing { ReleasingKeepsCovered }

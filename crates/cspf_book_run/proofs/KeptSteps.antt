@@ -22,7 +22,7 @@ use Rattle.cspf_book_run.specs.KeptStates.{IsTextOfStep, IsTextOfRow, IsRenumber
 stays : (s t : BookRunState) (P : Type 0) → t.book ≡ s.book → (t.book.version == s.book.version) ≡ false → P
 stays s t P book other = absurd (false≢true (sym other ∙ eq-eqb t.book.version s.book.version (ap (λ (b : BookState). b.version) book)))
 
--- If a row makes a version, its text is that of all open changes.
+-- If a row makes a version, its text is the text of all open changes.
 step_text : (s t : BookRunState) (row : Step) (line text : List ℕ) → IsBookStepAnswered s row line t → (t.book.version == s.book.version) ≡ false → IsTextOfStep s row text
     → text ≡ text_of_step s row
 step_text s t (step.Change c) line text a other is = is
@@ -77,7 +77,7 @@ answered_and_kept place old numbered new fields line raw text version after same
   };
 }
 
--- If at most as many changes are open as a batch may have, the text of the kept changes is that of all open
+-- If at most as many changes are open as a batch may have, the text of the kept changes is the text of all open
 -- changes.
 pub batch_kept : (k : BookRows) (s : BookRunState) (number : ℕ) (text : List ℕ) → KeepsBook k s → length s.changes ≤ 4096
     → text ≡ batch_text (record { number = number; changes = k.changes.batch.changes }) → text ≡ batch_text (open_base_batch s number)

@@ -14,7 +14,7 @@ pub record AreFirstBookRows (rows done rest : List (List (List ℕ))) (lines : L
   pub few : length done ≤ MOST_ROWS
   pub answered : AreBookRowsAnswered done lines after
 
--- The output is the whole lines of a prefix of the rows, and the kept text is that of these rows.
+-- The output is the whole lines of a prefix of the rows, and the kept text is the text of these rows.
 pub record IsBookBegun (rows : List (List (List ℕ))) (out kept : List ℕ) : Type 0 where
   pub done : List (List (List ℕ))
   pub rest : List (List (List ℕ))
@@ -31,7 +31,7 @@ IsNextBookText done s (fields ∷ rest) text kept =
     ⊎ ((length done ≡ MOST_ROWS) × (text ≡ too_many_line) × (kept ≡ []))
 
 -- The output is the lines of a prefix of the rows and a part of the next text, but not all of it. The kept text is
--- that of these rows and of the row whose lines are cut off.
+-- the text of these rows and of the row whose lines are cut off.
 pub record IsBookCutOff (rows : List (List (List ℕ))) (out kept : List ℕ) : Type 0 where
   pub done : List (List (List ℕ))
   pub rest : List (List (List ℕ))
@@ -48,8 +48,8 @@ pub record IsBookCutOff (rows : List (List (List ℕ))) (out kept : List ℕ) : 
   pub whole : out ≡ lines ++ take size text
   pub whole_kept : kept ≡ before ++ text_kept
 
--- The output is the whole lines of a prefix of the rows. The kept text is that of these rows and `written` bytes
--- of the next row's text, but not all of it.
+-- The output is the whole lines of a prefix of the rows. The kept text is the text of these rows and `written`
+-- bytes of the next row's text, but not all of it.
 pub record IsKeepCutOff (written : ℕ) (rows : List (List (List ℕ))) (out kept : List ℕ) : Type 0 where
   pub done : List (List (List ℕ))
   pub fields : List (List ℕ)

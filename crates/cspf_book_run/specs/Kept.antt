@@ -13,7 +13,7 @@ use Rattle.cspf_book_run.specs.BookScript.{BookRunState, book_answers, book_star
 use Rattle.cspf_book_run.specs.declared.book_row.BookRow.{BookRow}
 use Rattle.cspf_book_run.specs.declared.book_row.BookRow.TheVariants as book_row
 
--- The text of a row of the base, if it makes a version. The text of an end row is that of its whole batch.
+-- The text of a row of the base, if it makes a version. The text of an end row is the text of its whole batch.
 abbrev pub text_of_step : BookRunState → Step → List ℕ
 text_of_step s (step.Change c) = []
 text_of_step s (step.End number count) = batch_text (open_base_batch s number)

@@ -37,7 +37,7 @@ pub struct BookRows {
 /// The lines that answer a row, and the text that is kept of the row.
 #[derive(Drop)]
 pub(crate) struct KeptLine {
-    /// The lines. A change has none.
+    /// The lines. A change has no lines.
     pub line: Vec<u8>,
     /// The kept text. It is empty if the row isn't accepted.
     pub text: Vec<u8>,
@@ -151,7 +151,8 @@ impl BookRows {
         batch_text(alloc, &self.changes.batch)
     }
 
-    /// Answers the row with this number, counted from 1, and returns its lines. A change has none.
+    /// Answers the row with this number, counted from 1, and returns its lines. A change has no
+    /// lines.
     fn line_of(
         &mut self,
         alloc: Global,

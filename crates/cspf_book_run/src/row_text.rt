@@ -19,7 +19,7 @@ pub(crate) fn row_text(alloc: Global, fields: &ByteRecord) -> Result<Vec<u8>, Al
     }
 }
 
-/// All bytes that were written, those in the buffer included.
+/// All bytes that were written, including the bytes in the buffer.
 fn written(rows: Writer<Vec<u8>>) -> Result<Vec<u8>, AllocError>
     ensures { IfOk result (λ text. text.items ≡ (writer_under rows).items ++ writer_pending rows) }
 {

@@ -17,8 +17,8 @@ pub struct UnfitBatch {
 }
 
 /// Absorbs batches, in order, into an empty table. If a batch doesn't fit the database of the
-/// batches before it, it is refused, and those before it stay absorbed. The numbers of the batches
-/// aren't checked. The call takes no memory.
+/// batches before it, it is refused, and the batches before it stay absorbed. The numbers of the
+/// batches aren't checked. The call takes no memory.
 pub fn replay_into(table: &mut Table, batches: &[Batch]) -> Result<(), UnfitBatch>
     requires empty { table.old ≡ no_links }
     ensures lawful { OnOk result (AreLawful batches.now) }

@@ -196,7 +196,7 @@ impl Table {
     }
 
     /// Whether the router has transit: whether routes may pass through it (RFC 6987). Without
-    /// transit they may only begin and end there. The router need not be in the table.
+    /// transit, routes may only begin and end at the router. The router need not be in the table.
     pub fn transit(&self, router: Addr) -> bool
         ensures { IsTrue result ↔ HasTransit self.now router }
     {

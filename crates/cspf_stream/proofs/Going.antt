@@ -16,7 +16,7 @@ use Rattle.cspf_stream.specs.declared.error.StreamError.TheVariants as stream_er
 abbrev Rows : Type 0
 Rows = List (List (List ℕ))
 
--- All rows of the stream are the rows that were read, and then those that are left.
+-- All rows of the stream are the rows that were read, and then the rows that are left.
 abbrev pub IsReadUpTo : Option (List (List (List ℕ))) → List (List (List ℕ)) → Option (List (List (List ℕ))) → Type 0
 IsReadUpTo all done left = IfSome all (λ rows. (rest : List (List (List ℕ))) × (left ≡ Some rest) × (rows ≡ done ++ rest))
 
@@ -37,7 +37,7 @@ row_read None next rows fields is takes = absurd cc
 row_read (Some x) None rows fields is takes = absurd takes
 row_read (Some x) (Some rest) rows fields is takes = let same : x ≡ rows = cc in (rest, refl, sym same ∙ takes)
 
--- No row could be read, so none was left.
+-- No row could be read, so no row was left.
 none_read : (left next : Option Rows) (rows : Rows) (fields : List (List ℕ)) → left ≡ Some rows → Takes left next false fields → rows ≡ []
 none_read None next rows fields is takes = absurd cc
 none_read (Some x) next rows fields is takes = let same : x ≡ rows = cc in sym same ∙ takes

@@ -22,6 +22,6 @@ unended_line count = codes "unended " ++ decimal count ++ codes "\n"
 abbrev pub too_many_line : List ℕ
 too_many_line = codes "too many rows\n"
 
--- the last line, which says how many changes are still open after the last row; it is empty if none are
+-- the last line, which says how many changes are still open after the last row; it is empty if no changes are open
 abbrev pub end_line : List Change → List ℕ
 end_line changes = if nat_lt 0 (length changes) then unended_line (length changes) else []

@@ -8,7 +8,7 @@ use Rattle.cspf_stream.specs.declared.open_changes.OpenChanges.{OpenChanges}
 abbrev pub AreKeptChanges : List Change → List Change → Type 0
 AreKeptChanges kept all = kept ≡ take KEPT_CHANGES all
 
--- The first open changes are kept, at most one more than a batch may have. The count is that of all open changes.
+-- The first open changes are kept, at most one more than a batch may have. The count is how many changes are open.
 pub record AreOpen (kept : OpenChanges) (all : List Change) : Type 0 where
   pub changes : AreKeptChanges kept.batch.changes all
   pub count : kept.count ≡ length all

@@ -9,9 +9,9 @@ pub record SinkSpec (S : Type 0) : Type 1 where
   pub version : S → ℕ
   -- whether no more batches are accepted
   pub stopped : S → Bool
-  -- The batch is accepted. The states are those before and after.
+  -- In the first state the sink accepts the batch, and goes to the second state.
   pub accepts : S → NumberedChanges → S → Type 0
-  -- The batch is refused for this reason. The states are those before and after.
+  -- In the first state the sink refuses the batch for this reason, and goes to the second state.
   pub refuses : S → NumberedChanges → BatchRefusal → S → Type 0
   -- The line answers the request.
   pub replies : S → Request → List ℕ → Type 0

@@ -57,7 +57,8 @@ impl OpenChanges {
         self.count = 0;
     }
 
-    /// The last line if changes are still open after the last row. It is empty if none are.
+    /// The last line if changes are still open after the last row. It is empty if no changes are
+    /// open.
     pub fn last_line(&self, alloc: Global) -> Result<Vec<u8>, AllocError>
         ensures { IfOk result (λ line. (all : List Changed) → AreOpen self.now all
             → line.items ≡ end_line all) }

@@ -71,7 +71,7 @@ impl<S> Rows<S> {
     }
 
     /// Answers a row that was read elsewhere, by its step. So a caller can have other kinds of
-    /// rows, too, and answer those itself.
+    /// rows, too, and answer these rows itself.
     pub fn take<C>(&mut self, context: &C, alloc: Global, step: Step) -> Result<Vec<u8>, AllocError>
     where
         S: Sink<C>,

@@ -29,8 +29,8 @@ struct Manner {
 /// empty line isn't written. Memory is taken only for the longest row, and for what the answers
 /// need.
 ///
-/// After an error no row after the one that stopped the stream was read, and the lines of all rows
-/// before it are written. `HasStopped` defines the rest of the state.
+/// After an error no row was read after the row that stopped the stream. The lines of all rows
+/// before this row are written. `HasStopped` defines the rest of the state.
 pub fn answer_rows<R: Read, W: Write, C, A: Answering<C>>(
     context: &C,
     alloc: Global,

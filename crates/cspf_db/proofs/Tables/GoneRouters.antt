@@ -69,7 +69,8 @@ nothing_left rows routers ends cs place rising are within no_from no_to =
     all_three (u l) (nat_eq l.from router) (nat_eq l.to router) (none_at (λ m. nat_eq m.from router && u m) rows (sym (any_both u (λ m. nat_eq m.from router) rows) ∙ no_from) k d h)
     (ap (λ b. b && u l) (sym same) ∙ no_to k d h))
 
--- A put brings those of its ends that are neither among the routers nor ends of a link that another change puts.
+-- A put brings only ends of its link that are neither among the routers nor ends of a link that another change
+-- puts.
 pub brings_beside : (routers : List ℕ) (others : List Change) (l : Link) (m n : ℕ) → (m ≡ 0 → Contains routers l.from ⊎ (list_any (puts_at l.from) others ≡ true))
     → (n ≡ 0 → Contains routers l.to ⊎ (list_any (puts_at l.to) others ≡ true)) → BringsBeside routers others (Put l) (m + n)
 brings_beside routers others l m n from to s inside put =
@@ -77,7 +78,7 @@ brings_beside routers others l m n from to s inside put =
     omega
     (arith, one_end s l.from m (λ e. there l.from (from e)), one_end (set.insert s l.from) l.to n (λ e. set.contains-insert nat_cmp_total s l.from l.to ∙ or_right (eq_by_cmp nat_cmp l.to l.from) _ (there l.to (to e))))
 
--- One more change adds the routers that it brings to those that the changes before it bring.
+-- One more change brings its new routers in addition to the routers that the changes before it bring.
 pub brings_once : (routers : List ℕ) (cs : List Change) (at : ℕ) (c : Change) (m n : ℕ) → at < length cs → c ≡ slice_index_or cs at c → BringsAtMost routers (take at cs) m → BringsBeside routers (take at cs) c n
     → BringsAtMost routers (take (at + 1) cs) (m + n)
 brings_once routers cs at c m n h read first second s inside =

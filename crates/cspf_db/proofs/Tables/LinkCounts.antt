@@ -32,7 +32,7 @@ adds_same d c (Put l) apart = ap (λ o. not (is_some o)) (same_there d c (key_of
 adds_same d c (Remove from local) apart = refl
 adds_same d c (Node router transit) apart = refl
 
--- A change doesn't affect whether the link that a removal at another key removes is there.
+-- A change doesn't affect whether the database has the link of a removal with another key.
 present_same : (d : Database) (c b : Change) → eq_by_cmp change_key_cmp (key_changed c) (key_changed b) ≡ false → IsPresent d b → IsPresent (relinked d c) b
 present_same d c (Put l) apart present = tt
 present_same d c (Node router transit) apart present = tt

@@ -217,7 +217,7 @@ marks_count marks (c ∷ cs) once =
     (one_mark marks c)
     ∙ ap (λ n. set.len marks + n) (sym (sum_by-cons (λ x. cond (adds_mark marks x) 1 0) c cs))
 
--- The number of marks after the changes is that before, plus the added and minus the removed marks.
+-- The number of marks after the changes is the number before, plus the added marks, minus the removed marks.
 pub marks_difference : (marks : List ℕ) (cs : List Change) → AreRising marks → AreOnceEach cs
     → set.len (all_marked (marks_in marks) cs) ≡ length marks + count_by (adds_mark (marks_in marks)) cs - count_by (removes_mark (marks_in marks)) cs
 marks_difference marks cs rising once = less _ _ _ _ _ (marks_count (marks_in marks) cs once) (len-marks_in marks rising)

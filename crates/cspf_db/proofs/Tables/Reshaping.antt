@@ -110,7 +110,7 @@ all_keep d e (c ∷ cs) off is =
 pub shape_kept : (d : Database) (cs : List Change) → list_any (reshapes d) cs ≡ false → HaveOneShape d (after_changes d cs)
 shape_kept d cs off = all_keep d d cs off (record { marks = refl; links = λ k. refl })
 
--- The database has at the key of a change what the change leaves there.
+-- At the key of a change, the database has what the change leaves.
 abbrev HasLeft : Database → Change → Type 0
 HasLeft e (Put l) = link_at e (key_of l) ≡ Some l
 HasLeft e (Remove from local) = link_at e (from, local) ≡ None
@@ -142,7 +142,8 @@ unfolding IsDistinct
 each_left d [] once = tt
 each_left d (c ∷ cs) once = (left_at_last (after_change d c) c cs once.0 (left_first d c), each_left (after_change d c) cs once.1)
 
--- If a database has what a change leaves that changes the shape, its shape isn't that of the database before.
+-- Suppose that a change changes the shape. If a database has what this change leaves, its shape isn't the shape of
+-- the database before.
 one_changes : (d e : Database) (c : Change) → HasLeft e c → reshapes d c ≡ true → HaveOneShape d e → ⊥
 one_changes d e (Put l) left on is = put_changed (link_at d (key_of l)) l on (sym (is.links (key_of l)) ∙ ap (option_map shape_of) left)
 one_changes d e (Remove from local) left on is = some_there (link_at d (from, local)) on (sym (is.links (from, local)) ∙ ap (option_map shape_of) left)

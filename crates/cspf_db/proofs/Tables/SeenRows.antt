@@ -66,7 +66,7 @@ seen_more rows by_key changes at change h is (Some row) found old new one before
       ap not (list_any_more tie changes at change h ∙ ap (λ b. b || tie (get_or changes at change)) others ∙ this);
 }
 
--- If the tally says so, no two changes have the same key.
+-- If the tally says that no two changes affect the same row, no two changes have the same key.
 pub told_apart : (c : Columns) (changes : List Change) (r : Result Tally ℕ) → IfOk r (IsTallyOf c changes) → IsOkAnd r (λ t. t.apart ≡ true) → AreOnceEach changes
 told_apart c changes (Ok t) is on = is.apart on
 told_apart c changes (Err at) is on = absurd on

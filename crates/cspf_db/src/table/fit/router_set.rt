@@ -31,7 +31,8 @@ fn slot(router: u32, others: u32) -> usize
     ((router.wrapping_mul(2654435761) >> 16).wrapping_add(others) % SLOTS as u32) as usize
 }
 
-/// Writes the place of a router into the first of its slots that is free, if one is.
+/// Writes the place of a router into the first of its slots that is free, if one of its slots is
+/// free.
 fn note(places: &mut [u16], router: u32, place: u16)
     requires { length places.old ≡ SLOTS }
     ensures { length places.new ≡ SLOTS }

@@ -26,7 +26,7 @@ use cspf_model::{Change, Link, MOST_LINKS};
 /// and whether no row is changed twice.
 #[derive(Clone, Copy, Debug)]
 pub struct Tally {
-    /// How many changes put a link at a key that has none.
+    /// How many changes put a link at a key without a link.
     pub added: usize,
     /// How many ends of the put links aren't among the routers.
     pub brought: usize,
