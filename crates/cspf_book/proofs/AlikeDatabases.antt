@@ -22,7 +22,8 @@ some_of : {A : Type 0} (o : Option A) → IsSome o → (x : A) × (o ≡ Some x)
 some_of (Some x) h = (x, refl)
 some_of None h = absurd (cc)
 
--- If two options have the same ends and the second has a link, then the first has a link with the same ends.
+-- If the second of two alike options has a link, the first has a link with the same key that runs to the same
+-- router.
 pub alike_some : (o p : Option Link) (l : Link) → option_map ends_of_link o ≡ option_map ends_of_link p → p ≡ Some l
     → (m : Link) × (o ≡ Some m) × (ends_of_link m ≡ ends_of_link l)
 alike_some (Some m) p l same is =

@@ -35,7 +35,7 @@ is_sorted-mapped f [] = refl
 is_sorted-mapped f (e ∷ es) =
     λ i. below_all-mapped f e.0 es i && is_sorted-mapped f es i
 
--- An effective link has the ends of its link.
+-- An effective link has the key of its link and runs to the same router.
 ends_kept : (placements : List Placement) (o : Option Link)
     → option_map ends_of_link (option_map (effective_link placements) o) ≡ option_map ends_of_link o
 unfolding effective_link

@@ -214,7 +214,7 @@ counted_least (r ∷ rs) k p q least =
     same : bandwidth_on k q r ≡ bandwidth_on k p r
     same = ap (λ b. cond (b && has_key r.route k) r.request.bandwidth 0) test
 
--- The sums are small if the placements count at most as much as all placements of a version.
+-- The sums of some placements are small if they count at most as much as all placements of a version.
 pub sums_small : (c d : Counts) (placements rest : List Placement) (version : ℕ) → HasSameSums c d → IsCountOf c rest
     → ((k : Key) (p : ℕ) → counted rest k p ≤ counted placements k p)
     → ((k : Key) (p : ℕ) → counted placements k p ≤ version * 2 ^ 64) → version < 1000000 → AreSmall d

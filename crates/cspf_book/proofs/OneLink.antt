@@ -86,12 +86,12 @@ one_fits d l b within there is =
     only zero c h = tt
     only (suc k) c h = absurd (omega arith)
 
--- a link with other bandwidths has the ends of the link
+-- A link with other bandwidths has the same key and runs to the same router.
 pub ends_from : (l r : Link) (free : List ℕ) → HasLinkFields r (record (fields_of_link l) { free = free }) → ends_of_link r ≡ ends_of_link l
 ends_from l r free has =
     ap (λ f. ((f.from, f.local), f.to)) ((links_said r (record (fields_of_link l) { free = free })).0 has)
 
--- A link has the ends of the base's link at its key.
+-- A link that runs to the same router as the base's link at its key.
 module _ (base old : Database) (k : Key) (keyed : AreAtTheirKeys base) (alike : AreAlike base old) (l m : Link) where
   ends_there : link_at base k ≡ Some l → ends_of_link m ≡ ends_of_link l
       → option_map ends_of_link (link_at base (key_of m)) ≡ Some (ends_of_link m)
@@ -99,7 +99,7 @@ module _ (base old : Database) (k : Key) (keyed : AreAtTheirKeys base) (alike : 
       ap (λ j. option_map ends_of_link (link_at base j)) (ap (λ (e : Key × ℕ). e.0) ends ∙ keyed k l is)
       ∙ ap (option_map ends_of_link) is ∙ ap Some (sym ends)
 
-  -- The link replaces a link with the same ends.
+  -- The link replaces a link with the same key that runs to the same router.
   pub ends_there_too : link_at base k ≡ Some l → ends_of_link m ≡ ends_of_link l
       → option_map ends_of_link (link_at old (key_of m)) ≡ Some (ends_of_link m)
   ends_there_too is ends = alike.ends (key_of m) ∙ ends_there is ends

@@ -38,15 +38,15 @@ left_later : (d : Database) (router links : ℕ) → 0 < links → MayLeave d ro
 left_later d router links some (inl transit) = transit
 left_later d router links some (inr none) = absurd (omega arith)
 
--- Links with the same ends run from the same router.
+-- Links with the same key run from the same router.
 from_same : (a b : Link) → ends_of_link a ≡ ends_of_link b → a.from ≡ b.from
 from_same a b e = ap (λ (x : Key × ℕ). x.0.0) e
 
 to_same : (a b : Link) → ends_of_link a ≡ ends_of_link b → a.to ≡ b.to
 to_same a b e = ap (λ (x : Key × ℕ). x.1) e
 
--- If the first links of two lists have the same ends, and the other links have the same ends, then the lists have
--- the same ends.
+-- If the first links of two lists have the same keys and run to the same routers, and the other links do so, too,
+-- then all links of the lists do.
 both_ends : (a b : Link) (more rest : List Link) → ends_of_link a ≡ ends_of_link b → map ends_of_link more ≡ map ends_of_link rest
     → map ends_of_link (a ∷ more) ≡ map ends_of_link (b ∷ rest)
 both_ends a b more rest first later = λ i. first i ∷ later i

@@ -8,7 +8,7 @@ use csv::{ByteRecord, Writer};
 use std::alloc::{AllocError, Global};
 
 /// The fields of a row as `csv` writes them: separated by commas, with a line feed at the end. A
-/// field is quoted only if it has a comma, a quotation mark or a line end.
+/// field is quoted only if it has a comma, a quotation mark or a line break.
 pub(crate) fn row_text(alloc: Global, fields: &ByteRecord) -> Result<Vec<u8>, AllocError>
     ensures { IfOk result (λ text. text.items ≡ row_text default_writer (fields_of fields.now)) }
 {

@@ -81,7 +81,7 @@ impl Table {
     }
 
     /// The links, each once, in order of the router from which they run and then of their interface
-    /// address at this router. At most 1,024 routers are ends of these links.
+    /// address at this router. At most 1,024 routers are endpoints of these links.
     pub fn links(&self) -> &[Link]
         ensures listed { AreLinksOf self.now result.now }
         ensures most { length result.now ≤ MOST_LINKS }
@@ -178,7 +178,7 @@ impl Table {
         reverse_index(&self.columns.rows, link) != NO_LINK
     }
 
-    /// Whether the router is an end of a link.
+    /// Whether the router is an endpoint of a link.
     pub fn has_router(&self, router: Addr) -> bool
         ensures { IsTrue result ↔ IsRouterOf self.now router }
     {
@@ -211,9 +211,9 @@ impl Table {
         self.transits[at]
     }
 
-    /// Whether the router is an end of a link, and the prefix covers the Router ID or the address
-    /// of one of its interfaces on a link from it. The link's attributes don't matter (RFC 3209
-    /// 4.3.3.2).
+    /// Whether the router is an endpoint of a link, and the prefix covers the Router ID or the
+    /// address of one of its interfaces on a link from it. The link's attributes don't matter (RFC
+    /// 3209 4.3.3.2).
     pub fn owns(&self, router: Addr, prefix: Prefix) -> bool
         ensures { IsTrue result ↔ Owns self.now prefix router }
     {

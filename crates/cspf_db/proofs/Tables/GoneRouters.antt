@@ -1,4 +1,4 @@
--- Routers that are no end of a link after the changes.
+-- Routers that are no endpoint of a link after the changes.
 use Rattle.std.proofs.Common.{◌≡◌, ℕ, zero, suc, ◌+◌, ◌<◌, ◌⊎◌, inl, inr, Contains, take, ◌++◌, Bool, true, false, ◌&&◌, ◌||◌, cond, List, [], ◌∷◌, filter, length, nat_eq, slice_index, slice_index_or, refl, sym, ap, ◌∙◌, arith}
 use Rattle.std.specs.List.{list_any}
 use Rattle.std.specs.Cmp.{nat_cmp_total}
@@ -19,7 +19,7 @@ use Rattle.cspf_model.proofs.Databases.EndCounts.{any-ends_of, contains-with_end
 use Rattle.cspf_columns.proofs.EndColumn.{length-ends}
 use Rattle.cspf_columns.proofs.RouterPlaces.{one_place}
 
--- A router is an end of one of the links that are put exactly if one of the changes puts a link at it.
+-- A router is an endpoint of one of the links that are put exactly if one of the changes puts a link at it.
 pub puts_there : (router : ℕ) (cs : List Change) → list_any (puts_at router) cs ≡ list_any (is_at router) (links_put cs)
 puts_there router [] = refl
 puts_there router (Put l ∷ cs) = ap (λ b. is_at router l || b) (puts_there router cs)
@@ -52,7 +52,8 @@ all_three true false true from to = absurd (cc)
 all_three true false false from to = refl
 all_three false f t from to = refl
 
--- If no row that is left runs from a router, and none runs to it, then the router is no end of a row that is left.
+-- If no row that is left runs from a router, and none runs to it, then the router is no endpoint of a row that is
+-- left.
 pub nothing_left : (rows : List Link) (routers ends : List ℕ) (cs : List Change) (place : ℕ) → AreRising routers → AreEndsOf rows routers ends → place < length routers
     → list_any (is_untouched cs) (filter (λ l. nat_eq l.from (slice_index routers place)) rows) ≡ false
     → ((at : ℕ) (d : Link) → at < length rows → (nat_eq (slice_index ends at) place && is_untouched cs (slice_index_or rows at d)) ≡ false)
@@ -69,8 +70,8 @@ nothing_left rows routers ends cs place rising are within no_from no_to =
     all_three (u l) (nat_eq l.from router) (nat_eq l.to router) (none_at (λ m. nat_eq m.from router && u m) rows (sym (any_both u (λ m. nat_eq m.from router) rows) ∙ no_from) k d h)
     (ap (λ b. b && u l) (sym same) ∙ no_to k d h))
 
--- A put brings only ends of its link that are neither among the routers nor ends of a link that another change
--- puts.
+-- A put brings only endpoints of its link that are neither among the routers nor endpoints of a link that another
+-- change puts.
 pub brings_beside : (routers : List ℕ) (others : List Change) (l : Link) (m n : ℕ) → (m ≡ 0 → Contains routers l.from ⊎ (list_any (puts_at l.from) others ≡ true))
     → (n ≡ 0 → Contains routers l.to ⊎ (list_any (puts_at l.to) others ≡ true)) → BringsBeside routers others (Put l) (m + n)
 brings_beside routers others l m n from to s inside put =

@@ -43,7 +43,7 @@ one_list : (d e : Database) → HaveOneShape d e → shapes_in (entries e.links)
 one_list d e is =
     same_entries key_cmp keys_total keys_antisymmetric (shapes_in (entries e.links)) (shapes_in (entries d.links)) (shapes_rise e) (shapes_rise d) (λ q. shape_at e q ∙ is.links q ∙ sym (shape_at d q))
 
--- the ends of the shapes
+-- the endpoints of the shapes
 abbrev ends_in : List (Key × Shape) → List ℕ
 ends_in es = flat_map (λ e. e.1.from ∷ e.1.to ∷ []) es
 

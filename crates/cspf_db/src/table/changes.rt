@@ -33,7 +33,7 @@ pub(super) fn is_untouched(row: &Link, changes: &[Change]) -> bool
     !any_on(changes, (row.from, Some(row.local)))
 }
 
-/// Whether the router is an end of the link that the change puts.
+/// Whether the router is an endpoint of the link that the change puts.
 fn puts_at(change: &Change, router: Addr) -> bool
     ensures { result ≡ puts_at router change.now }
 {
@@ -43,7 +43,7 @@ fn puts_at(change: &Change, router: Addr) -> bool
     }
 }
 
-/// Whether the router is an end of a link that one of the changes puts.
+/// Whether the router is an endpoint of a link that one of the changes puts.
 pub(super) fn any_puts_at(changes: &[Change], router: Addr) -> bool
     ensures { result ≡ list_any (puts_at router) changes.now }
 {

@@ -1,4 +1,5 @@
-//! Whether the changes of a batch make a router leave: after them it is no longer an end of a link.
+//! Whether the changes of a batch make a router leave: after them it is no longer an endpoint of a
+//! link.
 ghost use Rattle.std.specs.Prelude.{◌≡◌, ℕ, ◌<◌, ◌&&◌, true, false, filter, length, nat_eq, slice_index, slice_index_or};
 ghost use Rattle.std.specs.List.{list_any};
 ghost use Rattle.cspf_model.specs.declared.link.Link.{Link as Linked};
@@ -54,7 +55,7 @@ fn any_left_to(rows: &[Link], ends: &[u16], changes: &[Change], place: usize) ->
     false
 }
 
-/// Whether the router at index `place` is no end of a link after the changes.
+/// Whether the router at index `place` is no endpoint of a link after the changes.
 fn is_gone(columns: &Columns, changes: &[Change], place: usize) -> bool
     requires columns { AreColumns columns.now }
     requires within { place < length columns.now.routers.items }
@@ -67,7 +68,7 @@ fn is_gone(columns: &Columns, changes: &[Change], place: usize) -> bool
     !any_left_to(&columns.rows, &columns.ends, changes, place)
 }
 
-/// Whether the change affects a row, and an end of this row is a router that leaves.
+/// Whether the change affects a row, and an endpoint of this row is a router that leaves.
 fn takes_one(columns: &Columns, changes: &[Change], change: &Change) -> bool
     requires columns { AreColumns columns.now }
     ensures { result ≡ true → HasGone columns.now.rows.items columns.now.routers.items changes.now }
@@ -84,7 +85,8 @@ fn takes_one(columns: &Columns, changes: &[Change], change: &Change) -> bool
     is_gone(columns, changes, place) || is_gone(columns, changes, usize::from(columns.ends[at]))
 }
 
-/// Whether a router leaves with the changes. Only the ends of rows that are changed are checked.
+/// Whether a router leaves with the changes. Only the endpoints of rows that are changed are
+/// checked.
 pub(super) fn any_goes(columns: &Columns, changes: &[Change]) -> bool
     requires columns { AreColumns columns.now }
     ensures { result ≡ true → HasGone columns.now.rows.items columns.now.routers.items changes.now }

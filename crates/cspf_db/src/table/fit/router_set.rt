@@ -121,14 +121,14 @@ impl Routers {
         false
     }
 
-    /// Whether both ends of a link are found in their slots, so that they need not be added.
+    /// Whether both endpoints of a link are found in their slots, so that they need not be added.
     pub(super) fn has_ends(&self, link: &Link) -> bool
         ensures { result ≡ true → self.now ≡ with_ends self.now (link.now ∷ []) }
     {
         self.has(link.from.number()) && self.has(link.to.number())
     }
 
-    /// Adds both ends of a link. Returns false if there would be more than 1,024 routers.
+    /// Adds both endpoints of a link. Returns false if there would be more than 1,024 routers.
     pub(super) fn add_ends(&mut self, link: &Link) -> bool
         ensures added { OnTrue result (self.new ≡ with_ends self.old (link.now ∷ [])) }
         ensures full { OnFalse result (MOST_ROUTERS < set.len (with_ends self.old (link.now ∷ []))) }

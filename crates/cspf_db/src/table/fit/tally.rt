@@ -21,14 +21,14 @@ use cspf_columns::routers::is_among;
 use cspf_columns::rows::{index_of, is_alike};
 use cspf_model::{Change, Link, MOST_LINKS};
 
-/// What some changes do. It has how many links they add and how many ends of these are new routers.
-/// An end of several added links is counted for each of them. It also says whether no row moves,
-/// and whether no row is changed twice.
+/// What some changes do. It has how many links they add, and how many endpoints of these links are
+/// new routers. An endpoint of several added links is counted for each of them. It also says
+/// whether no row moves, and whether no row is changed twice.
 #[derive(Clone, Copy, Debug)]
 pub struct Tally {
     /// How many changes put a link at a key without a link.
     pub added: usize,
-    /// How many ends of the put links aren't among the routers.
+    /// How many endpoints of the put links aren't among the routers.
     pub brought: usize,
     /// Whether each change puts a link over a link that runs between the same interfaces.
     pub alike: bool,
@@ -199,7 +199,8 @@ pub(super) fn tally_all(columns: &Columns, changes: &[Change]) -> Result<Tally, 
     tally_each(columns, changes, &mut [false; MOST_LINKS])
 }
 
-/// 0 if the router is among the routers or an end of a link that the changes put, and otherwise 1.
+/// 0 if the router is among the routers or an endpoint of a link that the changes put, and
+/// otherwise 1.
 fn count_first(routers: &[Addr], changes: &[Change], router: Addr) -> usize
     requires { AreRising routers.now }
     ensures few { result ≤ 1 }
@@ -213,8 +214,8 @@ fn count_first(routers: &[Addr], changes: &[Change], router: Addr) -> usize
     }
 }
 
-/// How many ends of the link that the change puts are new: neither among the routers, nor ends of a
-/// link that another change puts.
+/// How many endpoints of the link that the change puts are new: neither among the routers, nor
+/// endpoints of a link that another change puts.
 fn count_first_ends(routers: &[Addr], others: &[Change], change: &Change) -> usize
     requires { AreRising routers.now }
     ensures few { result ≤ 2 }
@@ -228,8 +229,8 @@ fn count_first_ends(routers: &[Addr], others: &[Change], change: &Change) -> usi
     }
 }
 
-/// How many ends of the links that the changes put aren't among the routers, each counted once. It
-/// takes as long as comparing all pairs of changes.
+/// How many endpoints of the links that the changes put aren't among the routers, each counted
+/// once. It takes as long as comparing all pairs of changes.
 pub(super) fn count_brought(routers: &[Addr], changes: &[Change]) -> usize
     requires rising { AreRising routers.now }
     requires short { length changes.now ≤ MOST_CHANGES }
