@@ -1,4 +1,5 @@
--- Two databases have one shape if as many batches change the shape up to the one as up to the other.
+-- A list of batches and its first part give databases of one shape, if as many batches change the shape
+-- in both.
 use Rattle.std.proofs.Common.{◌≡◌, ℕ, ◌+◌, ◌≤◌, List, [], ◌∷◌, ◌++◌, length, refl, sym, ap, subst, inl, inr, ◌∙◌, arith}
 use Rattle.cspf_model.specs.Numbered.{NumberedChanges}
 use Rattle.cspf_model.specs.Database.{Database}
@@ -16,7 +17,8 @@ HaveOneShape-self d = record { marks = refl; links = λ k. refl }
 HaveOneShape-trans : (d e f : Database) → HaveOneShape d e → HaveOneShape e f → HaveOneShape d f
 HaveOneShape-trans d e f p q = record { marks = q.marks ∙ p.marks; links = λ k. q.links k ∙ p.links k }
 
--- the database after a batch and the batches that follow it
+-- the database after a list of batches is the database after its first batch, changed by the other
+-- batches
 after_batch : (d : Database) (b : NumberedChanges) (bs : List NumberedChanges)
     → after_changes d (changes_of (b ∷ bs)) ≡ after_changes (after_changes d b.changes) (changes_of bs)
 after_batch d b bs = after_changes-append d b.changes (changes_of bs)
@@ -28,8 +30,8 @@ none_changed d (b ∷ bs) (inl p) =
     subst (HaveOneShape d) (sym (after_batch d b bs)) (HaveOneShape-trans d (after_changes d b.changes) _ p.0 (none_changed (after_changes d b.changes) bs p.1))
 none_changed d (b ∷ bs) (inr p) = absurd (omega (arith, p.2))
 
--- Two lists of batches begin with the same batch. Their databases have one shape if they have it from
--- the database after that batch on.
+-- Two lists begin with the same batch. They give databases of one shape, if their other batches do so
+-- from the database after that batch.
 after_one_batch : (d : Database) (b : NumberedChanges) (xs ys : List NumberedChanges)
     → HaveOneShape (after_changes (after_changes d b.changes) (changes_of xs)) (after_changes (after_changes d b.changes) (changes_of ys))
     → HaveOneShape (after_changes d (changes_of (b ∷ xs))) (after_changes d (changes_of (b ∷ ys)))
@@ -37,8 +39,8 @@ after_one_batch d b xs ys is =
     subst (λ e. HaveOneShape e (after_changes d (changes_of (b ∷ ys)))) (sym (after_batch d b xs))
     (subst (HaveOneShape (after_changes (after_changes d b.changes) (changes_of xs))) (sym (after_batch d b ys)) is)
 
--- If as many batches change the shape in a whole list as in its first part, the batches after that part
--- keep the shape.
+-- If as many batches change the shape in a whole list as in its first part, both give databases of one
+-- shape.
 as_many_changes : (d : Database) (first rest : List NumberedChanges) (count : ℕ) → HasShapeChangesAfter d first count → HasShapeChangesAfter d (first ++ rest) count
     → HaveOneShape (after_changes d (changes_of first)) (after_changes d (changes_of (first ++ rest)))
 as_many_changes d [] rest count is all = none_changed d rest (subst (HasShapeChangesAfter d rest) is all)

@@ -32,8 +32,8 @@ AllKnow-set s views seat w all knows j u e =
 AllKnow-snoc : (s : ReplicaState) (views : List SeatView) (w : SeatView) → AllKnow s views → Knows s w → AllKnow s (views ++ w ∷ [])
 AllKnow-snoc s views w all knows j u e = ⊎_elim (all j u) (λ (t : w ≡ u). subst (λ (z : SeatView). Knows s z) t knows) (at_snoc views w u j e)
 
--- At most one view is a publisher's after a view is set, if the new view is a publisher's only when the
--- old view was.
+-- A view is replaced. There is still at most one publisher's view, if the new view is a publisher's
+-- only when the old view was.
 HasOnePublisher-set : (views : List SeatView) (seat : ℕ) (v w : SeatView) → get_elem? views seat ≡ some v → HasOnePublisher views → (IsPublisher w → IsPublisher v) → HasOnePublisher (set views seat w)
 HasOnePublisher-set views seat v w at one was i j x y ex ey px py =
     ⊎_elim
@@ -47,7 +47,7 @@ HasOnePublisher-set views seat v w at one was i j x y ex ey px py =
     (at_set views seat j w y ey))
     (at_set views seat i w x ex)
 
--- at most one view is a publisher's after a view is set, if no view was a publisher's before
+-- after a view is replaced there is at most one publisher's view, if there was none before
 HasOnePublisher-first : (views : List SeatView) (seat : ℕ) (w : SeatView) → ((j : ℕ) (u : SeatView) → get_elem? views j ≡ some u → IsPublisher u → ⊥) → HasOnePublisher (set views seat w)
 HasOnePublisher-first views seat w none i j x y ex ey px py =
     ⊎_elim
@@ -238,7 +238,7 @@ idle_twice s =
     ap (λ (d : Database). (let it : ReplicaState = record { right = s.right; database = d; known = s.known; shape_changes = 0; is_open = true } in it))
     (ap (λ (d : Database). database_with d (idle_batch s.known).batch) (nothing s.database) ∙ nothing s.database)
 
--- an open replica is `published_state` if it has the database of its batches and a copy right of their
+-- an open replica is `published_state` if it has the database of its batches and a `CopyRight` of their
 -- source
 pub state_from_known : (s : ReplicaState) → HasItsDatabase s → IsCopyByRight s → s.is_open ≡ true → s ≡ published_state s.known s.shape_changes
 state_from_known s has right now =

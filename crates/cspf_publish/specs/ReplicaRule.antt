@@ -16,7 +16,7 @@ use Rattle.cspf_publish.specs.declared.seat_view.SeatView.TheVariants.{New, Aske
 abbrev pub HasItsDatabase : ReplicaState → Type 0
 HasItsDatabase s = s.database ≡ database_after s.known.batches
 
--- the replica has the number of its batches that change the shape of the database
+-- `shape_changes` is the number of the replica's batches that change the shape of the database
 abbrev pub CountsShapeChanges : ReplicaState → Type 0
 CountsShapeChanges s = HasShapeChanges s.known.batches s.shape_changes
 
@@ -33,7 +33,7 @@ IsPublisher New = ⊥
 IsPublisher (Asker known) = ⊥
 IsPublisher (Publisher known) = Unit {0}
 
--- the replica holds a copy right of its batches' source
+-- the replica holds a `CopyRight` of its batches' source
 abbrev pub IsCopyByRight : ReplicaState → Type 0
 IsCopyByRight s = s.right ≡ s.known.source
 
@@ -44,9 +44,9 @@ HasOnePublisher views =
     → IsPublisher v → IsPublisher w → i ≡ j
 
 -- The rule. The published batches are a history. The replica that askers enter has their database, and
--- the number of them that change its shape. The replica holds a copy right of their source. Each
--- asker's seat knows a prefix of these batches. At most one seat is a publisher's, and it knows all of
--- them.
+-- the number of batches that change its shape. The replica holds a `CopyRight` of their source. Each
+-- asker's seat knows a prefix of the published batches. At most one seat is a publisher's, and it knows
+-- all of them.
 pub record HoldsBetweenSteps (s : ReplicaState) (views : List SeatView) : Type 0 where
   pub history : IsHistory s.known.batches
   pub database : HasItsDatabase s
@@ -57,7 +57,7 @@ pub record HoldsBetweenSteps (s : ReplicaState) (views : List SeatView) : Type 0
 
 -- The publisher's first step. It changes no batches, and after it the seat knows the published batches.
 -- In this record and the next two, `x` and `y` are the replica before and after the step. `v` and `w`
--- are the seat's view before and after it.
+-- are the seat's view before and after the step.
 pub record Opens (v : SeatView) (x y : ReplicaState) (w : SeatView) : Type 0 where
   pub same : y.known ≡ x.known
   pub after : w ≡ Publisher y.known
@@ -72,9 +72,9 @@ pub record Publishes (v : SeatView) (x y : ReplicaState) (w : SeatView) : Type 0
   pub before : v ≡ Publisher x.known
   pub after : w ≡ Publisher y.known
 
--- An asker enters a replica. The replica has the database of its batches, and the number of them that
--- change its shape. After the step the asker's seat knows the replica's batches. The batches of its
--- last entry are a prefix of these.
+-- An asker enters a replica. The replica has the database of its batches, and the number of batches
+-- that change its shape. After the step the asker's seat knows the replica's batches. The batches of
+-- the seat's last entry are a prefix of these batches.
 pub record Enters (v : SeatView) (x y : ReplicaState) (w : SeatView) : Type 0 where
   pub same : y ≡ x
   pub database : HasItsDatabase y

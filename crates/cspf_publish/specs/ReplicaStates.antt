@@ -7,7 +7,7 @@ use Rattle.cspf_model.specs.Changes.{database_after}
 use Rattle.cspf_journal.specs.KnownBatches.{KnownBatches}
 use Rattle.cspf_publish.specs.BatchAbsorption.{database_with}
 
--- `right` is the source whose copy right the replica holds. `known` are the replica's batches, and
+-- `right` is the source whose `CopyRight` the replica holds. `known` are the replica's batches, and
 -- `shape_changes` is how many of them change the shape of the database. `is_open` is true from the
 -- publisher's first step on: then a publisher's seat knows the batches.
 pub record ReplicaState : Type 0 where
@@ -17,7 +17,7 @@ pub record ReplicaState : Type 0 where
   pub shape_changes : ℕ
   pub is_open : Bool
 
--- a replica after the publisher's first step: it has the database of its batches, and a copy right of
+-- a replica after the publisher's first step: it has the database of its batches, and a `CopyRight` of
 -- their source
 abbrev pub published_state : KnownBatches → ℕ → ReplicaState
 published_state known shape_changes = record {

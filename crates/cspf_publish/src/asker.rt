@@ -68,8 +68,8 @@ impl Asker {
     /// The best answer in the database of the last published version. After the call the asker knows
     /// the batches of that version. On `NoEntry` nothing has changed. On `Memory` only the known
     /// batches may have changed.
-    // The entered version is never below that of an earlier entry. A version below a learnt version
-    // also returns `NoEntry`, but this happens in no run.
+    // The entered version is never below that of an earlier entry. If it is below a version that the
+    // asker learnt, the call returns `NoEntry`. This happens in no run.
     pub fn ask(&mut self, alloc: Global, request: &Request) -> Result<Answer, AskError>
         ensures source { self.new.source ≡ self.old.source }
         ensures later { BeginsWith self.new.batches self.old.batches }

@@ -32,7 +32,7 @@ pub(crate) struct AskerSeat {
     pub(crate) most_trees: usize,
 }
 
-// The trees for the database of a replica. If there are none yet, they get room for at most `most`
+// The trees for the database of a replica. If there are no trees yet, there is room for at most `most`
 // trees.
 fn trees_at(alloc: Global, replica: &Replica, most: usize, trees: Option<KnownTrees>) -> KnownTrees
     requires shapes { CountsShapeChanges replica.now }

@@ -134,7 +134,7 @@ impl<W: Write> Publisher<W> {
         self.journal.is_stopped()
     }
 
-    /// The best answer in the database of the published version. It never blocks.
+    /// The best answer in the database of the published version. The call never blocks.
     pub fn answer(&self, alloc: Global, request: &Request) -> Result<Answer, AllocError>
         ensures { IfOk result (IsAnswerAfter self.now.batches request.now) }
     {
@@ -146,7 +146,7 @@ impl<W: Write> Publisher<W> {
         })
     }
 
-    /// Returns a token of the published batches. It never blocks.
+    /// Returns a token of the published batches. The call never blocks.
     pub fn tell(&mut self) -> Told
         ensures batches { result.batches ≡ self.old.batches }
         ensures source { result.source ≡ self.old.source }

@@ -17,13 +17,14 @@ use std::marker::Model;
 pub struct PendingBatch {
     /// The batch.
     pub batch: Batch,
-    /// The list of batches whose last is this batch.
+    /// The list of batches that ends with this batch.
     pub known: Known,
     /// How many batches of the list change more than unreserved bandwidths.
     pub shape_changes: u32,
 }
 
-/// A table, and the batches that make its database. It is one of the two copies of a journal's table.
+/// A table, and the batches that make its database. The table is one of the two copies of a journal's
+/// table.
 #[derive(Drop)]
 pub struct Replica {
     /// The right to be one of the two copies.

@@ -37,8 +37,8 @@ use std::sync::{Arc, Wait};
 type ReplicaWriter = Writer<Replica, PendingBatch, SeatView, ReplicaRule>;
 
 /// A pair of replicas, and the count of the batches that they show. The pair holds the only right to
-/// count its source's batches. Its replicas hold the source's two copy rights, so a source has only one
-/// pair. A pair isn't `Drop`: end it by `close`.
+/// count its source's batches. Its replicas hold the two `CopyRight`s of the source, so a source has
+/// only one pair. A pair isn't `Drop`: end it by `close`.
 pub(crate) struct Replicas {
     writer: ReplicaWriter,
     right: RightToCount,
@@ -169,7 +169,7 @@ fn append_idle(writer: &mut ReplicaWriter, alloc: Global, known: &Known) -> Resu
     Ok(())
 }
 
-// The writer of two empty replicas, after its first step. The replicas hold the two copy rights of
+// The writer of two empty replicas, after its first step. The replicas hold the two `CopyRight`s of
 // their source.
 fn new_writer<R: Wait>(
     rt: &R,
@@ -238,7 +238,7 @@ fn share<R: Wait>(count: &Arc<PublishedCount>, rt: &R) -> Arc<PublishedCount>
     unreachable!()
 }
 
-// Counts the last batch of the replica that askers enter as published. Nothing else moves the count, so
+// Counts as published the last batch of the replica that askers enter. Nothing else moves the count, so
 // the loop runs only once.
 fn count_shown<R: Wait>(
     right: &mut RightToCount,
@@ -260,8 +260,8 @@ fn count_shown<R: Wait>(
 }
 
 impl Replicas {
-    /// Two empty replicas. The writer's log takes memory only here, since it never has more than two
-    /// operations later.
+    /// Two empty replicas. The writer's log takes memory only here. Later the log never has more than
+    /// two operations.
     pub(crate) fn new<R: Wait>(
         rt: &R,
         alloc: Global,

@@ -10,7 +10,7 @@ use Rattle.std.proofs.lemmas.List.Sums.{sum_by-append}
 use Rattle.cspf_model.specs.declared.link.Link.{Link}
 use Rattle.cspf_model.specs.Walks.{cost_of, locals_of, walk_cmp}
 
--- three comparisons, each made if those before it tie, may be grouped in either way
+-- `ordering_then` is associative
 
 assoc_then : (o p r : Ordering) → ordering_then (ordering_then o p) r ≡ ordering_then o (ordering_then p r)
 assoc_then Less p r = refl
@@ -22,8 +22,8 @@ neither_less Less p first second = absurd (first refl)
 neither_less Equal p first second = second
 neither_less Greater p first second = first
 
--- If two comparisons in turn aren't less, either the first is greater, or the first ties and the second
--- isn't less.
+-- If `ordering_then` of two comparisons isn't `Less`, the first is `Greater`, or the first is `Equal`
+-- and the second isn't `Less`.
 greater_or_tied : (o p : Ordering) → ordering_then o p ≢ Less → (o ≡ Greater) ⊎ ((o ≡ Equal) × (p ≢ Less))
 greater_or_tied Less p h = absurd (h refl)
 greater_or_tied Equal p h = inr (refl, h)
@@ -68,7 +68,7 @@ ties a b e = grind (arith, nat_tests)
 by_last : (a b m n : ℕ) (o : Ordering) → a ≡ b → m ≡ n → o ≢ Less → ordering_then (nat_cmp a b) (ordering_then (nat_cmp m n) o) ≢ Less
 by_last a b m n o e f h = unless_less (nat_cmp a b) (ordering_then (nat_cmp m n) o) (ties a b e) (unless_less (nat_cmp m n) o (ties m n f) h)
 
--- Two walks that aren't before two other walks: put together, they aren't before the others put
+-- Two walks aren't before two other walks. Then they aren't before these when both pairs are put
 -- together. The last comparison decides only if the costs and the numbers of links tie.
 put_together : (a b c e m n s t : ℕ) (o p r : Ordering) → IsNoEarlier a b m n o → IsNoEarlier c e s t p → (m ≡ n → o ≢ Less → p ≢ Less → r ≢ Less)
     → ordering_then (nat_cmp (a + c) (b + e)) (ordering_then (nat_cmp (m + s) (n + t)) r) ≢ Less

@@ -124,7 +124,7 @@ module _ (d : Database) (q : Request) where
       order = joined_no_earlier t.front walk t.leg links t.order least;
     }
 
-    -- the walk with these links is the least one so far, if no route is before it up to there
+    -- the walk with these links is the least walk so far, if no route is before it up to there
     one_more : IsLeastSoFar d q count router walk → (links : List Link) → IsWalk d q (walk ++ links) → end_of router links ≡ target
         → ((route : List Link) → IsRoute d q route → GoesOnInLegs d q (suc count) target (walk ++ links) route)
         → IsLeastSoFar d q (suc count) target (walk ++ links)
@@ -148,7 +148,7 @@ module _ (d : Database) (q : Request) where
           least = least;
         }
 
-    -- if the target is where the walk ends, the walk stays the least one without more links
+    -- if the walk already ends at the target, it is the least walk to the target
     pub least_after_none : IsLeastSoFar d q count router walk → target ≡ router → IsLeastSoFar d q (suc count) target walk
     least_after_none before same =
         subst (IsLeastSoFar d q (suc count) target) (append-nil walk)

@@ -1,5 +1,5 @@
--- A tree of a database is also a tree of each database with the same shape. So is the only owner of a
--- prefix.
+-- A tree of a database is also a tree of each database with the same shape. The only owner of a prefix
+-- is also its only owner there.
 use Rattle.std.proofs.Common.{◌≡◌, ℕ, ◌+◌, ◌<◌, ◌⊎◌, IsTrue, Option, Some, None, IfSome, length, slice_index, slice_index_or, refl, sym, ap, subst, inl, inr, ◌∙◌}
 use Rattle.std.specs.Prelude.{◌≢◌, bit_and, bit_xor}
 use Rattle.std.specs.Option.{option_map}
@@ -75,7 +75,7 @@ module _ (d e : Database) (one : HaveOneShape d e) where
       let m = there_too is.0 is.1 in
       (m.link, m.is_link, ends_alike router is.0 m.link m.shape is.2)
 
-  -- a prefix that covers an address of a router in `e` covers one in `d`
+  -- a prefix that covers an address of a router in `e` covers an address of that router in `d`
   covered_too : (prefix : PrefixParts) (router : ℕ) → CoversAddressOf e prefix router → CoversAddressOf d prefix router
   covered_too prefix router (inl own) = inl own
   covered_too prefix router (inr by) =

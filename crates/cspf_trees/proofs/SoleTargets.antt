@@ -24,7 +24,7 @@ alone [] one = absurd (omega arith)
 alone (x ∷ []) one = refl
 alone (x ∷ (y ∷ xs)) one = absurd (omega arith)
 
--- if a prefix is owned at one index alone, the router at that index is its only owner
+-- if the list of a prefix's owners has only one index, the router at that index is the only owner
 pub sole_owner_at : (d : Database) (prefix : PrefixParts) (places : List ℕ) → length places ≡ 1 → AreOwners d prefix places
     → ((router : ℕ) → Contains (router_list d) router ↔ IsRouterOf d router) → IsSoleOwner d prefix (slice_index (router_list d) (slice_index places 0))
 sole_owner_at d prefix places one are known =
@@ -62,7 +62,7 @@ module _ (d : Database) (q : Request) where
         sole = λ other target. subst (λ o. IsTargetOf d q.to o other) past target;
       }
 
-  -- the targets of the first legs, with one more target
+  -- the targets of the first legs, with the target of the next leg, are right
   pub targets_push : (targets : List ℕ) (router : ℕ) → ((at : ℕ) → at < length targets → IsSoleTarget d q at (slice_index targets at)) → IsSoleTarget d q (length targets) router
       → (at : ℕ) → at < length (targets ++ (router ∷ [])) → IsSoleTarget d q at (slice_index (targets ++ (router ∷ [])) at)
   targets_push targets router each last at within =

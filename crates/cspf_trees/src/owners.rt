@@ -1,4 +1,4 @@
-//! Keeps, for one database, the only owners of prefixes.
+//! Keeps which router is the only owner of a prefix in one database.
 
 ghost use Rattle.std.specs.Prelude.{◌<◌, ◌≤◌, All, IfOk, IfSome};
 ghost use Rattle.cspf_trees.specs.LegsInTurn.{IsSoleOwner};

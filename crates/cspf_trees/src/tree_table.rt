@@ -75,7 +75,7 @@ impl TreeTable {
     }
 
     /// Absorbs a batch as `Table::try_absorb` does. The trees are kept if an absorbed batch changes
-    /// only unreserved bandwidths, and else forgotten.
+    /// only unreserved bandwidths. After any other absorbed batch they are forgotten.
     pub fn try_absorb(&mut self, batch: &Batch) -> Result<(), Refusal>
         ensures ok { OnOk result (Fits self.old.database batch.now) }
         ensures changed { OnOk result (self.new ≡ record self.old {

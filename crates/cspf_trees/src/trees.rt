@@ -133,8 +133,8 @@ impl Trees {
     }
 
     /// Counts an ask for the class of a request, and returns the index of its row. It is `None` if
-    /// other classes have all rows of the class, if no trees are allowed, or if memory for the rows is
-    /// refused.
+    /// other classes have all rows that the class may be in. It is also `None` if no trees are allowed,
+    /// or if memory for the rows is refused.
     fn ask_row(&mut self, alloc: Global, table: &Table, request: &Request) -> Option<usize>
         requires { AreTreesOf table.now self.old }
         ensures trees { AreTreesOf table.now self.new }

@@ -29,7 +29,7 @@ impl fmt::Display for Unfit {
     }
 }
 
-/// Why a reader stopped, if it did. The thread that reads sets it, and another one reads it.
+/// Why a reader stopped, if it did. The thread that reads sets the cause, and another thread reads it.
 pub type Cause = Arc<AtomicU8, Global>;
 
 /// The reader didn't stop.
@@ -50,8 +50,8 @@ pub(crate) fn unfit_of(cause: &Cause) -> Option<Unfit> {
     }
 }
 
-/// A reader of rows. It passes on all bytes before the first quotation mark, and before the first byte
-/// by which a line is too long. There its reads fail.
+/// A reader that passes the bytes of rows on. Its reads fail at a quotation mark, and at the byte that
+/// makes a line too long.
 #[derive(Drop)]
 pub struct Bounded<R> {
     rows: R,
@@ -74,8 +74,8 @@ impl<R: Drop> Bounded<R> {
 }
 
 impl<R> Bounded<R> {
-    /// Counts a byte that may be passed on, and returns `NO_CAUSE`. For any other byte it returns the
-    /// cause.
+    /// Counts a byte that may be passed on, and returns `NO_CAUSE`. Otherwise it returns why the byte
+    /// isn't passed on.
     fn take(&mut self, byte: u8) -> u8 {
         match byte {
             b'"' => return QUOTE,

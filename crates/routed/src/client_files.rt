@@ -42,8 +42,8 @@ impl<'a> ClientNames<'a> {
     }
 }
 
-/// Refuses a call without clients or with more than `MOST_ASKERS`, and files that can't be used. It
-/// opens no file, so a refusal leaves all files as they are.
+/// Refuses a call without clients, with more than `MOST_ASKERS` clients, or with files that can't be
+/// used. It opens no file, so a refusal leaves all files as they are.
 pub(crate) fn check_clients(call: &Call<'_, '_>, words: &[&str]) -> Result<(), Stopped>
     ensures { IfOk result (λ _. (0 < length words.now) × (length words.now ≤ MOST_ASKERS)) }
 {
@@ -122,8 +122,8 @@ fn check_empty(rt: &HostRuntime, words: &[&str]) -> Result<(), Stopped> {
     Ok(())
 }
 
-/// Where a file is: its device and inode. For a file that doesn't exist yet, these are its folder's,
-/// and `new` is its name in the folder.
+/// Where a file is: its device and inode. If the file doesn't exist yet, these are the device and inode
+/// of its folder, and `new` is the file's name there.
 #[derive(Clone, Copy)]
 struct Place<'a> {
     device: u64,
@@ -178,7 +178,7 @@ struct Named<'a> {
 }
 
 impl<'a> Named<'a> {
-    /// Whether both have one name, or lead to one file that the run writes.
+    /// Whether both files have the same name, or both names lead to one file that the run writes.
     fn is_shared(&self, other: &Named<'a>) -> bool {
         if self.path == other.path {
             return true;

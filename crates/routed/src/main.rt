@@ -35,8 +35,8 @@ use std::sync::Wait;
 use std::thread::Threads;
 use std::{env, io};
 
-/// Runs the command that the arguments name. If standard error is closed, nobody sees why they are
-/// refused.
+/// Runs the command that the arguments name. If standard error is closed, nobody sees why the arguments
+/// are refused.
 fn run<T: Threads + Wait + Sync>(rt: &HostRuntime, handle: &T, words: &[String]) -> u8 {
     match parse(rt.alloc(), words) {
         Ok(found) => obey(rt, handle, &found),

@@ -1,4 +1,4 @@
-//! Finds the row for which a file is refused, for `--explain`. The file is read a second time.
+//! Finds the refused row of a file, for `--explain`. The file is read a second time.
 
 use crate::ends::say_at;
 use crate::options::{ACCEPT_TORN, Call, CommandOption, REQUESTS};
@@ -119,15 +119,15 @@ fn is_next<R: Read>(rows: &mut Reader<R>, fields: &mut ByteRecord) -> Option<boo
     rows.read_byte_record(fields).ok()
 }
 
-/// The row for which a file is refused: a journal, or a file of requests. It is `None` if the file
-/// can't be read to its end.
+/// The refused row of a file, which is a journal or a file of requests. It is `None` if no row is
+/// refused, or if the file can't be read to its end.
 fn refused_row<R: Read + Drop>(alloc: Global, file: R, is_journal: bool) -> Option<RefusedRow> {
     let mut rows = open_records(alloc, file);
     let mut fields = ByteRecord::new(alloc);
     refused_of(&mut rows, &mut fields, is_journal)
 }
 
-/// The first of these rows for which the file is refused.
+/// The first of these rows that is refused, if any.
 fn refused_of<R: Read>(
     rows: &mut Reader<R>,
     fields: &mut ByteRecord,
@@ -144,7 +144,8 @@ fn refused_of<R: Read>(
             return progress.last(row - 1);
         }
         progress.take(row, fields);
-        // A journal is read on, since too many rows are refused whatever came before them.
+        // A journal is read on after a refused row: if it has too many rows, the row that is too many
+        // is the refused one.
         if !is_journal && progress.refused.is_some() {
             return progress.refused;
         }
@@ -166,8 +167,8 @@ fn again(rt: &HostRuntime, path: &str) -> Option<File> {
     File::open(rt, path).ok()
 }
 
-/// Writes for which row the run's first refused file is refused. The files are those that the command's
-/// options give.
+/// Finds the first refused file of a run, and writes which of its rows is refused. The options are
+/// those of the command.
 pub(crate) fn explain_rows(call: &Call<'_, '_>, options: &[CommandOption]) {
     for option in options {
         if option.has_rows() && !is_accepted(call, option.name()) {
@@ -176,8 +177,8 @@ pub(crate) fn explain_rows(call: &Call<'_, '_>, options: &[CommandOption]) {
     }
 }
 
-/// Writes for which row the file of an option is refused, if it is. Returns whether the next file is to
-/// be read as well.
+/// Writes which row of an option's file is refused, if any. Returns whether the next file is to be read
+/// as well.
 fn is_accepted(call: &Call<'_, '_>, option: &'static str) -> bool {
     let is_journal = option != REQUESTS;
     if is_journal && call.has(ACCEPT_TORN) {

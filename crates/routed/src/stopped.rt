@@ -31,7 +31,7 @@ pub enum Stopped {
 pub type Ran = Result<u8, Stopped>;
 
 impl Stopped {
-    /// The reason that this call on this device failed.
+    /// Why the program stops: this call on this device failed.
     pub(crate) fn at(device: &'static str, action: &'static str, error: io::Error) -> Stopped {
         Stopped::Device(Fault {
             device,
