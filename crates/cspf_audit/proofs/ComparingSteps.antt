@@ -20,7 +20,7 @@ pub claim_at : (requests : List Request) (last : ℕ) (lines : List (List ℕ)) 
     → IsClaim requests last lines (get_or claims i d)
 claim_at requests last lines claims i d are within = are (get_or claims i d) (i, within, get_or_default claims i (get_or claims i d) d within)
 
--- the request and the line of that claim are in their lists
+-- the indexes of that claim's request and line are within their lists
 pub claim_within : (requests : List Request) (last : ℕ) (lines : List (List ℕ)) (claims : List Claim) (i : ℕ) (d : Claim) → AreClaims requests last lines claims → i < length claims
     → ((get_or claims i d).request < length requests) × ((get_or claims i d).line < length lines)
 claim_within requests last lines claims i d are within =

@@ -115,7 +115,7 @@ module _ (requests : List Request) (i : ℕ) (r : Request) (within : i < length 
 
 -- ---- requests that are in the list
 
--- a request of the list doesn't have an id that none of the list has
+-- if no request of a list has an id, each request of the list has another id
 pub lack_one : (id : ℕ) (requests : List Request) (q : Request) → LackId requests id → Contains requests q → q.id ≢ id
 lack_one id [] q lack (k, within, is) = absurd (omega (arith, within))
 lack_one id (r ∷ requests) q lack (zero, within, is) = λ same. lack.0 (ap (λ (x : Request). x.id) is ∙ same)

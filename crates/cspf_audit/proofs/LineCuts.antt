@@ -8,7 +8,7 @@ use Rattle.cspf_rows.specs.declared.limits.TheConstants.{MOST_ROWS}
 use Rattle.cspf_audit.specs.Lines.{HasNoFeed, AreLines, IsLastLine, HasTooManyLines}
 use Rattle.cspf_audit.specs.LineReading.{IsLineBefore, TakesLine, AreSeen}
 
--- ---- each text has lines
+-- ---- each text consists of lines
 
 put_first : (x : ℕ) (text : List ℕ) → x ≢ 10 → (lines : List (List ℕ)) → AreLines text lines → (more : List (List ℕ)) × AreLines (x ∷ text) more
 put_first x text other [] are = ((x ∷ []) ∷ [], ((other, tt), inl ((rw are refl, λ same. absurd (cc)), refl)))

@@ -48,7 +48,7 @@ claim_more requests last seen line claim is =
       within = is.within;
     }
 
--- the findings, with the finding of one more line
+-- the findings stay right with the finding of one more line
 pub found_more : (batches : List NumberedChanges) (requests : List Request) (seen : List (List ℕ)) (line : List ℕ) (claims more : List Claim) (findings : List Finding) (found : Finding)
     → AreOpenFindings batches requests seen claims findings
     → IsFinding batches requests seen line found ⊎ ((found ≡ finding.Good) × IsClaimed (claims ++ more) (length seen))

@@ -202,7 +202,7 @@ module _ (one : HasOneHead) (batches : List NumberedChanges) (requests : List Re
             only (zero, low, same) = same
             only (suc k, low, same) = absurd (omega arith)
 
--- the lists after the call are those of one more line
+-- if the state of the audit has these lists, it is the state after one more line
 pub has_read : (batches : List NumberedChanges) (requests : List Request) (seen : List (List ℕ)) (replies : ReplyFindings) (findings : List Finding) (claims : List Claim) (named : List Bool)
     → replies.findings.items ≡ findings → replies.claims.items ≡ claims → replies.named.items ≡ named
     → AreOpenFindings batches requests seen claims findings × AreClaims requests (length batches) seen claims × AreNamed requests seen named → HasReadLines batches requests replies seen

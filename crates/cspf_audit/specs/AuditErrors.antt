@@ -82,8 +82,8 @@ IsOneTooLong journal requests text =
     ⊎ (HasOwnRequests requests × HasTooManyLines text)))
 
 -- Why streams aren't audited: the first reason that applies. The journal, its batches, the requests,
--- their ids and the replies are checked in this order. A reason says something only of streams whose
--- bytes are known.
+-- their ids and the replies are checked in this order. Nothing is claimed of a stream whose bytes
+-- aren't known.
 abbrev pub IsAuditError : Option (List ℕ) → Option (List ℕ) → Option (List ℕ) → AuditError → Type 0
 IsAuditError journal requests replies error.Memory = Unit {0}
 IsAuditError journal requests replies error.Device = Unit {0}

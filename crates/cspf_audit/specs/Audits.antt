@@ -25,7 +25,7 @@ abbrev pub with_fault : Option AuditFault → List AuditFault → List AuditFaul
 with_fault None faults = faults
 with_fault (Some f) faults = f ∷ faults
 
--- the faults of lines, of which the first is at this place
+-- The faults of lines. The first line is at this place.
 abbrev pub faults_from : ℕ → List Finding → List AuditFault
 faults_from place [] = []
 faults_from place (found ∷ findings) = with_fault (fault_at place found) (faults_from (place + 1) findings)

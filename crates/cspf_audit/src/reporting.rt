@@ -1,4 +1,5 @@
-//! Makes the faults of an audit, from the findings of the lines and from which requests have a line.
+//! Makes the faults of an audit from the findings of the lines, and from the list that says which
+//! requests have a line.
 
 ghost use Rattle.std.specs.Prelude.{◌≡◌, ◌++◌, ◌≤◌, List, ℕ, length, IfOk, OnOk};
 ghost use Rattle.cspf_rows.specs.declared.limits.TheConstants.{MOST_ROWS};

@@ -42,7 +42,7 @@ count_from-le r n (Recorded b ∷ xs) le p = omega (arith, count_from-le (r + 1)
 count_from-le r n (Published m ∷ xs) le p = count_from-le r m xs p.1 p.2
 count_from-le r n (Read reader place m ∷ xs) le p = count_from-le r n xs le p.1
 
--- counts don't fall
+-- the count doesn't fall
 count_from-grows : (r n : ℕ) (xs : List LogStep) → AreOrderedFrom r n xs → n ≤ count_from n xs
 count_from-grows r n [] p = omega arith
 count_from-grows r n (Recorded b ∷ xs) p = count_from-grows (r + 1) n xs p

@@ -23,7 +23,7 @@ IsPrefix-up_to first seen steps e pre up =
     let rest = up.0 ++ e ∷ [] in
     (pre.0 ++ rest, sym (append_assoc first pre.0 rest) ∙ (ap (λ (w : List LogStep). w ++ rest) pre.1 ∙ (sym (append_assoc seen up.0 (e ∷ [])) ∙ sym up.1)))
 
--- the version after a count is read: the larger of the two
+-- the version after a count is read: the larger of the version and the count
 abbrev pub IsRaised : ℕ → ℕ → ℕ → Type 0
 IsRaised version count raised = ((raised ≡ version) × (count ≤ version)) ⊎ ((raised ≡ count) × (version ≤ count))
 

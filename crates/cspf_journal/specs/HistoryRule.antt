@@ -38,7 +38,6 @@ reading_of (Recorded b) found = Recorded b
 reading_of (Published count) found = Published count
 reading_of (Read reader place count) found = Read reader place found
 
--- the reading comes after all seen steps, and at least as many batches are recorded as it finds
--- published
+-- the reading comes after all seen steps, and finds at most as many published batches as are recorded
 abbrev pub Reads : Step LogStep → View LogStep ℕ → ℕ → View LogStep ℕ → Type 0
 Reads s v found w = AreStepsUpTo v.0 w.0 (reading_of s.ask found) × (found ≤ length (batches_of w.0)) × AreJournalSteps w.0

@@ -36,7 +36,7 @@ AreOrderedFrom recorded published (Published count ∷ steps) =
 AreOrderedFrom recorded published (Read reader place count ∷ steps) =
     (count ≡ published) × AreOrderedFrom recorded published steps
 
--- The steps of one journal from its first on.
+-- The steps of one journal from its first step on.
 pub record AreJournalSteps (steps : List LogStep) : Type 0 where
   pub history : IsHistory (batches_of steps)
   pub order : AreOrderedFrom 0 0 steps

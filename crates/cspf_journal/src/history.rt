@@ -26,7 +26,7 @@ impl Rule<LogStep, u64> for History {
     ghost moves = { λ ask before after answer. Unit {0} };
 }
 
-/// A caller keeps no value of a step, only the knowledge of the steps.
+/// A step gives its caller only the knowledge of the steps.
 pub struct NoGain;
 
 impl Gain<LogStep, u64> for NoGain {
@@ -82,8 +82,7 @@ impl Play<LogStep, u64> for ReadCount {
     ghost then = { Reads };
 }
 
-/// A caller gives the row to the step. The count of the reading is the count that the step finds,
-/// instead of 0.
+/// A caller gives the row to the step. The 0 is replaced by the count that the step finds.
 impl Plain<RowOfReader, LogStep, u64> for ReadCount {
     ghost use Rattle.std.specs.Prelude.{None};
     ghost use Rattle.cspf_journal.specs.declared.log_step.LogStep.TheVariants.{Read};

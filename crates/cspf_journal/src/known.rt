@@ -73,8 +73,8 @@ impl Known {
         }
     }
 
-    /// Knows the batches of `other` from then on, if they aren't fewer than the known batches. Returns
-    /// whether this is so. The shorter list is a prefix of the longer list.
+    /// Takes over the batches of `other`, if they aren't fewer than the known batches. Returns whether
+    /// it does. The shorter list is a prefix of the longer list.
     pub fn raise(&mut self, other: &Known) -> bool
         requires { other.now.source ≡ self.old.source }
         ensures { MatchBool result

@@ -1,10 +1,10 @@
 //! The journal of a publisher: the list of its batches, which of these batches are known, and the
 //! writer that gets their texts.
 //!
-//! Only `NewJournal::new` makes a list, and each list has another source. Only `JournalWriter::record`
-//! makes a longer list known, after the last batch's text is written whole. Nothing else makes a
-//! `Known` or a list. So no other crate can show a batch before its text is written, not even in a call
-//! that never returns.
+//! Only `NewJournal::new` makes a list, and each list has a different source. Only
+//! `JournalWriter::record` makes a longer list known, after the last batch's text is written whole.
+//! Nothing else makes a `Known` or a list. So no other crate can show a batch before its text is
+//! written, not even in a call that never returns.
 //!
 //! The count of published batches is a counter that threads share. The holder of a journal's
 //! `RightToCount` raises the counter by one for each batch that the holder shows. A `Known` that reads

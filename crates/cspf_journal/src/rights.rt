@@ -130,7 +130,8 @@ impl Model for RightToShow {
 }
 
 impl RightToShow {
-    /// The right to show, made of the right to count, the count that this raises, and two copy rights.
+    /// The right to show the batches. It holds the right to count them, the count that this right
+    /// raises, and two `CopyRight`s.
     pub(crate) fn new(right: RightToCount, count: PublishedCount) -> RightToShow
         requires { count ≡ right.source }
         ensures { result ≡ right }
@@ -152,7 +153,8 @@ impl RightToShow {
         self.right.known()
     }
 
-    /// The right to count the shown batches, the count that this right raises, and the two copy rights.
+    /// The right to count the shown batches, the count that this right raises, and the two
+    /// `CopyRight`s.
     pub fn split(self) -> (RightToCount, PublishedCount, CopyRight, CopyRight)
         ensures right { result.0 ≡ self }
         ensures count { result.1 ≡ self.source }

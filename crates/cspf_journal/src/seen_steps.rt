@@ -51,8 +51,7 @@ impl SeenSteps {
         }
     }
 
-    /// Knows the steps of `other` from then on, besides those that it knew. A later reading finds at
-    /// least the count of both.
+    /// Adds the steps of `other` to the known steps. A later reading finds at least the count of each.
     pub fn learn(&mut self, other: &SeenSteps)
         requires { other.now.source ≡ self.old.source }
         ensures source { self.new.source ≡ self.old.source }

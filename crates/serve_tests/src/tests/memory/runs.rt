@@ -200,7 +200,8 @@ fn serves<T: Threads + Wait + Sync>(
     }
 }
 
-/// It is `None` if memory for a writer or the client is refused.
+/// Whether a run over the updates and one client ends as it should. It is `None` if memory for a writer
+/// or the client is refused.
 fn serves_one<T: Threads + Wait + Sync>(rt: &T, alloc: Global) -> Option<bool> {
     let clients = clients(alloc)?;
     Some(serves(rt, alloc, writers(alloc)?, clients))

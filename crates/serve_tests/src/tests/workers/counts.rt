@@ -13,7 +13,7 @@ const TURNS: u32 = 1_000_000;
 pub(crate) struct Counts {
     reached: Vec<AtomicU64>,
     answered: Vec<AtomicU64>,
-    /// How many requests have to be reached before any is asked.
+    /// How many requests have to be reached before any request is asked.
     all: u64,
     came: AtomicU64,
     faults: AtomicU64,

@@ -179,8 +179,8 @@ fn tells_of_each<T: Threads + Wait + Sync>(
     Ok(answers(rt, alloc, Run::Batch, count, 3, &tally)? && tally.is_whole())
 }
 
-/// There are more requests than are answered before lines are written. The gate is called with the
-/// index of a request among all requests.
+/// There are more requests than a run answers before it writes lines. The gate is called with the index
+/// of a request among all requests.
 #[test]
 fn what_workers_tell_of_many_rows(rt: HostRuntime) -> Result<(), AllocError> {
     assert!(rt; tells_of_each(&rt, rt.alloc(), 32_768 * 2 + 3)?);
@@ -284,7 +284,8 @@ fn what_workers_tell(rt: HostRuntime) -> Result<(), Fail> {
     Ok(())
 }
 
-/// Whether this is also so in a live run, which applies a batch.
+/// Whether one worker of a live run asks request 0, and the other worker asks the requests 1, 2 and 3.
+/// The run applies a batch.
 fn tell_of_four_live<R: Threads + Wait + Abort + Sync>(
     rt: &R,
     alloc: Global,
@@ -308,7 +309,8 @@ fn what_live_workers_tell(rt: HostRuntime) -> Result<(), Fail> {
     Ok(())
 }
 
-/// Whether this is also so in a run over rows.
+/// Whether one worker of a run over rows asks request 0, and the other worker asks the requests 1, 2
+/// and 3.
 fn tell_of_rows<T: Threads + Wait + Sync>(
     rt: &T,
     alloc: Global,
