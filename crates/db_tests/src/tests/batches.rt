@@ -320,7 +320,7 @@ fn has_routers(table: &Table, routers: &[(u32, bool)]) -> bool {
 const TOO_MANY: Result<(), Refusal> = Err(Refusal::TooManyRouters);
 
 // Changes of a table with one link from the router 0 to each of the routers 1 to 1,023, and what the
-// table answers. Then routers, and whether the table has each of them after that.
+// table answers. The last item lists routers, and whether the table has each of them after the changes.
 const STAR: &[(&[Edit], Result<(), Refusal>, &[(u32, bool)])] = &[
     // another router comes: alone, and as a router goes
     (&[Put(0, 1024, 1024, 1025)], TOO_MANY, &[(1024, false)]),
@@ -329,14 +329,14 @@ const STAR: &[(&[Edit], Result<(), Refusal>, &[(u32, bool)])] = &[
         Ok(()),
         &[(1024, true), (1023, false)],
     ),
-    // a link is moved to another router, which may have a link as well
+    // a link is moved to another router, which in the second case gets a link as well
     (&[Put(0, 5, 2000, 4)], Ok(()), &[(2000, true), (5, false)]),
     (
         &[Put(0, 6, 3000, 7), Put(3000, 3001, 0, 3000)],
         Ok(()),
         &[(3000, true), (6, false)],
     ),
-    // a router that stays has a link to another one
+    // a router that stays gets a link to another router
     (&[Put(7, 7, 4000, 6)], TOO_MANY, &[(4000, false)]),
     // two links are moved to other routers
     (
@@ -346,8 +346,8 @@ const STAR: &[(&[Edit], Result<(), Refusal>, &[(u32, bool)])] = &[
     ),
 ];
 
-// What such a table answers to the batch, by one call or by two. Then whether the table has the routers
-// whose flags are set, and not the others.
+// What such a table answers to the batch, by one call or by two. The second result is whether the table
+// then has the routers whose flags are set, and lacks the others.
 fn change_star(
     alloc: Global,
     star: &Batch,
@@ -397,7 +397,7 @@ fn assert_owners(rt: &impl Abort, table: &Table) -> Result<(), Fail> {
     Ok(())
 }
 
-// Which routers own an interface and other addresses.
+// Which routers own prefixes of an interface and of other addresses.
 #[test]
 fn owners_of_prefixes(rt: HostRuntime) -> Result<(), Fail> {
     let one_link = [Put(ONE, INTERFACE, TWO, INTERFACE ^ 1)];

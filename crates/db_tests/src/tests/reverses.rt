@@ -61,7 +61,7 @@ fn count_out(table: &Table, out: &[Link], reverses: &[u16]) -> Option<u32> {
 }
 
 // How many links of the table have a reverse. It is `None` if the table and a plain search differ about
-// one.
+// the reverse of a link.
 fn count_reverses(table: &Table) -> Option<u32> {
     let mut both = 0u32;
     for at in 0..table.routers().len() {
@@ -97,8 +97,8 @@ const COME: &[Step] = &[
     (&[BACK], &[1, 0], true),
 ];
 
-// The link and its reverse come in two batches, and later in one batch. After the link goes alone, the
-// table has the reverse of a link that it lacks.
+// The link and its reverse come in two batches, and later in one batch. When only the link goes, the
+// table still has the reverse of a link that it lacks.
 const COME_AND_GO: &[Step] = &[
     (&[THERE], &[NO_LINK], false),
     (&[BACK], &[1, 0], true),

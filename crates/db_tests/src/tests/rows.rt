@@ -219,7 +219,7 @@ const ALL: &[u32] = &[
     1, 2, 3, 4, 5, 6, 7, 8, 9, 10, 11, 12, 13, 14, 20, 21, 22, 30, 31, 32, 33, 34,
 ];
 
-// Pairs of routers, whether the links between them are put or removed, and the routers after that.
+// Pairs of routers, whether the links between them are put or removed, and the routers after that step.
 const STEPS: &[(&[(u32, u32)], bool, &[u32])] = &[
     (&[(10, 30), (30, 20), (20, 10)], true, &[10, 20, 30]),
     (

@@ -57,8 +57,8 @@ fn started(alloc: Global) -> Result<Table, Fail> {
     Ok(table)
 }
 
-// How many batches, before the first wrong answer, are said to change the shape, or to keep it, as
-// wanted.
+// How many of the batches get the wanted answer, up to the first that doesn't. The answer says whether
+// a batch changes the shape.
 fn right(alloc: Global, batches: &[&[Edit]], wanted: bool) -> Result<usize, Fail> {
     let table = started(alloc)?;
     for (at, edits) in batches.iter().enumerate() {
