@@ -19,8 +19,8 @@ use Rattle.cspf_audit.specs.Lines.{AreLines, HasTooManyLines}
 use Rattle.cspf_audit.specs.Requests.{HaveOwnIds, RepeatsId}
 use Rattle.cspf_audit.specs.Audits.{IsAudit}
 
--- The journal has at most `MOST_ROWS` records. They are these batches, with no rows after them. Each
--- batch fits the database of the batches before it.
+-- The journal has at most `MOST_ROWS` records. The records are these batches, with no rows after them.
+-- Each batch fits the database of the batches before it.
 pub record IsLawfulJournal (records : Records) (batches : List NumberedChanges) : Type 0 where
   pub few : length records ≤ MOST_ROWS
   pub journal : IsJournal records batches rest.Clean

@@ -52,8 +52,8 @@ AreUnanswered lines (q ∷ requests) faults =
     ⊎ ((¬ IsNamed lines q.id)
     × ((more : List AuditFault) × (faults ≡ fault.Unanswered q.id ∷ more) × AreUnanswered lines requests more))
 
--- The audit of lines, by a journal's batches and the requests. Its faults are those of the lines, in
--- their order, and then the requests that no line names. It counts the good lines.
+-- The audit of lines, by a journal's batches and the requests. The faults are those of the lines, in
+-- their order, and then the requests that no line names. The audit also counts the good lines.
 pub record IsAudit (batches : List NumberedChanges) (requests : List Request) (lines : List (List ℕ)) (audit : Audit) : Type 0 where
   pub findings : List Finding
   pub unanswered : List AuditFault

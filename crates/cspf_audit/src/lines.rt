@@ -78,7 +78,7 @@ fn read_all<B: BufRead>(
     }
 }
 
-/// Reads the next line. It is `None` at the end.
+/// Reads the next line. The result is `None` at the end.
 fn next_line<B: BufRead>(alloc: Global, reader: &mut B) -> Result<Option<ReplyLine>, AuditError>
     ensures takes { IfOk result (TakesLine (B.remaining reader.old) (B.remaining reader.new)) }
     ensures error { IfErr result IsReadingFault }

@@ -59,8 +59,8 @@ AreOrderedFrom-first r n (Read reader place m ∷ xs) ys p = (p.0, AreOrderedFro
 count_of-le : (xs ys more : List LogStep) → AreOrderedFrom 0 0 (xs ++ (ys ++ more)) → count_of xs ≤ 0 + length (batches_of xs)
 count_of-le xs ys more p = count_from-le 0 0 xs (omega arith) (AreOrderedFrom-first 0 0 xs (ys ++ more) p)
 
--- A reading comes after some steps. It finds at least the count before these steps, and at most as many
--- batches as are recorded.
+-- A reading comes after some steps. The reading finds at least the count before these steps, and at
+-- most as many batches as are recorded.
 found_in : (r n : ℕ) (xs : List LogStep) (reader place found : ℕ) → n ≤ r → AreOrderedFrom r n (xs ++ Read reader place found ∷ []) → (n ≤ found) × (found ≤ r + length (batches_of xs))
 found_in r n [] reader place found le p = (omega (arith, p.0), omega (arith, p.0, le))
 found_in r n (Recorded b ∷ xs) reader place found le p = let rest = found_in (r + 1) n xs reader place found (omega (arith, le)) p in (rest.0, omega (arith, rest.1))

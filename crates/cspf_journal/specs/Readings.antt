@@ -7,7 +7,7 @@ use Rattle.cspf_journal.specs.declared.log_step.LogStep.{LogStep}
 use Rattle.cspf_journal.specs.declared.log_step.LogStep.TheVariants.{Read}
 
 -- The count of published batches is read for the row of a reader at this place, in a step after all
--- seen steps. It is at least the count of the seen steps. Then at least as many batches are known as
+-- seen steps. The count is at least that of the seen steps. Then at least as many batches are known as
 -- the count says, and all of them are recorded. Either no batch is newly known, or exactly as many
 -- batches are known as the count says.
 pub record CatchesUp (before after : KnownBatches) (seen steps : KnownSteps) (reader place count : ℕ) : Type 0 where

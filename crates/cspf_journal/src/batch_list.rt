@@ -51,8 +51,8 @@ impl BatchList {
         (BatchList { word, kept }, RightToShow::new(right, count))
     }
 
-    /// Adds a batch in one step. The result is the longer list, which isn't kept yet. It is `None` if
-    /// the list has more batches than are kept: then the batch isn't added.
+    /// Adds a batch in one step. Returns the longer list, which isn't kept yet. Returns `None` if the
+    /// list has more batches than are kept: then the batch isn't added.
     pub(crate) fn add(&self, batch: &Batch) -> Option<Known>
         requires { MayFollow self.now.batches batch.now }
         ensures { IfSome result (λ longer.

@@ -52,8 +52,8 @@ impl RightToCount {
         self.known.copy()
     }
 
-    /// Counts the last batch of `published` as published. Returns whether it did. It doesn't if the
-    /// counter has another count than this right, which happens in no run.
+    /// Counts the last batch of `published` as published. Returns whether it did. The call doesn't
+    /// count if the counter has another count than this right, which happens in no run.
     pub fn count(&mut self, word: &PublishedCount, published: &Known) -> bool
         requires word { word.now ≡ self.old.source }
         requires next { (b : NumberedChanges)
@@ -70,7 +70,7 @@ impl RightToCount {
         true
     }
 
-    /// The steps up to the last count. They record the published batches, and count as many.
+    /// The steps up to the last count. These steps record the published batches, and count as many.
     pub fn steps(&self) -> SeenSteps
         ensures source { result.source ≡ self.now.source }
         ensures count { count_of result.steps ≡ length self.now.batches }
@@ -81,7 +81,8 @@ impl RightToCount {
 }
 
 /// The right to keep one copy of the table of a journal's batches. Each journal gives two such rights,
-/// and they can't be copied. Contracts see the right as its journal's source. It takes no memory.
+/// and they can't be copied. Contracts see the right as its journal's source. The right takes no
+/// memory.
 #[derive(Drop)]
 pub struct CopyRight {
     steps: SeenSteps,

@@ -15,7 +15,7 @@ abbrev pub are_distinct : List ChangeKey → Bool
 are_distinct [] = true
 are_distinct (k ∷ ks) = list_all (λ j. not (eq_by_cmp change_key_cmp k j)) ks && are_distinct ks
 
--- whether the database has the link that a change removes. It is true for other changes.
+-- true, unless the change removes a link that the database doesn't have
 abbrev pub is_present : Database → Change → Bool
 is_present d (Put l) = true
 is_present d (Remove from local) = is_some (link_at d (from, local))

@@ -20,8 +20,9 @@ use std::alloc::Global;
 use std::marker::Model;
 use std::sync::Arc;
 
-/// An asker answers requests, and knows the batches up to the last version that it saw or learnt.
-/// One thread uses it at a time, and it may be moved to another thread. Its calls never block.
+/// An asker answers requests, and knows the batches up to the last version that it saw or learnt. One
+/// thread uses an asker at a time, and the asker may be moved to another thread. The calls of an asker
+/// never block.
 #[derive(Drop)]
 pub struct Asker {
     seat: AskerSeat,

@@ -26,7 +26,7 @@ pub(crate) type ReplicaReader = Reader<Replica, SeatView, ReplicaRule>;
 pub(crate) struct AskerSeat {
     /// The reader of the published replica.
     pub(crate) reader: ReplicaReader,
-    /// Trees of the database that the asker entered last. It is `None` before the first entry.
+    /// Trees of the database that the asker entered last. The field is `None` before the first entry.
     pub(crate) trees: Option<KnownTrees>,
     /// How many trees the asker keeps at most.
     pub(crate) most_trees: usize,

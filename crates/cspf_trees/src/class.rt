@@ -6,7 +6,8 @@ use crate::limits::{MOST_TREES, WAYS};
 use cspf_addr::{Addr, Mask};
 use cspf_model::Request;
 
-/// A class of requests: all requests with this tail-end and these affinities. They share one tree.
+/// A class of requests: all requests with this tail-end and these affinities. The requests of a class
+/// share one tree.
 #[derive(Clone, Copy, Debug, PartialEq, Eq)]
 pub(crate) struct Class {
     /// The tail-end.

@@ -139,10 +139,10 @@ fn go_on(
     }
 }
 
-/// The best answer to a request whose hops are all loose, each owned by only one router. It is found
-/// leg by leg. It is `None` for other requests, and if the head-end or the tail-end is unknown. It is
-/// also `None` if the walk would pass a router without transit between two legs, or would have more
-/// than `MOST_ROUTE_LINKS` links.
+/// The best answer to a request whose hops are all loose, each owned by only one router. The answer is
+/// found leg by leg. The result is `None` for other requests, and if the head-end or the tail-end is
+/// unknown. The result is also `None` if the walk would pass a router without transit between two legs,
+/// or would have more than `MOST_ROUTE_LINKS` links.
 pub(crate) fn best_by_legs(
     trees: &mut Trees,
     alloc: Global,

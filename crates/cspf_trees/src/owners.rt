@@ -25,8 +25,8 @@ pub(crate) struct Owners {
     ghost past: { All (λ row. row.generation ≤ generation) rows.items },
 }
 
-/// The only router that owns a prefix, found by a look at each router. It is `None` if no router or
-/// several routers own the prefix.
+/// The only router that owns a prefix, found by a look at each router. The result is `None` if no
+/// router or several routers own the prefix.
 fn read_owner(alloc: Global, table: &Table, prefix: Prefix) -> Result<Option<Addr>, AllocError>
     ensures { IfOk result (λ found. IfSome found (IsSoleOwner table.now prefix)) }
 {
@@ -114,8 +114,8 @@ impl Owners {
         owner_in(&self.rows[owner_index(prefix)], self.generation, prefix)
     }
 
-    /// The only owner of a prefix. It is `None` if no router or several routers own the prefix. If the
-    /// owner isn't kept yet, it is found by a look at each router, and then kept.
+    /// The only owner of a prefix. The result is `None` if no router or several routers own the prefix.
+    /// If the owner isn't kept yet, it is found by a look at each router, and then kept.
     pub(crate) fn sole_owner(
         &mut self,
         alloc: Global,

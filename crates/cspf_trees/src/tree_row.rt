@@ -52,8 +52,8 @@ pub(crate) fn empty_rows(alloc: Global) -> Result<Vec<TreeRow>, AllocError>
     Ok(rows)
 }
 
-/// Grows a tree for the class of a request. It is `None` if memory is refused or the tail-end is
-/// unknown.
+/// Grows a tree for the class of a request. The result is `None` if memory is refused or the tail-end
+/// is unknown.
 fn grown(alloc: Global, table: &Table, request: &Request) -> Option<Tree>
     ensures { IfSome result (λ tree. (r : Asked)
         → ShareTrees request.now r → IsTree table.now r tree) }

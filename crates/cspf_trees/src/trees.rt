@@ -95,7 +95,8 @@ impl Trees {
     }
 
     /// Keeps the trees and the owners for the database after a batch, if the batch changes only
-    /// unreserved bandwidths. Otherwise it forgets them. The table has the database before the batch.
+    /// unreserved bandwidths. Otherwise the call forgets the trees and the owners. The table has the
+    /// database before the batch.
     pub(crate) fn keep_over(&mut self, table: &Table, batch: &Batch)
         requires { AreTreesOf table.now self.old }
         ensures trees { AreTreesOf (after_changes table.now batch.now.changes) self.new }
@@ -132,9 +133,9 @@ impl Trees {
         }
     }
 
-    /// Counts an ask for the class of a request, and returns the index of its row. It is `None` if
-    /// other classes have all rows that the class may be in. It is also `None` if no trees are allowed,
-    /// or if memory for the rows is refused.
+    /// Counts an ask for the class of a request, and returns the index of its row. The result is `None`
+    /// if other classes have all rows that the class may be in. The result is also `None` if no trees
+    /// are allowed, or if memory for the rows is refused.
     fn ask_row(&mut self, alloc: Global, table: &Table, request: &Request) -> Option<usize>
         requires { AreTreesOf table.now self.old }
         ensures trees { AreTreesOf table.now self.new }
@@ -185,8 +186,8 @@ impl Trees {
         }
     }
 
-    /// The only owner of a prefix. It is `None` if no router or several routers own the prefix. An
-    /// owner is kept for later hops.
+    /// The only owner of a prefix. The result is `None` if no router or several routers own the prefix.
+    /// An owner is kept for later hops.
     #[tactic(auto, unfolding(crate::specs::Trees::AreTreesOf))]
     pub(crate) fn sole_owner(
         &mut self,

@@ -210,8 +210,8 @@ fn has_bytes(rt: &HostRuntime, path: &str) -> bool {
     }
 }
 
-/// A file of replies. It is closed once the client has ended, so that a pipe's reader sees the end of
-/// the file.
+/// A file of replies. The file is closed once the client has ended, so that a pipe's reader sees the
+/// end of the file.
 #[derive(Drop)]
 pub struct Closing {
     file: Option<File>,

@@ -3,7 +3,7 @@
 //! Each command has a file with its name.
 //!
 //! The status is 0 if nothing was refused, 1 if the command line was refused, and 2 if anything else
-//! was refused or a fault was found. It is 3 if memory was refused or a device failed.
+//! was refused or a fault was found. The status is 3 if memory was refused or a device failed.
 #![tactic(auto)]
 
 mod audit;

@@ -20,7 +20,8 @@ impl fmt::Display for Fault {
     }
 }
 
-/// A reader or a writer that notes the last call that failed. It changes no bytes and no errors.
+/// A reader or a writer that notes the last call that failed. The bytes and the errors of a call are
+/// passed on unchanged.
 #[derive(Drop)]
 pub struct Noted<D> {
     name: &'static str,

@@ -114,13 +114,13 @@ impl Progress {
     }
 }
 
-/// Whether there is a next row. It is `None` if that can't be read.
+/// Whether there is a next row. The result is `None` if the row can't be read.
 fn is_next<R: Read>(rows: &mut Reader<R>, fields: &mut ByteRecord) -> Option<bool> {
     rows.read_byte_record(fields).ok()
 }
 
-/// The refused row of a file, which is a journal or a file of requests. It is `None` if no row is
-/// refused, or if the file can't be read to its end.
+/// The refused row of a file, which is a journal or a file of requests. The result is `None` if no row
+/// is refused, or if the file can't be read to its end.
 fn refused_row<R: Read + Drop>(alloc: Global, file: R, is_journal: bool) -> Option<RefusedRow> {
     let mut rows = open_records(alloc, file);
     let mut fields = ByteRecord::new(alloc);

@@ -3,7 +3,7 @@
 /// How many bytes of the stack are used at once. A run of `serve` with 64 clients needs fewer bytes.
 const STACK_BYTES: usize = 393_216;
 
-/// Whether all bytes have this value. It isn't inlined, so that the bytes are on the stack.
+/// Whether all bytes have this value. The function isn't inlined, so that the bytes are on the stack.
 #[inline(never)]
 fn have_all(bytes: &[u8], value: u8) -> bool {
     bytes.iter().all(|byte| *byte == value)

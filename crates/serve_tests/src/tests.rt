@@ -74,8 +74,8 @@ fn numbers_of(field: &str) -> [u32; 4] {
     numbers
 }
 
-/// A reader that gives `rest` and then `left` copies of `text`, at most `width` bytes a read. It fails
-/// after `last` bytes.
+/// A reader that gives `rest` and then `left` copies of `text`, at most `width` bytes a read. The
+/// reader fails after `last` bytes.
 #[derive(Drop)]
 struct Pieces<'a> {
     text: &'a [u8],

@@ -54,8 +54,8 @@ fn other_link() -> Result<Link, LinkError> {
     )
 }
 
-// Whether a link runs from 1.1.1.1 by the interface 5 to this router and its interface. It has to have
-// this metric, group and unreserved bandwidths.
+// Whether a link runs from 1.1.1.1 by the interface 5 to this router and its interface. The link has to
+// have this metric, group and unreserved bandwidths.
 fn has_fields(link: &Link, to: (u32, u32), of_links: (u32, u32), free: [u64; 8]) -> bool {
     let from = (link.from.number(), link.local.number());
     let ends = from == (ONE, 5) && (link.to.number(), link.remote.number()) == to;

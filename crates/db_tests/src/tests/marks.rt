@@ -21,8 +21,8 @@ fn are_routers_marked(table: &Table, marks: &[u32]) -> bool {
     true
 }
 
-// How many addresses below 2,048 are routers. It is `None` if the marked addresses below 2,048 aren't
-// exactly these.
+// How many addresses below 2,048 are routers. The result is `None` if the marked addresses below 2,048
+// aren't exactly these.
 fn count_routers(table: &Table, marks: &[u32]) -> Option<usize> {
     let mut known = 0usize;
     for number in 0..2048 {
@@ -274,8 +274,8 @@ const TOO_MANY: Result<(), Refusal> = Err(Refusal::TooManyMarks);
 // Changes of a table in which the addresses 0 to 1,023 are marked, what the table answers, and whether
 // the addresses 0 and 1,024 have transit then.
 const MORE: &[(&[Edit], Result<(), Refusal>, (bool, bool))] = &[
-    // One mark more is too many. It comes with transit for an unmarked address, with a mark that is set
-    // already, and with a link.
+    // One mark more is too many. The mark comes with transit for an unmarked address, with a mark that
+    // is set already, and with a link.
     (
         &[Node(1024, false), Node(1025, true)],
         TOO_MANY,
@@ -417,8 +417,8 @@ fn marks_behind_other_refusals(rt: HostRuntime) -> Result<(), Fail> {
     take_stars(&rt, rt.alloc(), &mut Table::new(rt.alloc())?)
 }
 
-// A drawn change. It puts a new link between two of eight routers, drops a link of the table, or sets
-// whether one of twelve addresses has transit.
+// A drawn change. The change puts a new link between two of eight routers, drops a link of the table,
+// or sets whether one of twelve addresses has transit.
 fn drawn_change(draw: &mut Draw, table: &Table) -> Result<Change, LinkError> {
     match (draw.below(6), draw.link_of(table)) {
         (0, Some(link)) => Ok(drop_of(link.from.number(), link.local.number())),

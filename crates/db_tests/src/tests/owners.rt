@@ -185,7 +185,7 @@ fn are_spans(table: &Table) -> bool {
     true
 }
 
-// How many routers own a prefix. It is `None` if the table and a look at each router differ.
+// How many routers own a prefix. The result is `None` if the table and a look at each router differ.
 fn count_owners(
     alloc: Global,
     table: &Table,

@@ -41,8 +41,8 @@ fn index_of(reverse: Option<usize>) -> usize {
     reverse.unwrap_or(usize::from(NO_LINK))
 }
 
-// How many of these links have a reverse. It is `None` if the table and a plain search differ about the
-// reverse of a link.
+// How many of these links have a reverse. The result is `None` if the table and a plain search differ
+// about the reverse of a link.
 fn count_out(table: &Table, out: &[Link], reverses: &[u16]) -> Option<u32> {
     let mut both = 0u32;
     for (link, reverse) in out.iter().zip(reverses) {
@@ -60,8 +60,8 @@ fn count_out(table: &Table, out: &[Link], reverses: &[u16]) -> Option<u32> {
     }
 }
 
-// How many links of the table have a reverse. It is `None` if the table and a plain search differ about
-// the reverse of a link.
+// How many links of the table have a reverse. The result is `None` if the table and a plain search
+// differ about the reverse of a link.
 fn count_reverses(table: &Table) -> Option<u32> {
     let mut both = 0u32;
     for at in 0..table.routers().len() {
@@ -249,8 +249,8 @@ impl Draw {
         link(from, self.below(interfaces), to, self.below(interfaces))
     }
 
-    // A drawn change to the table. It puts a new link, a reverse, or a link back over other interfaces.
-    // Or it drops a link, or makes a link run to another router.
+    // A drawn change to the table. The change puts a new link, a reverse, or a link back over other
+    // interfaces. Or it drops a link, or makes a link run to another router.
     fn change(&mut self, table: &Table, interfaces: u32) -> Result<Change, LinkError> {
         let kind = self.below(8);
         let Some(old) = self.link_of(table) else {

@@ -19,8 +19,9 @@ use std::process::Abort;
 use std::sync::Wait;
 use std::test::Fail;
 
-/// The batch with this number. It puts a link of metric 10 with 1,000 bytes per second unreserved, from
-/// 1.1.1.1 by 10.0.12.1 to 2.2.2.2. It also puts the link's reverse, with no bandwidth.
+/// The batch with this number. The batch puts a link of metric 10 with 1,000 bytes per second
+/// unreserved, from 1.1.1.1 by 10.0.12.1 to 2.2.2.2. The batch also puts the link's reverse, with no
+/// bandwidth.
 fn link_batch(alloc: Global, number: u32) -> Result<Batch, Fail> {
     let (from, local) = (Addr::new(0x01010101), Addr::new(0x0a000c01));
     let (to, remote) = (Addr::new(0x02020202), Addr::new(0x0a000c02));

@@ -10,7 +10,7 @@ use std::thread::Threads;
 const TEXT: &[u8] =
     b"put,1.1.1.1,10.0.12.1,2.2.2.2,10.0.12.2,10,0x00000001,1000,1000,1000,1000,1000,1000,1000,1000\nend,1,1\n";
 
-/// That text, and the text of an empty batch.
+/// The texts that the journal gets for that batch and for an empty batch.
 const BOTH: &[u8] =
     b"put,1.1.1.1,10.0.12.1,2.2.2.2,10.0.12.2,10,0x00000001,1000,1000,1000,1000,1000,1000,1000,1000\nend,1,1\nend,2,0\n";
 
@@ -39,8 +39,8 @@ fn fills_up<T: Threads + Wait + Sync>(
         && BOTH.starts_with(kept.as_slice())
 }
 
-/// One fault a line: how many bytes a journal takes, the status, and the lines of two batches over that
-/// journal.
+/// One fault per line: how many bytes a journal takes, the status, and the lines of two batches over
+/// that journal.
 const FAULTS: &str = "\
 0 2 > applied 0|batch 1 refused: journal 0|
 5 2 > applied 0|batch 1 refused: journal 5|

@@ -4,8 +4,8 @@ use super::{Narrow, Pieces, bytes_of, copies, cut, cut_bytes, in_pieces, numbers
 use cspf_serve::{SolveError, Summary, run_solve};
 use std::alloc::{AllocError, Global};
 
-/// One script a line, unless the line begins with `#`. A line has the counts of rows, versions, answers
-/// and refusals, then the script's rows, and then the lines that the run writes.
+/// One script per line, unless the line begins with `#`. A line has the counts of rows, versions,
+/// answers and refusals, then the script's rows, and then the lines that the run writes.
 const RUNS: &str = "\
 # Nothing.
 0 0 0 0 > _ > _

@@ -35,8 +35,8 @@ const LOOSE_HOP: &[u8] =
 const LINES_OF_LOOSE_HOP: &[u8] =
     b"version 1\nask 5 v1 route cost=30 hops=3 again=yes ero=001c140101080a000c02200001080a001703200001080a0017022000\n";
 
-/// Whether a run over some rows, with one batch and one request, writes all lines. Otherwise memory is
-/// refused, and a prefix of the lines is written.
+/// Whether a run over some rows, with one batch and one request, writes all lines. If memory is
+/// refused, the run has to write a prefix of the lines.
 fn ends_whole_or_refused(alloc: Global, script: &[u8], rows: u32, lines: &[u8]) -> bool {
     let Ok(mut held) = Vec::with_capacity(alloc, ROOM) else {
         return true;
@@ -64,8 +64,8 @@ fn solves_a_loose_hop(rt: HostRuntime) {
     assert!(rt; ends_whole_or_refused(rt.alloc(), LOOSE_HOP, 6, LINES_OF_LOOSE_HOP));
 }
 
-/// What a run by two workers over the torn journal and the request answers, and what it writes. It is
-/// `None` if memory for the writer is refused.
+/// What a run by two workers over the torn journal and the request answers, and what it writes. The
+/// result is `None` if memory for the writer is refused.
 fn run_torn<T: Threads + Wait + Sync>(
     rt: &T,
     alloc: Global,
@@ -126,8 +126,8 @@ const REPLY_BEFORE: &[u8] = b"ask 7 v0 unknown-from\n";
 const REPLY_BEHIND: &[u8] =
     b"ask 7 v1 route cost=10 hops=1 again=no ero=000c140101080a000c022000\n";
 
-/// Whether the batch is published and has its line. Otherwise memory was refused for the batch or for
-/// the updates.
+/// Whether the batch is published and has its line. If memory was refused, the batch is unpublished, or
+/// the updates ended.
 fn is_published_or_refused(said: &[u8], journal: &[u8], ended: Result<(), StreamError>) -> bool {
     match ended {
         Ok(()) => {
@@ -147,7 +147,7 @@ fn is_answered_or_refused(client: &ServedClient<Vec<u8>>) -> bool {
     }
 }
 
-/// A client with the request. It is `None` if memory is refused.
+/// A client with the request. The result is `None` if memory is refused.
 fn clients(alloc: Global) -> Option<Vec<Client<&'static [u8], Vec<u8>>>> {
     let replies = Vec::with_capacity(alloc, ROOM).ok()?;
     let mut clients = Vec::with_capacity(alloc, 1).ok()?;
@@ -156,7 +156,7 @@ fn clients(alloc: Global) -> Option<Vec<Client<&'static [u8], Vec<u8>>>> {
     Some(clients)
 }
 
-/// A writer of lines, and a writer of a journal. It is `None` if memory is refused.
+/// A writer of lines, and a writer of a journal. The result is `None` if memory is refused.
 fn writers(alloc: Global) -> Option<(Vec<u8>, Vec<u8>)> {
     let said = Vec::with_capacity(alloc, ROOM).ok()?;
     Some((said, Vec::with_capacity(alloc, 2 * ROOM).ok()?))
@@ -181,8 +181,8 @@ fn is_served(served: Served<Vec<u8>, Vec<u8>, Vec<u8>>) -> bool {
     is_published_or_refused(&said, &journal, updates) && clients.iter().all(is_answered_or_refused)
 }
 
-/// Whether a run over the updates and one client is served. Otherwise memory is refused, and the
-/// writers and the client are given back untouched.
+/// Whether a run over the updates and one client is served. If memory is refused, the writers and the
+/// client have to come back untouched.
 fn serves<T: Threads + Wait + Sync>(
     rt: &T,
     alloc: Global,
@@ -200,8 +200,8 @@ fn serves<T: Threads + Wait + Sync>(
     }
 }
 
-/// Whether a run over the updates and one client ends as it should. It is `None` if memory for a writer
-/// or the client is refused.
+/// Whether a run over the updates and one client ends as it should. The result is `None` if memory for
+/// a writer or the client is refused.
 fn serves_one<T: Threads + Wait + Sync>(rt: &T, alloc: Global) -> Option<bool> {
     let clients = clients(alloc)?;
     Some(serves(rt, alloc, writers(alloc)?, clients))

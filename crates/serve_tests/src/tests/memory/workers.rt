@@ -23,8 +23,8 @@ put,2.2.2.2,10.0.12.2,1.1.1.1,10.0.12.1,20,0x00000001,0,0,0,0,0,0,0,0\nend,2,2\n
 /// How many bytes each of the two texts has.
 const TEXT: usize = 172;
 
-/// The batch with this number, 1 or 2. It puts a link with 10 times this number as its metric, and the
-/// link's reverse.
+/// The batch with this number, 1 or 2. The batch puts a link with 10 times this number as its metric,
+/// and the link's reverse.
 fn batch<R: Abort>(rt: &R, alloc: Global, number: u32) -> Result<Batch, AllocError> {
     let metric = if number == 1 { 10 } else { 20 };
     let Ok(changes) = both_ways(metric) else {

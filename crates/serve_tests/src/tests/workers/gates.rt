@@ -131,7 +131,7 @@ fn at_once(rt: HostRuntime) -> Result<(), AllocError> {
     Ok(())
 }
 
-/// Counts how often the gate is called with each index. It holds no request.
+/// Counts how often the gate is called with each index. The gate holds no request.
 #[derive(Drop)]
 struct Tally {
     reached: Vec<AtomicU64>,
