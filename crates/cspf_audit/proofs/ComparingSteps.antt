@@ -30,7 +30,7 @@ claim_within requests last lines claims i d are within =
 read_at : {A : Type 0} (xs : List A) (i : ℕ) (x : A) → i < length xs → x ≡ get_or xs i x → slice_get xs i ≡ Some x
 read_at xs i x within is = slice_get-get_or xs i x within ∙ ap Some (sym is)
 
--- a claim of the list is either the first claim or one of the rest
+-- the claim of a line is either the first claim or a claim of the rest
 claimed_behind : (claim : Claim) (rest : List Claim) (index : ℕ) → IsClaimed (claim ∷ rest) index → (claim.line ≡ index) ⊎ IsClaimed rest index
 claimed_behind claim rest index (c, (zero, within, is), at) = inl (ap (λ (k : Claim). k.line) is ∙ at)
 claimed_behind claim rest index (c, (suc k, within, is), at) = inr (c, (k, omega arith, is), at)
@@ -49,7 +49,7 @@ module _ (batches : List NumberedChanges) (requests : List Request) (lines : Lis
       (subst (λ r. IsTrue right ↔ IsRightReply d r claim.version is_claim.line) same_q
       (subst (λ l. IsTrue right ↔ IsRightReply d q claim.version l) same_line test))
 
-  -- the claim is settled if its line is its reply
+  -- a claim whose line is its reply is settled
   pub right_step : IsRightReply (database_after (take claim.version batches)) is_claim.q claim.version is_claim.line → AreOpenFindings batches requests lines rest findings
   right_step right = record { counted = open_ones.counted; each = λ index line found is_line is_found. go index line found is_line (open_ones.each index line found is_line is_found) }
     where
@@ -67,7 +67,7 @@ module _ (batches : List NumberedChanges) (requests : List Request) (lines : Lis
 
 module _ (batches : List NumberedChanges) (requests : List Request) (lines : List (List ℕ)) (claim : Claim) (rest : List Claim) (findings : List Finding)
     (open_ones : AreOpenFindings batches requests lines (claim ∷ rest) findings) (is_claim : IsClaim requests (length batches) lines claim) where
-  -- the claim is settled if its line isn't its reply, and its finding is set to `Altered`
+  -- a claim whose line isn't its reply is settled once the line's finding is `Altered`
   pub altered_step : ¬ IsRightReply (database_after (take claim.version batches)) is_claim.q claim.version is_claim.line
       → AreOpenFindings batches requests lines rest (slice_set findings claim.line finding.Altered)
   altered_step wrong = record {

@@ -53,7 +53,7 @@ fn is_reply(
     ensures { IfOk result (λ right. IsTrue right
         ↔ IsRightReply table.now request.now version line.now) }
 {
-    // Laws: a request has only one best answer, and the reply line of an answer is unique.
+    // Laws: a request has only one best answer, and an answer has only one reply line.
     one_best_answer();
     one_reply_line();
     let outcome = best_by_rounds(alloc, table, request)?;

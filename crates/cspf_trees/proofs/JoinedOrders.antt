@@ -68,8 +68,9 @@ ties a b e = grind (arith, nat_tests)
 by_last : (a b m n : ℕ) (o : Ordering) → a ≡ b → m ≡ n → o ≢ Less → ordering_then (nat_cmp a b) (ordering_then (nat_cmp m n) o) ≢ Less
 by_last a b m n o e f h = unless_less (nat_cmp a b) (ordering_then (nat_cmp m n) o) (ties a b e) (unless_less (nat_cmp m n) o (ties m n f) h)
 
--- Two walks aren't before two other walks. Then they aren't before these when both pairs are put
--- together. The last comparison decides only if the costs and the numbers of links tie.
+-- Two walks are put together, and so are two others. If neither walk is before its counterpart, the
+-- first pair isn't before the second pair. The last comparison decides only if the costs and the
+-- numbers of links tie.
 put_together : (a b c e m n s t : ℕ) (o p r : Ordering) → IsNoEarlier a b m n o → IsNoEarlier c e s t p → (m ≡ n → o ≢ Less → p ≢ Less → r ≢ Less)
     → ordering_then (nat_cmp (a + c) (b + e)) (ordering_then (nat_cmp (m + s) (n + t)) r) ≢ Less
 put_together a b c e m n s t o p r (inl dear) (inl second) last = by_cost (a + c) (b + e) (ordering_then (nat_cmp (m + s) (n + t)) r) (omega arith)

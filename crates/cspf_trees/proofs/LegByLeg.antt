@@ -53,7 +53,7 @@ stays_in_loose d q at loose [] = tt
 stays_in_loose d q at loose (router ∷ routers) = (inl loose, stays_in_loose d q at loose routers)
 
 module _ (d : Database) (q : Request) where
-  -- each route goes on in legs from the walk without links, before the first leg
+  -- before the first leg, each route goes on in legs from the walk without links
   begins : (route : List Link) → IsRoute d q route → GoesOnInLegs d q 0 q.from [] route
   begins route is = record {
     front = [];

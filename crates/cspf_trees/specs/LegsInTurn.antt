@@ -42,14 +42,14 @@ pub record AsksForLeg (q leg : Request) (start target : ℕ) : Type 0 where
   pub include_all : leg.include_all ≡ q.include_all
   pub hops : leg.hops ≡ []
 
--- the best answer to the request for a leg of `q`
+-- this is the best answer to the request for a leg of `q`
 pub record IsLegAnswer (d : Database) (q : Request) (start target : ℕ) (answer : Answer) : Type 0 where
   pub leg : Request
   pub asks : AsksForLeg q leg start target
   pub best : IsBestAnswer d leg answer
 
--- The route begins with links that end at the router and aren't better than the walk. They are in place
--- of the first `count` legs. The other legs of the route follow.
+-- The route begins with links that end at the router and aren't better than the walk. These links take
+-- the place of the first `count` legs. The other legs of the route follow.
 pub record GoesOnInLegs (d : Database) (q : Request) (count router : ℕ) (walk route : List Link) : Type 0 where
   pub front : List Link
   pub legs : List (List Link)

@@ -14,7 +14,7 @@ pub const TREE_MEGABYTES: u16 = 64;
 /// The most megabytes that a run may be given as the limit for the bounds of its trees.
 pub const MOST_TREE_MEGABYTES: u16 = 1024;
 
-/// How many rows a class may be in.
+/// From how many rows one is chosen for a class.
 pub(crate) const WAYS: usize = 32;
 
 /// The tree of a class is grown at this ask of the class, counted from 1.

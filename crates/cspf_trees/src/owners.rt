@@ -44,8 +44,8 @@ impl Owners {
     ghost use Rattle.cspf_trees.specs.Owners.{AreOwnersOf};
     ghost use Rattle.cspf_trees.specs.declared.limits.TheConstants.{OWNER_ROWS};
 
-    /// No owners, which is right for each database. Later owners are kept if `keeps` is true. The call
-    /// takes no memory.
+    /// An empty set of owners, which is right for each database. Later owners are kept if `keeps` is
+    /// true. The call takes no memory.
     pub(crate) fn new(alloc: Global, keeps: bool) -> Owners
         ensures { (d : Database) → AreOwnersOf d result }
     {

@@ -54,8 +54,8 @@ impl Trees {
     ghost use Rattle.cspf_trees.specs.TreeRows.{IsAskedOf};
     ghost use Rattle.cspf_trees.specs.Trees.{AreTreesOf};
 
-    /// No trees, which is right for each database. Later there are at most `most` trees. The call takes
-    /// no memory.
+    /// An empty set of trees, which is right for each database. Later there are at most `most` trees.
+    /// The call takes no memory.
     pub fn new(alloc: Global, most: usize) -> Trees
         ensures trees { (d : Database) → AreTreesOf d result }
         ensures most { result.most ≡ most }

@@ -18,7 +18,7 @@ enum Why {
     Number { expected: u32 },
     /// The row ends a batch, but its count isn't the number of the batch's changes.
     Count { counted: u32 },
-    /// The row is the last one, and no `end` row takes this many changes.
+    /// The row is the last row, and no `end` row follows this many changes.
     Unended { changes: u32 },
     /// The file already has the most rows that a file may have.
     TooMany,
@@ -60,7 +60,7 @@ struct Progress {
 }
 
 impl Progress {
-    /// Takes the next row, unless an earlier row is refused.
+    /// Checks the next row, unless an earlier row is refused.
     fn take(&mut self, row: u32, fields: &ByteRecord) {
         if self.refused.is_none() {
             if let Some(why) = self.refusal(Row::read(fields)) {
@@ -69,7 +69,7 @@ impl Progress {
         }
     }
 
-    /// Takes a row, or returns why it is refused.
+    /// Counts a row, or returns why the row is refused.
     fn refusal(&mut self, read: Result<Row, RowError>) -> Option<Why> {
         match read {
             Err(error) => Some(Why::Row(error)),
@@ -83,7 +83,7 @@ impl Progress {
         }
     }
 
-    /// Takes the end row of a batch, or returns why it is refused.
+    /// Counts a batch at its end row, or returns why that row is refused.
     fn end(&mut self, number: u32, count: u32) -> Option<Why> {
         let expected = self.batches.saturating_add(1);
         if number != expected {

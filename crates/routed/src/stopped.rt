@@ -1,4 +1,4 @@
-//! Why the program stops: what `--explain` says before its last line.
+//! Why the program stops: what `--explain` writes before the last line of standard error.
 
 use crate::noted::Fault;
 use cspf_book_run::BookError;
