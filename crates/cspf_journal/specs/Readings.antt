@@ -20,8 +20,8 @@ pub record CatchesUp (before after : KnownBatches) (seen steps : KnownSteps) (re
   pub recorded : BeginsWith (batches_of steps.steps) after.batches
   pub only : (after ≡ before) ⊎ (length after.batches ≡ count)
 
--- A reading finds at least the count of the steps before it. It finds at most as many batches as were
--- recorded before it.
+-- A reading finds at least the count of the steps before it. The reading finds at most as many batches
+-- as were recorded before it.
 abbrev pub ReadingsFindCounts : Type 0
 ReadingsFindCounts =
     (before after : List LogStep) (reader place found : ℕ)

@@ -4,8 +4,8 @@ use crate::log_step::{LogStep, RowOfReader};
 use cspf_model::Batch;
 use logbook::{Gain, Plain, Play, Rule};
 
-/// The rule of the steps. The steps are in order, and the recorded batches are a history. One counter
-/// is the number of recorded batches, the other counter the number of published batches.
+/// By the rule of the steps, the steps are in order, and the recorded batches are a history. One
+/// counter is the number of recorded batches, the other counter the number of published batches.
 pub struct History;
 
 impl Rule<LogStep, u64> for History {

@@ -47,7 +47,7 @@ impl Known {
         Known { version, seen }
     }
 
-    /// The seen steps, which record the batches.
+    /// The seen steps, which record the known batches.
     pub(crate) fn seen(&self) -> Seen<LogStep, u64, History>
         ensures recorded { BeginsWith (batches_of result.log) self.now.batches }
         ensures source { result.book ≡ self.now.source }

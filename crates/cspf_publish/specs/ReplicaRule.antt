@@ -43,10 +43,10 @@ HasOnePublisher views =
     (i j : ℕ) (v w : SeatView) → get_elem? views i ≡ some v → get_elem? views j ≡ some w
     → IsPublisher v → IsPublisher w → i ≡ j
 
--- The rule. The published batches are a history. The replica that askers enter has their database, and
--- the number of batches that change its shape. The replica holds a `CopyRight` of their source. Each
--- asker's seat knows a prefix of the published batches. At most one seat is a publisher's, and it knows
--- all of them.
+-- By the rule of the replicas, the published batches are a history. The replica that askers enter has
+-- their database, and the number of batches that change its shape. The replica holds a `CopyRight` of
+-- their source. Each asker's seat knows a prefix of the published batches. At most one seat is a
+-- publisher's, and it knows all of them.
 pub record HoldsBetweenSteps (s : ReplicaState) (views : List SeatView) : Type 0 where
   pub history : IsHistory s.known.batches
   pub database : HasItsDatabase s
@@ -55,9 +55,9 @@ pub record HoldsBetweenSteps (s : ReplicaState) (views : List SeatView) : Type 0
   pub seats : (seat : ℕ) (v : SeatView) → get_elem? views seat ≡ some v → Knows s v
   pub one_publisher : HasOnePublisher views
 
--- The publisher's first step. It changes no batches, and after it the seat knows the published batches.
--- In this record and the next two, `x` and `y` are the replica before and after the step. `v` and `w`
--- are the seat's view before and after the step.
+-- The publisher's first step changes no batches. After it the seat knows the published batches. In this
+-- record and the next two, `x` and `y` are the replica before and after the step. `v` and `w` are the
+-- seat's view before and after the step.
 pub record Opens (v : SeatView) (x y : ReplicaState) (w : SeatView) : Type 0 where
   pub same : y.known ≡ x.known
   pub after : w ≡ Publisher y.known

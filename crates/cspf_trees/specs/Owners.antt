@@ -4,7 +4,7 @@ use Rattle.cspf_model.specs.Database.{Database}
 use Rattle.cspf_trees.specs.declared.owners.Owners.{Owners}
 use Rattle.cspf_trees.specs.OwnerRows.{HasOwnerOf}
 
--- Each owner of the present generation is right in the database. Owners of earlier generations aren't
--- used.
+-- Each owner of the present generation is the only owner in the database. Owners of earlier generations
+-- aren't used.
 abbrev pub AreOwnersOf : Database → Owners → Type 0
 AreOwnersOf d owners = All (HasOwnerOf d owners.generation) owners.rows.items

@@ -57,8 +57,8 @@ fn requests<R: Abort>(rt: &R, alloc: Global, count: usize) -> Result<Vec<Request
     Ok(all)
 }
 
-/// A publisher without a batch, and two askers. Its journal has room for both texts, so it takes no
-/// more memory.
+/// A publisher without a batch, and two askers. The publisher's journal has room for both texts, so it
+/// takes no more memory.
 fn opened<R: Wait + Abort>(
     rt: &R,
     alloc: Global,
