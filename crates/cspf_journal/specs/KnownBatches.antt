@@ -4,7 +4,7 @@ use Rattle.logbook.specs.Pages.{Book}
 use Rattle.cspf_model.specs.Numbered.{NumberedChanges}
 use Rattle.cspf_journal.specs.Histories.{BeginsWith}
 
--- a prefix of a journal's list of batches, and the source of that list
+-- a prefix of a journal's list of batches, and the source, which identifies the journal
 pub record KnownBatches : Type 0 where
   pub batches : List NumberedChanges
   pub source : Book

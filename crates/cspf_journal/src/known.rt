@@ -63,7 +63,7 @@ impl Known {
         self.version
     }
 
-    /// A copy.
+    /// A copy of the known batches.
     pub fn copy(&self) -> Known
         ensures { result ≡ self.now }
     {

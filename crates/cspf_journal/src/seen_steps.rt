@@ -41,7 +41,7 @@ impl SeenSteps {
         self.seen.again()
     }
 
-    /// A copy.
+    /// A copy of the known steps.
     pub fn copy(&self) -> SeenSteps
         ensures copy { result ≡ self.now }
         ensures journal { AreJournalSteps self.now.steps }

@@ -64,7 +64,7 @@ fn seated<'a, R: Wait + Abort>(
 struct Narrow {
     held: Vec<u8>,
     most: usize,
-    /// How often it was called when the replies had ended.
+    /// How often `end` was called.
     ends: usize,
 }
 

@@ -8,7 +8,8 @@ use std::process::Abort;
 use std::sync::Wait;
 use std::test::Fail;
 
-/// The state of a client that asks after batch 1 was published and counted, and the publisher closed.
+/// The state of a client that asks after batch 1 was published and counted, and after its publisher was
+/// closed.
 fn left_closed<R: Wait + Abort>(rt: &R, alloc: Global, first: &Batch) -> ServedClient<Narrow> {
     let requests = b"end,2,0\nask,7,1.1.1.1,2.2.2.2,0,1000,0x0,0x0,0x0,\nend,2,0\n";
     let (mut publisher, mut serving) = seated(rt, alloc, requests, 1000);

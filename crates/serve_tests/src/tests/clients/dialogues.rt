@@ -49,8 +49,8 @@ ask 9 v0 unknown-from\n";
     Ok(())
 }
 
-/// A client's writer takes this many bytes and no more. The client has these bytes alone, and the
-/// failed write ends it.
+/// A client's writer takes only `most` bytes. The client has written these bytes alone, and the failed
+/// write ends the client.
 #[test]
 fn replies_that_are_not_taken(rt: HostRuntime) -> Result<(), Fail> {
     let first = link_batch(rt.alloc(), 1)?;

@@ -1,7 +1,7 @@
 //! Runs while memory is refused. Each test passes with ample memory, and also if any one of its
 //! allocations is refused, alone or with all later ones. Then the run ends with its whole output and
-//! its status, or with the named refusal. Before the run a test allocates only its writer. If that is
-//! refused, the test ends.
+//! its status, or with the named refusal. Before the run a test allocates only its writer. If memory
+//! for the writer is refused, the test ends.
 
 use cspf_serve::{
     Client, ClientError, NoGate, RunError, ServeError, Served, ServedClient, ServedError,

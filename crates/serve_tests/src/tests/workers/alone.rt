@@ -75,7 +75,8 @@ fn answer_one_each<R: Threads + Wait + Abort + Sync>(
     }
 }
 
-/// Whether `count` workers run at once on `count` requests. Each request is held until all are reached.
+/// Whether `count` workers run at once on `count` requests. Each request is held until all requests are
+/// reached.
 fn answer_at_once<R: Threads + Wait + Abort + Sync>(
     rt: &R,
     alloc: Global,

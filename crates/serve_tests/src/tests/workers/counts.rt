@@ -67,7 +67,7 @@ pub(crate) fn wait_for(word: &AtomicU64, least: u64, faults: &AtomicU64) {
     faults.fetch_add(1, Ordering::SeqCst);
 }
 
-/// Holds each request until all are reached.
+/// Holds each request until all requests are reached.
 impl Gate for Counts {
     fn reached(&self, _worker: usize, index: usize) {
         if index < self.reached.len() {

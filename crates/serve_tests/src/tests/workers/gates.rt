@@ -105,7 +105,8 @@ fn answers<G: Gate + Sync, T: Threads + Wait + Sync>(
     })
 }
 
-/// Whether `count` workers answer `count` requests. Each request is held until all are reached.
+/// Whether `count` workers answer `count` requests. Each request is held until all requests are
+/// reached.
 fn answers_at_once<T: Threads + Wait + Sync>(
     rt: &T,
     alloc: Global,
