@@ -23,10 +23,10 @@ use std::alloc::{AllocError, Global};
 use std::collections::BTreeMap;
 use std::io::Read;
 
-/// Audits replies. Each line has to be the reply to a request of the stream at the version of the
-/// journal that the line names. `best_by_rounds` computes that reply. Requests without a line are
-/// faults, too. Lines whose first word is `version`, `applied` or `batch` are skipped. Each stream is
-/// read whole, and is refused if it has more than `MOST_ROWS` rows or lines.
+/// Audits replies. Each line names a version of the journal, and has to be the reply to its request at
+/// that version. `best_by_rounds` computes that reply. Requests without a line are faults, too. Lines
+/// whose first word is `version`, `applied` or `batch` are skipped. Each stream is read whole, and is
+/// refused if it has more than `MOST_ROWS` rows or lines.
 pub fn audit<R: Read + Drop, Q: Read + Drop, P: Read + Drop>(
     alloc: Global,
     journal: R,

@@ -73,8 +73,8 @@ fn plan_each(table: &mut Table, batches: &[Batch], plans: &mut Vec<Plan>) -> Res
     ensures planned { OnOk result (ArePlansUpTo batches.now plans.new.items (length batches.now)) }
     ensures err { IfErr result (λ unfit. IsFirstUnfit batches.now unfit.number unfit.refusal) }
 {
-    // Laws: the next batch makes its changes in the database of the batches before it. If it fits, the
-    // batches stay lawful with it.
+    // Laws: the next batch makes its changes in the database of the batches before it. If the next
+    // batch fits, the batches stay lawful.
     absorbing();
     lawful_batches();
     for batch in batches {
