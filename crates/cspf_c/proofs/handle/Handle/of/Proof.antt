@@ -1,4 +1,4 @@
--- `of` holds the session of the box, at the box's pointer.
+-- `of` makes a handle of the box's pointer, which holds the box's session.
 use Rattle.std.proofs.Common.{[], ◌∷◌, refl, ap}
 use Rattle.std.proofs.raw_atomic.Walks.{proved}
 use Rattle.std.specs.declared.option.Option.TheVariants.{Some}
