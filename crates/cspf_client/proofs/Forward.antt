@@ -56,7 +56,7 @@ forward place s t (fields ∷ rows) lines a =
 abbrev Rows : Type 0
 Rows = List (List (List ℕ))
 
--- a row that stops the stream leaves the client forward
+-- at a row that stops the stream the client has gone forward
 pub forward_row_stopped : (why : StreamError) (place : ℕ) (fields : List (List ℕ)) (s t : SessionState) (old new : Option (List ℕ))
     → IsRowStopped IsClientAnswered IsClientUnanswered why place fields s t old new → HasGoneForward s t
 forward_row_stopped stream_error.Memory place fields s t old new a = forward_unanswered place s t (row_of fields) a.0

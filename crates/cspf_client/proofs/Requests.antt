@@ -46,7 +46,7 @@ module _ (client place : ℕ) (a b c : KnownBatches) (old new : KnownSteps) (cou
       → IsRequestUnanswered place why (session client a old refused no_entry) (session client c new refused no_entry)
   memory_refused no_entry why is = record { reads = reads no_entry no_entry; entry = rw is refl }
 
-  -- the request isn't answered, and whether the entry was refused is noted
+  -- the request isn't answered, and the state notes whether the client couldn't enter the published replica
   pub unanswered : (no_entry : Bool) (why : AskError)
       → IsRequestUnanswered place why (session client a old refused no_entry) (session client c new refused (entry_noted no_entry why))
   unanswered no_entry why = record { reads = reads no_entry (entry_noted no_entry why); entry = refl }

@@ -17,9 +17,9 @@ use Rattle.cspf_stream.specs.RefusedRows.{refused_row_line}
 use Rattle.cspf_client.specs.ErrorNames.{entry_noted}
 use Rattle.cspf_client.specs.SessionStates.{SessionState}
 
--- For the row at this place the client reads the count of published batches. The journal records this as a step
--- that names the client and the place, after all steps that the client has seen. The asker then knows at least
--- as many batches as it read. After it has entered the published replica it may know more.
+-- For the row at this place the client reads the count of published batches. The journal records this as a
+-- step that names the client and the place, after all steps that the client has seen. The asker then knows
+-- at least that many batches. After it has entered the published replica it may know more.
 pub record ReadsCount (place : ℕ) (s t : SessionState) : Type 0 where
   pub mid : KnownBatches
   pub count : ℕ

@@ -4,7 +4,7 @@ use csv::Reader;
 use std::io::{Read, Write};
 
 /// Shows that the requests of a client have ended and that their reader is dropped. It can't be copied, so
-/// each reader has at most one.
+/// there is at most one for each reader.
 #[derive(Drop)]
 pub struct EndOfRequests {
     ended: (),

@@ -104,6 +104,6 @@ word_at (w ∷ ws) word at = some-injective w word at
 pub shares-more : (share shares : ℕ) → share * (shares + 1) ≡ share * shares + share
 shares-more share shares = grind arith
 
--- the draws of several shares are those of one share and those of the others
+-- the draws of several shares are those of one share and those of the other shares
 pub shares-one_less : (share shares : ℕ) → 0 < shares → share * shares ≡ share * (shares - 1) + share
 shares-one_less share shares more = ap (λ n. share * n) (let e : shares ≡ (shares - 1) + 1 = omega arith in e) ∙ shares-more share (shares - 1)

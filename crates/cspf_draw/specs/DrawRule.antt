@@ -19,7 +19,8 @@ pub record HoldsBetweenDraws (requests : ℕ) (s : State ℕ SeatDraws) : Type 0
   pub count : sum_by (λ v. length v.drawn) s.views ≡ drawn_word s
   pub draws : drawn_word s + sum_by (λ v. v.left) s.views ≡ MOST_DRAWERS * (requests + 1)
 
--- A draw: the number found is added to the seat's list, where it is the greatest, and the seat has one draw less left.
+-- A draw: the number found is added to the seat's list, where it is the greatest, and the seat has one draw
+-- fewer left.
 pub record Draws (step : Step ℕ) (before : Me ℕ SeatDraws) (found : ℕ) (after : Me ℕ SeatDraws) : Type 0 where
   pub seat : after.0 ≡ with_number before.0 found
   pub above : All (λ x. x < found) before.0.drawn

@@ -15,7 +15,7 @@ hop_at-take at m bytes eight more =
     let same : (i : ℕ) → i < 8 → get_or (take m bytes) i 0 ≡ get_or bytes i 0 = λ i below. get_or-take m bytes i 0 (omega arith) in
     rw (whole, same 0 (omega arith), same 1 (omega arith), same 2 (omega arith), same 3 (omega arith), same 4 (omega arith), same 5 (omega arith), same 6 (omega arith)) refl
 
--- the hops of a subobject and of the bytes after it
+-- the hops of some bytes are the hop of the first subobject and the hops of the bytes after it
 hops_at-some : (most at : ℕ) (bytes : List ℕ) → 0 < length bytes
     → subobject_hops (suc most) at bytes ≡ (hop_at at bytes >>= (λ hop. subobject_hops most (at + 8) (drop 8 bytes) >>= (λ hops. Ok (hop ∷ hops))))
 hops_at-some most at [] some = absurd (omega arith)

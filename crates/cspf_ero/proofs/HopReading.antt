@@ -18,13 +18,13 @@ behind_more : (hops : List Hop) (hop : Hop) (rest : Result (List Hop) EroError) 
 behind_more hops hop (Ok more) = ap Ok (sym (append_assoc hops (hop ∷ []) more))
 behind_more hops hop (Err e) = refl
 
--- a subobject that is read as a hop, and the bytes after it
+-- if the first subobject is read as a hop, the hops are this hop and those of the bytes after it
 pub hops_at-more : (most at : ℕ) (bytes : List ℕ) (hop : Hop) → 0 < length bytes → hop_at at bytes ≡ Ok hop
     → subobject_hops (suc most) at bytes ≡ (subobject_hops most (at + 8) (drop 8 bytes) >>= (λ more. Ok (hop ∷ more)))
 hops_at-more most at [] hop some found = absurd (omega arith)
 hops_at-more most at (byte ∷ bytes) hop some found = rw found refl
 
--- a subobject that is refused
+-- if the first subobject is refused, the bytes are refused with the same error
 pub hops_at-refused : (most at : ℕ) (bytes : List ℕ) (e : EroError) → 0 < length bytes → hop_at at bytes ≡ Err e → subobject_hops (suc most) at bytes ≡ Err e
 hops_at-refused most at [] e some found = absurd (omega arith)
 hops_at-refused most at (byte ∷ bytes) e some found = rw found refl

@@ -61,7 +61,7 @@ by_parts : (first size bits padding kind length : ℕ) (four address rest : List
 by_parts first size bits padding kind length four address rest first_is size_is bits_is four_is =
     rw (first_is, size_is, bits_is, four_is) (ap (λ (back : List ℕ). kind ∷ 8 ∷ back) (sym (append_assoc address (length ∷ padding ∷ []) rest)))
 
--- the first byte of a subobject of type 1, by its bit L
+-- a first byte of type 1 is determined by its bit L
 type_byte-read : (byte : ℕ) (loose : Bool) → byte < 256 → byte % 128 ≡ 1 → leb 128 byte ≡ loose → byte ≡ type_byte loose
 type_byte-read byte true small kind high = let above : 128 ≤ byte = leb-true 128 byte high in omega arith
 type_byte-read byte false small kind high = grind arith
@@ -117,7 +117,7 @@ hop_at-has : (at : ℕ) (bytes : List ℕ) (hop : Hop) → IsReadHop bytes hop �
 unfolding hop_at
 hop_at-has at bytes hop read = rw (read.kind, le-leb 8 (length bytes) read.whole, read.size, le-leb (get_or bytes 6 0) 32 read.most, read.prefix, read.loose) refl
 
--- the type and the bit L that a first byte has
+-- the first byte of a hop's subobject has the type 1 and the hop's bit L
 type_of-type_byte : (loose : Bool) → type_byte loose % 128 ≡ 1
 type_of-type_byte true = refl
 type_of-type_byte false = refl

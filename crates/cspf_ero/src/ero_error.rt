@@ -20,7 +20,7 @@ pub enum EroError {
     /// There are more than seven subobjects.
     #[error("more than {most} subobjects", most = MOST_HOPS)]
     TooManyHops,
-    /// A subobject that isn't an IPv4 prefix.
+    /// A subobject isn't an IPv4 prefix.
     #[error("a subobject of type {kind} at {at}")]
     Unsupported {
         /// The offset of the subobject's first byte.
@@ -28,13 +28,13 @@ pub enum EroError {
         /// The subobject's type, below 128.
         kind: u8,
     },
-    /// An IPv4 prefix whose length isn't 8 bytes, or that is cut off.
+    /// The subobject of an IPv4 prefix has a length other than 8 bytes, or is cut off.
     #[error("a subobject that isn't 8 bytes long at {at}")]
     Sublength {
         /// The offset of the subobject's first byte.
         at: usize,
     },
-    /// A prefix length above 32.
+    /// A prefix length is above 32.
     #[error("a prefix length above 32 at {at}")]
     PrefixLength {
         /// The offset of the subobject's first byte.

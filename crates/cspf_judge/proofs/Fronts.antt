@@ -18,7 +18,7 @@ no_front old text = record { front = []; rest = text; split = refl; written = Ap
 pub cut_front : (old new : Option (List ℕ)) (text : List ℕ) (n : ℕ) → Appends old new (take n text) → WritesFront old new text
 cut_front old new text n written = record { front = take n text; rest = drop n text; split = sym (take-append-drop n text); written = written }
 
--- a prefix of a text is a prefix of a longer text, too
+-- what was written is a prefix of a text, so it is a prefix of any longer text that begins with this text
 pub front_before : (old new : Option (List ℕ)) (text more : List ℕ) → WritesFront old new text → WritesFront old new (text ++ more)
 front_before old new text more begun = record {
   front = begun.front;
@@ -27,7 +27,7 @@ front_before old new text more begun = record {
   written = begun.written;
 }
 
--- whole texts, and then a prefix of a text, are a prefix of all of it
+-- what was written is a whole text and then a prefix of another, so it is a prefix of both together
 pub front_behind : (old mid new : Option (List ℕ)) (whole text : List ℕ) → Appends old mid whole → WritesFront mid new text → WritesFront old new (whole ++ text)
 front_behind old mid new whole text before begun = record {
   front = whole ++ begun.front;

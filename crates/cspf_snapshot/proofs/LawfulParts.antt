@@ -22,13 +22,13 @@ all_front : {X : Type 0} (P : X → Type 0) (xs ys : List X) → AllByRecursion 
 all_front P [] ys all = tt
 all_front P (x ∷ xs) ys all = (all.0, all_front P xs ys all.1)
 
--- and of each item of the second
+-- what holds of each item of two joined lists holds of each item of the second
 all_back : {X : Type 0} (P : X → Type 0) (xs ys : List X) → AllByRecursion P (xs ++ ys)
     → AllByRecursion P ys
 all_back P [] ys all = all
 all_back P (x ∷ xs) ys all = all_back P xs ys all.1
 
--- each change has another key
+-- no two changes have the same key
 abbrev HaveOwnChangeKeys : List Change → Type 0
 HaveOwnChangeKeys cs = IsDistinct (eq_by_cmp change_key_cmp) (map key_changed cs)
 
@@ -38,14 +38,14 @@ keys_front : (P : ChangeKey → Type 0) (bs cs : List Change)
 keys_front P [] cs all = tt
 keys_front P (b ∷ bs) cs all = (all.0, keys_front P bs cs all.1)
 
--- if each change has another key, so does each of the first changes
+-- if no two changes have the same key, no two of the first changes have
 own_front : (bs cs : List Change) → HaveOwnChangeKeys (bs ++ cs) → HaveOwnChangeKeys bs
 unfolding IsDistinct
 own_front [] cs own = tt
 own_front (b ∷ bs) cs own =
     (keys_front (λ k. eq_by_cmp change_key_cmp (key_changed b) k ≡ false) bs cs own.0, own_front bs cs own.1)
 
--- and so does each of the changes after them
+-- if no two changes have the same key, no two of the last changes have
 own_back : (bs cs : List Change) → HaveOwnChangeKeys (bs ++ cs) → HaveOwnChangeKeys cs
 unfolding IsDistinct
 own_back [] cs own = own

@@ -56,7 +56,7 @@ contains-marking e (router ∷ marks) q =
     ∙ ap (λ b. b || list_any (eq_by_cmp nat_cmp q) marks) (set.contains-insert nat_cmp_total e.marks router q)
     ∙ or_moved (eq_by_cmp nat_cmp q router) (set.contains e.marks q) (list_any (eq_by_cmp nat_cmp q) marks)
 
--- the same if links are put before
+-- changes that put links and then mark routers add these routers to the marks
 contains-making : (e : Database) (links : List Link) (marks : List ℕ) (q : ℕ)
     → set.contains (after_changes e (changes_making links marks)).marks q
     ≡ (set.contains e.marks q || list_any (eq_by_cmp nat_cmp q) marks)
@@ -69,7 +69,7 @@ module _ (d : Database) (links : List Link) (marks : List ℕ) (own : AreOwnChan
   abbrev made : Database
   made = after_changes no_links (changes_making links marks)
 
-  -- if `d` has a link at a key, the database that is made has one there
+  -- if `d` has a link at a key, the database that is made has a link there
   is_made : (k : Key) (l : Link) → link_at d k ≡ Some l → is_some (link_at made k) ≡ true
   is_made k l is =
       let same = keyed k l is in

@@ -30,7 +30,7 @@ same_fronts front back other rest long e =
     sym (take-append_seam front back) ∙ ap (take (length front)) e
     ∙ ap (λ n. take n (other ++ rest)) long ∙ take-append_seam other rest
 
--- and the second parts are equal
+-- if two joined lists are equal and their first parts have the same length, the second parts are equal
 same_backs : (front back other rest : List Change) → length front ≡ length other
     → front ++ back ≡ other ++ rest → back ≡ rest
 same_backs front back other rest long e =

@@ -1,4 +1,4 @@
--- The changes of a snapshot are a database's own changes, and each has another key.
+-- The changes of a snapshot are a database's own changes, and no two of them have the same key.
 use Rattle.std.proofs.Common.{◌≡◌, ℕ, false, List, [], ◌∷◌, map, refl}
 use Rattle.std.specs.Ordering.{nat_cmp, eq_by_cmp}
 use Rattle.std.specs.declared.cmp.Ordering.TheVariants.{Less}
@@ -27,7 +27,8 @@ mark_below_apart : (router other : ℕ) → nat_cmp router other ≡ Less
     → eq_by_cmp change_key_cmp (mark_key router) (mark_key other) ≡ false
 mark_below_apart router other below = rw below refl
 
--- a router's address is below all these: a change that marks it has another key than those that mark them
+-- if a router's address is below all others, the change that marks it has a different key from those that
+-- mark the others
 apart_above : (router : ℕ) (marks : List ℕ)
     → AllByRecursion (λ other. nat_cmp router other ≡ Less) marks
     → AllByRecursion (λ k. eq_by_cmp change_key_cmp (mark_key router) k ≡ false) (map key_changed (map marking marks))
@@ -43,20 +44,21 @@ distinct_marks [] rising = tt
 distinct_marks (router ∷ marks) rising =
     (apart_above router marks rising.0, distinct_marks marks rising.1)
 
--- a change of a link has another key than any change that marks a router
+-- a change of a link has a different key from every change that marks a router
 apart_from_marks : (k : Key) (marks : List ℕ)
     → AllByRecursion (λ j. eq_by_cmp change_key_cmp (link_key k) j ≡ false) (map key_changed (map marking marks))
 apart_from_marks k [] = tt
 apart_from_marks k (router ∷ marks) = (link_apart k router, apart_from_marks k marks)
 
--- and another key than the changes of other links
+-- if a link has a different key from other links, its change has a different key from theirs and from all
+-- marks
 apart_from_all : (k : Key) (links : List Link) (marks : List ℕ)
     → AllByRecursion (λ j. eq_by_cmp key_cmp k j ≡ false) (map key_of links)
     → AllByRecursion (λ j. eq_by_cmp change_key_cmp (link_key k) j ≡ false) (map key_changed (changes_making links marks))
 apart_from_all k [] marks apart = apart_from_marks k marks
 apart_from_all k (l ∷ links) marks apart = (apart.0, apart_from_all k links marks apart.1)
 
--- the changes of a snapshot have different keys
+-- no two changes of a snapshot have the same key
 pub distinct_making : (links : List Link) (marks : List ℕ) → HaveOwnKeys links
     → IsStrictlySortedBy nat_cmp marks
     → IsDistinct (eq_by_cmp change_key_cmp) (map key_changed (changes_making links marks))

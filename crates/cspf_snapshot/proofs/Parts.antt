@@ -26,7 +26,7 @@ IsOwnChange d (Node router transit) = transit ≡ false
 abbrev pub AreOwnChanges : Database → List Change → Type 0
 AreOwnChanges d cs = AllByRecursion (IsOwnChange d) cs
 
--- changes of two joined lists are made one list after the other
+-- the changes of two joined lists are those of the first list, and then those of the second
 pub after_changes-append : (d : Database) (bs cs : List Change)
     → after_changes d (bs ++ cs) ≡ after_changes (after_changes d bs) cs
 after_changes-append d [] cs = refl
@@ -54,14 +54,14 @@ part_next e d (Put l) part own k m is =
 part_next e d (Remove from local) part own k m is = absurd own
 part_next e d (Node router transit) part own k m is = part k m is
 
--- and after any number of own changes
+-- a part of `d` is still a part after any own changes of `d`
 pub part_after : (e d : Database) (cs : List Change) → IsPartOf e d → AreOwnChanges d cs
     → IsPartOf (after_changes e cs) d
 part_after e d [] part own = part
 part_after e d (c ∷ cs) part own =
     part_after (after_change e c) d cs (part_next e d c part own.0) own.1
 
--- to add an entry doesn't make the count less
+-- adding an entry doesn't make the count smaller
 least_of : (b : Bool) (n m : ℕ) → m ≡ cond b n (n + 1) → n ≤ m
 least_of true n m e = omega (arith, e)
 least_of false n m e = omega (arith, e)
@@ -75,7 +75,7 @@ link_count_next e d (Put l) own =
 link_count_next e d (Remove from local) own = absurd own
 link_count_next e d (Node router transit) own = omega arith
 
--- and at least as many marks
+-- after an own change there are at least as many marks
 mark_count_next : (e d : Database) (c : Change) → IsOwnChange d c
     → mark_count e ≤ mark_count (after_change e c)
 mark_count_next e d (Put l) own = omega arith
@@ -96,14 +96,14 @@ link_count-le e d [] own = omega arith
 link_count-le e d (c ∷ cs) own =
     omega (arith, link_count_next e d c own.0, link_count-le (after_change e c) d cs own.1)
 
--- and at least as many marks
+-- after own changes there are at least as many marks
 pub mark_count-le : (e d : Database) (cs : List Change) → AreOwnChanges d cs
     → mark_count e ≤ mark_count (after_changes e cs)
 mark_count-le e d [] own = omega arith
 mark_count-le e d (c ∷ cs) own =
     omega (arith, mark_count_next e d c own.0, mark_count-le (after_change e c) d cs own.1)
 
--- a key that has a link still has one after an own change
+-- a key that has a link still has a link after an own change
 has_link_next : (e d : Database) (c : Change) (k : Key) → IsOwnChange d c
     → is_some (link_at e k) ≡ true → is_some (link_at (after_change e c) k) ≡ true
 has_link_next e d (Put l) k own there =
@@ -116,7 +116,7 @@ has_link_next e d (Put l) k own there =
 has_link_next e d (Remove from local) k own there = absurd own
 has_link_next e d (Node router transit) k own there = there
 
--- and after any number of own changes
+-- a key that has a link still has a link after any own changes
 pub has_link_after : (e d : Database) (cs : List Change) (k : Key) → AreOwnChanges d cs
     → is_some (link_at e k) ≡ true → is_some (link_at (after_changes e cs) k) ≡ true
 has_link_after e d [] k own there = there

@@ -13,7 +13,7 @@ use Rattle.cspf_snapshot.proofs.Parts.{IsPartOf, part_at_keys}
 abbrev Numbers : Type 0
 Numbers = set.FinSet nat_cmp
 
--- each number of one set is in the other
+-- each number of the set `s` is in the set `t`
 abbrev IsWithin : Numbers → Numbers → Type 0
 IsWithin s t = (q : ℕ) → set.contains s q ≡ true → set.contains t q ≡ true
 

@@ -52,7 +52,7 @@ module _ (d : Database) (links : List Link) (marks : List ℕ) (lists : AreLists
   making : after_changes no_links (changes_making links marks) ≡ d
   making = is_database d links marks are_own lists.listed lists.keyed lists.are_marks
 
-  -- their keys are different
+  -- no two of these changes have the same key
   on_own_keys : IsDistinct (eq_by_cmp change_key_cmp) (map key_changed (changes_making links marks))
   on_own_keys =
       distinct_making links marks lists.once (sorted_from_strictly_increasing marks lists.are_marks.rising)

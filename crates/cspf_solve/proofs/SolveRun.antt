@@ -116,7 +116,7 @@ rows_read false count rows done rest split same past =
 rows_read true count rows done rest split same past =
     rw split (take_at done rest 1000000 (same ∙ past.1), lt-ltb 1000000 (length (done ++ rest)) (omega (arith, same, past.0, past.1, length-append done rest)))
 
--- the lines and the summary of all rows
+-- the lines of all rows are written, and this is the summary of the run
 abbrev pub IsWritten : Option (List (List (List ℕ))) → Option (List ℕ) → Option (List ℕ) → Summary → Type 0
 IsWritten all old new summary = IfSome all (λ rows. (lines : List ℕ) × IsSolveRun rows lines summary × Appends old new lines)
 
@@ -216,7 +216,7 @@ module _ (all left : Option (List (List (List ℕ)))) (old new : Option (List �
       cut_off all a.done (a.fields ∷ a.rest) old a.mid new c.0 a.lines stop.0 stop.1 (length a.lines) bytes (in_row_split all left a.done a.rest a.fields a.split)
       (omega (arith, a.stops.0)) c.2 (inl (a.stops.0, step.0, step.2)) stop.3 a.written stop.4 refl stop.5
 
-  -- nothing is flushed
+  -- the run makes no flush, so it can't stop at a flush
   no_flush : (failed : Bool) → HasStoppedAfter SolverAnswers SolverFails 1000000 false bytes stream_error.Flush all left failed k k' old new → ⊥
   no_flush failed a = false≢true a.stops.1.2
 

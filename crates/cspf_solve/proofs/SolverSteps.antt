@@ -17,7 +17,8 @@ use Rattle.cspf_solve.specs.SolverStates.{KeepsRun}
 use Rattle.cspf_solve.specs.TableSinks.{table_spec}
 use Rattle.cspf_solve.proofs.BatchRefusals.{wrong_end, unfit_end}
 
--- the table has the database of the batches that the run has accepted, and the changes kept are those still open
+-- the table has the database of the batches that the run has accepted, and the changes that are kept are
+-- the open changes
 pub record IsOfRun (r : RowsState TableSink) (s : RunState) : Type 0 where
   pub table : r.sink.table.database ≡ database_after s.accepted
   pub version : r.sink.version ≡ length s.accepted
@@ -25,7 +26,8 @@ pub record IsOfRun (r : RowsState TableSink) (s : RunState) : Type 0 where
   pub answers : r.answers ≡ s.answers
   pub refused : r.refused ≡ s.refused
 
--- after the answer to a row the solver keeps the state `t`: that of a run for which `Says` holds
+-- after the answer to a row the solver's rows are in the state `t`, which is that of a run for which `Says`
+-- holds
 abbrev Answered : RunState → (RunState → Type 0) → RowsState TableSink → Type 0
 Answered s Says t = (after : RunState) × IsOfRun t after × Says after × (after.rows ≡ s.rows)
 

@@ -7,7 +7,8 @@ use Rattle.cspf_solve.specs.Script.{RunState, start, at_next_row, IsRowAnswered,
 use Rattle.cspf_solve.specs.declared.error.SolveError.{SolveError}
 use Rattle.cspf_solve.specs.declared.error.SolveError.TheVariants as error
 
--- a prefix of the rows of a stream, at most 1,000,000, is answered
+-- the rows `done`, at most 1,000,000, are the first rows of a stream, and they are answered with these
+-- lines
 pub record AreFirstAnswered (rows done rest : List (List (List ℕ))) (lines : List ℕ) (after : RunState) : Type 0 where
   pub split : rows ≡ done ++ rest
   pub few : length done ≤ MOST_ROWS

@@ -17,7 +17,8 @@ abbrev pub StopsAtAPrefix : Type 0
 StopsAtAPrefix = (error : SolveError) (rows : List (List (List ℕ))) (out lines : List ℕ) (summary : Summary)
     → IsOutputAtError error rows out → IsSolveRun rows lines summary → (more : List ℕ) × (lines ≡ out ++ more)
 
--- if rows are answered and then one more row is, all these rows are answered, with the line of the last at the end
+-- if rows are answered and then one more row is answered, all these rows together are answered, with the
+-- last row's line at the end
 abbrev pub GoesOnByOneRow : Type 0
 GoesOnByOneRow = (s t u : RunState) (rows : List (List (List ℕ))) (fields : List (List ℕ)) (lines line : List ℕ) → AreRowsAnswered s rows lines t
     → IsRowAnswered (at_next_row t) (row_of fields) line u → AreRowsAnswered s (rows ++ (fields ∷ [])) (lines ++ line) u

@@ -24,8 +24,8 @@ pub fn stops_at_a_prefix()
     one_refusal();
 }
 
-/// Law: a run goes on row by row. If rows are answered and then one more row is, all these rows are
-/// answered, with the line of the last at the end. Each row adds at most one to each count.
+/// Law: a run goes on row by row. If rows are answered and then one more row is answered, all these rows
+/// together are answered, with the last row's line at the end. Each row adds at most one to each count.
 pub fn runs_go_on_row_by_row()
     ensures more { GoesOnByOneRow }
     ensures counts { CountsByOne }

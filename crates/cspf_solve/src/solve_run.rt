@@ -101,8 +101,8 @@ fn answer_most<R: Read, W: Write>(
     (written, end_after_rows(written, ended))
 }
 
-/// How the rows end, after `written` bytes: whether there are too many of them, or the error that stops
-/// the run.
+/// How the rows end, after `written` bytes: whether there are more than 1,000,000 rows, or the error that
+/// stops the run.
 fn end_after_rows(written: u128, ended: Result<(), StreamError>) -> Result<bool, SolveError>
     ensures { result ≡ end_after_rows written ended }
 {

@@ -135,7 +135,7 @@ fn without_hops(request: &Request) -> Request {
     }
 }
 
-// The next of a row of numbers that look drawn.
+// The next pseudo-random number.
 fn draw(seed: &mut u32) -> u32 {
     let mut x = *seed;
     x ^= (x & 0x7_ffff) << 13;
@@ -162,7 +162,7 @@ fn by_tree(alloc: Global, table: &Table, request: &Request) -> Result<Option<Out
     }
 }
 
-// The answer of `best`. Fails unless the search by rounds and a tree give the same.
+// The answer of `best`. Fails unless the search by rounds and a tree give the same answer.
 fn answered(alloc: Global, table: &Table, request: &Request) -> Result<Outcome, Fail> {
     let outcome = best(alloc, table, request)?;
     check_same(&outcome, &best_by_rounds(alloc, table, request)?)?;
@@ -190,7 +190,7 @@ fn is_same(a: &Outcome, b: &Outcome) -> bool {
 enum Wanted {
     // The route of this cost along the links with these remote addresses.
     Route(u64, &'static [u32]),
-    // The same, but the route is at its tail-end, leaves it and comes back.
+    // The route of this cost along these links. It reaches the tail-end, leaves it and comes back.
     Again(u64, &'static [u32]),
     NoRoute,
     UnknownFrom,
@@ -209,7 +209,7 @@ fn is_route(outcome: &Outcome, cost: u64, again: bool, remotes: &[u32]) -> bool 
     same && route.cost() == cost && route.again() == again
 }
 
-// Whether an outcome is the wanted one.
+// Whether the outcome is as wanted.
 fn is_wanted(outcome: &Outcome, wanted: Wanted) -> bool {
     match wanted {
         Wanted::Route(cost, remotes) => is_route(outcome, cost, false, remotes),

@@ -50,7 +50,7 @@ fn gives_batch<R: Read>(journal: &mut JournalReader<R>, batch: &mut Batch) -> bo
     journal.read_batch(batch) == Ok(JournalStep::Batch)
 }
 
-/// Whether the reader gives a batch next that is written as `text`.
+/// Whether the next batch that the reader gives is written as `text`.
 fn gives<R: Read>(
     alloc: Global,
     journal: &mut JournalReader<R>,
@@ -63,8 +63,8 @@ fn gives<R: Read>(
     Ok(gives_batch(journal, batch) && has_text(alloc, batch, text)?)
 }
 
-/// Whether a reader gives the three batches, and then ends with `rest`. Each batch is given in the
-/// memory of the first.
+/// Whether a reader gives the three batches, and then ends with `rest`. All are read into `batch`, which
+/// keeps its memory.
 fn gives_three(
     alloc: Global,
     journal: &mut JournalReader<Pieces<'_>>,

@@ -6,8 +6,8 @@ use std::alloc::Global;
 use std::process::Abort;
 use std::test::Fail;
 
-/// Rows, each with the words for its prefixes. A prefix of at least this many bytes is refused with these
-/// words, or read.
+/// Rows, each with the words for its prefixes. From this number of bytes on, up to the next number, a
+/// prefix is refused with these words, or read.
 const ROWS: &[(&[u8], &[(usize, &str)])] = &[
     (
         b"put,1.1.1.1,10.0.12.1,2.2.2.2,10.0.12.2,10,0x1,1000,1000,1000,1000,1000,1000,1000,1000",

@@ -30,7 +30,7 @@ fn is_journal<R: Read + Drop>(
     Ok(text_of(alloc, &journal)?.as_slice() == batches && is_clean == clean)
 }
 
-/// The text of a batch that puts one link, 102 bytes.
+/// The text of a batch that puts one link. It has 102 bytes.
 const ONE_PUT: &[u8] = b"put,1.1.1.1,10.0.12.1,2.2.2.2,10.0.12.2,10,0x00000001,\
 1000,1000,1000,1000,1000,1000,1000,1000\nend,1,1\n";
 
@@ -70,8 +70,8 @@ drop,1.1.1.1,0.0.0.3\ndrop,1.1.1.1,0.0.0.4\ndrop,1.1.1.1,0.0.0.5\ndrop,1.1.1.1,0
 drop,1.1.1.1,0.0.0.7\ndrop,1.1.1.1,0.0.0.8\ndrop,1.1.1.1,0.0.0.9\ndrop,1.1.1.1,0.0.0.10\n\
 drop,1.1.1.1,0.0.0.11\nend,3,12\n";
 
-/// For the texts of the three batches, cut after `from` bytes or more: how many bytes the whole batches
-/// have, and whether the journal is clean.
+/// What is read of the texts of the three batches if they are cut off. From this length on, up to the next
+/// length: how many bytes the whole batches have, and whether the journal is clean.
 const THREE_BATCHES: [(usize, usize, bool); 7] = [
     (0, 0, true),
     (1, 0, false),
@@ -82,7 +82,7 @@ const THREE_BATCHES: [(usize, usize, bool); 7] = [
     (468, 469, true),
 ];
 
-/// As `THREE_BATCHES`, for the texts of `NODES`.
+/// As `THREE_BATCHES`, but for the texts of `NODES`.
 const NODE_BATCHES: [(usize, usize, bool); 7] = [
     (0, 0, true),
     (1, 0, false),
@@ -93,7 +93,8 @@ const NODE_BATCHES: [(usize, usize, bool); 7] = [
     (114, 115, true),
 ];
 
-/// The length of the whole batches of a text that is cut here, and whether the journal is clean.
+/// The length of the whole batches in a text that is cut off after `cut` bytes, and whether the journal is
+/// clean.
 fn whole_part(parts: &[(usize, usize, bool)], cut: usize) -> (usize, bool) {
     let mut found = (0, true);
     for &(from, whole, clean) in parts {
@@ -113,7 +114,7 @@ fn three_batches(alloc: Global) -> Result<Vec<u8>, AllocError> {
     Ok(text)
 }
 
-/// Whether a text that is cut here is read as its whole batches, and as clean or torn.
+/// Whether the first `cut` bytes of the text are read as their whole batches, and as clean or torn.
 fn is_cut(
     alloc: Global,
     text: &[u8],

@@ -101,8 +101,8 @@ const FAULTS: &[Fault] = &[
     Fault::Fail(ErrorKind::BrokenPipe),
 ];
 
-/// How many bytes are taken before the fault, three in each write, and how many writes there are with the
-/// one that fails.
+/// How many bytes the writer takes before the fault, three in each write, and how many writes there are.
+/// The failing write counts.
 const FRONTS: &[(usize, usize)] = &[(0, 1), (3, 2), (7, 4), (21, 8), (23, 9)];
 
 /// After a failed write nothing is written, though the writer would take it, and nothing is flushed.

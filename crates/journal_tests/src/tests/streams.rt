@@ -82,7 +82,7 @@ fn no_events() -> Events {
 #[derive(Drop)]
 struct Rows<'a> {
     rows: &'a [&'a [u8]],
-    /// How many rows were begun.
+    /// How many rows it has begun to give.
     at: usize,
     /// The bytes of the last begun row that aren't given yet.
     rest: &'a [u8],
@@ -90,7 +90,7 @@ struct Rows<'a> {
     events: &'a Events,
 }
 
-/// A reader of these rows that has given none yet.
+/// A reader of these rows that has given no row yet.
 fn rows_of<'a>(rows: &'a [&'a [u8]], fails: bool, events: &'a Events) -> Rows<'a> {
     Rows {
         rows,
@@ -124,7 +124,7 @@ impl<'a> Read for Rows<'a> {
     }
 }
 
-/// A writer that takes up to `most` bytes, and then none. Its flushes fail after the first
+/// A writer that takes `most` bytes, and no bytes after them. Its flushes fail after the first
 /// `most_flushes`.
 #[derive(Drop)]
 struct Lines<'a> {
@@ -134,7 +134,7 @@ struct Lines<'a> {
     events: &'a Events,
 }
 
-/// A writer that holds nothing yet.
+/// A writer that holds no bytes yet.
 fn lines_of<'a>(alloc: Global, most: usize, most_flushes: u32, events: &'a Events) -> Lines<'a> {
     Lines {
         held: Vec::new(alloc),

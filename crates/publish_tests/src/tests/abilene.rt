@@ -322,7 +322,7 @@ fn assert_right<R: Abort>(rt: &R, number: usize, client: &Client) {
     assert_case(rt, "asker", number, is_last);
 }
 
-/// Checks this for each asker.
+/// Checks each asker as `assert_right` does.
 fn assert_all_right<R: Abort>(rt: &R, clients: &[Client]) {
     for (number, client) in clients.iter().enumerate() {
         assert_right(rt, number, client);
@@ -366,7 +366,7 @@ fn assert_costs<R: Abort>(rt: &R, outcomes: &[Outcome]) {
     }
 }
 
-/// Runs publisher and askers with these batches, request and outcomes.
+/// Runs a publisher and its askers with these batches, this request and these outcomes.
 fn ask_of<R: Threads + Wait + Abort + Sync>(
     rt: &R,
     alloc: Global,

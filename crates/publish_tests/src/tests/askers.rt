@@ -66,7 +66,7 @@ fn is_closed(alloc: Global, asker: &mut Asker, request: &Request) -> bool {
     matches!(closed, Err(AskError::NoEntry)) || says(&closed, request.id, 2, Said::NoRoute)
 }
 
-/// One asker learns of versions in and out of order. The other learns of none, and asks.
+/// One asker learns of versions in and out of order. The other learns of no version, and asks.
 fn tells_and_asks<R: Wait + Abort>(rt: &R, alloc: Global, first: &Batch, request: &Request) {
     let (mut publisher, mut asker, mut untold) = opened_for_two(rt, alloc);
     let versions = told_out_of_order(rt, alloc, &mut publisher, &mut asker, first);

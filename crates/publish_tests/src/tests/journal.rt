@@ -37,8 +37,8 @@ fn stops_at<R: Wait + Abort>(
 /// How a write goes wrong: with an error, by an interrupt, or by taking no bytes.
 const FAULTS: &[Option<ErrorKind>] = &[Some(ErrorKind::Other), Some(ErrorKind::Interrupted), None];
 
-/// The writer fails within the text of batch 1, after each number of bytes. Before the fault it takes
-/// single bytes, or all bytes at once.
+/// The writer fails at each byte of batch 1's text. In the writes before it takes one byte each, or all
+/// that fit.
 fn stop_at_each_byte<R: Wait + Abort>(rt: &R, alloc: Global, first: &Batch, request: &Request) {
     for most in 0..TEXT.len() {
         for fault in FAULTS {
@@ -67,7 +67,7 @@ fn versions<W: Write>(publisher: &mut Publisher<W>, asker: &mut Asker) -> (u32, 
     (publisher.version(), told.version(), asker.meet(told))
 }
 
-/// Whether batch 2 gives the error of the journal, and later batches give the error that the publisher is
+/// Whether batch 2 is refused with the error of the journal, and later batches because the publisher is
 /// stopped.
 fn stops_at_batch_2<R: Wait>(rt: &R, alloc: Global, publisher: &mut Publisher<Narrow>) -> bool
     ensures { publisher.new.source ≡ publisher.old.source }

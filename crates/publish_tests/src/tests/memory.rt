@@ -69,7 +69,8 @@ fn opened_at_last<R: Wait + Abort>(rt: &R, alloc: Global) -> Option<(Publisher<I
     }
 }
 
-/// The publisher's result for a batch, at the second try if memory was refused and is there again.
+/// The publisher's result for a batch. If memory is refused but there is memory again, the result of a
+/// second try.
 fn apply_at_last<W: Write, R: Wait>(
     rt: &R,
     alloc: Global,
@@ -106,7 +107,7 @@ fn is_of_the_link(answer: &Result<Answer, AskError>, link: &Link) -> bool {
     links == [*link].as_slice() && says(answer, 7, 1, Said::Route(10, 1))
 }
 
-/// The asker's answer, at the second try if memory was refused and is there again.
+/// The asker's answer. If memory is refused but there is memory again, the answer at a second try.
 fn ask_at_last(alloc: Global, asker: &mut Asker, request: &Request) -> Result<Answer, AskError>
     ensures { asker.new.source ≡ asker.old.source }
 {

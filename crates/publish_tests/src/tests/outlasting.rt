@@ -53,7 +53,8 @@ fn transit(transit: bool) -> [Change; 1] {
     [Change::Node { router, transit }]
 }
 
-/// A network of five circuits. One is of a group that the request excludes, and 2.2.2.2 has no transit.
+/// A network of five circuits. One circuit is in a group that the request excludes, and 2.2.2.2 has no
+/// transit.
 fn network(alloc: Global) -> Result<Vec<Change>, Fail> {
     let mut all = Vec::from_slice(alloc, &puts(ONE_FOUR, 50, 1, 1000)?)?;
     all.extend_from_slice(&puts(FOUR_THREE, 50, 1, 1000)?)?;

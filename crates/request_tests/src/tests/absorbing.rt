@@ -16,7 +16,8 @@ const PLACEMENTS: &[(u64, u64, u8)] = &[(9, 300, 5), (3, 800, 0), (2, 300, 5), (
 type Loss = (&'static [Edit], &'static [u64]);
 
 const LOSSES: &[Loss] = &[
-    // the direct link or its reverse is removed, the link gets the group 1, or one of them leads elsewhere
+    // the direct link or its reverse is removed, the link gets the group 1, or one of the two leads
+    // elsewhere
     (&[Drop(ONE, THREE)], &[7, 2, 9]),
     (&[Drop(THREE, ONE)], &[7, 2, 9]),
     (&[Put(ONE, THREE, 1, [1000; 8])], &[7, 2, 9]),
@@ -41,8 +42,8 @@ const LOSSES: &[Loss] = &[
 /// priority at which more is counted than the link has.
 type Shortage = (&'static [Edit], &'static [(u32, u8)]);
 
-/// On the link to 3.3.3.3 600 bytes per second are counted at priority 5, and 900 at 6 and 7. On the link to
-/// 2.2.2.2 800 bytes per second are counted at each priority, and on its reverse none.
+/// On the link to 3.3.3.3 600 bytes per second are counted at priority 5, and 900 at 6 and 7. On the link
+/// to 2.2.2.2 800 bytes per second are counted at each priority, and on its reverse nothing is counted.
 const SHORTAGES: &[Shortage] = &[
     (
         &[Put(ONE, THREE, 0, [0, 0, 0, 0, 0, 599, 900, 899])],
@@ -60,7 +61,7 @@ const SHORTAGES: &[Shortage] = &[
     ),
 ];
 
-/// Places these requests. Whether all are placed.
+/// Places these requests, and returns whether all are placed.
 fn are_placed(alloc: Global, book: &mut Book, placements: &[(u64, u64, u8)]) -> bool {
     for (id, bandwidth, hold) in placements {
         match placed(alloc, book, *id, *bandwidth, b"", *hold) {

@@ -71,8 +71,8 @@ fn change(alloc: Global, table: &mut Table, changes: &[Change]) -> Result<(), Al
     Ok(())
 }
 
-// Whether the link is admissible as wanted, and neither its reverse is admissible, nor the link for a request that
-// excludes its groups.
+// Whether the link is admissible exactly if `wanted` is set. Its reverse must not be admissible, nor the
+// link for a request that excludes its groups.
 fn is_usable(table: &Table, link: &Link, reverse: &Link, wanted: bool) -> Result<bool, Fail> {
     let accepting = request(0, (0, 0, 0), false)?;
     let refusing = request(0, (0x4, 0, 0), false)?;

@@ -57,7 +57,8 @@ fn told(alloc: Global, book: &Book, batch: &Batch) -> Option<(usize, usize)> {
     Some((over, lost))
 }
 
-/// Whether three priorities and one placement are reported, or memory is still refused.
+/// Whether three priorities and one placement are reported, at the second try if memory is there again.
+/// Also true if memory is still refused.
 fn is_told_at_last(alloc: Global, book: &mut Book, batch: &Batch) -> bool {
     if placed(alloc, book, 1, 600, b"", 5) != Some(Ok(1)) {
         return true;

@@ -16,8 +16,8 @@ pub(super) const THREE: u32 = 0x0303_0303;
 pub(super) enum Edit {
     /// Puts the link from the first router to the second, in these groups, with this unreserved bandwidth.
     Put(u32, u32, u32, [u64; 8]),
-    /// Puts the link from 1.1.1.1 to 3.3.3.3 with another far end: it leads to the first router given here, and its
-    /// remote address is that of the interface of 3.3.3.3 to the second.
+    /// Puts the link from 1.1.1.1 to 3.3.3.3, but it leads to the first router given here. Its remote
+    /// address is that of the interface of 3.3.3.3 to the second router given here.
     Turn(u32, u32),
     /// Removes the link from the first router to the second.
     Drop(u32, u32),
@@ -135,7 +135,8 @@ fn request(id: u64, bandwidth: u64, hops: &[u8]) -> Option<Request> {
     Request::new(id, from, to, 7, bandwidth, Mask::new(1), none, none, hops).ok()
 }
 
-/// Places such a request. Returns how many links its route has, 0 if there is no route, or why it isn't placed.
+/// Places a request made by `request`. Returns how many links its route has, 0 if there is no route, or why
+/// it isn't placed.
 pub(super) fn placed(
     alloc: Global,
     book: &mut Book,

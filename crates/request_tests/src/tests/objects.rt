@@ -1,4 +1,5 @@
-//! Objects that are read or refused: whole ones, objects cut after each byte, and objects with one other byte.
+//! Objects that are read or refused: whole objects, objects cut after each byte, and objects with one other
+//! byte.
 
 use super::assert_case;
 use cspf_addr::parse_hops;

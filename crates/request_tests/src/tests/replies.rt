@@ -72,7 +72,8 @@ fn object_of_a_route(rt: HostRuntime) -> Result<(), Fail> {
     Ok(())
 }
 
-/// Whether the table has links, the tail-end, the bandwidth, the id and the version, and the line.
+/// A case: whether the table has links, the tail-end, the bandwidth, the id and the version, and the line
+/// that is wanted.
 type Case = (bool, u32, u64, (u64, u32), &'static [u8]);
 
 const LINES: &[Case] = &[

@@ -44,7 +44,7 @@ fn drawn(alloc: Global, seed: &mut u32) -> Result<Vec<Row>, Fail> {
     Ok(rows)
 }
 
-// One to three marked routers in a third of the networks, and none in the others.
+// One to three marked routers in a third of the networks, and no marked routers in the others.
 fn drawn_marks(alloc: Global, seed: &mut u32) -> Result<Vec<u32>, AllocError> {
     let mut marks = Vec::new(alloc);
     let most = if draw(seed) % 3 == 0 {
@@ -169,7 +169,8 @@ fn check_asks(
     Ok(())
 }
 
-// Fails unless the trees answer so before the class of the request has a tree, and afterwards.
+// Fails unless the trees answer the request with this outcome three times before its class has a tree, and
+// three times afterwards.
 fn check_trees(
     alloc: Global,
     table: &Table,
@@ -185,8 +186,8 @@ fn check_trees(
     check_asks(alloc, table, request, outcome, trees)
 }
 
-// Whether a request has a route. Fails unless the trees give the same answer, and so does the table without
-// marks if the network has marks.
+// Whether a request has a route. Fails unless the trees give the same answer. If the network has marks, the
+// table without marks has to give the same answer as well.
 fn has_route(
     alloc: Global,
     network: &DrawnNetwork,

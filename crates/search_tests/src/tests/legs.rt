@@ -93,10 +93,10 @@ const CASES: [Case; 22] = [
         b"3.3.3.3/32l 4.4.4.4/32l 10.0.34.4/32l",
         Route(4, BY_THREE),
     ),
-    // strict hops that a usable link reaches, or none does
+    // strict hops that a usable link leads to, and strict hops without such a link
     (&[], (ONE, FOUR), b"3.3.3.3/32s", Route(4, BY_THREE)),
     (&[], (ONE, FOUR), b"2.2.2.2/32l 3.3.3.3/32s", NoRoute),
-    // hops that two routers meet, or none does
+    // hops that two routers meet, and a hop that no router meets
     (&[], (ONE, FOUR), b"2.0.0.0/7l", Route(2, BY_TWO)),
     (&[TWO], (ONE, FOUR), b"2.0.0.0/7l", Route(4, BY_THREE)),
     (&[], (ONE, FOUR), b"9.9.9.9/32l", NoRoute),

@@ -35,7 +35,7 @@ fn are_routes(
     Ok(all)
 }
 
-// The same with a new table after these changes, and new trees.
+// Whether the request gets this route nine times in a new table after these changes, with new trees.
 fn are_routes_after(
     alloc: Global,
     changes: &[Change],

@@ -85,7 +85,8 @@ const LINKS: [Network; 9] = [
     ),
     // a link without a reverse
     (&[LINK], false, &[(&[], (ONE, TWO), b"", NoRoute)]),
-    // links back over other interfaces at one end or at both, and a link back to another router: no reverses
+    // a link back isn't the reverse if it uses other interfaces at one end or at both, or leads to another
+    // router
     (
         &[LINK, (TWO, 0x0a00_0d02, ONE, 0x0a00_0d01, 10, 1000)],
         false,

@@ -24,7 +24,8 @@ fn circuit(seed: &mut u32, shape: u32, number: u32) -> (u32, u32) {
         // a ring of all routers, and circuits between any two
         0 if number < 36 => (number, (number + 1) % 36),
         0 if number < 72 => (draw(seed) % 36, draw(seed) % 36),
-        // a ring of six routers with chords, 12 routers with two circuits each to the ring, and 18 with two each to those
+        // a ring of six routers with chords; 12 routers, each with two circuits to the ring; 18 routers,
+        // each with two circuits to those 12
         1 if number < 6 => (number, (number + 1) % 6),
         1 if number < 9 => (number - 6, number - 3),
         1 if number < 33 => (6 + (number - 9) / 2, draw(seed) % 6),
@@ -99,7 +100,8 @@ fn shaped_table(alloc: Global, seed: &mut u32, shape: u32, kind: u32) -> Result<
     Ok(table_of(alloc, &changes)?)
 }
 
-// Hops that one router meets each, and hops that several meet.
+// Lists of hops. In the first three lists each hop is met by one router, in the others a hop is met by
+// several.
 const HOPS: [&[u8]; 5] = [
     b"10.0.0.7/32l",
     b"10.0.0.7/32l 10.0.0.7/32l 10.0.0.30/32l",
@@ -157,7 +159,8 @@ fn count_agreed(
     Ok(count)
 }
 
-// The same in a new network of this shape, with metrics of this kind. `trees` is cleared first.
+// How many of 200 requests the trees answer as the search by rounds does, in a new network of this shape
+// with metrics of this kind. `trees` is cleared first.
 fn agreed(
     alloc: Global,
     seed: &mut u32,

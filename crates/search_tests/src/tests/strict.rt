@@ -1,4 +1,4 @@
-//! Strict hops that a usable link reaches, and strict hops that none reaches.
+//! Strict hops that a usable link leads to, and strict hops without such a link.
 
 use super::Wanted::{NoRoute, Route};
 use super::{Case, FOUR, ONE, Row, THREE, TWO, assert_networks};

@@ -94,7 +94,7 @@ const FAULTS: [Fault; 7] = [
     },
 ];
 
-/// Whether a run over the rows ends with this error, and this was written, read and refused by then.
+/// Whether a run over the rows ends with the fault's error, after as many bytes and rows as the fault says.
 fn is_stopped(alloc: Global, fault: &Fault) -> bool {
     let events = no_events();
     let mut reader = rows_of(&ROWS, true, &events);

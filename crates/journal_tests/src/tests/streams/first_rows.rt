@@ -11,7 +11,8 @@ const ROWS: [&[u8]; 3] = [b"a\n", b"end,1,0\n", b"b\n"];
 /// The lines of all rows.
 const ANSWERS: &[u8] = b"row 1 refused: kind\nrow 3 refused: kind\n";
 
-/// Whether a run with this limit of rows returns `wanted`, after `length` bytes of the lines.
+/// Whether a run with this limit of rows returns `wanted`, and writes the first `length` bytes of the
+/// lines.
 fn ends(alloc: Global, limit: u64, wanted: Result<(), StreamError>, length: usize) -> bool {
     let events = no_events();
     let reader = rows_of(&ROWS, false, &events);

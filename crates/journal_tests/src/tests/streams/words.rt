@@ -94,7 +94,8 @@ fn opened(alloc: Global, count: u32) -> Result<OpenChanges, AllocError> {
     Ok(changes)
 }
 
-/// Whether this is the last line with `count` open changes, and there is none once they are cleared.
+/// Whether this is the last line for `count` open changes, and the last line is empty once they are
+/// cleared.
 fn has_last_line(alloc: Global, count: u32, text: &[u8]) -> Result<bool, AllocError> {
     let mut changes = opened(alloc, count)?;
     let line = changes.last_line(alloc)?;
