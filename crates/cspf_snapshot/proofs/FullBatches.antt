@@ -85,7 +85,7 @@ module _ (rest : List Change) (is_some : false ≡ (length rest == 0)) where
 
 -- One more batch `b` is cut off: the first changes of `rest`. The changes `behind` come after it.
 module _ (changes : List Change) (batches : List NumberedChanges) (rest : List Change) (all : changes_of batches ++ rest ≡ changes) (whole : rest ≢ [] → AreFull batches) (is_some : false ≡ (length rest == 0)) where
-  -- the batches so far are full, so there are too few of them for all changes
+  -- the batches so far are full, and they don't have all changes
   pub few_so_far : length batches * 4096 < length changes
   few_so_far =
       omega (arith, ap length all, length-append (changes_of batches) rest, length-changes_of-full batches (whole (not_empty rest is_some)), some_left rest is_some)

@@ -7,10 +7,10 @@ use cspf_db::Table;
 use cspf_model::{Batch, Change, Link, counted_routers};
 use std::alloc::{AllocError, Global};
 
-/// The batches that make the table's database from the empty one, numbered from 1. First they put each
-/// link, in order of the router that it runs from and then of its local address. Then they mark each router that has
-/// no transit, in rising order of Router ID. Each batch but the last has `MOST_CHANGES` changes. The
-/// snapshot of an empty table has no batches.
+/// The batches that make the table's database from the empty one, numbered from 1. First they put the
+/// links, in order of the routers that the links run from and then of the local addresses. Then they mark
+/// each router that has no transit, in rising order of Router ID. Each batch but the last has
+/// `MOST_CHANGES` changes. The snapshot of an empty table has no batches.
 pub fn snapshot(alloc: Global, table: &Table) -> Result<Vec<Batch>, AllocError>
     ensures { IfOk result (λ batches. IsSnapshot table.now batches.items) }
 {

@@ -22,7 +22,7 @@ impl Write for Nothing {
     }
 }
 
-/// Applies batches, and returns how many were published.
+/// Applies the batches, and returns how many were published.
 pub(crate) fn apply_all<R: AllocGlobal + Wait>(
     rt: &R,
     batches: &[Batch],

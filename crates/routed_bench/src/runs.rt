@@ -1,6 +1,6 @@
 //! The timed runs of publishers.
 //!
-//! First each batch after the network's is published and timed. Then 1, 2 and 4 askers at once each ask all
+//! First each batch after those of the network is published and timed. Then 1, 2 and 4 askers at once each ask all
 //! requests while these batches are published. Last the requests are divided among 1, 2 and 4 workers. In
 //! fixed shares each of n workers asks every nth request. By draws each worker draws its next request.
 

@@ -3,7 +3,7 @@
 //! `best` answers all requests several times, and prints `best ANSWERS COST MICROSECONDS`. COST is the sum of
 //! the routes' costs. The search by rounds answers the first ROUNDS requests: `rounds ANSWERS COST
 //! MICROSECONDS`. `agreed ANSWERS` is the number of these requests on which both searches agree. Then each
-//! batch after the network's is checked, absorbed and timed: `absorb CHANGES MICROSECONDS`.
+//! batch after those of the network is checked, absorbed and timed: `absorb CHANGES MICROSECONDS`.
 
 use cspf_db::Table;
 use cspf_model::{Batch, Outcome, Request};

@@ -77,7 +77,7 @@ fn runs(rows: &[Row], other: &Row) -> bool {
     found
 }
 
-// A table of these links, and of the reverse of each link that has none among them.
+// A table of these links. Each link whose reverse isn't among them gets a reverse.
 fn table(alloc: Global, rows: &[Row]) -> Result<Table, Fail> {
     let mut both = Vec::new(alloc);
     for row in rows {

@@ -60,7 +60,7 @@ fn asks_untold(alloc: Global, asker: &mut Asker, request: &Request) -> bool
     before == 0 && is_answered && asker.seen() == 2
 }
 
-/// Whether an asker of a closed publisher finds no database, or still answers `none` at version 2.
+/// Whether an asker of a closed publisher gets the error `NoEntry`, or still answers `none` at version 2.
 fn is_closed(alloc: Global, asker: &mut Asker, request: &Request) -> bool {
     let closed = asker.ask(alloc, request);
     matches!(closed, Err(AskError::NoEntry)) || says(&closed, request.id, 2, Said::NoRoute)

@@ -59,8 +59,8 @@ fn said_at(version: u32) -> Said {
     }
 }
 
-/// An asker asks after each of the batches. The publisher applies them in turn to its two copies of the
-/// database.
+/// An asker asks after each of the batches. The publisher publishes them alternately in its two copies of
+/// the database.
 fn ask_after_each<W: Write, R: Wait + Abort>(
     rt: &R,
     alloc: Global,

@@ -43,8 +43,8 @@ fn has_memory(alloc: Global) -> bool {
     }
 }
 
-/// A publisher over an empty journal, and its only asker. `None` if memory is refused and stays refused.
-/// The error of an opening gives the journal back unchanged.
+/// A publisher over an empty journal, and its only asker. `None` if memory is refused and stays refused. If
+/// opening fails, the journal is given back unchanged.
 fn opened_at_last<R: Wait + Abort>(rt: &R, alloc: Global) -> Option<(Publisher<InPlace>, Asker)>
     ensures { IfSome result (λ opened. opened.1.source ≡ opened.0.source) }
 {

@@ -17,7 +17,7 @@ const THREE: u32 = 0x03030303; // 3.3.3.3
 
 const FOUR: u32 = 0x04040404; // 4.4.4.4
 
-/// How often an asker asks at each version: enough that answers by a tree are among them.
+/// How often an asker asks at each version, which is often enough for answers by a tree.
 const ASKS: usize = 9;
 
 /// The two routers of a circuit, and the address of the first router's interface. The address of the second

@@ -15,7 +15,7 @@ const HEADS: &[(&[u8], u64, u32)] = &[
     ),
 ];
 
-/// How many lines in a row, from the first on, begin with their id and version.
+/// The index of the first line that isn't read with its id and version, or the number of lines.
 fn count_heads() -> usize {
     for (at, (line, id, version)) in HEADS.iter().enumerate() {
         match reply_head(line) {
@@ -52,7 +52,7 @@ const OTHERS: &[&[u8]] = &[
     b"ask 7 v4294967296 none",
 ];
 
-/// How many lines in a row, from the first on, have no head.
+/// The index of the first line that has a head, or the number of lines.
 fn count_others() -> usize {
     for (at, line) in OTHERS.iter().enumerate() {
         if reply_head(line).is_some() {

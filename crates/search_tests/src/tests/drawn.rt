@@ -97,7 +97,7 @@ fn drawn_request(seed: &mut u32, hops: &[u8]) -> Result<Request, Fail> {
     request((router(from), router(to)), 0, (0, 0, 0), hops)
 }
 
-// A network, its marked routers, a table of it with the marks, and a table without them as by `unmarked`.
+// A network, its marked routers, its table with the marks, and its table without marks, made by `unmarked`.
 #[derive(Drop)]
 struct DrawnNetwork {
     rows: Vec<Row>,

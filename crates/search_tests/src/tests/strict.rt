@@ -26,7 +26,7 @@ const CASES: &[Case] = &[
         b"3.3.3.3/32s 4.4.4.4/32s",
         Route(4, BY_THREE),
     ),
-    // the leg of a strict hop is empty if the leg before it ends at a router that meets the hop, or the head-end does
+    // the leg of a strict hop is empty if the router where the leg begins meets the hop
     (
         &[],
         (ONE, FOUR),
