@@ -4,8 +4,8 @@ use mathlib.Core.List.{IsPrefix}
 use Rattle.cspf_publish.specs.JournalSteps.{KnownSteps}
 use Rattle.cspf_publish.specs.KnownBatches.{KnownBatches, AreFirstOf}
 
--- The client's number, the batches that its asker knows, the steps of the journal that it has seen, how many rows
--- were refused, and whether the client couldn't enter the published replica.
+-- The client's number, the batches that its asker knows, and the steps of the journal that it has seen. How
+-- many rows were refused, and whether the client couldn't enter the published replica.
 pub record SessionState : Type 0 where
   pub client : ℕ
   pub known : KnownBatches

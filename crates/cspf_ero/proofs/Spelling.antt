@@ -62,7 +62,7 @@ four_bytes (a ∷ b ∷ c ∷ d ∷ rest) whole = refl
 with_class : (field written rest : List ℕ) → field ≡ written → field ++ 20 ∷ 1 ∷ rest ≡ (written ++ 20 ∷ 1 ∷ []) ++ rest
 with_class field written rest same = ap (λ (front : List ℕ). front ++ 20 ∷ 1 ∷ rest) same ∙ sym (append_assoc written (20 ∷ 1 ∷ []) rest)
 
--- if a test refuses and yet there is a value, the test was false
+-- there is a value only if the test `b` is false, since it is the error `e` otherwise
 refused_by : {A : Type 0} (b : Bool) (e : EroError) (r : Result A EroError) (x : A) → cond b (Err e) r ≡ Ok x → (b ≡ false) × (r ≡ Ok x)
 refused_by true e r x same = absurd (cc)
 refused_by false e r x same = (refl, same)

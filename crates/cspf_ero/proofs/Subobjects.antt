@@ -12,7 +12,7 @@ use Rattle.cspf_ero.specs.declared.ero_error.EroError.{EroError}
 use Rattle.cspf_ero.specs.Objects.{type_byte, subobject, SpellsHop}
 use Rattle.cspf_ero.specs.Reading.{address_in, hop_at}
 
--- if a test refuses when it fails and yet there is a value, the test was true
+-- there is a value only if the test `b` is true, since it is the error `e` otherwise
 pub passed : {A : Type 0} (b : Bool) (r : Result A EroError) (e : EroError) (x : A) → cond b r (Err e) ≡ Ok x → (b ≡ true) × (r ≡ Ok x)
 passed true r e x same = (refl, same)
 passed false r e x same = absurd (cc)

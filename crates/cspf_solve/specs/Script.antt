@@ -74,9 +74,9 @@ after_refused_batch s = record s { changes = []; refused = s.refused + 1 }
 abbrev pub after_reply : RunState → RunState
 after_reply s = record s { answers = s.answers + 1 }
 
--- When the open changes are accepted as the batch with this number and this count: the version is below
--- 1,000,000, the number is that of the next version, the count is that of the open changes, and the batch
--- fits the database.
+-- When the open changes are accepted as the batch with this number and this count. The version is below
+-- 1,000,000, and the number is that of the next version. The count is that of the open changes, and the
+-- batch fits the database.
 pub record IsAccepted (s : RunState) (number count : ℕ) : Type 0 where
   pub room : current_version s < MOST_VERSIONS
   pub next : number ≡ current_version s + 1

@@ -10,7 +10,7 @@ use std::alloc::{AllocError, Global};
 use std::io::Read;
 use std::test::Fail;
 
-/// The texts of three batches: the first has three changes, the second none, the third one.
+/// The texts of three batches: the first has three changes, the second no change, and the third one change.
 const THREE: [&[u8]; 3] = [
     b"drop,1.1.1.1,0.0.0.0\nnode,1.1.1.1,0\ndrop,1.1.1.1,0.0.0.2\nend,1,3\n",
     b"end,2,0\n",

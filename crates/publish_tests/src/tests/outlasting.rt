@@ -65,9 +65,9 @@ fn network(alloc: Global) -> Result<Vec<Change>, Fail> {
     Ok(all)
 }
 
-/// The batch with this number: 1 puts the network, 2 takes all bandwidth from a circuit, 3 restores it, 4 gives
-/// 2.2.2.2 transit, 5 changes a circuit's group, 6 lowers a metric, and 7 puts a new circuit. 8 takes all
-/// bandwidth from that circuit, and 9 restores it.
+/// The batch with this number. 1 puts the network, 2 takes all bandwidth from a circuit, and 3 restores it.
+/// 4 gives 2.2.2.2 transit, 5 changes a circuit's group, 6 lowers a metric, and 7 puts a new circuit. 8
+/// takes all bandwidth from the new circuit, and 9 restores it.
 fn batch_at(alloc: Global, number: u32) -> Result<Batch, Fail> {
     match number {
         1 => Ok(Batch {

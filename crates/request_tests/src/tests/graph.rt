@@ -1,5 +1,5 @@
-//! Cases worked by hand on small tables: which links a request may use, which routers a walk may go on from, where
-//! the legs of a route end, and which routers they pass through.
+//! Cases worked by hand on small tables. They check which links a request may use, which routers a walk may
+//! go on from, where the legs of a route end, and which routers they pass through.
 
 ghost use Rattle.std.specs.Prelude.{◌≡◌, IfOk, length};
 

@@ -1,5 +1,6 @@
-//! Requests whose legs are answered one after the other, each by a tree to the router of its hop: in small
-//! networks with known routes, and in drawn ones, where the search by rounds has to agree.
+//! Requests whose legs are answered one after the other, each by a tree to the router of its hop. Some are
+//! asked in small networks with known routes, others in drawn ones, where the search by rounds has to
+//! agree.
 
 ghost use Rattle.std.specs.Prelude.{◌+◌, ◌<◌};
 
