@@ -65,9 +65,10 @@ fn network(alloc: Global) -> Result<Vec<Change>, Fail> {
     Ok(all)
 }
 
-/// The batch with this number. 1 puts the network, 2 takes all bandwidth from a circuit, and 3 restores it.
-/// 4 gives 2.2.2.2 transit, 5 changes a circuit's group, 6 lowers a metric, and 7 puts a new circuit. 8
-/// takes all bandwidth from the new circuit, and 9 restores it.
+/// The batch with this number. Batch 1 puts the network, batch 2 takes all bandwidth from a circuit, and
+/// batch 3 restores it. Batch 4 gives 2.2.2.2 transit, batch 5 changes a circuit's group, and batch 6
+/// lowers a metric. Batch 7 puts a new circuit, batch 8 takes all bandwidth from it, and batch 9 restores
+/// it.
 fn batch_at(alloc: Global, number: u32) -> Result<Batch, Fail> {
     match number {
         1 => Ok(Batch {
