@@ -100,7 +100,7 @@ pub word_at : (words : List ℕ) (word : ℕ) → get_elem? words 0 ≡ some wor
 word_at [] word at = absurd (some-ne-none word (sym at))
 word_at (w ∷ ws) word at = some-injective w word at
 
--- one more share adds its draws
+-- one more share has as many draws more as a share has
 pub shares-more : (share shares : ℕ) → share * (shares + 1) ≡ share * shares + share
 shares-more share shares = grind arith
 

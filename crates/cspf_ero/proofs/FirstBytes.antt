@@ -25,7 +25,7 @@ hops_at-none : (at : ℕ) (bytes : List ℕ) → 0 < length bytes → subobject_
 hops_at-none at [] some = absurd (omega arith)
 hops_at-none at (byte ∷ bytes) some = refl
 
--- bytes up to and including the first one after `most` subobjects decide which hops there are
+-- cutting off the bytes later than after `most` subobjects doesn't change the hops
 hops_at-take : (most at m : ℕ) (bytes : List ℕ) → 8 * most < m → subobject_hops most at (take m bytes) ≡ subobject_hops most at bytes
 hops_at-take zero at m bytes enough =
     elim (cases_lt m (length bytes)) [

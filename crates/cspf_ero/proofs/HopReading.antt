@@ -5,7 +5,7 @@ use Rattle.cspf_ero.specs.declared.ero_error.EroError.{EroError}
 use Rattle.cspf_addr.specs.ResultSteps.{◌>>=◌}
 use Rattle.cspf_ero.specs.Reading.{hop_at, subobject_hops}
 
--- the result of a reader that has read these hops, from its result for the bytes after them
+-- the result for all bytes, from the hops read so far and the result for the bytes after them
 abbrev pub behind : List Hop → Result (List Hop) EroError → Result (List Hop) EroError
 behind hops (Ok more) = Ok (hops ++ more)
 behind hops (Err e) = Err e

@@ -4,7 +4,7 @@ ghost use Rattle.cspf_ero.specs.ReplyHead.{BeginsWithHead, HasNoHead};
 
 use cspf_addr::number;
 
-/// The request that a reply line answers, and the version of the database at which it does.
+/// The request that a reply line answers, and the version of the database that the answer is for.
 #[derive(Clone, Copy, Debug, PartialEq, Eq)]
 pub struct Head {
     /// The id of the request.

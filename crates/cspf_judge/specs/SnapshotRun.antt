@@ -29,7 +29,7 @@ pub record IsJournalUnfit (accept_torn : Bool) (records : Records) (line : List 
   pub first : IsFirstUnfit batches number why
   pub line_is : line ≡ refused_batch_line number (Unfit why)
 
--- the journal has no last database, and the line says why
+-- the journal is too long, torn, or has a batch that doesn't fit, and the line says so
 abbrev pub IsSnapshotRefused : Bool → Records → List ℕ → Type 0
 IsSnapshotRefused accept_torn records line =
     IsJournalRefused accept_torn records line ⊎ IsJournalUnfit accept_torn records line

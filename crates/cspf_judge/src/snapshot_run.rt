@@ -16,9 +16,9 @@ use std::alloc::Global;
 use std::io::{Read, Write};
 
 /// Writes the batches that make the journal's last database from the empty one: `IsSnapshotRun`. A journal
-/// without a last database is refused with one line. Returns the status: 2 if the journal is refused, and 0
-/// otherwise. After an error the writer has a prefix of these lines, or none of them. The writer isn't
-/// flushed.
+/// is refused with one line if it is too long, if it is torn and `accept_torn` isn't set, or if a batch
+/// doesn't fit. Returns the status: 2 if the journal is refused, and 0 otherwise. After an error the writer
+/// has a prefix of these lines, or none of them. The writer isn't flushed.
 pub fn run_snapshot<R: Read + Drop, W: Write>(
     alloc: Global,
     journal: R,

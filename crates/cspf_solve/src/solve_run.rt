@@ -19,7 +19,7 @@ use std::io::{Read, Write};
 
 /// Reads a stream of rows and writes the line of each row as soon as it is known, in one write if the
 /// writer takes it whole. `IsScript` defines the lines, and when a row or a batch is refused. At most
-/// 1,000,000 rows are read. However many these are, memory is taken only for the longest row, the
+/// 1,000,000 rows are read. However many rows there are, memory is taken only for the longest row, the
 /// database, the open changes and the trees. `run_solve_with` says how many trees there are.
 ///
 /// After an error the writer has the lines of a prefix of the rows. After a failed write it may also have
