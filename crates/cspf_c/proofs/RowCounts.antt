@@ -19,7 +19,7 @@ few taken truly = record {
   refused = ∥∥₁_elim truly le_prop (λ counted. omega (arith, counted.kept.refused, counted.refused, counted.most));
 }
 
--- after one more answer no count is above that of the answered rows
+-- after one more answer no count is above the number of answered rows
 pub counted_more : CountsByOne → (old new : TakenRows) (r : Result Row RowError) (line : List ℕ) → new.answered ≡ old.answered + 1 → old.answered < 1000000
     → ((s : RunState) → KeepsRun old.solver s → (t : RunState) × KeepsRun new.solver t × IsRowAnswered (at_next_row s) r line t)
     → IsCounted old → IsCounted new

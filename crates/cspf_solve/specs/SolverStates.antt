@@ -61,7 +61,7 @@ pub record AreCounted (solver : Solver) : Type 0 where
   pub answers : solver.rows.answers ≤ MOST_ROWS
   pub refused : solver.rows.refused ≤ MOST_ROWS
 
--- Private: what the run has written if it stops at its last line, after `before` bytes.
+-- Private: what the run has written if it stops while it writes its last line, after `before` bytes.
 abbrev pub IsEndCut : List ℕ → Option (List ℕ) → Option (List ℕ) → ℕ → SolveError → Type 0
 IsEndCut line old new before error.Memory = known.Keeps old new
 IsEndCut line old new before error.Read = ⊥

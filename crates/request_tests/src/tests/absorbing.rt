@@ -82,7 +82,7 @@ fn full_book(alloc: Global) -> Option<Book> {
     }
 }
 
-/// Whether the batch takes the routes of the placements with these ids, in this order.
+/// Whether just the placements with these ids lose their routes by the batch, in this order.
 fn loses(alloc: Global, book: &Book, batch: &Batch, ids: &[u64]) -> bool {
     match book.lost(alloc, batch) {
         Ok(lost) => lost.as_slice() == ids,
@@ -90,7 +90,7 @@ fn loses(alloc: Global, book: &Book, batch: &Batch, ids: &[u64]) -> bool {
     }
 }
 
-/// Whether each batch takes the routes of the placements beside it.
+/// Whether by each batch just the placements beside it lose their routes.
 fn are_losses(alloc: Global, book: &Book, losses: &[Loss]) -> bool {
     for (edits, ids) in losses {
         match batch(alloc, edits) {
