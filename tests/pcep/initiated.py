@@ -6,7 +6,7 @@ import tempfile
 
 from pcep.played import NORTH, SOUTH, Front, Pcc, bandwidth, hop, lspa, metric, rows, told
 
-from routed.net.places import Stopped
+from routed.net.endpoints import Stopped
 from routed.pcep import wire
 from routed.pcep.network import Sids
 from routed.pcep.session import Session
