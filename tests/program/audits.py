@@ -1,6 +1,6 @@
 """`audit` judges reply lines by a journal and requests.
 
-Its lines are the formats' own (docs/run/FORMATS.md), or computed by tests/reference/formats.py.
+Its lines are the formats' own (docs/run/FORMATS.md), or computed by tests/reference/runs.py.
 """
 import glob
 import os
@@ -11,7 +11,7 @@ import tempfile
 import time
 
 from checks import TOP
-from reference import changes, formats
+from reference import changes, runs
 
 FREE = ",".join(["1000"] * 8)
 MASKS = "0x0,0x0,0x0"
@@ -44,7 +44,7 @@ class Audit:
     def is_right(self, name, journal, requests, replies):
         """The lines of the reference are written."""
         def wanted(some):
-            status, lines = formats.audit(*map(latin, (journal, requests, "".join(some))))
+            status, lines = runs.audit(*map(latin, (journal, requests, "".join(some))))
             return status, "".join(f"{line}\n" for line in lines).encode("latin-1"), b""
 
         def found(some):

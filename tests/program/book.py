@@ -5,7 +5,7 @@
     tests/program/book.py --full
 
 Run by itself it tries the reference alone, on all whose lines are known, and counts the drawn streams that tell each wrong book
-(tests/reference/wrong_books.py) apart. As a part of tests/run it tries the built program beside the reference, on drawn streams and while calls are
+(tests/reference/wrong.py) apart. As a part of tests/run it tries the built program beside the reference, on drawn streams and while calls are
 refused, too. With --full it tries the program with the most placements, which takes a minute or more.
 """
 import argparse
@@ -27,7 +27,7 @@ from program.drawn_books import IDS, ROWS, STREAMS, WANTED, Drawn, drawn_stream,
 from program.known_books import BASE, DIRECT, ENDS, HERE, LOWERED, MASKS, SCRIPTS, Reference, address, held, known, lowered, place, status_of, worked
 from program.refusal import COMPILER, Refuser, each
 from program.refused import REFUSALS, is_stopped
-from reference import books, formats, wrong_books
+from reference import books, runs, wrong
 from reference.changes import changed
 
 from routed.program import BUILT
@@ -109,7 +109,7 @@ def released(program, checks):
         asks = [drawn.request("ask", name, drawn.draw.randrange(8)) for name in range(20)]
         book = stream([*drawn.rows, *(f"release,{name}" for name in IDS), *asks])
         solve = stream([*base, *asks])
-        outcomes = [formats.solve(solve)[1][-20:], books.book(book)[1][-20:]]
+        outcomes = [runs.solve(solve)[1][-20:], books.book(book)[1][-20:]]
         if program:
             outcomes += [program.run([command], rows)[1].decode().splitlines()[-20:] for command, rows in (("solve", solve), ("book", book))]
         for lines in outcomes:
@@ -313,7 +313,7 @@ def told_apart(_, checks, seeds=0):
     cases = [(name, rows, (status_of(lines), lines.encode(), b"")) for name, rows, lines in [*worked(), *known()] if len(rows) < 100_000]
     streams = [(rows, Reference().run(["book"], rows)) for rows in map(drawn_stream, range(seeds))]
     count = 0
-    for name, module in wrong_books.books():
+    for name, module in wrong.books():
         one = Reference(module)
         where = next((case for case, rows, wanted in cases if one.run(["book"], rows) != wanted), lowered(module) != LOWERED and "low limits")
         checks.true(f"a book that {name} is told apart", where)

@@ -15,7 +15,7 @@ import tempfile
 from checks import TOP
 from program.large import longest_routes
 from program.refusal import COMPILER, Refuser, each
-from reference import formats
+from reference import formats, runs
 from reference.changes import changed, script
 
 HERE = os.path.dirname(os.path.abspath(__file__))
@@ -52,7 +52,7 @@ def ran(words, rows):
 
 def lines_of(rows):
     """What `solve` must write of rows, by the formats' own words."""
-    return "".join(f"{line}\n" for line in formats.solve(rows.decode("latin-1"))[1]).encode("latin-1")
+    return "".join(f"{line}\n" for line in runs.solve(rows.decode("latin-1"))[1]).encode("latin-1")
 
 
 def is_by_line(rows):

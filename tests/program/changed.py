@@ -1,5 +1,5 @@
 #!/usr/bin/env python3
-"""Compares the built program with tests/reference/formats.py on streams whose bytes were changed.
+"""Compares the built program with tests/reference/runs.py on streams whose bytes were changed.
 
     tests/program/changed.py [--program FILE] [--changed N] [--seed S] [--jobs J]
     tests/program/changed.py --wrong [--changed N] [--seed S]
@@ -31,7 +31,7 @@ sys.dont_write_bytecode = True
 HERE = os.path.dirname(os.path.abspath(__file__))
 sys.path.insert(1, os.path.dirname(HERE))
 from checks import short
-from reference import changes, formats, wrong
+from reference import changes, runs, wrong
 from reference.shortened import shortened
 from routed.program import BUILT
 
@@ -101,7 +101,7 @@ class Program:
 class Reference:
     """The reference, or a wrong program made of it, as a program."""
 
-    def __init__(self, module=formats):
+    def __init__(self, module=runs):
         self.module = module
 
     def answer(self, run, named=()):
@@ -151,9 +151,9 @@ def base(draw, worked_ones, *drawn):
 
 def replies(draw, journal, requests):
     """Reply lines that are right, each at a version of its own, among other lines that a run writes, and now and then one of no request."""
-    networks, _ = formats.publish(formats.whole_batches(journal, True))
+    networks, _ = runs.publish(runs.whole_batches(journal, True))
     lines = [f"version {version}" for version in range(1, len(networks))]
-    for request in formats.requests_of(requests):
+    for request in runs.requests_of(requests):
         version = draw.randrange(len(networks))
         lines.append(networks[version].answer(version, request))
     lines += draw.choice([[], [], [], ["ask 99 v0 none"], ["ask 99 v0 none"] * 2])

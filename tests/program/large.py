@@ -5,7 +5,7 @@ import subprocess
 import tempfile
 import time
 
-from reference import formats
+from reference import runs
 
 BATCHES = 100_000
 ROUTERS = 1024  # the most that a table takes
@@ -49,7 +49,7 @@ def longest_routes():
         rows += put(*near, *far, 4294967295) + put(*far, *near, 4294967295).replace(FREE, none)
     hops = " ".join(f"{address(2, ROUTERS - leg)}/32l" for leg in range(1, LEGS))
     rows += f"end,1,{2 * ROUTERS}\n" + ask(1, LAST) + ask(2, address(2, ROUTERS - LEGS), hops)
-    return rows, "".join(f"{line}\n" for line in formats.solve(rows)[1])
+    return rows, "".join(f"{line}\n" for line in runs.solve(rows)[1])
 
 
 def served_routes(program, checks, room):
@@ -87,7 +87,7 @@ def waiting(program, checks):
     rows += f"end,1,{2 * len(ends)}\n" + ask(1, LAST, " ".join(["0.0.0.0/0l"] * (LEGS - 1)))
     wanted = "version 1\nask 1 v1 route cost=2 hops=2 again=no ero=0014140101080b000001200001080a0900022000\n"
     checks.same("8,176 keys wait", program.solve(rows), (0, wanted.encode(), b""))
-    checks.same("their answer by the reference", formats.solve(rows), (0, wanted.splitlines()))
+    checks.same("their answer by the reference", runs.solve(rows), (0, wanted.splitlines()))
 
 
 def long_journal(program, checks, room):

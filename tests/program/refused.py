@@ -12,7 +12,7 @@ from collections import Counter
 from checks import TOP
 from program.refusal import COMPILER, Refuser, each
 from program.snapshots import snapshot_of
-from reference import formats
+from reference import runs
 from reference.formats import Network
 from reference.versions import Versions
 
@@ -127,7 +127,7 @@ class Audit:
         with open(path, "w", encoding="ascii") as file:
             file.write(replies)
         self.words = [program.path, "audit", "--journal", UPDATES, "--requests", REQUESTS, "--replies", path, "--explain"]
-        self.status, lines = formats.audit(updates, requests, replies)
+        self.status, lines = runs.audit(updates, requests, replies)
         self.lines = "".join(f"{line}\n" for line in lines).encode()
 
     def run(self, refuser, number, flags):

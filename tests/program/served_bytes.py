@@ -3,7 +3,8 @@ import os
 
 from program.serving import AT
 from reference import changes
-from reference.formats import Network, Refused, batch_text, ended, records, row, solve
+from reference.formats import Network, Refused, records, row
+from reference.runs import batch_text, ended, solve
 
 STREAMS, STREAM_CLIENTS = 30, 6  # runs over streams of any bytes, and the clients of each
 

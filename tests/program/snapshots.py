@@ -6,7 +6,8 @@ import subprocess
 import time
 
 from reference import changes
-from reference.formats import MOST_CHANGES, MOST_LINKS, MOST_MARKS, MOST_ROUTERS, MOST_ROWS, Refused, batch_text, publish, whole_batches
+from reference.formats import MOST_CHANGES, MOST_LINKS, MOST_MARKS, MOST_ROUTERS, Refused
+from reference.runs import MOST_ROWS, batch_text, publish, whole_batches
 
 HERE = os.path.dirname(os.path.abspath(__file__))
 TORN = "--accept-torn"

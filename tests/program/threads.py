@@ -19,7 +19,7 @@ import time
 from checks import TOP
 from program.refusal import COMPILER, Refuser
 from program.serving import CLIENTS, PATIENCE
-from reference import formats
+from reference import runs
 from tools.fronts import Front
 
 FEW, SOME = 8, (1, 2, CLIENTS // 2, CLIENTS - 1, CLIENTS)  # clients of which each thread is refused, and those of 64 that are
@@ -201,7 +201,7 @@ def within(kind, most):
 def in_small_stacks(program, checks, room):
     """64 clients are answered on a network of full size."""
     rows, asks = full_network()
-    lines = "".join(f"{line}\n" for line in formats.solve(rows + asks)[1][-2:])
+    lines = "".join(f"{line}\n" for line in runs.solve(rows + asks)[1][-2:])
     for stack in STACKS:
         with contextlib.closing(Inputs(room, CLIENTS, b"")) as inputs:
             words, journal, outs = serving(program.path, room, inputs.paths[1:])

@@ -15,7 +15,7 @@ from checks import TOP
 from program.refusal import COMPILER
 from program.serving import Serving, batches_of
 from program.tables import ran_live, table
-from reference import changes, formats
+from reference import changes, runs
 from reference.versions import Versions
 
 HERE = os.path.dirname(os.path.abspath(__file__))
@@ -83,7 +83,7 @@ def answered(program, checks, versions, words):
 
     def right(some):
         text = "".join(some)
-        status, lines = formats.solve(text) if text != rows else (0, solved.splitlines())
+        status, lines = runs.solve(text) if text != rows else (0, solved.splitlines())
         return status, joined(lines).encode(), b""
 
     checks.stream(f"solve {words}", rows.splitlines(keepends=True), lambda some: program.run(["solve", *words], "".join(some)), right)

@@ -1,7 +1,8 @@
 """What a sweep says, computed from the routes of tests/reference/formats.py."""
 import itertools
 
-from reference.formats import address_text, publish, requests_of, whole_batches
+from reference.formats import address_text
+from reference.runs import publish, requests_of, whole_batches
 
 
 def plain(rows, asks, fail):

@@ -15,7 +15,7 @@ import time
 from checks import TOP
 from program.serving import PATIENCE
 from program.snapshots import snapshot_of
-from reference.formats import publish, whole_batches
+from reference.runs import publish, whole_batches
 from tools.fronts import Connection
 
 DEPLOY = os.path.join(TOP, "deploy")

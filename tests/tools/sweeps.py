@@ -12,7 +12,8 @@ import time
 
 from checks import TOOLS, TOP
 from reference.changes import counts_mended
-from reference.formats import Refused, address_number, address_text, publish, whole_batches
+from reference.formats import Refused, address_number, address_text
+from reference.runs import publish, whole_batches
 from reference.sweeps import plain
 from tools.ring import A, AB, AD, ASKS, B, BC, BEFORE, C, CD, D, DROPS, FIRST, HANGS, MASKS, OF_CIRCUITS, OF_PAIRS, OF_ROUTERS, RING, SWEEP, THIRD, ask, circuit, facts, journal, link, sweep, wrapped
 
