@@ -56,7 +56,8 @@ def edits(draw, pairs, routers, number):
         for _ in range(9):
             places = draw.sample(sorted(links), size)
             rest = [put(draw, place, links[place]) for place in places[1:]]
-            for there, kind in [(routers, "a router comes"), (routers + 1, "one comes as another goes"), (links[places[0]][1], "a router goes")]:
+            for there, kind in [(routers, "a router comes"), (routers + 1, "one comes as another goes"),
+                                (links[places[0]][1], "a router goes")]:
                 end([put(draw, places[0], (links[places[0]][0], there))] + rest, f"{size:,} replaced, {kind}")
     return lines, kinds
 
@@ -103,8 +104,8 @@ def search_at(program, plain, room, load, asks, said, without):
     passes = [len(found["best"])] + [PASSES[name] for name in names]
     each, *others = (seconds * 1e6 / times / len(asks) for seconds, times in zip(used(runs), passes))
     answered, agreed = found["rounds"][0], found["agreed"][0][0]
-    text = f"{said}: {each:,.1f} microseconds a request, round by round {answered[2] / answered[0]:,.0f}, the same answer for {agreed} of {rounds}"
-    say(text + (f"; {each / without:.1f} times one without" if without else ""))
+    by_rounds = f"round by round {answered[2] / answered[0]:,.0f}, the same answer for {agreed} of {rounds}"
+    say(f"{said}: {each:,.1f} microseconds a request, {by_rounds}" + (f"; {each / without:.1f} times one without" if without else ""))
     for name, other in zip(names, others):
         say(f"{said}, the {name} search: {other:,.1f} microseconds a request, `best` takes {each / other:.2f} times it")
     return each

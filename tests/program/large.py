@@ -1,4 +1,5 @@
-"""The longest routes through `serve`, a search in which many states wait, and journals of 100,000 batches through `live`, `audit` and `snapshot`."""
+"""The longest routes through `serve`, a search in which many states wait, and journals of 100,000 batches through `live`, `audit` and
+`snapshot`."""
 import os
 import re
 import subprocess
@@ -79,8 +80,8 @@ def waiting(program, checks):
     """8,176 keys wait in the heap of a search at once.
 
     A hub has a link to each of 1,022 routers, and the first of these leads on to the tail-end. Seven hops admit any router, so the hub is
-    as near to the tail-end in each of the eight legs. It is settled in all of them before any other router, which has one link more. In each
-    leg its links give 1,022 routers a key."""
+    as near to the tail-end in each of the eight legs. It is settled in all of them before any other router, which has one link more. In
+    each leg its links give 1,022 routers a key."""
     ends = [((FIRST, address(10, number)), (address(2, number), address(11, number)), min(number, 9)) for number in range(1, ROUTERS - 1)]
     ends.append(((address(2, 1), "10.9.0.1"), (LAST, "10.9.0.2"), 1))
     rows = "".join(put(*near, *far, metric) + put(*far, *near, metric) for near, far, metric in ends)

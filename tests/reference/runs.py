@@ -146,7 +146,8 @@ def batch_text(place, changes):
         else:
             fields = [kind, address_text(change["from"]), address_text(change["local"])]
         if kind == "put":
-            fields += [address_text(change["to"]), address_text(change["remote"]), change["metric"], f"0x{change['group']:08x}", *change["free"]]
+            fields += [address_text(change["to"]), address_text(change["remote"]), change["metric"], f"0x{change['group']:08x}",
+                       *change["free"]]
         rows.append(",".join(map(str, fields)))
     return "".join(f"{line}\n" for line in [*rows, f"end,{place},{len(changes)}"])
 

@@ -9,7 +9,8 @@ HERE = os.path.dirname(os.path.abspath(__file__))
 
 def turned(modules, *names):
     """Pairs of what a wrong program does and its module, for each function of these modules. It is made of files of the reference."""
-    for turn in (rule for module in modules for rule in vars(module).values() if inspect.isfunction(rule) and rule.__module__ == module.__name__):
+    for turn in (rule for module in modules for rule in vars(module).values() if inspect.isfunction(rule)
+                 and rule.__module__ == module.__name__):
         made = fresh(names)
         turn(made)
         yield turn.__name__.replace("_", " "), made

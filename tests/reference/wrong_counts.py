@@ -45,7 +45,8 @@ def counts_on_the_reverse_too(it):
     right = it.counted
 
     def counted(placements):
-        back = [it.Placement(request, tuple({"from": link["to"], "local": link["remote"]} for link in route)) for request, route in placements]
+        back = [it.Placement(request, tuple({"from": link["to"], "local": link["remote"]} for link in route))
+                for request, route in placements]
         return right([*placements, *back])
     it.counted = counted
 

@@ -4,7 +4,8 @@
 def says_over_where_it_is_just_enough(it):
     right = it.over
     it.over = lambda changes, placements: right(
-        [(kind, {**change, "free": [free - 1 if free else 0 for free in change["free"]]} if kind == "put" else change) for kind, change in changes], placements)
+        [(kind, {**change, "free": [free - 1 if free else 0 for free in change["free"]]} if kind == "put" else change)
+         for kind, change in changes], placements)
 
 
 def says_over_at_the_first_priority_alone(it):
@@ -22,7 +23,8 @@ def says_over_by_the_effective_figures(it):
 
     def least(link):
         return {**link, "free": [min(link["free"][:priority + 1]) for priority in it.PRIORITIES]}
-    it.over = lambda changes, placements: right([(kind, least(change) if kind == "put" else change) for kind, change in changes], placements)
+    it.over = lambda changes, placements: right([(kind, least(change) if kind == "put" else change) for kind, change in changes],
+                                                placements)
 
 
 def says_over_by_priority_and_then_by_link(it):
@@ -32,7 +34,8 @@ def says_over_by_priority_and_then_by_link(it):
 
 def says_over_in_the_order_of_keys(it):
     right = it.over
-    it.over = lambda changes, placements: right(sorted(changes, key=lambda one: it.key_of(one[1]) if one[0] == "put" else (0, 0)), placements)
+    it.over = lambda changes, placements: right(sorted(changes, key=lambda one: it.key_of(one[1]) if one[0] == "put" else (0, 0)),
+                                                placements)
 
 
 def says_nothing_of_what_was_over_before(it):
@@ -60,7 +63,8 @@ def forgets_what_is_counted_on_a_link_that_is_put(it):
     def end(book, changes, content):
         lines = right(book, changes, content)
         put = {it.key_of(change) for kind, change in changes if kind == "put"}
-        book.placements = [it.Placement(request, tuple(link for link in route if it.key_of(link) not in put)) for request, route in book.placements]
+        book.placements = [it.Placement(request, tuple(link for link in route if it.key_of(link) not in put))
+                           for request, route in book.placements]
         return lines
     it.Book.end = end
 
@@ -71,7 +75,8 @@ def forgets_what_is_counted_on_a_link_that_is_dropped(it):
     def end(book, changes, content):
         lines = right(book, changes, content)
         dropped = {it.key_of(change) for kind, change in changes if kind == "drop"}
-        book.placements = [it.Placement(request, tuple(link for link in route if it.key_of(link) not in dropped)) for request, route in book.placements]
+        book.placements = [it.Placement(request, tuple(link for link in route if it.key_of(link) not in dropped))
+                           for request, route in book.placements]
         return lines
     it.Book.end = end
 
@@ -117,7 +122,8 @@ def names_lost_ones_in_the_order_of_placing(it):
 
 def names_those_that_were_lost_before(it):
     it.lost = lambda before, after, placements: [
-        f"lost {placed.request['id']}" for placed in sorted(placements, key=lambda it: (-it.request["hold"], it.request["id"])) if not it.admits(after, placed)]
+        f"lost {placed.request['id']}" for placed in sorted(placements, key=lambda it: (-it.request["hold"], it.request["id"]))
+        if not it.admits(after, placed)]
 
 
 def looks_for_lost_ones_in_the_effective_database(it):
@@ -185,7 +191,8 @@ def looks_at_the_first_link_of_a_route_alone(it):
 
 def names_lost_ones_before_over(it):
     right = it.Book.end
-    it.Book.end = lambda book, changes, content: sorted(right(book, changes, content), key=lambda line: ["lost", "over", "base"].index(line.split()[0]))
+    it.Book.end = lambda book, changes, content: sorted(right(book, changes, content),
+                                                        key=lambda line: ["lost", "over", "base"].index(line.split()[0]))
 
 
 def says_the_base_before_what_it_does(it):

@@ -141,7 +141,8 @@ def leaves_unanswered_requests_out(it):
 
 def forgets_what_is_said_of_routers_met_again(it):
     it.judge = rebound(it.judge, "line != networks[version].answer(version, asked[name])",
-                       're.sub(" again=(yes|no)", "", line) != re.sub(" again=(yes|no)", "", networks[version].answer(version, asked[name]))')
+                       're.sub(" again=(yes|no)", "", line) != re.sub(" again=(yes|no)", "", networks[version].answer(version, '
+                       'asked[name]))')
 
 
 def reads_ids_above_the_greatest(it):
