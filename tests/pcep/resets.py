@@ -1,13 +1,13 @@
-"""PCCs whose TCP connections are reset, at a `routed-tools pcep` that serves the next PCC each time: before the Open, after it, with requests that
-wait for the server, and with replies that wait for the PCC."""
+"""PCCs whose TCP connections are reset, at a `routed-tools pcep` that serves the next PCC each time: before the Open, after it, with
+requests that wait for the server, and with replies that wait for the PCC."""
 import signal
 import socket
 import struct
 import tempfile
 import time
 
-from pcep.sessions import PATH, request, rows
-from pcep.runs import OPENED, Client, Run, begun, wait
+from pcep.played import PATH, request, rows
+from pcep.beside import OPENED, Client, Run, begun, wait
 
 from routed.pcep import wire
 from routed.pcep.wire import pack

@@ -2,7 +2,6 @@
 import os
 import pty
 import re
-import select
 import shutil
 import signal
 import socket
@@ -13,77 +12,31 @@ import threading
 import time
 
 from checks import TOOLS, TOP
-from feed import rows as feeds
-from program.serving import PATIENCE
-from tools.listened import CLIENTS, Connection, Front, admitted, busy
+from feed import played as feeds
+from program.serving import CLIENTS, PATIENCE
+from tools.fronts import Connection, Front, admitted, busy
+from tools.logs import blocked, logged, priorities
+from tools.reading import ASKS, PAIR, answered, eventually, exchanged, figures_of, got, seen, sent
 
 from routed.front import metrics, status
-from routed.net import log
-from routed.net.places import Place
+from routed.net import http
 
-MASKS = "0x0,0x0,0x0"
-FREE = ",".join(["1000"] * 8)
-PAIR = f"put,1.1.1.1,10.0.12.1,2.2.2.2,10.0.12.2,10,0x1,{FREE}\nput,2.2.2.2,10.0.12.2,1.1.1.1,10.0.12.1,10,0x1,{FREE}\n"
-ASKS = {  # a row of each outcome
-    "route": f"ask,1,1.1.1.1,2.2.2.2,0,5,{MASKS},\n", "none": f"ask,2,1.1.1.1,2.2.2.2,0,1001,{MASKS},\n",
-    "unknown-from": f"ask,3,3.3.3.3,2.2.2.2,0,5,{MASKS},\n", "unknown-to": f"ask,4,1.1.1.1,3.3.3.3,0,5,{MASKS},\n"}
 REFUSALS = [  # an alarm, its figure and a word of it, and whether one refusal is told of for good
-    ("RoutedJournalFailed", "routed_refused_batches_total", "journal", True), ("RoutedJournalFailed", "routed_refused_batches_total", "stopped", True),
-    ("RoutedOutOfMemory", "routed_refused_batches_total", "memory", False), ("RoutedBatchRefused", "routed_refused_batches_total", "version", False),
-    ("RoutedRowRefused", "routed_refused_rows_total", "row", False), ("RoutedFeedBatchRefused", "routed_feed_refused_batches_total", "version", False)]
+    ("RoutedJournalFailed", "routed_refused_batches_total", "journal", True),
+    ("RoutedJournalFailed", "routed_refused_batches_total", "stopped", True),
+    ("RoutedOutOfMemory", "routed_refused_batches_total", "memory", False),
+    ("RoutedBatchRefused", "routed_refused_batches_total", "version", False),
+    ("RoutedRowRefused", "routed_refused_rows_total", "row", False),
+    ("RoutedFeedBatchRefused", "routed_feed_refused_batches_total", "version", False)]
 VERSIONS = 2000  # more lines than a socket keeps for a connection that doesn't read
 
 
 def figures(program, checks):
     start = time.monotonic()
     with tempfile.TemporaryDirectory() as room:
-        checks.parts_in(room, (text, sums, alarms, watched, half_closed, page, logged, priorities, blocked, each, screen, of_feed, audited), program, checks)
+        checks.parts_in(room, (text, sums, alarms, watched, half_closed, page, logged, priorities, blocked, each, screen, of_feed, audited),
+                        program, checks)
     print(f"figures: {CLIENTS} connections, {VERSIONS} versions, {time.monotonic() - start:.0f} s")
-
-
-def seen(program, room, *words, **how):
-    """A run of routed-tools listen with both places, below a folder."""
-    return Front(program, room, "--watch", os.path.join(room, "watch"), "--metrics", os.path.join(room, "metrics"), *words, **how)
-
-
-def figures_of(room, name="metrics"):
-    """The numbers by name and label's value."""
-    return status.read(Place(os.path.join(room, name)))
-
-
-def eventually(checks, name, test, wanted):
-    """What is true once the last connection's end has been seen."""
-    end = time.monotonic() + PATIENCE
-    while (found := test()) != wanted and time.monotonic() < end:
-        time.sleep(0.01)
-    checks.same(name, found, wanted)
-
-
-def got(room, path="/metrics", method="GET"):
-    """The head and the body of an answer."""
-    return exchanged(room, f"{method} {path} HTTP/1.1\r\nHost: routed\r\n\r\n".encode())
-
-
-def exchanged(room, data):
-    return answered(sent(room, data))
-
-
-def sent(room, data):
-    """A connection to the place of figures on which this is sent. It is refused where too many wait to be accepted."""
-    made = socket.socket(socket.AF_UNIX)
-    made.settimeout(PATIENCE)
-    made.connect(os.path.join(room, "metrics"))
-    made.sendall(data)
-    return made
-
-
-def answered(made):
-    with made:
-        said = b""
-        while more := made.recv(1 << 16):
-            said += more
-    head, _, body = said.partition(b"\r\n\r\n")
-    return head.decode(), body.decode()
 
 
 # ---- figures
@@ -97,18 +50,20 @@ def text(program, checks, room):
     made.gauge("b", "Absent.", lambda: None)
     made.gauge("c", "Each.", lambda: {"p": 1, "q": 0.5}, "place")
     made.times("d_seconds", "Times.")
-    for took, count in ((0.0001, 1), (0.00011, 2), (99, 1)):
-        made.took("d_seconds", took, count)
+    made.values["d_seconds"][0][0], made.values["d_seconds"][0][1], made.values["d_seconds"][0][-1] = 1, 2, 1
+    made.values["d_seconds"][1] = 99.00032
     wanted = ["# HELP a_total Help.", "# TYPE a_total counter", 'a_total{word="x"} 0', 'a_total{word="y\\"\\\\\\n"} 2', "# HELP b Absent.", "# TYPE b gauge",
               "# HELP c Each.", "# TYPE c gauge", 'c{place="p"} 1', 'c{place="q"} 0.5', "# HELP d_seconds Times.", "# TYPE d_seconds histogram"]
     counts = [1] + [3] * (len(metrics.TIMES) - 1) + [4]
     edges = [*(f"{it:g}" for it in metrics.TIMES), "+Inf"]
-    wanted += [f'd_seconds_bucket{{le="{edge}"}} {count}' for edge, count in zip(edges, counts)] + ["d_seconds_sum 99.00032", "d_seconds_count 4"]
+    wanted += [f'd_seconds_bucket{{le="{edge}"}} {count}'
+               for edge, count in zip(edges, counts)] + ["d_seconds_sum 99.00032", "d_seconds_count 4"]
     checks.same("the text of figures", made.text().splitlines(), wanted)
     with seen(program, room) as front:
         Connection(front.updates).talk(PAIR + "end,1,2\n")
         head, body = got(room)
-        checks.same("the head of an answer", head.splitlines(), ["HTTP/1.1 200 OK", "Content-Type: text/plain; version=0.0.4; charset=utf-8",
+        checks.same("the head of an answer", head.splitlines(),
+                    ["HTTP/1.1 200 OK", "Content-Type: text/plain; version=0.0.4; charset=utf-8",
                                                                 f"Content-Length: {len(body.encode())}", "Connection: close"])
         page = open(os.path.join(TOP, "docs/run/WATCHING.md"), encoding="utf-8").read()
         for name in re.findall(r"(?m)^# TYPE (\w+) ", body):
@@ -146,7 +101,8 @@ def sums(program, checks, room):
         lines = [[taken.lines.next() for _ in range(3 + 4 + 5 + 6 + 3)] for taken in together]
         checks.true("each connection has its lines", all(its == lines[0] for its in lines), lines)
         for batch, line in (("end,5,0\n", "batch 5 refused: expected 2\n"), ("end,2,1\n", "batch 2 refused: counted 0\n"),
-                            ("drop,9.9.9.9,9.9.9.9\nend,2,1\n", "batch 2 refused: absent 1\n"), ("drop,1.1.1.1,10.0.12.1\nend,2,1\n", "version 2\n"),
+                            ("drop,9.9.9.9,9.9.9.9\nend,2,1\n", "batch 2 refused: absent 1\n"),
+                            ("drop,1.1.1.1,10.0.12.1\nend,2,1\n", "version 2\n"),
                             ("node,1.1.1.1,x\n", "row 11 refused: number\n")):
             checks.same(f"updates: {batch.strip()}", updating.talk(batch).split()[:2], line.split()[:2])
         checks.same("one connection too many", busy(front.ask), "busy\n")
@@ -194,7 +150,8 @@ def alarms(program, checks, room):
     page = "".join(open(os.path.join(TOP, "docs/run", name), encoding="utf-8").read() for name in ("WATCHING.md", "PCEP.md"))
     with open(rules, encoding="utf-8") as file:
         named = set(re.findall(r"routed_\w+", " ".join(re.findall(r"(?m)^ *expr: (.*)", file.read()))))
-    checks.same("figures of alarms that are not on a page", [name for name in sorted(named) if f"`{name.removesuffix('_bucket')}`" not in page], [])
+    checks.same("figures of alarms that are not on a page",
+                [name for name in sorted(named) if f"`{name.removesuffix('_bucket')}`" not in page], [])
     if tool := shutil.which("promtool"):
         ran = subprocess.run([tool, "check", "rules", rules], capture_output=True, text=True)
         checks.same("promtool on the alarms", ran.returncode, 0)
@@ -206,7 +163,8 @@ def alarms(program, checks, room):
 
 
 def first_refusal(alarm, figure, word, later):
-    """A case for promtool: a figure that isn't there for 5 minutes begins at 1. The alarm is raised, and `later` says whether it still is."""
+    """A case for promtool: a figure that isn't there for 5 minutes begins at 1. The alarm is raised, and `later` says whether it still
+    is."""
     def at(time, is_raised):
         return f"      - {{eval_time: {time}, expr: 'count(ALERTS{{alertname=\"{alarm}\", alertstate=\"firing\"}}) or vector(0)', " \
                f"exp_samples: [{{labels: '{{}}', value: {int(is_raised)}}}]}}\n"
@@ -235,10 +193,12 @@ def watched(program, checks, room):
         told = [int(lazy.lines.next().split()[1])]
         while told[-1] < VERSIONS:
             told.append(int(lazy.lines.next().split()[1]))
-        checks.true("one that didn't read is told what rises, and the newest in the end", told == sorted(set(told)) and told[-1] == VERSIONS, told)
+        checks.true("one that didn't read is told what rises, and the newest in the end",
+                    told == sorted(set(told)) and told[-1] == VERSIONS, told)
         checks.true("and not all", len(told) < VERSIONS, len(told))
         late.say("anything\n" * 1000)
-        checks.same("what a watcher sends is dropped", (updating.talk(f"node,1.1.1.1,1\nend,{VERSIONS + 1},1\n"), late.lines.next(), early.lines.next()),
+        checks.same("what a watcher sends is dropped",
+                    (updating.talk(f"node,1.1.1.1,1\nend,{VERSIONS + 1},1\n"), late.lines.next(), early.lines.next()),
                     (f"version {VERSIONS + 1}\n",) * 3)
         for taken in (early, lazy, late):
             taken.socket.close()
@@ -266,22 +226,24 @@ def page(program, checks, room):
     with seen(program, room) as front:
         checks.same("another path", got(room, "/")[0].splitlines()[0], "HTTP/1.1 404 Not Found")
         checks.same("with a query", got(room, "/metrics?x=1")[0].splitlines()[0], "HTTP/1.1 200 OK")
-        checks.same("another method", got(room, method="POST")[0].splitlines()[::3], ["HTTP/1.1 405 Method Not Allowed", "Allow: GET, HEAD"])
+        checks.same("another method", got(room, method="POST")[0].splitlines()[::3],
+                    ["HTTP/1.1 405 Method Not Allowed", "Allow: GET, HEAD"])
         head, body = got(room, method="HEAD")
         checks.same("HEAD", (head.splitlines()[0], body), ("HTTP/1.1 200 OK", ""))
-        for name, data in (("no HTTP", b"ask,1,1.1.1.1,2.2.2.2,0,5,0x0,0x0,0x0,\n"), ("bytes", bytes(range(256)) * 40), ("a line feed", b"\n"),
+        for name, data in (("no HTTP", b"ask,1,1.1.1.1,2.2.2.2,0,5,0x0,0x0,0x0,\n"), ("bytes", bytes(range(256)) * 40),
+                           ("a line feed", b"\n"),
                            ("no version", b"GET /metrics\r\n\r\n"), ("TLS", bytes.fromhex("16030100c8010000c403"))):
             checks.same(f"{name} at the place of figures", exchanged(room, data)[0].splitlines()[0], "HTTP/1.1 400 Bad Request")
-        checks.same("a head that is too long", exchanged(room, b"GET /metrics HTTP/1.1\r\nX: " + b"x" * metrics.HEAD)[0].splitlines()[0],
+        checks.same("a head that is too long", exchanged(room, b"GET /metrics HTTP/1.1\r\nX: " + b"x" * http.HEAD)[0].splitlines()[0],
                     "HTTP/1.1 431 Request Header Fields Too Large")
         asking = Connection(front.ask)
-        silent = [Connection(os.path.join(room, "metrics")) for _ in range(metrics.MOST)]
+        silent = [Connection(os.path.join(room, "metrics")) for _ in range(http.MOST)]
         silent[0].say("GET /metrics HTTP/1.1\r\n")
         began = time.monotonic()
         checks.same("an ask beside connections that send nothing", asking.talk(ASKS["route"]), "ask 1 v0 unknown-from\n")
         checks.true("a reader that comes then", ("routed_version", None) in figures_of_patiently(room), "")
-        checks.true("they have five seconds", time.monotonic() - began < metrics.SECONDS + 5, time.monotonic() - began)
-        checks.same("and end", [taken.rest() for taken in silent], [""] * metrics.MOST)
+        checks.true("they have five seconds", time.monotonic() - began < http.SECONDS + 5, time.monotonic() - began)
+        checks.same("and end", [taken.rest() for taken in silent], [""] * http.MOST)
         front.child.send_signal(signal.SIGSTOP)  # (so that none is accepted before all have come)
         readers = [sent(room, b"GET /metrics HTTP/1.1\r\n\r\n") for _ in range(100)]
         front.child.send_signal(signal.SIGCONT)
@@ -291,87 +253,6 @@ def page(program, checks, room):
 
 def figures_of_patiently(room):
     return {(found[1], found[3]): found[4] for line in got(room)[1].splitlines() if (found := status.SAMPLE.fullmatch(line))}
-
-
-# ---- the log
-
-
-def spoken(front, *rows):
-    """One asking connection and one for updates, with a refused row and a refused batch, one after the other."""
-    for place, rows in ((front.ask, ASKS["route"] + "foo\n"), (front.updates, "end,7,0\n")):
-        taken = Connection(place)
-        taken.say(rows)
-        taken.leave()
-    busy_one = Connection(front.updates)
-    busy_one.talk("end,7,0\n")
-    busy(front.updates)
-    busy_one.say("GET / HTTP/1.1\n")
-    busy_one.rest()
-
-
-def logged(program, checks, room):
-    """The lines of each level."""
-    me = f"pid=P uid={os.getuid()} gid={os.getgid()}"
-    info = [f"ask 1: connected, {me}", "ask 1: row 2 refused: kind", "ask 1: ended, 2 rows, 2 lines, T s", f"updates 1: connected, {me}",
-            "!updates 1: batch 7 refused: expected 1", "updates 1: ended, 1 rows, 1 lines, T s", f"updates 2: connected, {me}",
-            "!updates 2: batch 7 refused: expected 1", f"updates: busy, {me}", "updates 2: refused, for a line that isn't passed on",
-            "updates 2: ended, 1 rows, 1 lines, T s", "stopped by SIGTERM"]
-    for level, wanted in (("info", [line.removeprefix("!") for line in info]), ("warning", [line[1:] for line in info if line[0] == "!"]), ("error", [])):
-        os.mkdir(inner := os.path.join(room, level))
-        with seen(program, inner, "--log-level", level) as front:
-            spoken(front)
-            front.child.terminate()
-            lines = [re.sub(r"pid=\d+", "pid=P", re.sub(r"[0-9.]+ s$", "T s", line)) for line in front.ended()[1].splitlines()]
-            checks.same(f"the log at the level {level}", lines, [f"listen: {line}" for line in wanted])
-    os.mkdir(inner := os.path.join(room, "debug"))
-    with seen(program, inner, "--log-level", "debug") as front:
-        Connection(front.updates).talk(PAIR + "end,1,2\n")
-        front.child.terminate()
-        checks.true("versions at the level debug", "listen: version 1\n" in front.ended()[1])
-
-
-def priorities(program, checks, room):
-    """Where standard error is the stream that systemd names, a line has its priority in front."""
-    reading, writing = os.pipe()
-    found = os.fstat(writing)
-    with Front(program, room, "--log-level", "info", env={**os.environ, "JOURNAL_STREAM": f"{found.st_dev}:{found.st_ino}"}, stderr=writing) as front:
-        spoken(front)
-        front.child.terminate()
-        front.child.wait(PATIENCE)
-    os.close(writing)
-    with open(reading) as said:
-        lines = said.read().splitlines()
-    checks.true("lines with priorities", lines and all(re.match(r"<[46]>listen: ", line) for line in lines), lines)
-    checks.same("refused batches are warnings", [line[:3] for line in lines if "batch" in line], ["<4>"] * 2)
-
-
-def blocked(program, checks, room):
-    """A log that nobody takes is dropped and counted, and asks go on."""
-    reading, writing = os.pipe()
-    os.set_blocking(writing, False)
-    while True:
-        try:
-            os.write(writing, b"x" * 4096)
-        except BlockingIOError:
-            break
-    os.set_blocking(writing, True)
-    with seen(program, room, "--log-level", "info", stderr=writing) as front:
-        for _ in range(5):
-            taken = Connection(front.ask)
-            checks.same("an ask beside a log that blocks", taken.talk(ASKS["route"]), "ask 1 v0 unknown-from\n")
-            taken.leave()
-        eventually(checks, "dropped lines are counted", lambda: figures_of(room).get(("routed_log_dropped_total", None)), 10)
-        while select.select([reading], [], [], 0)[0]:
-            os.read(reading, 1 << 16)
-        taken = Connection(front.ask)
-        taken.talk(ASKS["route"])
-        said = os.read(reading, 1 << 16).decode()
-        checks.true("and told once it is read", said.startswith("listen: 10 lines of the log were dropped\nlisten: ask 6: connected, "), said)
-    for file in (reading, writing):
-        os.close(file)
-    counting = log.Log("x", "info", None)
-    counting.say("info", "nobody hears this")
-    checks.same("without standard error", counting.dropped, 1)
 
 
 # ---- fairness and the screen
@@ -413,14 +294,16 @@ def screen(program, checks, room):
         found, out, err = told(os.path.join(room, "metrics"))
         lines = dict(line.split(None, 1) if not line.startswith(("last", "time", "refused", "cut", "dropped")) else
                      (" ".join(line.split(" ")[:2]), line[19:]) for line in out.splitlines())
-        checks.same("the screen", (found, err, lines.get("version"), lines.get("asks"), lines.get("refused rows"), lines.get("connections")),
+        checks.same("the screen", (found, err, lines.get("version"), lines.get("asks"), lines.get("refused rows"),
+                                   lines.get("connections")),
                     (0, "", "1, 999,999 left", "none 1, route 1", "kind 1", "ask 1, metrics 1, updates 1"))
         checks.same("a place that is no HTTP", told(front.ask), (1, "", f"status: {front.ask}: timed out\n"))
     with socket.create_server(("127.0.0.1", 0)) as wrong:
         port, answer = str(wrong.getsockname()[1]), b"HTTP/1.1 200 OK\r\n\r\nrouted_version x\n"
         telling = threading.Thread(target=lambda: tell(wrong, answer))
         telling.start()
-        checks.same("a figure that is no number", told(port), (1, "", f"status: {port}: a figure is no number: could not convert string to float: 'x'\n"))
+        checks.same("a figure that is no number", told(port),
+                    (1, "", f"status: {port}: a figure is no number: could not convert string to float: 'x'\n"))
         telling.join()
     absent = os.path.join(room, "absent")
     checks.same("a place that isn't there", told(absent), (1, "", f"status: {absent}: No such file or directory\n"))
@@ -498,4 +381,5 @@ def audited(program, checks, room):
         file.write("#!/bin/sh\nkill -9 $$\n")
     checks.same("an audit that a signal ends", subprocess.run([*tool[:3], "--program", slow, *words]).returncode, 128 + 9)
     checks.same("what it says", [audit.line_of(0, 3), audit.line_of(0.25, 2), audit.line_of(1, 9)],
-                ["audit: 0 % of the replies are read", "audit: 25 % of the replies are read, 6 s left", "audit: 100 % of the replies are read"])
+                ["audit: 0 % of the replies are read", "audit: 25 % of the replies are read, 6 s left",
+                 "audit: 100 % of the replies are read"])

@@ -1,26 +1,17 @@
-"""Tests of routed-tools draw and routed-tools draw-failures: what a picture shows, where routers are, and that no text covers another."""
+"""Tests of routed-tools draw and routed-tools draw-failures: what a picture shows, and where routers are."""
 import itertools
 import math
 import os
-import random
 import re
 import resource
-import shutil
-import subprocess
 import tempfile
 import xml.etree.ElementTree as xml
 
-from checks import TOOLS, TOP
-from tools.measured import by_browser, by_table, faults
+from checks import TOP
+from tools.drawing import SVG, begin_of, big_network, classes, draw, draw_failures, hovers, least_distance, link, names, notes, places_in
+from tools.drawing import shapes
+from tools.labels import apart, placer
 from tools.ring import BEFORE, OF_CIRCUITS
-
-SVG = "{http://www.w3.org/2000/svg}"
-FREE = ",".join(["1000"] * 8)
-
-
-def link(router, local, neighbor, remote, group="0x1", free=FREE):
-    return f"put,{router},{local},{neighbor},{remote},10,{group},{free}\n"
-
 
 LINE = "".join(link(*one, *other) for one, other in (
     (("1.1.1.1", "10.0.0.1"), ("2.2.2.2", "10.0.0.2")), (("2.2.2.2", "10.0.0.2"), ("1.1.1.1", "10.0.0.1")),
@@ -29,59 +20,13 @@ PAIR = link("1.1.1.1", "10.0.0.1", "2.2.2.2", "10.0.0.2") + link("2.2.2.2", "10.
 REPLY = "ask 7 v1 route cost=10 hops=1 again=no ero=000c140101080a0000022000\n"
 
 
-def draw(rows, *words, places=None, replies=None, overbooked=None):
-    """Status, picture and standard error of one drawing."""
-    with tempfile.TemporaryDirectory() as room:
-        given = []
-        for option, text in (("rows", rows), ("--places", places), ("--replies", replies), ("--overbooked", overbooked)):
-            if text is not None:
-                path = os.path.join(room, option.strip("-"))
-                with open(path, "w") as file:
-                    file.write(text)
-                given += [path] if option == "rows" else [option, path]
-        ran = subprocess.run([TOOLS, "draw", *given, *words], capture_output=True, text=True)
-        return ran.returncode, ran.stdout, ran.stderr
-
-
-def shapes(picture, kind):
-    return [path for path in xml.fromstring(picture).iter(SVG + "path") if path.get("class") == kind]
-
-
-def classes(picture, *wanted):
-    """The kinds of the picture's shapes, in order, those that are wanted."""
-    return [it.get("class") for it in xml.fromstring(picture).iter() if it.get("class") in wanted]
-
-
-def hovers(picture, kind):
-    """What is said where the pointer is on shapes of a kind."""
-    return [it.find(SVG + "title").text for it in xml.fromstring(picture).iter() if it.get("class") == kind]
-
-
-def begin_of(path):
-    """Where a path begins."""
-    return tuple(float(it) for it in re.match("M([0-9.]+) ([0-9.]+)", path.get("d")).groups())
-
-
-def notes(picture):
-    return [text.text for text in xml.fromstring(picture).iter(SVG + "text") if text.get("class") == "note"]
-
-
-def places_in(picture):
-    """The middles of the routers, by what is said of them."""
-    return {it.find(SVG + "title").text: (float(it.get("cx")), float(it.get("cy")))
-            for it in xml.fromstring(picture).iter(SVG + "circle") if it.get("class") == "router"}
-
-
-def names(picture):
-    return [text for text in xml.fromstring(picture).iter(SVG + "text") if text.get("class") == "name"]
-
-
 def circuits(_, checks):
     _, picture, _ = draw(PAIR + "end,1,2\n")
     checks.same("both directions are one line", (len(shapes(picture, "circuit")), len(shapes(picture, "one-way"))), (1, 0))
     _, picture, _ = draw(PAIR + "end,1,2\ndrop,2.2.2.2,10.0.0.2\nend,2,1\n")
     checks.same("a link of one way has an arrow", classes(picture, "circuit", "one-way", "arrow"), ["one-way", "arrow", "arrow"])
-    checks.true("a link of one way is in the legend", "one direction alone, or in other groups than its reverse" in notes(picture), notes(picture))
+    checks.true("a link of one way is in the legend", "one direction alone, or in other groups than its reverse" in notes(picture),
+                notes(picture))
     checks.same("what is said of a link of one way", hovers(picture, "one-way"), [
         "1.1.1.1 to 2.2.2.2, one way\n10.0.0.1 to 10.0.0.2: metric 10, group 0x1, 1,000 bytes per second unreserved at priority 0"])
     _, picture, _ = draw(PAIR + "end,1,2\ndrop,2.2.2.2,10.0.0.2\nend,2,1\n", "--version", "1")
@@ -104,11 +49,13 @@ def circuits(_, checks):
 
 def routes(_, checks):
     _, picture, _ = draw(PAIR + "end,1,2\n", "--ask", "7", replies=REPLY)
-    checks.same("a route is on top of its circuit, and its ends are marked, there and in the legend", classes(picture, "circuit", "route", "from", "to"),
+    checks.same("a route is on top of its circuit, and its ends are marked, there and in the legend",
+                classes(picture, "circuit", "route", "from", "to"),
                 ["circuit", "route", "from", "to", "from", "to"])
     text = "ask 7 v1: 1.1.1.1 to 2.2.2.2, cost 10, 1 link"
     checks.same("its cost and its ends are in the legend", [note for note in notes(picture) if note[0] != "g"],
-                ["widest: 1,000 bytes per second unreserved at priority 0; dotted: none", text, "ring: where a route begins", "diamond: where it ends"])
+                ["widest: 1,000 bytes per second unreserved at priority 0; dotted: none", text, "ring: where a route begins",
+                 "diamond: where it ends"])
     checks.same("what is said of a route", hovers(picture, "route"), [text])
     at, begins = places_in(picture), next(it for it in xml.fromstring(picture).iter(SVG + "circle") if it.get("class") == "from")
     checks.same("the ring is round the head-end", (float(begins.get("cx")), float(begins.get("cy"))), at["1.1.1.1"])
@@ -128,11 +75,14 @@ def routes(_, checks):
 def of_books(checks):
     """Of the lines of a book the last route that was placed is drawn."""
     placed = REPLY.replace("ask 7 v1", "place 7 v2")
-    for name, more in (("alone", ""), ("before it found none", "place 7 v2 none\nplace 7 refused: twice\n"), ("and lost", "lost 7\nbase 2 v3\nover 1.1.1.1,10.0.0.1 7\n")):
+    for name, more in (("alone", ""), ("before it found none", "place 7 v2 none\nplace 7 refused: twice\n"),
+                       ("and lost", "lost 7\nbase 2 v3\nover 1.1.1.1,10.0.0.1 7\n")):
         status, picture, said = draw(PAIR + "end,1,2\n", "--ask", "7", replies=f"base 1 v1\n{placed}{more}")
-        checks.same(f"a route of a book {name}", (status, said, hovers(picture, "route")), (0, "", ["place 7 v2: 1.1.1.1 to 2.2.2.2, cost 10, 1 link"]))
+        checks.same(f"a route of a book {name}", (status, said, hovers(picture, "route")),
+                    (0, "", ["place 7 v2: 1.1.1.1 to 2.2.2.2, cost 10, 1 link"]))
     again = placed.replace("v2", "v1").replace("0a000002", "0a000009") + placed
-    checks.same("the last route of a book", hovers(draw(PAIR + "end,1,2\n", "--ask", "7", replies=again)[1], "route"), ["place 7 v2: 1.1.1.1 to 2.2.2.2, cost 10, 1 link"])
+    checks.same("the last route of a book", hovers(draw(PAIR + "end,1,2\n", "--ask", "7", replies=again)[1], "route"),
+                ["place 7 v2: 1.1.1.1 to 2.2.2.2, cost 10, 1 link"])
     status, picture, said = draw(PAIR + "end,1,2\n", "--ask", "7", replies="place 7 v1 none\n")
     checks.same("a book that placed nothing", (status, picture, said), (1, "", "draw: no reply to 7\n"))
 
@@ -163,7 +113,8 @@ def overbooked(_, checks):
     status, picture, said = draw(LINE + "end,1,4\n", overbooked=line + whole)
     checks.same("an overbooked circuit", (status, said, classes(picture, "band", "circuit")), (0, "", ["band", "circuit", "circuit"]))
     checks.true("the band is in the legend", "overbooked: more is asked of it than it has unreserved" in notes(picture), notes(picture))
-    checks.true("what is said of it", "overbooked at priority 7: 1,100 bytes per second are asked of 1,000" in hovers(picture, "circuit")[0], hovers(picture, "circuit"))
+    checks.true("what is said of it", "overbooked at priority 7: 1,100 bytes per second are asked of 1,000" in hovers(picture, "circuit")[
+        0], hovers(picture, "circuit"))
     bands = [re.sub("Z?$", "", band.get("d")) for band in shapes(picture, "band")]
     checks.same("the band is under its circuit", bands, [shapes(picture, "circuit")[0].get("d")])
     _, picture, _ = draw(LINE + "end,1,4\n", overbooked=whole)
@@ -172,13 +123,15 @@ def overbooked(_, checks):
     checks.same("an overbooked link that isn't there", (status, picture, said),
                 (1, "", "draw: overbooked: the network has no link 1.1.1.1 10.0.0.9 2.2.2.2 10.0.0.2\n"))
     status, picture, said = draw(LINE + "end,1,4\n", overbooked="text\n")
-    checks.true("a file that is no sweep", status == 1 and picture == "" and re.fullmatch(r"draw: overbooked: \S+ has no lines of a sweep\n", said), said)
+    checks.true("a file that is no sweep", status == 1 and picture == ""
+                and re.fullmatch(r"draw: overbooked: \S+ has no lines of a sweep\n", said), said)
 
 
 def marks(_, checks):
     """A router without transit is drawn otherwise, and told in the legend; no route passes through it."""
     def shown(*words, **texts):
-        status, picture, said = draw(LINE + "end,1,4\nnode,2.2.2.2,0\nnode,9.9.9.9,0\nend,2,2\nnode,2.2.2.2,1\nnode,8.8.8.8,1\nend,3,2\n", *words, **texts)
+        status, picture, said = draw(LINE + "end,1,4\nnode,2.2.2.2,0\nnode,9.9.9.9,0\nend,2,2\nnode,2.2.2.2,1\nnode,8.8.8.8,1\nend,3,2\n",
+                                     *words, **texts)
         return status, said, picture and (len(shapes(picture, "no-transit")) - 1, "no transit" in picture)
 
     for version, wanted in (("1", (-1, False)), ("2", (1, True)), ("3", (-1, False))):
@@ -199,10 +152,13 @@ def places(_, checks):
     status, picture, _ = draw(PAIR + "end,1,2\n", places="1.1.1.1 0 0 a\x01b\n2.2.2.2 1 1 c\n")
     checks.same("a character that no document has", sorted(text.text for text in names(picture)), ["a\ufffdb", "c"])
     for name, given in (("with no y", "1.1.1.1 0\n"), ("without numbers", "1.1.1.1 a b\n")):
-        checks.same(f"a place {name} is refused", draw(PAIR + "end,1,2\n", places=given), (1, "", "draw: places, line 1: an address, x and y are wanted\n"))
+        checks.same(f"a place {name} is refused", draw(PAIR + "end,1,2\n", places=given),
+                    (1, "", "draw: places, line 1: an address, x and y are wanted\n"))
     for number in ("nan", "inf", "-1e13"):
-        checks.same(f"a place at {number}", draw(PAIR + "end,1,2\n", places=f"1.1.1.1 0 {number}\n"), (1, "", "draw: places, line 1: x and y are at most 1e+12\n"))
-    checks.same("a place twice", draw(PAIR + "end,1,2\n", places="1.1.1.1 0 0\n\n1.1.1.1 1 0\n"), (1, "", "draw: places, line 3: 1.1.1.1 is there twice\n"))
+        checks.same(f"a place at {number}", draw(PAIR + "end,1,2\n", places=f"1.1.1.1 0 {number}\n"),
+                    (1, "", "draw: places, line 1: x and y are at most 1e+12\n"))
+    checks.same("a place twice", draw(PAIR + "end,1,2\n", places="1.1.1.1 0 0\n\n1.1.1.1 1 0\n"),
+                (1, "", "draw: places, line 3: 1.1.1.1 is there twice\n"))
     for name, words, line in (("a reply of no lines", ("--ask", "7"), "--ask needs --replies, the lines that it is one of"),
                               ("a version below 0", ("--version", "-1"), "argument --version: invalid version value: '-1'")):
         status, picture, said = draw(PAIR + "end,1,2\n", *words)
@@ -210,9 +166,12 @@ def places(_, checks):
     status, picture, said = draw(PAIR + "end,1,2\n", replies=REPLY)
     checks.same("replies of which none is drawn are refused", (status, picture, said.splitlines()[-1:]),
                 (2, "", ["draw: error: --replies needs --ask, which says whose route is drawn"]))
-    for name, rows, why in (("no rows", "<svg/>\n", "row 1 refused: kind"), ("a word that is no kind", PAIR + "end,1,2\nfoo\n", "row 4 refused: kind"),
-                            ("too few fields", "put,1.1.1.1\n", "row 1 refused: fields"), ("a bad mask", PAIR.replace("0x1", "1", 1), "row 1 refused: mask 7"),
-                            ("another number", PAIR + "end,2,2\n", "batch 2 refused: expected 1"), ("another count", PAIR + "end,1,1\n", "batch 1 refused: counted 2"),
+    for name, rows, why in (("no rows", "<svg/>\n", "row 1 refused: kind"),
+                            ("a word that is no kind", PAIR + "end,1,2\nfoo\n", "row 4 refused: kind"),
+                            ("too few fields", "put,1.1.1.1\n", "row 1 refused: fields"),
+                            ("a bad mask", PAIR.replace("0x1", "1", 1), "row 1 refused: mask 7"),
+                            ("another number", PAIR + "end,2,2\n", "batch 2 refused: expected 1"),
+                            ("another count", PAIR + "end,1,1\n", "batch 1 refused: counted 2"),
                             ("a link twice", PAIR + PAIR + "end,1,4\n", "batch 1 refused: duplicate 3"),
                             ("a link that isn't there", "drop,1.1.1.1,10.0.0.1\nend,1,1\n", "batch 1 refused: absent 1")):
         status, picture, said = draw(rows)
@@ -257,20 +216,9 @@ def where(checks):
         checks.same("a new router joins those that are kept", (len(again), len(open(kept).read().splitlines())), (14, 14))
         with open(kept, "w") as file:
             file.write("1.1.1.1 0\n")
-        checks.same("what is kept is no position", draw(rows, "--keep", kept), (1, "", "draw: places, line 1: an address, x and y are wanted\n"))
+        checks.same("what is kept is no position", draw(rows, "--keep", kept),
+                    (1, "", "draw: places, line 1: an address, x and y are wanted\n"))
         checks.same("and stays as it is", open(kept).read(), "1.1.1.1 0\n")
-
-
-def big_network(routers, circuits, seed=1):
-    """Rows of a connected network with drawn circuits, some of which are between the same routers."""
-    drawn, rows = random.Random(seed), []
-    pairs = [(at, at + 1) for at in range(1, routers)]
-    while len(pairs) < circuits:
-        pairs.append(tuple(drawn.sample(range(1, routers + 1), 2)))
-    for at, (one, other) in enumerate(pairs):
-        ends = [(f"172.16.{router >> 8}.{router & 255}", f"10.0.{at >> 7}.{2 * (at & 127) + side}") for side, router in enumerate((one, other))]
-        rows += [link(*ends[0], *ends[1]), link(*ends[1], *ends[0])]
-    return "".join("".join(rows[at:at + 4096]) + f"end,{at // 4096 + 1},{len(rows[at:at + 4096])}\n" for at in range(0, len(rows), 4096))
 
 
 def layouts(_, checks):
@@ -292,24 +240,12 @@ def layouts(_, checks):
     corners = [at[corner] for corner in ((0, 0), (0, 11), (11, 11), (11, 0))]
     sides = [math.dist(one, other) for one, other in zip(corners, corners[1:] + corners[:1])]
     diagonals = math.dist(corners[0], corners[2]), math.dist(corners[1], corners[3])
-    checks.true("the corners of a grid are its corners", min(diagonals) > 1.15 * max(sides) and max(sides) < 1.3 * min(sides), (sides, diagonals))
+    checks.true("the corners of a grid are its corners", min(diagonals) > 1.15 * max(sides) and max(sides) < 1.3 * min(sides),
+                (sides, diagonals))
     for name, routers, pairs in (("no router", [], []), ("one router", ["a"], []), ("two routers", ["a", "b"], [("a", "b")]),
                                  ("a star", list(range(40)), [(0, it) for it in range(1, 40)]), ("routers alone", list(range(30)), [])):
         at = lay_out(routers, pairs)
         checks.true(f"the layout of {name}", sorted(at) == sorted(routers) and least_distance(list(at.values())) > 0.1, at)
-
-
-def least_distance(places):
-    return min((math.dist(one, other) for one, other in itertools.combinations(places, 2)), default=1.0)
-
-
-def draw_failures(lines, places):
-    """Status, picture and standard error of one drawing of failures."""
-    with tempfile.NamedTemporaryFile("w") as file:
-        file.write(places)
-        file.flush()
-        ran = subprocess.run([TOOLS, "draw-failures", "--places", file.name], input=lines, capture_output=True, text=True)
-        return ran.returncode, ran.stdout, ran.stderr
 
 
 def failures(_, checks):
@@ -323,7 +259,8 @@ def failures(_, checks):
     counts = [text.text for text in xml.fromstring(picture).iter(SVG + "text") if text.get("class") == "counts"]
     checks.same("what each circuit's failure does", (kinds, counts), (["longer", "lost", "longer", "none"], ["0/2/2", "1/0/0", "0/1/0"]))
     checks.same("the routers of failures", sorted(text.text for text in names(picture)), ["Router 1", "Router 2", "Router 3", "Router 4"])
-    checks.same("what is overbooked while nothing fails", [band.get("d") for band in shapes(picture, "band")], [shapes(picture, "longer")[0].get("d")])
+    checks.same("what is overbooked while nothing fails", [band.get("d") for band in shapes(picture, "band")],
+                [shapes(picture, "longer")[0].get("d")])
     checks.same("what is said of a failure", hovers(picture, "longer")[0].split("\n"), [
         "without Router 1 – Router 2 (1.1.1.1 10.0.12.1 2.2.2.2 10.0.12.2)", "2 get a longer one: 1, 2",
         "overbooked then: 1.1.1.1 10.0.14.1 4.4.4.4 10.0.14.4", "overbooked then: 4.4.4.4 10.0.34.4 3.3.3.3 10.0.34.3",
@@ -336,14 +273,18 @@ def failures(_, checks):
     checks.same("a link that is overbooked more than before", classes(drawn(more + OF_CIRCUITS)[1], "overbooked", "none"),
                 ["overbooked"] if "scenario 4 overbooked" in OF_CIRCUITS else ["none"])
     _, picture, _ = drawn(BEFORE + OF_CIRCUITS.replace("scenario 4 out circuit", "scenario 4 out link"))
-    checks.true("a link that fails alone has an arrow", classes(picture, "arrow") and "one direction alone" in notes(picture), notes(picture))
+    checks.true("a link that fails alone has an arrow", classes(picture, "arrow") and "one direction alone" in notes(picture),
+                notes(picture))
     _, picture, err = drawn("before routes=0 without=0 overbooked=0\nscenarios=0 lost=0 longer=0 overbooked=0\n", places="")
     checks.same("a network without circuits", (err, notes(picture)), ("", ["The network has no circuits."]))
-    twice = OF_CIRCUITS.replace("scenario 4 out circuit 3.3.3.3 10.0.34.3 4.4.4.4 10.0.34.4", "scenario 4 out circuit 3.3.3.3 10.1.23.3 2.2.2.2 10.1.23.2")
-    paths = [line.get("d") for line in xml.fromstring(drawn(twice)[1]).iter(SVG + "path") if line.get("class") in ("lost", "longer", "overbooked", "none")]
+    twice = OF_CIRCUITS.replace("scenario 4 out circuit 3.3.3.3 10.0.34.3 4.4.4.4 10.0.34.4",
+                                "scenario 4 out circuit 3.3.3.3 10.1.23.3 2.2.2.2 10.1.23.2")
+    paths = [line.get("d") for line in xml.fromstring(drawn(twice)[1]).iter(SVG + "path")
+             if line.get("class") in ("lost", "longer", "overbooked", "none")]
     checks.true("two circuits of one pair whose failures are drawn are apart", len(set(paths)) == 4, paths)
     status, picture, err = drawn(OF_CIRCUITS, "1.1.1.1 0 0\n2.2.2.2 1 1\n3.3.3.3 0 1\n9.9.9.9 0 0\n")
-    checks.same("failures without some positions", (status, err, len(places_in(picture))), (0, "draw-failures: places, line 4: the network has no router 9.9.9.9\n", 4))
+    checks.same("failures without some positions", (status, err, len(places_in(picture))),
+                (0, "draw-failures: places, line 4: the network has no router 9.9.9.9\n", 4))
     for name, given, why in [
             ("a sweep that is cut", (OF_CIRCUITS[:OF_CIRCUITS.index("scenarios=")],), "the sweep isn't whole"),
             ("a scenario that lacks", (OF_CIRCUITS[OF_CIRCUITS.index("scenario 2 out"):],), "the sweep isn't whole"),
@@ -351,102 +292,6 @@ def failures(_, checks):
             ("routers", (OF_CIRCUITS.replace("out circuit", "out router"),), "scenario 1 has no circuit out"),
             ("a place without numbers", (OF_CIRCUITS, "1.1.1.1 a b\n"), "places, line 1: an address, x and y are wanted")]:
         checks.same(f"not drawn: {name}", drawn(*given), (1, "", f"draw-failures: {why}\n"))
-
-
-def placer(_, checks):
-    """Texts that are placed never cover each other, what is drawn or the edge, and none stays out that has room."""
-    from routed.pictures.labels import TEXT, Sheet, Wanted, box_of, cut, spots_round, width, wrapped
-    drawn = random.Random(2)
-    for count in (5, 60, 300):
-        sheet, points = Sheet(900, 600), [(drawn.uniform(0, 900), drawn.uniform(0, 600)) for _ in range(count)]
-        for at, (x, y) in enumerate(points):
-            sheet.block(at, (x - 7, y - 7, x + 7, y + 7))
-        words = ["x" * drawn.randint(1, 20) for _ in points]
-        sheet.place([Wanted(at, spots_round(*point, 7, word)) for at, (point, word) in enumerate(zip(points, words))])
-        sheet.place([Wanted(("second", at), [(box_of(x + 30, y, "1/2/3"), 0)]) for at, (x, y) in enumerate(points)])
-        boxes = [box for key in sheet.spots if (box := sheet.box(key))]
-        blocks = [(x - 7, y - 7, x + 7, y + 7) for x, y in points]
-        bad = sum(meets(one, other) for one, other in itertools.combinations(boxes, 2)) + sum(meets(box, it) for box in boxes for it in blocks)
-        bad += sum(not (0 <= box[0] and 0 <= box[1] and box[2] <= 900 and box[3] <= 600) for box in boxes)
-        checks.same(f"{count} texts and {len(boxes) - count} more", bad, 0)
-        out = [key for key in sheet.spots if not sheet.box(key)]
-        checks.true("no text is out that has room", all(sheet.first_free(key) is None for key in out), out)
-    sheet = Sheet(200, 80)
-    sheet.place([Wanted("a", [(box_of(100, 30, "name"), 0), (box_of(100, 50, "name"), 1)])])
-    sheet.place([Wanted("b", [(box_of(100, 30, "name"), 0)])])
-    checks.true("a text moves so that another has room", sheet.box("a") and sheet.box("b"), sheet.placed)
-    sheet = Sheet(200, 200)
-    sheet.line([(0, 50), (200, 50)])
-    sheet.place([Wanted("a", [(box_of(100, 50, "name"), 0), (box_of(100, 90, "name"), 1)])])
-    checks.same("a text isn't on a line where it need not be", sheet.box("a")[1] > 60, True)
-    sheet = Sheet(200, 200)
-    sheet.block("a", (93, 70, 107, 84))
-    sheet.block("b", (93, 25, 107, 39))
-    sheet.place([Wanted("a", [(box_of(100, 55, "name"), 0), (box_of(100, 100, "name"), 1)])])
-    checks.true("a text isn't near another router where it need not be", sheet.box("a")[1] > 84, sheet.box("a"))
-    checks.true("a letter that is rare is wide", width("\u5317") >= TEXT and width("\u00e9") == width("e"), width("\u5317"))
-    checks.same("a long text is wrapped", [wrapped("one two three", width("one two") + 1), wrapped("", 100)], [["one two", "three"], []])
-    checks.true("a long word is cut", width(cut("x" * 200, 100)) <= 100 and cut("short", 100) == "short", cut("x" * 200, 100))
-
-
-def meets(one, other):
-    return one[0] < other[2] and other[0] < one[2] and one[1] < other[3] and other[1] < one[3]
-
-
-def apart(program, checks):
-    """In none of the pictures does a text cover another or a router, or is cut: by the table, and in a browser where there is one."""
-    pictures = crowded(checks) | examples(program, checks)
-    for name, picture in pictures.items():
-        checks.same(f"{name}: texts", faults(picture, by_table(picture)), [])
-    if not shutil.which("chromium"):
-        print("skipped: pictures in a browser, since there is no chromium")
-        return
-    for (name, picture), boxes in zip(pictures.items(), by_browser(pictures.values())):
-        checks.same(f"{name}: texts in a browser", faults(picture, boxes), [])
-
-
-def crowded(checks):
-    """Pictures of networks whose names have hardly any room; those that have none are numbered and listed."""
-    found = {}
-    for sites in (14, 28, 50, 200):
-        places = "".join(f"172.16.0.{at} {at * at % 7} {at * at % 11} Rechenzentrum {at} <Nord> & Süd\n" for at in range(1, sites + 1))
-        rows = big_network(sites, 2 * sites)
-        status, picture, said = draw(rows, places=places)
-        numbers = [text.text for text in xml.fromstring(picture).iter(SVG + "text") if text.get("class") == "number"]
-        listed = re.findall(r"(?:^|, |: )(\d+) Rechenzentrum", " ".join(notes(picture)))
-        checks.true(f"{sites} crowded sites: each has a name or a number that is listed", status == 0 and len(names(picture)) + len(numbers) == sites
-                    and sorted(numbers, key=int) == listed == [str(at) for at in range(1, len(numbers) + 1)], (said, numbers, listed))
-        at = list(places_in(picture).values())
-        checks.true(f"{sites} crowded sites: no router covers another", len(at) == sites and least_distance(at) > 2 * 9, least_distance(at))
-        found[f"{sites} crowded sites"] = picture
-        circuits = list(dict.fromkeys(re.findall(r"(?m)^put,([^,]*,[^,]*,[^,]*,[^,]*),", rows)))[::2]
-        lines = "".join(f"scenario {at} out circuit {' '.join(it.split(','))}\nscenario {at} lost={at % 3} longer={at} most=1 overbooked=0\n"
-                        for at, it in enumerate(circuits, 1))
-        status, picture, said = draw_failures(f"{lines}scenarios={len(circuits)} lost=1 longer=1 overbooked=0\n", places)
-        counts = [text.text for text in xml.fromstring(picture).iter(SVG + "text") if text.get("class") == "counts"]
-        text = " ".join(note.removeprefix("Counts without room: ") for note in notes(picture))
-        wanted = {f"{at % 3}/{at}/0" for at in range(1, len(circuits) + 1)}
-        listed = set(re.findall(r"Rechenzentrum \d+ <Nord> & Süd (\d+/\d+/0)", text))
-        checks.true(f"{sites} crowded sites: each count is on its circuit or is listed", status == 0 and not listed & set(counts)
-                    and set(counts) | listed == wanted and len(counts) + len(listed) == len(wanted), (said, wanted - set(counts) - listed))
-        found[f"failures of {sites} crowded sites"] = picture
-        found[f"{sites} sites laid out"] = draw(rows)[1]
-    sizes = [math.prod(float(it) for it in re.search('viewBox="0 0 (.*?) (.*?)"', found[f"{sites} sites laid out"]).groups()) for sites in (14, 28, 50, 200)]
-    checks.true("a picture grows with its network", all(1.3 * one < other for one, other in zip(sizes, sizes[1:])), sizes)
-    return found
-
-
-def examples(program, checks):
-    """The pictures of the examples' page are those that its commands draw."""
-    page, found = open(os.path.join(TOP, "examples/README.md")).read(), {}
-    commands = re.findall(r"^    (.*tools/routed-tools draw(?:-failures)? .*) > (examples/\S+\.svg)$", page, re.M)
-    checks.true("the page draws pictures", len(commands) > 2, f"{len(commands)} commands")
-    for command, path in commands:
-        command = command.replace("crates/routed/out/routed", f'"{program.path}"').replace("routed-tools sweep ", f'routed-tools sweep --program "{program.path}" ')
-        drawn = subprocess.run(command, shell=True, cwd=TOP, capture_output=True, text=True).stdout
-        checks.same(path, drawn, open(os.path.join(TOP, path)).read())
-        found[path] = drawn
-    return found
 
 
 def pictures(program, checks):

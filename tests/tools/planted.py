@@ -1,7 +1,7 @@
 """A tool of this tree in whose callbacks exceptions are planted: `planted.py FILE TOOL WORDS`.
 
-Each line of FILE names one of PLACES, as `Channel.take`, and maybe whose, as `Pcc.tick 127.0.0.1` or `Watcher.tell 2`. The next call of the first line's place
-raises, before it does anything, or with a `!` behind the name after it has done all. The line is gone then."""
+Each line of FILE names one of PLACES, as `Channel.take`, and maybe whose, as `Pcc.tick 127.0.0.1` or `Watcher.tell 2`. The next call of the
+first line's place raises, before it does anything, or with a `!` behind the name after it has done all. The line is gone then."""
 import os
 import sys
 
@@ -9,8 +9,8 @@ sys.dont_write_bytecode = True
 sys.path.insert(1, os.path.join(os.path.dirname(os.path.dirname(os.path.dirname(os.path.abspath(__file__)))), "python"))
 from routed import tools
 from routed.feed.ospf import lsas
-from routed.front import accounts, channels, listen, metrics, snapshots, watch
-from routed.net import places
+from routed.front import accounts, channels, listen, snapshots, watch
+from routed.net import http, stream
 from routed.pcep import asks, front, making, moves, pcc, session, versions
 
 
@@ -21,11 +21,11 @@ class Planted(Exception):
 PLACES = {
     "listen": [(channels.Channel, "begin take settle read_lines end_idle finish"), (channels.Updates, "go_on drop_changes"),
                (accounts.Account, "rows lines"), (snapshots.Snapshots, "begin look"), (watch.Watcher, "tell go_on"),
-               (metrics, "answer_to"), (metrics.Reading, "close"), (places.Held, "drop"), (channels, "peer_of"), (listen.Front, "signalled")],
+               (http, "answer_to"), (http.Reading, "close"), (stream.Stream, "peer drop"), (listen.Front, "signalled")],
     "pcep": [(pcc.Pcc, "go_on flush tick close"), (session.Session, "message answered again"), (moves.Moves, "again answered"),
              (making.Making, "reread"), (front.Front, "take signalled"), (asks.Connection, "read"), (versions.Watch, "read"),
-             (metrics, "answer_to")],
-    "feed": [(lsas.Lsdb, "take network"), (metrics, "answer_to")]}
+             (http, "answer_to")],
+    "feed": [(lsas.Lsdb, "take network"), (http, "answer_to")]}
 
 
 def plant(file, where, name):

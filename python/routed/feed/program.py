@@ -10,7 +10,7 @@ import time
 from collections.abc import Callable, Iterator
 
 from ..net.loop import READ, WRITE, Loop
-from ..net.places import Place as Endpoint
+from ..net.endpoints import Endpoint
 from ..net.stream import Stream
 from .batches import Ended
 

@@ -1,11 +1,15 @@
 """What the connections of routed-tools listen bring and read: their figures, and the lines of the log."""
+from __future__ import annotations
+
 import collections
 import os
 import re
 import time
 from bisect import bisect_left
+from collections.abc import Callable
 from time import monotonic
 
+from ..net.log import Log
 from .metrics import TIMES, Figures
 
 VERSIONS = JOURNAL_ROWS = 1_000_000  # the most that a run publishes, and that the commands read of a journal
@@ -20,16 +24,19 @@ PLACES = ("ask", "updates", "watch", "metrics")
 class Account:
     """Counts what the connections bring and read."""
 
-    def __init__(self, log, journal):
-        self.log, self.journal, self.version, self.published_at = log, Journal(journal), 0, None
-        self.open, self.told, self.numbers = collections.Counter(), [], collections.Counter()
+    def __init__(self, log: Log, journal: str) -> None:
+        self.log, self.journal, self.version = log, Journal(journal), 0
+        self.published_at: float | None = None
+        self.open: collections.Counter[str] = collections.Counter()
+        self.numbers: collections.Counter[str] = collections.Counter()
+        self.told: list[Callable[[], object]] = []
         self.figures = figures = Figures()
         begun = time.time()
         figures.gauge("routed_start_time_seconds", "When the server began, in seconds since 1970.", lambda: begun)
         figures.gauge("routed_version", "The newest version.", lambda: self.version)
         figures.gauge("routed_versions_left", "How many versions the run may still publish.", lambda: VERSIONS - self.version)
-        figures.gauge("routed_last_batch_age_seconds", "Seconds since a batch was published; absent where none was.",
-                      lambda: None if self.published_at is None else time.monotonic() - self.published_at)
+        figures.age("routed_last_batch_age_seconds", "Seconds since a batch was published; absent where none was.",
+                    lambda: self.published_at)
         figures.total("routed_changes_total", "Changes in the batches of the journal.", self.journal.changes)
         figures.gauge("routed_journal_bytes", "Bytes of the journal.", self.journal.size)
         figures.gauge("routed_journal_rows_left", "How many rows the journal may still have, so that the commands read it.",
@@ -46,51 +53,51 @@ class Account:
         figures.counter("routed_exceptions_total", "Connections that were ended by an exception in the code of this tool.")
         figures.total("routed_log_dropped_total", "Lines of the log that were dropped.", lambda: log.dropped)
 
-    def published(self, version):
+    def published(self, version: int) -> None:
         """This version is the newest one."""
         self.version, self.published_at = version, time.monotonic()
         for tell in self.told:
             tell()
 
-    def failed(self, line):
+    def failed(self, line: str) -> None:
         """An exception has ended a connection."""
         self.figures.add("routed_exceptions_total")
         self.log.say("error", line)
 
     # ---- connections
 
-    def change(self, place, change):
+    def change(self, place: str, change: int) -> None:
         """A connection comes, or goes."""
         self.open[place] += change
         if change > 0:
             self.figures.add("routed_connections_total", 1, place)
 
-    def begin(self, place, named):
+    def begin(self, place: str, named: str) -> int:
         """A connection is taken; its number at the place."""
         self.change(place, 1)
         self.numbers[place] += 1
         self.log.say("info", f"{place} {self.numbers[place]}: connected, {named}")
         return self.numbers[place]
 
-    def end(self, place, number, what):
+    def end(self, place: str, number: int, what: str) -> None:
         self.change(place, -1)
         self.log.say("info", f"{place} {number}: ended, {what}")
 
-    def busy(self, place, named):
+    def busy(self, place: str, named: str) -> None:
         self.figures.add("routed_busy_total", 1, place)
         self.log.say("info", f"{place}: busy, {named}")
 
-    def cut_off(self, place, number, reason):
+    def cut_off(self, place: str, number: int, reason: str) -> None:
         self.figures.add("routed_cut_off_total", 1, reason)
         self.log.say("info", f"{place} {number}: " + {"line": "refused, for a line that isn't passed on", "idle": "idle for too long"}[reason])
 
-    def lineless(self, use, rows):
+    def lineless(self, use: Use, rows: int) -> None:
         """The server has answered all rows, and so many had no line."""
         self.log.say("info", f"{use.place} {use.number}: {rows} rows without a line")
 
     # ---- rows and lines
 
-    def rows(self, use, data):
+    def rows(self, use: Use, data: bytes) -> int:
         """These bytes, whole lines, are for the server. How many rows they are."""
         is_plain = b"\r" not in data and b"\n\n" not in data and data[0] != 10
         count = data.count(b"\n") if is_plain else len(ROW.findall(data))  # a blank row has no line
@@ -99,7 +106,7 @@ class Account:
             use.sent.append((monotonic(), count))
         return count
 
-    def lines(self, use, said):
+    def lines(self, use: Use, said: bytes) -> None:
         """These lines of the server are a connection's."""
         count = said.count(b"\n")
         if not count:
@@ -116,7 +123,7 @@ class Account:
         if count:
             self.others(use, said)
 
-    def take_times(self, sent, count):
+    def take_times(self, sent: collections.deque[tuple[float, int]], count: int) -> None:
         """This many of the rows that were passed on first have their lines now."""
         now, buckets = monotonic(), self.times
         while count and sent:
@@ -130,7 +137,7 @@ class Account:
             else:
                 sent[0] = at, rows - answered
 
-    def others(self, use, said):
+    def others(self, use: Use, said: bytes) -> None:
         version = None
         for is_version, number, line, kind, word in OTHER.findall(said):
             if is_version:
@@ -148,22 +155,23 @@ class Account:
 class Use:
     """A stream's use by one connection: what was passed on, and when the rows were that have no lines yet."""
 
-    def __init__(self, account, place, named):
+    def __init__(self, account: Account, place: str, named: str) -> None:
         self.account, self.place, self.begun = account, place, time.monotonic()
-        self.rows, self.lines, self.sent = 0, 0, collections.deque()
+        self.rows, self.lines = 0, 0
+        self.sent: collections.deque[tuple[float, int]] = collections.deque()
         self.number = account.begin(place, named) if named else 0
 
-    def end(self):
+    def end(self) -> None:
         self.account.end(self.place, self.number, f"{self.rows} rows, {self.lines} lines, {time.monotonic() - self.begun:.1f} s")
 
 
 class Journal:
     """What the journal has so far. Each part of it is read once, as it grows."""
 
-    def __init__(self, path):
+    def __init__(self, path: str) -> None:
         self.path, self.read, self.rows, self.ends = path, 0, 0, 0
 
-    def changes(self):
+    def changes(self) -> int:
         """How many rows of the journal are changes."""
         try:
             with open(self.path, "rb") as file:
@@ -177,7 +185,7 @@ class Journal:
         self.ends += len(END.findall(data))
         return self.rows - self.ends
 
-    def size(self):
+    def size(self) -> int:
         try:
             return os.stat(self.path).st_size
         except OSError:

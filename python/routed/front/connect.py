@@ -10,7 +10,7 @@ import socket
 import sys
 import threading
 
-from ..net.places import Place
+from ..net.endpoints import Endpoint
 
 MOST = 1 << 16
 
@@ -33,7 +33,7 @@ def send(made):
 def main(words=None):
     """Takes the words of a command line, and answers the status."""
     asked = argparse.ArgumentParser(prog="connect", description=__doc__, formatter_class=argparse.RawDescriptionHelpFormatter)
-    asked.add_argument("place", type=Place, metavar="PLACE", help="a path, a port, ADDRESS:PORT or [ADDRESS]:PORT, as of listen")
+    asked.add_argument("place", type=Endpoint, metavar="PLACE", help="a path, a port, ADDRESS:PORT or [ADDRESS]:PORT, as of listen")
     place = asked.parse_args(words).place
     try:
         made = place.connect()

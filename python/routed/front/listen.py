@@ -29,20 +29,24 @@ itself. The journal has whole batches then, and after a signal to the server may
 Example: routed-tools listen --journal day.journal --ask ./ask --updates ./updates
 and in other shells: nc -N -U ./updates < examples/abilene.rows, or nc -U ./ask
 """
+from __future__ import annotations
+
 import argparse
 import os
 import signal
+import socket
 import subprocess
 import sys
 
 from .. import program
 from ..model.journals import Refused, texts
+from ..net.endpoints import Endpoint, tried
+from ..net.http import Page
 from ..net.log import LEVELS, Log
-from ..net.loop import Loop, READ
-from ..net.places import BACKLOG, Place, Stopped, tried
+from ..net.loop import Loop, Stopped
+from ..net.signals import take_signals
 from .accounts import Account
 from .channels import Channel, Listener, Updates
-from .metrics import Page
 from .snapshots import Snapshots
 from .turns import Turns
 from .watch import Watch
@@ -53,20 +57,19 @@ IDLE = 300  # seconds, at a port
 class Front:
     """The server, and the loop that serves its connections."""
 
-    def __init__(self, options):
+    def __init__(self, options: argparse.Namespace) -> None:
         self.log = Log("listen", options.log_level)
         self.account = Account(self.log, options.journal)
-        self.loop, self.options, self.listeners = Loop(self.account.failed), options, {}
-        self.snapshots, self.server, self.status = Snapshots(options.program, options.journal), None, None
-        self.is_stopped, self.turns = False, Turns(len(os.sched_getaffinity(0)))
-        self.channels, self.theirs = [], []  # ours, that of the updates first, and the server's ends of their pipes
-        self.signals, write = os.pipe()  # a signal is a byte here, which waits for the loop
-        os.set_blocking(write, False)
-        signal.set_wakeup_fd(write, warn_on_full_buffer=False)
-        for number in (signal.SIGTERM, signal.SIGINT, signal.SIGCHLD):
-            signal.signal(number, lambda *_: None)
+        self.loop, self.options, self.is_stopped = Loop(self.account.failed), options, False
+        self.snapshots, self.turns = Snapshots(options.program, options.journal), Turns(len(os.sched_getaffinity(0)))
+        self.listeners: dict[str, socket.socket] = {}
+        self.server: subprocess.Popen[bytes] | None = None
+        self.status: int | None = None  # of the server, once it has ended
+        self.channels: list[Channel] = []  # that of the updates first
+        self.theirs: list[int] = []  # the server's ends of their pipes
+        take_signals(self.loop, (signal.SIGTERM, signal.SIGINT, signal.SIGCHLD), self.signalled)
 
-    def begin(self):
+    def begin(self) -> None:
         """Starts the server, and brings what it begins with. Rows are taken once it has answered one: all files are open then."""
         batches = beginning(self.options.begin)
         words = [self.options.program, "serve", "--explain", "--journal", self.options.journal]
@@ -80,16 +83,15 @@ class Front:
         with tried(self.options.program, program.hint(self.options.program)):
             self.server = subprocess.Popen(words, stdin=self.theirs[0], stdout=self.theirs[1])
         os.close(self.theirs.pop(1))
-        self.loop.want(self.signals, READ, self.signalled)
         self.channels[0].to_server = "".join(batches).encode()
         self.channels[0].ask(lambda version: self.loop.after(0, lambda: self.ready(version, len(batches))))  # which is the front's own
         self.channels[0].settle()
 
-    def close_theirs(self):
+    def close_theirs(self) -> None:
         while self.theirs:
             os.close(self.theirs.pop())
 
-    def ready(self, version, wanted):
+    def ready(self, version: int, wanted: int) -> None:
         self.close_theirs()
         if version != wanted:
             raise Stopped(f"{self.options.begin}: batch {version + 1} wasn't published")
@@ -102,7 +104,7 @@ class Front:
                 say(f"{kind} {f'[{host}]' if ':' in host else host}:{port}")
         say("ready")
 
-    def serve(self, kind, listener):
+    def serve(self, kind: str, listener: socket.socket) -> None:
         """Takes the connections of a place."""
         if kind == "metrics":
             Page(self.loop, listener, self.account.figures.text, lambda change: self.account.change("metrics", change))
@@ -113,8 +115,9 @@ class Front:
         else:
             Listener(self.loop, listener, self.channels[1:], idle_of(self.options), self.options.each)
 
-    def signalled(self, _):
-        numbers = os.read(self.signals, BACKLOG)
+    def signalled(self, numbers: bytes) -> None:
+        if not self.server:
+            return
         for number in (signal.SIGTERM, signal.SIGINT):
             if number in numbers:
                 self.log.say("info", f"stopped by {number.name}")
@@ -123,28 +126,28 @@ class Front:
         self.channels[0].loop.call(self.snapshots.look)
         self.status = self.server.poll()
 
-    def run(self):
+    def run(self) -> int:
         """The status of the server, once it has ended, and its last lines have been passed on."""
         self.begin()
-        while self.status is None:
+        while (status := self.status) is None:
             self.loop.turn()
         self.close_theirs()
         for channel in self.channels:
             if channel.connection:
                 channel.loop.call(channel.read_rest)
-        if self.status and not self.is_stopped:
-            what = f"ended with status {self.status}" if self.status > 0 else f"was ended by signal {-self.status}"
+        if status and not self.is_stopped:
+            what = f"ended with status {status}" if status > 0 else f"was ended by signal {-status}"
             self.log.say("error", f"{self.options.program} {what}")
-        return self.status if self.status >= 0 else 128 - self.status
+        return status if status >= 0 else 128 - status
 
 
-def say(line):
+def say(line: str) -> None:
     if sys.stdout:
         with tried("standard output: write"):
             os.write(sys.stdout.fileno(), f"{line}\n".encode())
 
 
-def beginning(path):
+def beginning(path: str | None) -> list[str]:
     """The batches of a file that a run begins with; none where there is no file."""
     if path is None:
         return []
@@ -157,12 +160,12 @@ def beginning(path):
         raise Stopped(f"{path}: {fault}") from None
 
 
-def idle_of(options):
+def idle_of(options: argparse.Namespace) -> float:
     """Seconds after which an idle asking connection is ended, 0 for never."""
     return options.idle if options.idle is not None else 0 if options.ask.path else IDLE
 
 
-def mode(text):
+def mode(text: str) -> int:
     """Permissions as octal digits."""
     value = int(text, 8)
     if not 0 <= value <= 0o777:
@@ -170,7 +173,7 @@ def mode(text):
     return value
 
 
-def seconds(text):
+def seconds(text: str) -> float:
     """A time that can be waited for."""
     value = float(text)
     if not 0 <= value <= 86400 * 366:
@@ -178,21 +181,21 @@ def seconds(text):
     return value
 
 
-def main(given=None):
+def main(given: list[str] | None = None) -> int:
     """Takes the words of a command line, and answers the status."""
     words = argparse.ArgumentParser(prog="listen", description=__doc__, formatter_class=argparse.RawDescriptionHelpFormatter)
     words.add_argument("--journal", required=True, metavar="FILE", help="a new file, for the batches of this run")
     words.add_argument("--begin", metavar="FILE", help="batches that are published before any connection is taken: a snapshot of the run before")
-    words.add_argument("--ask", required=True, type=Place, metavar="PLACE", help="where clients ask")
-    words.add_argument("--updates", required=True, type=Place, metavar="PLACE", help="where updates come in")
+    words.add_argument("--ask", required=True, type=Endpoint, metavar="PLACE", help="where clients ask")
+    words.add_argument("--updates", required=True, type=Endpoint, metavar="PLACE", help="where updates come in")
     words.add_argument("--clients", type=int, choices=range(1, 65), default=64, metavar="N", help="how many ask at once, 1 to 64 (64)")
     words.add_argument("--mode", type=mode, default=0o600, help="permissions of UNIX sockets, octal (600)")
     words.add_argument("--ask-mode", type=mode, metavar="MODE", help="those of the socket where clients ask (that of --mode)")
     words.add_argument("--updates-mode", type=mode, metavar="MODE", help="those of the socket where updates come in (that of --mode)")
     words.add_argument("--each", type=int, choices=range(0, 65), default=0, metavar="N",
                        help="how many asking connections one user has at once at a path, or one address at a port, 0 for any number (0)")
-    words.add_argument("--watch", type=Place, metavar="PLACE", help="where the line of each version is read")
-    words.add_argument("--metrics", type=Place, metavar="PLACE", help="where figures are read, by HTTP at /metrics")
+    words.add_argument("--watch", type=Endpoint, metavar="PLACE", help="where the line of each version is read")
+    words.add_argument("--metrics", type=Endpoint, metavar="PLACE", help="where figures are read, by HTTP at /metrics")
     words.add_argument("--log-level", choices=LEVELS, default="warning", help="which lines of the log are written (warning)")
     words.add_argument("--idle", type=seconds, metavar="SECONDS", help=f"after which an idle asking connection is ended, 0 for never "
                                                                       f"({IDLE} at a port, never at a path)")

@@ -1,54 +1,49 @@
-"""Figures of a tool that runs, as Prometheus reads them: its text form 0.0.4, over HTTP at a place of their own.
+"""Figures of a tool that runs, as Prometheus reads them: its text form 0.0.4."""
+from __future__ import annotations
 
-One answer is sent on a connection, which ends behind it. A connection has 5 seconds. At most 16 are open, and others wait
-for one of them to end. GET and HEAD of /metrics are answered, and everything else is refused by its status.
-"""
-import bisect
+import time
+from collections.abc import Callable, Iterable
+from typing import Any
 
-from ..net.loop import READ, WRITE
-from ..net.places import Door, hang_up
-
-MOST, SECONDS, HEAD = 16, 5, 8192  # connections, the time that one has, and bytes of a request
-TYPE = "text/plain; version=0.0.4; charset=utf-8"
 TIMES = (0.0001, 0.00025, 0.0005, 0.001, 0.0025, 0.005, 0.01, 0.025, 0.05, 0.1, 0.25, 0.5, 1, 2.5, 10)  # seconds
 
 
 class Figures:
     """Figures by their names, each with its help. A figure has a number, or one for each of its labels' values."""
 
-    def __init__(self):
-        self.kinds, self.values, self.asked = {}, {}, {}
+    def __init__(self) -> None:
+        self.kinds: dict[str, tuple[str, str, str | None]] = {}
+        self.values: dict[str, Any] = {}
+        self.asked: dict[str, Callable[[], Any]] = {}
 
-    def counter(self, name, text, label=None, values=()):
+    def counter(self, name: str, text: str, label: str | None = None, values: Iterable[str] = ()) -> None:
         self.kinds[name] = "counter", text, label
         self.values[name] = {value: 0 for value in values} if label else {None: 0}
 
-    def gauge(self, name, text, read, label=None):
+    def gauge(self, name: str, text: str, read: Callable[[], Any], label: str | None = None) -> None:
         """A figure that `read` gives when it is asked for: a number, or a dictionary by the label's values; None leaves it out."""
         self.kinds[name] = "gauge", text, label
         self.asked[name] = read
 
-    def total(self, name, text, read):
+    def age(self, name: str, text: str, read: Callable[[], float | None]) -> None:
+        """The seconds since a time of `time.monotonic` that `read` gives when it is asked for; None leaves it out."""
+        self.gauge(name, text, lambda: None if (at := read()) is None else time.monotonic() - at)
+
+    def total(self, name: str, text: str, read: Callable[[], float]) -> None:
         """A counter that `read` gives when it is asked for."""
         self.gauge(name, text, read)
         self.kinds[name] = "counter", text, None
 
-    def times(self, name, text):
-        """A histogram of seconds."""
+    def times(self, name: str, text: str) -> None:
+        """A histogram of seconds: a count for each edge of TIMES and one above, and the sum."""
         self.kinds[name] = "histogram", text, None
         self.values[name] = [[0] * (len(TIMES) + 1), 0.0]
 
-    def add(self, name, count=1, value=None):
+    def add(self, name: str, count: int = 1, value: str | None = None) -> None:
         found = self.values[name]
         found[value] = found.get(value, 0) + count
 
-    def took(self, name, seconds, count=1):
-        """Counts this many values, each of these seconds."""
-        buckets = self.values[name]
-        buckets[0][bisect.bisect_left(TIMES, seconds)] += count
-        buckets[1] += seconds * count
-
-    def text(self):
+    def text(self) -> str:
         """All figures in Prometheus' text form."""
         lines = []
         for name, (kind, text, label) in self.kinds.items():
@@ -64,7 +59,7 @@ class Figures:
                     lines.append(f"{name}{labelled(label, value)} {number:.15g}")
         return "\n".join(lines) + "\n"
 
-    def histogram(self, name):
+    def histogram(self, name: str) -> list[str]:
         buckets, whole = self.values[name]
         sums, so_far = [], 0
         for count in buckets:
@@ -75,98 +70,8 @@ class Figures:
                 f"{name}_sum {whole:.9g}", f"{name}_count {so_far}"]
 
 
-def labelled(label, value):
+def labelled(label: str | None, value: object) -> str:
     if label is None:
         return ""
     value = str(value).replace("\\", "\\\\").replace('"', '\\"').replace("\n", "\\n")
     return f'{{{label}="{value}"}}'
-
-
-class Page:
-    """The place where figures are read: `text` gives them, and `counted` is called with 1 and -1 as connections come and go."""
-
-    def __init__(self, loop, listener, text, counted=lambda change: None):
-        self.loop, self.text, self.counted, self.count = loop, text, counted, 0
-        self.door = Door(loop, listener, self.take)
-
-    def take(self, connection):
-        Reading(self, connection)
-        self.change(1)
-
-    def change(self, change):
-        self.count += change
-        self.counted(change)
-        if self.count >= MOST:
-            self.door.shut()
-        elif not self.door.is_open:
-            self.door.open()
-
-
-class Reading:
-    """One connection: its request, and what of the answer isn't sent yet."""
-
-    def __init__(self, page, connection):
-        self.page, self.connection, self.asked, self.answer, self.is_over = page, connection, b"", b"", False
-        self.loop = page.loop.of(self)
-        self.loop.want(connection.fileno(), READ, self.go_on)
-        self.loop.after(SECONDS, self.close)
-
-    def named(self):
-        return "a reader of figures"
-
-    def go_on(self, _):
-        try:
-            if self.answer:
-                self.answer = self.answer[self.connection.send(self.answer):]
-                if not self.answer:
-                    self.close()
-                return
-            data = self.connection.recv(HEAD)
-        except BlockingIOError:
-            return
-        except OSError:
-            self.close()
-            return
-        self.asked += data
-        if not data:
-            self.close()
-        elif b"\r\n\r\n" in self.asked or b"\n\n" in self.asked or len(self.asked) > HEAD or not is_http(self.asked):
-            self.answer = answer_to(self.asked, self.page.text)
-            self.loop.want(self.connection.fileno(), WRITE, self.go_on)
-
-    def close(self):
-        if not self.is_over:
-            self.is_over = True
-            self.loop.want(self.connection.fileno(), 0)
-            hang_up(self.page.loop, self.connection)
-            self.page.change(-1)
-
-    fail = close
-
-
-def is_http(asked):
-    """Whether the bytes may begin a request of HTTP."""
-    line, ended, _ = asked.partition(b"\n")
-    words = line.rstrip(b"\r").split(b" ")
-    if not words[0].isalpha() or len(words) > 3 or len(words[0]) > 16:
-        return False
-    return not ended or len(words) == 3 and words[2].startswith(b"HTTP/")
-
-
-def answer_to(asked, text):
-    """The answer to a request's head."""
-    if len(asked) > HEAD:
-        return answer("431 Request Header Fields Too Large", b"The request is too long.\n")
-    if not is_http(asked):
-        return answer("400 Bad Request", b"This is no request of HTTP.\n")
-    method, path, _ = asked.partition(b"\n")[0].rstrip(b"\r").split(b" ")
-    if method not in (b"GET", b"HEAD"):
-        return answer("405 Method Not Allowed", b"Figures are read by GET.\n", "Allow: GET, HEAD\r\n")
-    if path.partition(b"?")[0] != b"/metrics":
-        return answer("404 Not Found", b"Figures are at /metrics.\n", is_head=method == b"HEAD")
-    return answer("200 OK", text().encode(), is_head=method == b"HEAD")
-
-
-def answer(status, body, more="", is_head=False):
-    head = f"HTTP/1.1 {status}\r\nContent-Type: {TYPE}\r\nContent-Length: {len(body)}\r\n{more}Connection: close\r\n\r\n"
-    return head.encode() + (b"" if is_head else body)

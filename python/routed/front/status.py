@@ -4,64 +4,58 @@
 
 PLACE is that of --metrics. The status is 0, or 1 where the figures can't be read, with a line that says why.
 """
+from __future__ import annotations
+
 import argparse
 import re
 import sys
 import time
+from collections.abc import Iterator, Mapping
 
-from ..net.places import Place
+from ..net.endpoints import Endpoint
+from ..net.http import Unread, get
 
-MOST, SECONDS = 1 << 20, 5  # bytes of an answer, and the time for it
+Figures = dict[tuple[str, "str | None"], float]
 SAMPLE = re.compile(r'(\w+)(?:\{(\w+)="((?:[^"\\]|\\.)*)"\})? (\S+)')
 CLEAR = "\x1b[H\x1b[J"
 
 
-class Unread(Exception):
-    """Its text says why the figures can't be read."""
-
-
-def read(place):
-    """The figures at a place: the numbers by their names, and by name and label."""
+def read(place: Endpoint) -> Figures:
+    """The figures at a place: the numbers by their names and a label's value."""
     try:
-        with place.connect() as made:
-            made.settimeout(SECONDS)
-            made.sendall(b"GET /metrics HTTP/1.1\r\nHost: routed\r\nConnection: close\r\n\r\n")
-            data = b""
-            while (more := made.recv(1 << 16)) and len(data) < MOST:
-                data += more
-    except (OSError, UnicodeError) as fault:
-        raise Unread(getattr(fault, "strerror", "") or fault) from None
-    head, _, body = data.partition(b"\r\n\r\n")
-    if not re.match(rb"HTTP/1\.[01] 200 ", head):
-        raise Unread(f"the answer is {head.partition(chr(13).encode())[0].decode(errors='backslashreplace') or 'empty'}")
-    try:
-        return {(found[1], found[3]): float(found[4]) for line in body.decode(errors="replace").splitlines() if (found := SAMPLE.fullmatch(line))}
+        return {(found[1], found[3]): float(found[4]) for line in get(place).splitlines() if (found := SAMPLE.fullmatch(line))}
     except ValueError as fault:
         raise Unread(f"a figure is no number: {fault}") from None
 
 
-def labelled(figures, name):
+def labelled(figures: Figures, name: str) -> dict[str, float]:
     """The numbers of a name by its label's values that aren't 0."""
     return {value: number for (found, value), number in figures.items() if found == name and value is not None and number}
 
 
-def listed(found):
+def listed(found: Mapping[str, float]) -> str:
     return ", ".join(f"{value} {number:,.0f}" for value, number in sorted(found.items())) or "none"
 
 
-def share(figures, part):
+def share(figures: Figures, part: float) -> str:
     """The seconds within which this part of all rows had their lines: the edge of a bucket."""
     whole = figures.get(("routed_ask_seconds_count", None), 0)
-    edges = sorted((float(edge), count) for (name, edge), count in figures.items() if name == "routed_ask_seconds_bucket")
-    edge = next((edge for edge, count in edges if count >= part * whole), None)
+    edges = sorted((float(edge), count) for (name, edge), count in figures.items() if edge and name == "routed_ask_seconds_bucket")
+    edge = next((edge for edge, count in edges if count >= part * whole), float("inf"))
     return "none yet" if not whole else "more than 10 s" if edge == float("inf") else f"{edge * 1000:g} ms"
 
 
-def screen(figures):
+def screen(figures: Figures) -> Iterator[tuple[str, str]]:
     """The lines of the screen."""
-    one = lambda name: figures.get((name, None))
-    number = lambda name: "none" if one(name) is None else f"{one(name):,.0f}"
-    age = lambda name: "never" if one(name) is None else f"{one(name):,.1f} s ago"
+    def one(name: str) -> float | None:
+        return figures.get((name, None))
+
+    def number(name: str) -> str:
+        return "none" if one(name) is None else f"{one(name):,.0f}"
+
+    def age(name: str) -> str:
+        return "never" if one(name) is None else f"{one(name):,.1f} s ago"
+
     if one("routed_feed_links") is not None:
         yield "router", "connected" if one("routed_feed_connected") else "not connected"
         yield "heard", age("routed_feed_heard_age_seconds")
@@ -72,7 +66,8 @@ def screen(figures):
     if one("routed_version") is not None:
         yield "version", f"{number('routed_version')}, {number('routed_versions_left')} left"
         yield "last batch", age("routed_last_batch_age_seconds")
-        yield "journal", f"{number('routed_journal_bytes')} bytes, {number('routed_changes_total')} changes, {number('routed_journal_rows_left')} rows left"
+        yield "journal", (f"{number('routed_journal_bytes')} bytes, {number('routed_changes_total')} changes, "
+                          f"{number('routed_journal_rows_left')} rows left")
         yield "asks", listed(labelled(figures, "routed_asks_total"))
         yield "time of a row", f"half within {share(figures, 0.5)}, 99 of 100 within {share(figures, 0.99)}"
         yield "refused rows", listed(labelled(figures, "routed_refused_rows_total"))
@@ -83,10 +78,10 @@ def screen(figures):
         yield "dropped log lines", number("routed_log_dropped_total")
 
 
-def main(words=None):
+def main(words: list[str] | None = None) -> int:
     """Takes the words of a command line, and answers the status."""
     asked = argparse.ArgumentParser(prog="routed-tools status", description=__doc__, formatter_class=argparse.RawDescriptionHelpFormatter)
-    asked.add_argument("place", type=Place, metavar="PLACE", help="a path, a port, ADDRESS:PORT or [ADDRESS]:PORT, as of --metrics")
+    asked.add_argument("place", type=Endpoint, metavar="PLACE", help="a path, a port, ADDRESS:PORT or [ADDRESS]:PORT, as of --metrics")
     asked.add_argument("--watch", type=float, metavar="SECONDS", help="print it again and again, after so many seconds each")
     given = asked.parse_args(words)
     try:

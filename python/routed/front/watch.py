@@ -2,10 +2,15 @@
 
 A connection that doesn't read is told the newest version alone once it reads again, and delays nobody. What it sends is
 dropped. It ends with the server, or where it closes."""
+from __future__ import annotations
+
+import socket
 import time
 
-from ..net.loop import READ, WRITE
-from ..net.places import DROPPED, Door, hang_up, peer_of
+from ..net.endpoints import Door
+from ..net.loop import READ, WRITE, Loop
+from ..net.stream import Stream
+from .accounts import Account
 
 MOST = 256  # connections
 
@@ -13,83 +18,61 @@ MOST = 256  # connections
 class Watch:
     """The connections. The account knows the newest version, and tells of each."""
 
-    def __init__(self, loop, listener, account):
-        self.loop, self.account, self.watchers = loop, account, set()
+    def __init__(self, loop: Loop, listener: socket.socket, account: Account) -> None:
+        self.account = account
+        self.watchers: set[Watcher] = set()
         account.told.append(self.tell)
         Door(loop, listener, self.take)
 
-    def take(self, connection):
-        named = peer_of(connection)[1]
+    def take(self, stream: Stream) -> None:
+        _, named = stream.peer()
         if len(self.watchers) >= MOST:
             self.account.busy("watch", named)
-            hang_up(self.loop, connection, b"busy\n")
+            stream.hang_up(b"busy\n")
             return
-        watcher = Watcher(self, connection, self.account.begin("watch", named))
+        watcher = Watcher(self, stream, self.account.begin("watch", named))
         self.watchers.add(watcher)
-        watcher.loop.call(watcher.tell)
+        stream.loop.call(watcher.tell)
 
-    def tell(self):
+    def tell(self) -> None:
         """A version is published."""
         for watcher in tuple(self.watchers):
-            watcher.loop.call(watcher.tell)
+            watcher.stream.loop.call(watcher.tell)
 
 
 class Watcher:
-    """One connection: the part of a line that isn't sent yet, and the version of the line that was begun last."""
+    """One connection, and the version of the line that was begun last."""
 
-    def __init__(self, watch, connection, number):
-        self.watch, self.connection, self.number, self.begun_at = watch, connection, number, time.monotonic()
-        self.unsent, self.begun, self.lines, self.is_heard = b"", None, 0, True
-        self.loop = watch.loop.of(self)
-        self.wait()
+    def __init__(self, watch: Watch, stream: Stream, number: int) -> None:
+        self.watch, self.stream, self.number, self.begun_at, self.begun, self.lines = watch, stream, number, time.monotonic(), -1, 0
+        stream.give(self, self.go_on)
 
-    def named(self):
+    def named(self) -> str:
         return f"watch {self.number}"
 
-    def tell(self):
+    def tell(self) -> None:
         """Begins the newest version's line, unless one still waits."""
         newest = self.watch.account.version
-        if not self.unsent and self.begun != newest:
-            self.begun, self.unsent = newest, f"version {newest}\n".encode()
+        if not self.stream.waiting and self.begun != newest:
+            self.begun = newest
             self.lines += 1
-            self.send()
-
-    def send(self):
-        try:
-            self.unsent = self.unsent[self.connection.send(self.unsent):]
-        except BlockingIOError:
-            pass
-        except OSError:
+            self.stream.write(f"version {newest}\n".encode())
+        if self.stream.fault:
             self.close()
-            return
-        self.wait()
+        else:
+            self.stream.wait(True)
 
-    def wait(self):
-        events = (READ if self.is_heard else 0) | (WRITE if self.unsent else 0)
-        self.loop.want(self.connection.fileno(), events, self.go_on)
+    def go_on(self, events: int) -> None:
+        if events & READ:
+            self.stream.read()
+        if events & WRITE:
+            self.stream.flush()
+        self.tell()
 
-    def go_on(self, events):
-        if events & READ and self.is_heard:
-            try:
-                self.is_heard = bool(self.connection.recv(DROPPED))
-            except BlockingIOError:
-                pass
-            except OSError:
-                self.close()
-                return
-        if events & WRITE and self.unsent:
-            self.send()
-            if self.connection.fileno() >= 0:
-                self.tell()
-        elif self.connection.fileno() >= 0:
-            self.wait()
-
-    def close(self):
-        self.watch.watchers.discard(self)
-        self.loop.want(self.connection.fileno(), 0)
-        self.connection.close()
-        self.watch.account.end("watch", self.number, f"{self.lines} lines, {time.monotonic() - self.begun_at:.1f} s")
-
-    def fail(self):
+    def close(self) -> None:
         if self in self.watch.watchers:
-            self.close()
+            self.watch.watchers.remove(self)
+            self.stream.close()
+            self.watch.account.end("watch", self.number, f"{self.lines} lines, {time.monotonic() - self.begun_at:.1f} s")
+
+    fail = close

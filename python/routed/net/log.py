@@ -1,8 +1,11 @@
 """The log of a tool: lines of standard error. A line that nobody takes is dropped and counted, so that the tool goes on."""
+from __future__ import annotations
+
 import os
-import select
 import sys
 import time
+
+from .stream import has_room
 
 LEVELS = {"error": 3, "warning": 4, "info": 6, "debug": 7}  # by the priorities of syslog (RFC 5424 6.2.1)
 LONGEST = 4000  # bytes of a line: a pipe that can be written takes so many at once
@@ -12,17 +15,17 @@ MOST = 200  # lines below an error in a second
 class Log:
     """Writes lines of at least one level. Where standard error is the system's journal, a line has its priority in front."""
 
-    def __init__(self, name, level="warning", file=...):
-        if file is ...:  # a number that was closed at the start may be another file's by now
+    def __init__(self, name: str, level: str = "warning", file: int | None = -1) -> None:
+        if file == -1:  # a number that was closed at the start may be another file's by now
             file = sys.stderr.fileno() if sys.stderr else None
         self.name, self.most, self.file, self.dropped = name, LEVELS[level], file, 0
         self.second, self.count, self.untold = 0, 0, 0
         self.has_priorities = is_journal(file)
 
-    def wants(self, level):
+    def wants(self, level: str) -> bool:
         return LEVELS[level] <= self.most
 
-    def say(self, level, text):
+    def say(self, level: str, text: str) -> None:
         """Writes a line where its level is wanted, or counts it as dropped."""
         if not self.wants(level):
             return
@@ -40,23 +43,19 @@ class Log:
             self.untold += 1
             self.dropped += 1
 
-    def write(self, level, text):
+    def write(self, level: str, text: str) -> bool:
         """Whether the line was taken. It isn't waited for."""
         if self.file is None:
             return False
         front = f"<{LEVELS[level]}>" if self.has_priorities else ""
         line = f"{front}{self.name}: {text}".encode(errors="backslashreplace").replace(b"\n", b" ")[:LONGEST] + b"\n"
         try:
-            poll = select.poll()
-            poll.register(self.file, select.POLLOUT)
-            if not any(events & select.POLLOUT for _, events in poll.poll(0)):
-                return False
-            return os.write(self.file, line) == len(line)
+            return has_room(self.file) and os.write(self.file, line) == len(line)
         except OSError:
             return False
 
 
-def is_journal(file):
+def is_journal(file: int | None) -> bool:
     """Whether the file is the stream that systemd names in JOURNAL_STREAM (systemd.exec(5))."""
     if file is None:
         return False

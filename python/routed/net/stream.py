@@ -5,6 +5,7 @@ import contextlib
 import os
 import select
 import socket
+import struct
 from collections.abc import Callable
 
 from .loop import READ, WRITE, Loop, Owned, Owner
@@ -30,8 +31,10 @@ class Stream:
         self.to = self.source if to is None else to
         self.most, self.once, self.is_shared = most, select.PIPE_BUF if is_shared else LONGEST, is_shared
         self.waiting, self.unread = bytearray(), b""  # what was read of a line that isn't whole
-        self.is_ended, self.fault = False, None  # type: bool, OSError | None
-        self.loop, self.call = loop.of(self), self.drop  # type: Owned, Callable[[int], object]
+        self.is_ended = False
+        self.fault: OSError | None = None
+        self.loop = loop.of(self)
+        self.call: Callable[[int], object] = self.drop
         if not is_shared:
             for file in (self.source, self.to):
                 os.set_blocking(file, False)
@@ -150,11 +153,26 @@ class Stream:
             for file in {self.source, self.to} - {-1}:
                 os.close(file)
         self.source = self.to = -1
+        self.is_ended = True
+        self.waiting.clear()
 
     fail = close
 
     def named(self) -> str:
         return "a connection"
+
+    def peer(self) -> tuple[int | str | None, str]:
+        """Who it is of, for the fairness among peers and for the log: the user at a UNIX socket, else the address."""
+        if not self.socket:
+            return None, "pipes"
+        try:
+            if self.socket.family == socket.AF_UNIX:
+                process, user, group = struct.unpack("3i", self.socket.getsockopt(socket.SOL_SOCKET, socket.SO_PEERCRED, 12))
+                return user, f"pid={process} uid={user} gid={group}"
+            host, port = self.socket.getpeername()[:2]
+            return host, f"address={host} port={port}"
+        except OSError:  # it has gone already
+            return None, "gone"
 
 
 def has_room(file: int) -> bool:

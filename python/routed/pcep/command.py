@@ -13,7 +13,7 @@ import argparse
 from collections.abc import Callable
 
 from ..net.log import LEVELS, Log
-from ..net.places import Place, Stopped
+from ..net.endpoints import Endpoint, Stopped
 from .front import Front
 
 
@@ -36,8 +36,8 @@ def group(text: str) -> int:
 def main(given: list[str] | None = None) -> int:
     """Takes the words of a command line, and answers the status."""
     words = argparse.ArgumentParser(prog="pcep", description=__doc__, formatter_class=argparse.RawDescriptionHelpFormatter)
-    words.add_argument("--ask", required=True, type=Place, metavar="PLACE", help="where listen is asked")
-    words.add_argument("--watch", type=Place, metavar="PLACE", help="where listen tells versions")
+    words.add_argument("--ask", required=True, type=Endpoint, metavar="PLACE", help="where listen is asked")
+    words.add_argument("--watch", type=Endpoint, metavar="PLACE", help="where listen tells versions")
     words.add_argument("--address", default="127.0.0.1", help="where PCCs connect (127.0.0.1)")
     words.add_argument("--port", type=number(0, 65535), default=4189, help="its port (4189); 0 for one that the system chooses")
     words.add_argument("--keys", metavar="FILE", help="lines `ADDRESS KEY`: PCCs that use TCP-MD5 (RFC 2385)")
@@ -58,7 +58,7 @@ def main(given: list[str] | None = None) -> int:
     words.add_argument("--reopen", action="store_true",
                        help="close a session once a request that had no path has one: FRR asks again in a new session alone")
     words.add_argument("--replies", metavar="FOLDER", help="keep requests and reply lines there, as `routed audit` reads them")
-    words.add_argument("--metrics", type=Place, metavar="PLACE", help="where figures are read, by HTTP at /metrics")
+    words.add_argument("--metrics", type=Endpoint, metavar="PLACE", help="where figures are read, by HTTP at /metrics")
     words.add_argument("--log-level", choices=LEVELS, default="warning", help="which lines of the log are written (warning)")
     options = words.parse_args(given)
     if options.stateful and not options.watch:

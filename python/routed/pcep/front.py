@@ -6,10 +6,13 @@ import time
 from argparse import Namespace
 from collections.abc import Callable, Iterable, Iterator, Sequence
 
-from ..front.metrics import Figures, Page
+from ..front.metrics import Figures
+from ..net.endpoints import BACKLOG, Door, tried
+from ..net.http import Page
 from ..net.log import Log
-from ..net.loop import READ, Loop
-from ..net.places import BACKLOG, Door, Stopped, hang_up, tried
+from ..net.loop import Loop, Owner, Stopped
+from ..net.signals import take_signals
+from ..net.stream import Stream
 from . import wire
 from .asks import AGAIN, Asks
 from .keys import keys, set_key
@@ -51,11 +54,8 @@ class Front:
         figures.counter("routed_pcep_refused_by_pccs_total", "Errors of PCCs, by type and value.", "error")
         figures.counter("routed_pcep_moves_total", "What was done with LSPs, by the reason.", "reason")
         figures.counter("routed_pcep_exceptions_total", "Connections that were ended by an exception in the code of this tool.")
-        self.signals, write = os.pipe()
-        os.set_blocking(write, False)
-        signal.set_wakeup_fd(write, warn_on_full_buffer=False)
-        for number in (signal.SIGTERM, signal.SIGINT, signal.SIGHUP):
-            signal.signal(number, lambda *_: None)
+        self.is_over = False
+        take_signals(self.loop, (signal.SIGTERM, signal.SIGINT, signal.SIGHUP), self.signalled)
 
     def lsps(self) -> Iterator[Lsp]:
         return (lsp for pcc in self.pccs.values() for lsp in pcc.session.lsps.all.values())
@@ -71,7 +71,7 @@ class Front:
         self.figures.add("routed_pcep_exceptions_total")
         self.say("error", line)
 
-    def later(self, seconds: float, call: Callable[[], object], owner: object) -> None:
+    def later(self, seconds: float, call: Callable[[], object], owner: Owner | None) -> None:
         self.loop.after(seconds, call, owner)
 
     def capabilities(self) -> bytes:
@@ -85,7 +85,7 @@ class Front:
         self.network.reach(version)
         return self.sids.segments(self.network, head, fars, version)
 
-    def ask(self, row: str, call: Callable[[str | None], None], owner: object) -> None:
+    def ask(self, row: str, call: Callable[[str | None], None], owner: Owner | None) -> None:
         def answered(sent: str | None, line: str | None) -> None:
             if sent is not None and line is not None and self.replies and line.startswith("ask "):
                 self.replies.keep(sent, line)
@@ -153,21 +153,20 @@ class Front:
 
     # ---- PCCs
 
-    def take(self, connection: socket.socket) -> None:
-        try:
-            peer = connection.getpeername()[0]
-        except OSError:  # it has gone already
-            connection.close()
+    def take(self, stream: Stream) -> None:
+        peer, _ = stream.peer()
+        if not isinstance(peer, str):  # it has gone already
+            stream.close()
             return
         if peer in self.pccs or len(self.pccs) >= self.options.pccs:
             is_twice = peer in self.pccs
             self.say("warning", f"{peer}: {'it has a session already' if is_twice else 'no session is free'}")
             if is_twice:
                 self.count("errors", "9/1")
-            hang_up(self.loop, connection, wire.error(9, 1) if is_twice else wire.close(1))
+            stream.hang_up(wire.error(9, 1) if is_twice else wire.close(1))
             return
         self.number += 1
-        self.pccs[peer] = Pcc(self, connection, peer)
+        self.pccs[peer] = Pcc(self, stream, peer)
 
     def tick(self) -> None:
         """Each second: timers, and SIDs that changed at no version of their own."""
@@ -177,8 +176,7 @@ class Front:
             self.again()
         self.loop.after(1, self.tick)
 
-    def signalled(self, _: int) -> None:
-        numbers = os.read(self.signals, 64)
+    def signalled(self, numbers: bytes) -> None:
         if signal.SIGTERM in numbers or signal.SIGINT in numbers:
             self.is_over = True
         elif signal.SIGHUP in numbers:
@@ -205,7 +203,6 @@ class Front:
         if self.options.metrics:
             Page(self.loop, self.options.metrics.bind(0o600), self.figures.text)
         Door(self.loop, listener, self.take)
-        self.loop.want(self.signals, READ, self.signalled)
         self.connect()
         self.tick()
         with tried("standard output: write"):

@@ -2,7 +2,7 @@
 import socket
 import struct
 
-from ..net.places import Stopped, tried
+from ..net.endpoints import Stopped, tried
 
 TCP_MD5 = 14  # the socket option
 

@@ -1,110 +1,111 @@
 """The connection of one PCC."""
+from __future__ import annotations
+
+import enum
+from typing import TYPE_CHECKING
+
 from ..net.loop import READ, WRITE
-from ..net.places import hang_up
+from ..net.stream import Stream
 from . import wire
 from .session import OVER, UP, Session
+
+if TYPE_CHECKING:
+    from .front import Front
 
 FULL, MOST_ASKED = 1 << 20, 256  # bytes that wait for a PCC, and its asks: beyond them nothing is read from it
 LINGER = 5  # seconds that a session's last bytes have
 
 
+class State(enum.Enum):
+    OPEN = 1
+    ENDING = 2  # its last bytes are being sent
+    CLOSED = 3
+
+
 class Pcc:
-    """The connection of one PCC: bytes that wait, and its session."""
+    """The connection of one PCC, and its session."""
 
-    def __init__(self, front, connection, peer):
-        self.front, self.connection, self.peer = front, connection, peer
-        self.loop, self.unsent, self.is_ending, self.is_closed, self.taken_at = front.loop.of(self), bytearray(), False, False, front.clock()
-        self.session = Session(front, peer, front.number, self.send, self.end, front.clock(), self)
-        self.want()
+    def __init__(self, front: Front, stream: Stream, peer: str) -> None:
+        self.front, self.stream, self.peer, self.loop = front, stream, peer, front.loop.of(self)
+        self.state, self.taken_at = State.OPEN, front.clock()
+        stream.most = FULL
+        stream.give(self, self.go_on)
+        self.session = Session(front, peer, front.number, stream.write, self.end, front.clock(), self)  # (its Open has room)
+        self.session.put = self.send
+        self.wait()
 
-    def named(self):
+    def named(self) -> str:
         return self.peer
 
-    def fail(self):
+    def fail(self) -> None:
         """Ends the connection for an exception, by a Close where the PCC isn't in the middle of a message."""
-        is_up, self.session.state, self.is_ending = self.session.state == UP, OVER, True
+        is_up, self.session.state = self.session.state == UP, OVER
         self.leave()
-        self.close(wire.close(1) if is_up and not self.unsent else b"")
+        self.close(wire.close(1) if is_up and not self.stream.waiting else b"")
 
-    def is_held(self):
-        return len(self.unsent) > FULL or self.session.asked > MOST_ASKED
+    def wait(self) -> None:
+        if self.state is not State.CLOSED:
+            is_held = self.stream.is_full or self.session.asked > MOST_ASKED
+            self.stream.wait(self.state is State.OPEN and not is_held)
 
-    def want(self):
-        if not self.is_closed and self.connection.fileno() >= 0:
-            reads = READ if not self.is_ending and not self.is_held() else 0
-            self.loop.want(self.connection.fileno(), reads | (WRITE if self.unsent else 0), self.go_on)
-
-    def send(self, data):
-        if self.is_closed:
+    def send(self, data: bytes) -> None:
+        if self.state is State.CLOSED:
             return
-        has_waited = bool(self.unsent)
-        self.unsent += data
+        has_waited = bool(self.stream.waiting)
+        self.stream.waiting += data
         if not has_waited:
             self.taken_at = self.front.clock()
             self.flush()
-        elif len(self.unsent) > FULL:
+        elif self.stream.is_full:
             self.session.is_full = True
 
-    def flush(self):
-        try:
-            del self.unsent[:self.connection.send(self.unsent)]
+    def flush(self) -> None:
+        if self.stream.flush():
             self.taken_at = self.front.clock()
-        except BlockingIOError:
-            pass
-        except OSError as fault:
-            self.unsent.clear()
-            why = f"its connection is gone: {fault.strerror}"
-            if self.connection.fileno() >= 0:
-                self.loop.after(0, lambda: self.session.stop(why))
-        if self.is_ending and not self.unsent:
+        if self.stream.fault:
+            self.loop.after(0, lambda: self.session.stop(f"its connection is gone: {self.stream.why()}"))
+        if self.state is State.ENDING and not self.stream.waiting:
             self.close()
-        elif hasattr(self, "session"):
-            self.want()
-            if self.session.is_full and not self.unsent:
-                self.session.is_full = False
-                self.session.again()
+        self.wait()
+        if self.session.is_full and not self.stream.waiting and self.state is State.OPEN:
+            self.session.is_full = False
+            self.session.again()
 
-    def go_on(self, events):
+    def go_on(self, events: int) -> None:
         if events & WRITE:
             self.flush()
-        if events & READ and self.connection.fileno() >= 0 and not self.is_ending:
-            try:
-                data = self.connection.recv(1 << 16)
-            except BlockingIOError:
-                return
-            except OSError:
-                data = b""
+        if events & READ and self.state is State.OPEN:
+            data = self.stream.read()
             if data:
                 self.session.take(data, self.front.clock())
-            else:
+            elif self.stream.is_ended:
                 self.session.stop("its PCC closed the connection")
-        self.want()
+        self.wait()
 
-    def tick(self):
+    def tick(self) -> None:
         now = self.front.clock()
         self.session.tick(now)
-        if self.unsent and now - self.taken_at > (self.session.dead or 120):
-            self.unsent.clear()
+        if self.stream.waiting and now - self.taken_at > (self.session.dead or 120):
+            self.stream.waiting.clear()
             self.session.stop("its PCC reads nothing")
-        self.want()
+        self.wait()
 
-    def end(self):
+    def end(self) -> None:
         """Ends the connection once its last bytes are sent. Another session of this PCC may begin at once."""
-        self.is_ending = True
         self.leave()
-        if self.unsent:
+        if self.stream.waiting:
+            self.state = State.ENDING
             self.loop.after(LINGER, self.close)
-            self.want()
+            self.wait()
         else:
             self.close()
 
-    def leave(self):
+    def leave(self) -> None:
         """Another session of this PCC may begin."""
         if self.front.pccs.get(self.peer) is self:
             del self.front.pccs[self.peer]
 
-    def close(self, last=b""):
-        if not self.is_closed and self.connection.fileno() >= 0:
-            self.is_closed = True
-            self.loop.want(self.connection.fileno(), 0)
-            hang_up(self.front.loop, self.connection, last)
+    def close(self, last: bytes = b"") -> None:
+        if self.state is not State.CLOSED:
+            self.state = State.CLOSED
+            self.stream.hang_up(last)

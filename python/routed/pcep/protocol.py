@@ -3,6 +3,7 @@ from argparse import Namespace
 from collections.abc import Callable, Iterable, Sequence
 from typing import Protocol
 
+from ..net.loop import Owner
 from .network import Network, Sids
 from .requests import Request
 
@@ -25,13 +26,13 @@ class SessionFront(Protocol):
     def count(self, what: str, value: str) -> None:
         """Adds one to the figure `routed_pcep_WHAT_total`, under this value of its label."""
 
-    def later(self, seconds: float, call: Callable[[], object], owner: object) -> None:
+    def later(self, seconds: float, call: Callable[[], object], owner: Owner | None) -> None:
         """Calls this after so many seconds. An exception in it ends the owner."""
 
     def capabilities(self) -> bytes:
         """The TLVs of this side's Open."""
 
-    def ask(self, row: str, call: Callable[[str | None], None], owner: object) -> None:
+    def ask(self, row: str, call: Callable[[str | None], None], owner: Owner | None) -> None:
         """Asks the server, and gives its line to `call`; None where no line comes. An exception in it ends the owner."""
 
     def segments(self, head: str, fars: Sequence[str], version: int) -> list[Link] | None:

@@ -4,7 +4,7 @@ from __future__ import annotations
 import os
 from typing import IO
 
-from ..net.places import tried
+from ..net.endpoints import tried
 
 MOST = 900_000  # rows of a pair; `routed audit` reads 1,000,000
 

@@ -6,6 +6,7 @@ import struct
 from collections.abc import Callable
 
 from ..model.rows import Reply
+from ..net.loop import Owner
 from . import wire
 from .lsps import Lsps
 from .protocol import SessionFront
@@ -22,7 +23,7 @@ class Session:
     """`send` takes bytes for the PCC, and `end` closes once they are sent. An exception in what is called later ends `owner`."""
 
     def __init__(self, front: SessionFront, peer: str, number: int, send: Callable[[bytes], None], end: Callable[[], None], now: float,
-                 owner: object = None):
+                 owner: Owner | None = None):
         self.front, self.peer, self.number, self.owner = front, peer, number, owner
         self.put, self.end = send, end
         self.state, self.unread, self.began_at, self.sent_at, self.heard_at = OPEN_WAIT, b"", now, now, now

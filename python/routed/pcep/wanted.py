@@ -4,7 +4,7 @@ import struct
 from collections.abc import Callable
 
 from ..model.rows import is_address, is_mask, is_rate
-from ..net.places import Stopped, tried
+from ..net.endpoints import Stopped, tried
 from . import wire
 from .requests import Request
 
