@@ -71,9 +71,11 @@ def of_loop(_, checks, room):
     made.turn()
     checks.same("times: the others come", (owner.ended, len(said), called), (2, 2, ["third"]))
     checks.true("times: a line names the line of the tools", re.fullmatch(
-        rf"one: ended by an exception, AttributeError at routed/net/http\.py:{line_of('net/http.py', 'asked.partition(b')}: .*'partition'", said[0]), said)
+        rf"one: ended by an exception, AttributeError at routed/net/http\.py:{line_of('net/http.py', 'asked.partition(b')}: "
+        r".*'partition'", said[0]), said)
     checks.true("times: and the one that called another's code", re.fullmatch(
-        rf"one: ended by an exception, TypeError at {re.escape(re.__file__)}:\d+, called at routed/net/endpoints\.py:{line_of('net/endpoints.py', 're.fullmatch(')}: .*",
+        rf"one: ended by an exception, TypeError at {re.escape(re.__file__)}:\d+, called at "
+        rf"routed/net/endpoints\.py:{line_of('net/endpoints.py', 're.fullmatch(')}: .*",
         said[1]), said)
     for name, who, fault in [("no owner", None, KeyError("key")), ("what ends the tool", Owner(), Stopped("word")),
                              ("a key of the user", Owner(), KeyboardInterrupt()), ("an end", Owner(), SystemExit(0))]:
@@ -214,7 +216,8 @@ def of_listen(program, checks, room):
                 checks.same(f"{place}: a version", (seen.publish(updating), seen.watcher.lines.next()), (f"version {seen.version}\n",) * 2)
             checks.same(f"{place}: it ends", heard(victim), "")
             seen.judge(checks, place, r"watch \d+")
-            checks.same(f"{place}: another watcher goes on", (seen.publish(updating), seen.watcher.lines.next()), (f"version {seen.version}\n",) * 2)
+            checks.same(f"{place}: another watcher goes on", (seen.publish(updating), seen.watcher.lines.next()),
+                        (f"version {seen.version}\n",) * 2)
         for place in ("http.answer_to", "Reading.close"):
             seen.plant(place)
             reader = sent(room, b"GET /metrics HTTP/1.1\r\n\r\n")

@@ -52,8 +52,9 @@ def text(program, checks, room):
     made.times("d_seconds", "Times.")
     made.values["d_seconds"][0][0], made.values["d_seconds"][0][1], made.values["d_seconds"][0][-1] = 1, 2, 1
     made.values["d_seconds"][1] = 99.00032
-    wanted = ["# HELP a_total Help.", "# TYPE a_total counter", 'a_total{word="x"} 0', 'a_total{word="y\\"\\\\\\n"} 2', "# HELP b Absent.", "# TYPE b gauge",
-              "# HELP c Each.", "# TYPE c gauge", 'c{place="p"} 1', 'c{place="q"} 0.5', "# HELP d_seconds Times.", "# TYPE d_seconds histogram"]
+    wanted = ["# HELP a_total Help.", "# TYPE a_total counter", 'a_total{word="x"} 0', 'a_total{word="y\\"\\\\\\n"} 2', "# HELP b Absent.",
+              "# TYPE b gauge", "# HELP c Each.", "# TYPE c gauge", 'c{place="p"} 1', 'c{place="q"} 0.5', "# HELP d_seconds Times.",
+              "# TYPE d_seconds histogram"]
     counts = [1] + [3] * (len(metrics.TIMES) - 1) + [4]
     edges = [*(f"{it:g}" for it in metrics.TIMES), "+Inf"]
     wanted += [f'd_seconds_bucket{{le="{edge}"}} {count}'
