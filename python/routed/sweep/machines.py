@@ -124,8 +124,9 @@ def over_ssh(logins: str, jobs: int, given: Network, scenarios: Scenarios, count
     most_rows = 2 * (most_links + most_links // MOST_CHANGES + 1) + min(len(given.requests), MOST_ASKS)
     most = max(1, min(MOST_AT_ONCE, count // (SHARES * jobs * len(logins.split(","))), (MOST_ROWS - len(given.rows)) // most_rows))
     with tempfile.NamedTemporaryFile() as log, tempfile.TemporaryFile() as said:
-        command = ["parallel", "--plain", "--pipe", "--keep-order", "--header", "1", "-N", str(most),
-                   "--jobs", str(jobs), "--sshlogin", logins, "--joblog", log.name, f"{COMMAND} {shlex.quote(ANSWER.format(program=shlex.quote(given.program)))}"]
+        far = ANSWER.format(program=shlex.quote(given.program))
+        command = ["parallel", "--plain", "--pipe", "--keep-order", "--header", "1", "-N", str(most), "--jobs", str(jobs),
+                   "--sshlogin", logins, "--joblog", log.name, f"{COMMAND} {shlex.quote(far)}"]
         try:
             running = subprocess.Popen(command, stdin=subprocess.PIPE, stdout=subprocess.PIPE, stderr=said)
         except OSError as fault:
