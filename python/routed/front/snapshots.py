@@ -39,7 +39,8 @@ class Snapshots:
         if self.child and self.child.poll() is not None:
             rows, errors = (os.pread(file, os.fstat(file).st_size, 0) for file in self.files)
             status, self.child = self.child.returncode, None
-            words = (rows if status == 2 else errors).partition(b"\n")[0] or (f"status {status}" if status > 0 else f"signal {-status}").encode()
+            words = (rows if status == 2 else errors).partition(b"\n")[0] or (f"status {status}" if status > 0
+                                                                              else f"signal {-status}").encode()
             self.end(status, words if status else rows)
 
     def end(self, status, text):

@@ -35,7 +35,8 @@ def read(place):
     if not re.match(rb"HTTP/1\.[01] 200 ", head):
         raise Unread(f"the answer is {head.partition(chr(13).encode())[0].decode(errors='backslashreplace') or 'empty'}")
     try:
-        return {(found[1], found[3]): float(found[4]) for line in body.decode(errors="replace").splitlines() if (found := SAMPLE.fullmatch(line))}
+        return {(found[1], found[3]): float(found[4]) for line in body.decode(errors="replace").splitlines()
+                if (found := SAMPLE.fullmatch(line))}
     except ValueError as fault:
         raise Unread(f"a figure is no number: {fault}") from None
 
@@ -72,7 +73,8 @@ def screen(figures):
     if one("routed_version") is not None:
         yield "version", f"{number('routed_version')}, {number('routed_versions_left')} left"
         yield "last batch", age("routed_last_batch_age_seconds")
-        yield "journal", f"{number('routed_journal_bytes')} bytes, {number('routed_changes_total')} changes, {number('routed_journal_rows_left')} rows left"
+        yield "journal", (f"{number('routed_journal_bytes')} bytes, {number('routed_changes_total')} changes, "
+                      f"{number('routed_journal_rows_left')} rows left")
         yield "asks", listed(labelled(figures, "routed_asks_total"))
         yield "time of a row", f"half within {share(figures, 0.5)}, 99 of 100 within {share(figures, 0.99)}"
         yield "refused rows", listed(labelled(figures, "routed_refused_rows_total"))

@@ -51,7 +51,8 @@ def kind_of_metric(found, asked):
     lacks = {"cost": not ends or any(circuit.cost is None for circuit in found.circuits),
              "km": not ends or not is_on_earth(ends) or any(site.place is None for site in ends), "one": False}
     if asked and ends and lacks[asked]:
-        raise ValueError({"cost": "--metric cost: a link has no routing cost", "km": "--metric km: a site has no longitude and latitude"}[asked])
+        raise ValueError({"cost": "--metric cost: a link has no routing cost",
+                          "km": "--metric km: a site has no longitude and latitude"}[asked])
     return asked or next(kind for kind, is_lacking in lacks.items() if not is_lacking)
 
 
@@ -117,7 +118,8 @@ def listed(found, asked, kind):
     """What has no place in a row, and what was taken in place of what isn't there."""
     linked = {end for circuit in found.circuits for end in circuit[:2]}
     metrics = {"cost": "the routing costs", "km": "kilometers between the sites", "one": "1"}
-    bare = sum(given is None for circuit in found.circuits for given in ((circuit.capacity, circuit.back) if circuit.is_both else (circuit.capacity,)))
+    bare = sum(given is None for circuit in found.circuits
+               for given in ((circuit.capacity, circuit.back) if circuit.is_both else (circuit.capacity,)))
     lacking = [site.name for name, site in found.sites.items() if not site.place and name in linked]
     yield f"{len(linked)} routers, {len(found.circuits)} circuits, {len(found.demands)} demands; metrics are {metrics[kind]}"
     yield from (f"no row: the site {site.name} has no link" for name, site in found.sites.items() if name not in linked)
@@ -131,7 +133,8 @@ def listed(found, asked, kind):
     yield from (f"one position for {count} sites: {place[0]:g} {place[1]:g}" for place, count in shared.items() if count > 1)
     if found.demands and not asked.requests:
         yield f"left out: {len(found.demands)} demands, which --requests FILE writes"
-    yield from (f"left out: {what} ({count} times)" if count > 1 else f"left out: {what}" for what, count in sorted(found.left.items()) if count)
+    yield from (f"left out: {what} ({count} times)" if count > 1 else f"left out: {what}" for what, count in sorted(found.left.items())
+                if count)
 
 
 def options(words):

@@ -114,7 +114,8 @@ class Front:
         self.asks.open()
 
     def cut_off(self):
-        """A connection for asks has ended: with the server, or because it was idle. Where there is a place of versions, that one says which."""
+        """A connection for asks has ended: with the server, or because it was idle. Where there is a place of versions, that one says
+        which."""
         if not self.options.watch:
             self.lost()
 

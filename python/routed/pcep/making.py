@@ -73,7 +73,8 @@ class Making:
         if name not in self.initiated and name not in self.unmade:
             setup_type = max(self.session.setup_types)
             self.initiated[name] = 0, request
-            self.front.ask(request.row(self.session.group(setup_type)), lambda line: self.create(name, request, setup_type, line), self.session.owner)
+            self.front.ask(request.row(self.session.group(setup_type)), lambda line: self.create(name, request, setup_type, line),
+                           self.session.owner)
 
     def create(self, name, request, setup_type, line):
         if self.session.state != "up":

@@ -13,7 +13,8 @@ class Pcc:
 
     def __init__(self, front, connection, peer):
         self.front, self.connection, self.peer = front, connection, peer
-        self.loop, self.unsent, self.is_ending, self.is_closed, self.taken_at = front.loop.of(self), bytearray(), False, False, front.clock()
+        self.loop, self.taken_at = front.loop.of(self), front.clock()
+        self.unsent, self.is_ending, self.is_closed = bytearray(), False, False
         self.session = Session(front, peer, front.number, self.send, self.end, front.clock(), self)
         self.want()
 

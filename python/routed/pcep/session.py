@@ -270,7 +270,8 @@ class Session:
         """A new version: asks again for what had no path, and for the LSPs."""
         for asked in [*self.vain.values()]:
             self.asked += 1
-            self.front.ask(asked.request.row(self.group(asked.setup_type)), lambda line, asked=asked: self.vain_answered(asked, line), self.owner)
+            self.front.ask(asked.request.row(self.group(asked.setup_type)), lambda line, asked=asked: self.vain_answered(asked, line),
+                           self.owner)
         self.lsps.moves.again()
         self.lsps.making.initiate()
 

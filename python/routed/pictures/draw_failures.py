@@ -13,7 +13,8 @@ from .labels import SMALL, Sheet, Wanted, box_of
 
 KINDS = {"lost": (f"stroke:{RED};stroke-width:6", "a request loses its route"),
          "longer": (f"stroke:{BLUE};stroke-width:4", "no request loses its route, and one gets a longer one"),
-         "overbooked": (f"stroke:{ORANGE};stroke-width:4;stroke-dasharray:10 4", "no route is lost or longer, and a link is overbooked more than before"),
+         "overbooked": (f"stroke:{ORANGE};stroke-width:4;stroke-dasharray:10 4",
+                        "no route is lost or longer, and a link is overbooked more than before"),
          "none": (f"stroke:{GRAY};stroke-width:2", "no request and no link is worse off")}
 INK = {"lost": "#a84300", "longer": "#005a8e", "overbooked": "#8a5f00"}  # of the counts, dark enough to read
 ALONG = (0.5, 0.44, 0.56, 0.38, 0.62, 0.32, 0.68, 0.26, 0.74, 0.2, 0.8)  # where on its circuit a count may be
@@ -35,10 +36,12 @@ def between(failure, names):
 def about(failure, names, over):
     """What is said of a circuit where the pointer is on it."""
     says = [f"without {between(failure, names)} ({failure.link})"]
-    for count, ids, what in ((failure.lost, failure.lost_ids, "lose their route"), (failure.longer, failure.longer_ids, "get a longer one")):
+    for count, ids, what in ((failure.lost, failure.lost_ids, "lose their route"),
+                             (failure.longer, failure.longer_ids, "get a longer one")):
         says += [f"{count} {what}: {', '.join(ids[:IDS])}{', ..' if len(ids) > IDS else ''}"] if count else []
     says += [f"overbooked then: {link}" for link in failure.overbooked[:IDS]]
-    says += [f"overbooked while nothing fails, at priority {it.priority}: {it.asked:,} bytes per second are asked of {it.unreserved:,}" for it in over]
+    says += [f"overbooked while nothing fails, at priority {it.priority}: {it.asked:,} bytes per second are asked of {it.unreserved:,}"
+             for it in over]
     return "\n".join(says)
 
 
@@ -97,7 +100,8 @@ def by_circuit(found, before):
     def names_of(failure):
         router, local, neighbor, remote = failure.link.split()
         return failure.link, f"{neighbor} {remote} {router} {local}"
-    return {failure: [it for name in names_of(failure)[:2 if failure.is_circuit else 1] for it in before.get(name, ())] for failure in found}
+    return {failure: [it for name in names_of(failure)[:2 if failure.is_circuit else 1] for it in before.get(name, ())]
+            for failure in found}
 
 
 def main(words=None):

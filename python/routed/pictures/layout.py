@@ -188,7 +188,8 @@ def packed(parts):
     """The places of components in one picture: beside each other in rows, the largest first."""
     places, across, down, high = {}, 0.0, 0.0, 0.0
     sizes = [bounds(part) for part in parts]
-    wide = max([1.4 * math.sqrt(sum((r - l + APART) * (b - t + APART) for l, t, r, b in sizes)), *(r - l for l, _, r, _ in sizes)], default=0)
+    wide = max([1.4 * math.sqrt(sum((r - l + APART) * (b - t + APART) for l, t, r, b in sizes)), *(r - l for l, _, r, _ in sizes)],
+               default=0)
     for part, (left, top, right, bottom) in zip(parts, sizes):
         if across and across + right - left > wide:
             across, down, high = 0.0, down + high + APART, 0.0

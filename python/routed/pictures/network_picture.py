@@ -117,7 +117,8 @@ def notes_of_circuits(lines, priority, opacity):
     """The legend of groups and widths."""
     if not lines:
         return [(None, "The network has no routers.")]
-    notes = [(shapes.sample(f"stroke:{color};stroke-dasharray:{dash or 'none'};stroke-width:4{opacity}"), f"group 0x{group:x}" if group else "no group (0x0)")
+    notes = [(shapes.sample(f"stroke:{color};stroke-dasharray:{dash or 'none'};stroke-width:4{opacity}"),
+              f"group 0x{group:x}" if group else "no group (0x0)")
              for group, (color, dash) in groups_of(lines).items()]
     notes.append((shapes.sample(f"stroke:#444;stroke-width:{WIDEST}"),
                   f"widest: {most_free(lines, priority):,} bytes per second unreserved at priority {priority}; dotted: none"))
@@ -130,7 +131,8 @@ def notes_of_routes(routes, names):
     """The legend of routes."""
     notes = [(shapes.sample(f"stroke:{color};stroke-dasharray:{dash or 'none'};stroke-width:3"), route_text(route, names))
              for route, (color, dash) in zip(routes, ROUTE_STYLES)]
-    ends = [(lambda x, y: shapes.ring(x, y, 9, RED), "ring: where a route begins"), (lambda x, y: shapes.diamond(x, y, 11, RED), "diamond: where it ends")]
+    ends = [(lambda x, y: shapes.ring(x, y, 9, RED), "ring: where a route begins"),
+            (lambda x, y: shapes.diamond(x, y, 11, RED), "diamond: where it ends")]
     return notes + ends if routes else []
 
 

@@ -123,7 +123,8 @@ def options(words):
     asked.add_argument("--workers", type=count, default=1, metavar="N", help="threads that answer while nothing is out, by default 1")
     asked.add_argument("--jobs", type=count, metavar="N", help="scenarios at once, each in a process, by default 1")
     asked.add_argument("--dask", type=address, metavar="ADDRESS", help="scenarios on the workers of this scheduler of Dask's distributed")
-    asked.add_argument("--ssh", metavar="LOGINS", help="scenarios on these machines by GNU parallel, given as for its -S; --jobs at once on each")
+    asked.add_argument("--ssh", metavar="LOGINS",
+                       help="scenarios on these machines by GNU parallel, given as for its -S; --jobs at once on each")
     asked.add_argument("--part", type=part, metavar="I/N", help="only the I-th of N parts of the scenarios, for join")
     add_option(asked)
     given = asked.parse_args(words)

@@ -45,7 +45,8 @@ def failures(lines):
         elif counts := COUNTS.fullmatch(line):
             if counts[1] not in outs:
                 raise ValueError(f"scenario {counts[1]} has no circuit out")
-            found.append(Failure(*outs[counts[1]], int(counts[2]), int(counts[3]), *(tuple(requests[counts[1], kind]) for kind in ("lost", "longer")),
+            found.append(Failure(*outs[counts[1]], int(counts[2]), int(counts[3]),
+                                 *(tuple(requests[counts[1], kind]) for kind in ("lost", "longer")),
                                  tuple(sorted(over[counts[1]]))))
         elif whole := WHOLE.fullmatch(line):
             count = int(whole[1])

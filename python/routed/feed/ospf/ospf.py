@@ -375,8 +375,10 @@ def options(words):
                        help="seconds after a connection is there that links of before are held, of which the router doesn't tell")
     asked.add_argument("--journal", metavar="FILE", help="of the program's run, where it has batches already and isn't behind listen")
     asked.add_argument("--metrics", type=Place, metavar="PLACE", help="where figures are read, by HTTP at /metrics")
-    asked.add_argument("--sids", metavar="FILE", help="where adjacency SIDs are told, as lines sid,VERSION,ROUTER,LOCAL,LABEL; it is made anew")
-    asked.add_argument("--sid-group", type=group, metavar="N", help="the administrative group, 0 to 31, of exactly the links that have an adjacency SID")
+    asked.add_argument("--sids", metavar="FILE",
+                       help="where adjacency SIDs are told, as lines sid,VERSION,ROUTER,LOCAL,LABEL; it is made anew")
+    asked.add_argument("--sid-group", type=group, metavar="N",
+                       help="the administrative group, 0 to 31, of exactly the links that have an adjacency SID")
     asked.add_argument("--once", action="store_true", help="write the present network as one journal, and end")
     asked.add_argument("--verbose", action="store_true", help="say which links are left out, and why")
     asked.add_argument("command", nargs=argparse.REMAINDER, help="what takes the rows, as: routed solve")
