@@ -59,3 +59,18 @@ def lint(checks):
                 ran = subprocess.run([linter, "planted"], cwd=room, capture_output=True, text=True)
                 checks.true(f"{linter} finds {text!r}", ran.returncode == 1 and "planted" in ran.stdout, ran.stdout)
     checks.same("a line that is too long", too_long("it", "x" * 140 + "\n" + "x" * 141 + "\n"), ["it:2"])
+
+
+def types(checks):
+    """mypy finds nothing in python/routed, and finds a planted number that is taken for a text."""
+    if shutil.which("mypy") is None:
+        print("tests/texts: skipped types, there is no mypy (Debian's package of that name)")
+        return
+    with tempfile.TemporaryDirectory() as room:
+        words = ["mypy", "--check-untyped-defs", "--cache-dir", os.path.join(room, "cache")]
+        ran = subprocess.run([*words, "routed"], cwd=os.path.join(TOP, "python"), capture_output=True, text=True)
+        checks.same("what mypy finds", (ran.returncode, ran.stdout.splitlines()[:-1] + ran.stderr.splitlines()), (0, []))
+        with open(os.path.join(room, "planted.py"), "w", encoding="ascii") as file:
+            file.write("def planted():\n    return len(1)\n")
+        ran = subprocess.run([*words, "planted.py"], cwd=room, capture_output=True, text=True)
+        checks.true("mypy finds what is planted", ran.returncode == 1 and "planted.py:2: error" in ran.stdout, ran.stdout)
