@@ -1,6 +1,6 @@
-"""Tests of what is installed: the package in an empty folder, the commands of the units, manual pages, and the scripts' own checks.
+"""Tests of what is installed: the package in an empty folder, the commands of the units, and manual pages.
 
-Without `dpkg-deb`, `make`, `shellcheck`, `systemd-analyze` or `groff` a line says what is skipped.
+Without `dpkg-deb`, `make`, `systemd-analyze` or `groff` a line says what is skipped.
 """
 import importlib.util
 import os
@@ -169,22 +169,7 @@ def units(checks, home, top, env):
     checks.same("the command of routed-solve@.service", (ran.returncode, ran.stdout), (2, "version 1\nbatch 3 refused: expected 2\n"))
 
 
-# ---- what other programs say of the scripts, units and pages
-
-
-def scripts(_, checks):
-    if skipped("shellcheck"):
-        return
-    names = [name for name in sorted(os.listdir(DEPLOY)) if text_start(name).startswith("#!/bin/sh")]
-    checks.same("the scripts", set(names) >= {"fed", "keep", "serve"}, True)
-    for name in names:
-        ran = subprocess.run(["shellcheck", os.path.join(DEPLOY, name)], capture_output=True, text=True)
-        checks.same(f"shellcheck deploy/{name}", (ran.returncode, ran.stdout), (0, ""))
-
-
-def text_start(name):
-    path = os.path.join(DEPLOY, name)
-    return open(path, encoding="utf-8").readline() if os.path.isfile(path) else ""
+# ---- what other programs say of the units and pages
 
 
 def hardened(_, checks):
@@ -227,4 +212,4 @@ def manual(program, checks):
 
 
 def installed(program, checks):
-    checks.parts((scripts, hardened, manual, package), program, checks)
+    checks.parts((hardened, manual, package), program, checks)

@@ -268,7 +268,7 @@ class Once:
     """A session whose network is written once nothing has come for a while."""
 
     def __init__(self, asked: argparse.Namespace, connect: Connect) -> None:
-        self.asked, self.loop = asked, Loop()
+        self.asked, self.loop = asked, Loop(selector=selectors.PollSelector())
         self.heard(0, False)
         try:
             self.session = connect(asked, self)

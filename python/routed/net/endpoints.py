@@ -34,7 +34,8 @@ class Endpoint:
     def __init__(self, text: str) -> None:
         port = re.fullmatch(r"(?:(?:([^/:\[\]]+)|\[([^/\[\]]+)\]):)?([0-9]+)", text)
         if not text or port and int(port[3]) >= 1 << 16 or not port and ":" in text and "/" not in text:
-            raise argparse.ArgumentTypeError(f"{text!r} is no place: that is the path of a UNIX socket (with a slash where it has a colon), "
+            raise argparse.ArgumentTypeError(f"{text!r} is no place: that is the path of a UNIX socket (with a slash where it "
+                                             "has a colon), "
                                              "a port from 0 to 65535, ADDRESS:PORT or [ADDRESS]:PORT")
         self.text, self.path = text, None if port else text
         if port:
