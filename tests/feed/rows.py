@@ -9,6 +9,7 @@ import contextlib
 import os
 import re
 import select
+import selectors
 import signal
 import socket
 import struct
@@ -129,32 +130,32 @@ def played(clock, reports, *words):
     api.PATIENCE = PATIENCE
     if clock >= 0:
         at, count = NOON, 0
-        wait, read, receive = select.select, os.read, socket.socket.recv
+        wait, read = selectors.PollSelector.select, os.read
 
-        def counted(data):
+        def counted(source, most):
             nonlocal count
+            data = read(source, most)
             count += len(data) or 1
             return data
 
-        def selected(readers, writers, others, patience=None):
+        def selected(self, patience=None):
             nonlocal at
+            if clock not in self.get_map():
+                self.register(clock, selectors.EVENT_READ)
             end = None if patience is None else at + patience
             while True:
-                ready = wait([*readers, clock], writers, others, 0)
+                ready = wait(self, 0)
                 is_due = end is not None and at >= end
-                if not any(ready) and not is_due:
-                    if not writers:
+                if not ready and not is_due:
+                    if not any(key.events & selectors.EVENT_WRITE for key in self.get_map().values()):
                         os.write(reports, REPORT.pack(at, count))
-                    ready = wait([*readers, clock], writers, others)
-                found = [each for each in ready[0] if each != clock]
-                if found or ready[1] or is_due:
-                    return found, *ready[1:]
+                    ready = wait(self)
+                found = [(key, events) for key, events in ready if key.fd != clock]
+                if found or is_due:
+                    return found
                 at, = struct.unpack("d", read(clock, 8))
 
-        time.monotonic = lambda: at
-        select.select = selected
-        os.read = lambda source, most: counted(read(source, most)) if source == 0 else read(source, most)
-        socket.socket.recv = lambda made, most: counted(receive(made, most))
+        time.monotonic, selectors.PollSelector.select, os.read = lambda: at, selected, counted
     sys.exit(ospf.main(list(words)))
 
 
@@ -779,8 +780,9 @@ def not_begun(checks):
     checks.same("no version, but the end", feed.ended(), (1, "", f"{pipes}the program ended\n"))
     from routed.feed.batches import Ended
     from routed.feed.database import begun
-    program, lines = argparse.Namespace(name="it", waiting=bytearray()), [f"v{MANY_DIGITS} none", "v0"]
-    program.line = lambda: f"ask {program.waiting.split(b',')[1].decode()} {lines.pop(0)}" if lines else "no line"
+    written, lines = [], [f"v{MANY_DIGITS} none", "v0"]
+    program = argparse.Namespace(name="it", write=written.append)
+    program.line = lambda: f"ask {written[0].split(',')[1]} {lines.pop(0)}" if lines else "no line"
     try:
         checks.fail(f"a version of many digits is none: {begun(program, None)}")
     except Ended as fault:
@@ -880,24 +882,6 @@ def beside_server(program, checks):
         checks.same("the server is killed", (feed.returncode, said), (1, going_on(1, 4, 0, 1) + "ospf: standard input and output: the program ended\n"))
 
 
-RELAY = """import os, select, socket, sys
-front, readers = socket.socket(socket.AF_UNIX), [0]
-front.connect(sys.argv[1])
-readers.append(front)
-while front in readers:
-    for source in select.select(readers, [], [])[0]:
-        data = os.read(0, 65536) if source == 0 else front.recv(65536)
-        if not data:
-            readers.remove(source)
-        if source != 0:
-            os.write(1, data)
-        elif data:
-            front.sendall(data)
-        else:
-            front.shutdown(socket.SHUT_WR)
-"""
-
-
 def behind_front(program, checks):
     """Behind the real routed-tools listen: a feed is killed, a circuit goes, and the next feed drops it; then the server is killed."""
     with tempfile.TemporaryDirectory() as room, contextlib.ExitStack() as clean:
@@ -914,7 +898,7 @@ def behind_front(program, checks):
         def started(*words):
             """A feed, once the place of the one before is free."""
             while True:
-                feed = Feed(router, "--hold", "1", command=("--", sys.executable, "-c", RELAY, updates), is_accepted=False)
+                feed = Feed(router, "--hold", "1", command=("--to", updates), is_accepted=False)
                 until(lambda: feed.process.poll() is not None or select.select([router.listening], [], [], 0)[0], "a feed")
                 if feed.process.poll() is None:
                     router.accept()
@@ -943,10 +927,11 @@ def behind_front(program, checks):
             for child in map(int, children.read().split()):
                 os.kill(child, signal.SIGKILL)
         status, out, said = feed.ended()
-        name = re.sub(r"\s+", " ", f"{sys.executable} -c '{RELAY}' {updates}")
-        checks.same("the server is killed", (status, out, said), (1, "", f"{going_on(1, 4, 0, 1)}ospf: {name}: the program ended\n"))
+        checks.same("the server is killed", (status, out, said), (1, "", f"{going_on(1, 4, 0, 1)}ospf: {updates}: the program ended\n"))
         checks.same("and the front with it", front.wait(PATIENCE), 137)
         router.hang_up()
+        feed = Feed(router, command=("--to", updates), is_accepted=False)
+        checks.same("nobody listens there", feed.ended(), (1, "", f"ospf: can't connect to {updates}: No such file or directory\n"))
 
 
 def with_program(program, checks):
@@ -1149,19 +1134,23 @@ def words(program, checks):
 
 def queued(checks):
     """Short asks that wait for a program which takes no rows cost little, however many they are."""
-    from routed.feed.ospf.ospf import FULL, Feed as Real, Program
+    from routed.feed.feed import Feed as Real
+    from routed.feed.program import Program
+    from routed.net.loop import Loop
+    from routed.net.stream import Stream
     feed, reading = Real.__new__(Real), os.pipe()
-    feed.asks, feed.unread_asks, feed.batches = reading[0], b"", argparse.Namespace(ask=lambda: None)
-    feed.program, row, began = Program(["sleep", str(PATIENCE)]), b"ask,\n", time.process_time()
-    while len(feed.program.waiting) < FULL:
+    feed.loop, feed.batches = Loop(), argparse.Namespace(ask=lambda: None)
+    feed.asks, feed.program = Stream(feed.loop, reading[0]), Program(feed.loop, ["sleep", str(PATIENCE)], None)
+    row, began = b"ask,\n", time.process_time()
+    while not feed.program.is_full():
         os.write(reading[1], row * 12000)  # less than the pipe holds
-        feed.take_asks()
+        feed.take_asks(0)
     took = time.process_time() - began
     with feed.program.child as sleeping:
         sleeping.kill()
     for file in reading:
         os.close(file)
-    checks.same("asks that wait", feed.program.waiting.count(row) * len(row), len(feed.program.waiting))
+    checks.same("asks that wait", feed.program.stream.waiting.count(row) * len(row), len(feed.program.stream.waiting))
     checks.true("asks that wait: seconds of a processor", took < 2, took)
 
 

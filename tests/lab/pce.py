@@ -56,7 +56,7 @@ class PceChain(Chain):
         self.wire = subprocess.Popen([*within(PCE), os.path.join(chain.HERE, "lab"), "--wire", told, capture],
                                      stdin=subprocess.DEVNULL, stdout=subprocess.PIPE, text=True)
         self.feed = subprocess.Popen([*within(PCE), TOOLS, "feed", "--collect", str(collect), "--sids", self.sids,
-                                      "--sid-group", GROUP, "--", TOOLS, "connect", updates],
+                                      "--sid-group", GROUP, "--to", updates],
                                      stdin=subprocess.DEVNULL, stdout=subprocess.DEVNULL)
         threading.Thread(target=self.take_lines, daemon=True).start()
         self.published(lambda: None)

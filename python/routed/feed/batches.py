@@ -1,5 +1,7 @@
 """Numbered batches of rows: what the program was given, and what its lines say of it."""
 import re
+
+from ..net.loop import Stopped
 from .ospf.lsas import rank
 
 MOST = 4096  # changes in a batch
@@ -9,7 +11,7 @@ OTHERS = "another program has published, and the feed has to be the only one: en
 UNKNOWN = "the program's database isn't the one that the feed began with: start the feed again"
 
 
-class Ended(Exception):
+class Ended(Stopped):
     """Why no more batches can be written."""
 
 

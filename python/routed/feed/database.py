@@ -61,14 +61,14 @@ def from_front(program, version, line):
 def begun(program, path):
     """What the program has, before anything is put: rows by key, and the version. At version 0 it has nothing."""
     number = secrets.randbits(64)  # that of nobody else
-    program.waiting += f"ask,{number},0.0.0.0,0.0.0.1,0,0,0x0,0x0,0x0,\n".encode()
+    program.write(f"ask,{number},0.0.0.0,0.0.0.1,0,0,0x0,0x0,0x0,\n")
     while not (found := re.match(rf"ask {number} v([0-9]{{1,20}}) ", line := program.line())):
         if not EARLIER.fullmatch(line):
             raise Ended(f"{program.name}: its version was asked for, and it answered: {line}")
     version = int(found[1])
     if not version:
         return {}, 0
-    program.waiting += b"snapshot\n"
+    program.write("snapshot\n")
     line = program.line()
     if not re.fullmatch(r"row \d+ refused: kind", line):
         return from_front(program, version, line), version

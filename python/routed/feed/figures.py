@@ -13,7 +13,7 @@ from ..net.http import Page
 from ..net.loop import Loop
 
 if TYPE_CHECKING:
-    from .ospf.ospf import Feed
+    from .feed import Feed
 
 
 class FeedFigures:
@@ -25,7 +25,7 @@ class FeedFigures:
         self.left: dict[str, int] = {}  # how many links are left out, by the reason
         self.endpoint: Endpoint | None = None
         self.figures = figures = Figures()
-        figures.gauge("routed_feed_connected", "Whether there is a connection to the router, 1 or 0.", lambda: int(feed.api is not None))
+        figures.gauge("routed_feed_connected", "Whether there is a connection to the router, 1 or 0.", lambda: int(feed.is_connected))
         figures.age("routed_feed_heard_age_seconds", "Seconds since the router sent anything; absent where it never did.",
                     lambda: self.heard_at)
         figures.gauge("routed_feed_version", "The version of the last batch that was accepted.", lambda: feed.batches.version if feed.batches else None)

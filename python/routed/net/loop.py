@@ -57,9 +57,12 @@ class Loop:
     def after(self, seconds: float, call: Callable[[], object], owner: Owner | None = None) -> None:
         heapq.heappush(self.times, (time.monotonic() + seconds, next(self.numbers), owner, call))
 
-    def turn(self) -> None:
-        """Waits for an event or a time, and makes all calls that are due."""
-        ready = self.selector.select(max(self.times[0][0] - time.monotonic(), 0) if self.times else None)
+    def turn(self, most: float | None = None) -> None:
+        """Waits for an event or a time, so many seconds at most, and makes all calls that are due."""
+        if self.times:
+            left = self.times[0][0] - time.monotonic()
+            most = left if most is None or left < most else most
+        ready = self.selector.select(most if most is None else max(most, 0))
         for key, events in ready:
             if self.keys.get(key.fd) is key:  # else it was changed in this turn
                 owner, call = key.data

@@ -10,14 +10,15 @@ Nothing is reserved: two LSPs may be placed on the same bandwidth. There is no s
 LSPs. The status is 0 then, 2 where a word of the command line is refused, 3 where a socket or a file can't be had.
 """
 import argparse
+from collections.abc import Callable
 
 from ..net.log import LEVELS, Log
 from ..net.endpoints import Endpoint, Stopped
 from .front import Front
 
 
-def number(low, high, form=int):
-    def read(text):
+def number(low: float, high: float, form: Callable = int) -> Callable:
+    def read(text: str) -> float:
         value = form(text)
         if not low <= value <= high:
             raise ValueError
@@ -27,12 +28,12 @@ def number(low, high, form=int):
     return read
 
 
-def group(text):
+def group(text: str) -> int:
     """The mask of an administrative group, 0 to 31."""
     return 1 << number(0, 31)(text)
 
 
-def main(given=None):
+def main(given: list[str] | None = None) -> int:
     """Takes the words of a command line, and answers the status."""
     words = argparse.ArgumentParser(prog="pcep", description=__doc__, formatter_class=argparse.RawDescriptionHelpFormatter)
     words.add_argument("--ask", required=True, type=Endpoint, metavar="PLACE", help="where listen is asked")

@@ -7,13 +7,13 @@ from ..net.endpoints import Stopped, tried
 TCP_MD5 = 14  # the socket option
 
 
-def set_key(listener, peer, key):
+def set_key(listener: socket.socket, peer: str, key: bytes) -> None:
     """From now on a peer of this address has to use the key."""
     where = struct.pack("=HH4s120x", socket.AF_INET, 0, socket.inet_aton(peer))
     listener.setsockopt(socket.IPPROTO_TCP, TCP_MD5, where + struct.pack("=BBHi80s", 0, 0, len(key), 0, key))
 
 
-def keys(path):
+def keys(path: str | None) -> list[tuple[str, bytes]]:
     """Addresses and keys of TCP-MD5: lines `ADDRESS KEY`."""
     if path is None:
         return []

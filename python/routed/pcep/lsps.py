@@ -1,21 +1,32 @@
 """The LSPs of one session as its PCC reports and delegates them (RFC 8231)."""
+from __future__ import annotations
+
 import struct
+import typing
 
 from . import wire
 from .lsp import ADMIN, CREATED, DELEGATED, REMOVED, SYNC, Lsp
 from .making import Making
 from .moves import Moves
+from .protocol import SessionFront
 from .requests import READERS, Request
-from .wire import Refused, fields, pack
+from .wire import Object, Refused, fields, pack
+
+if typing.TYPE_CHECKING:
+    from .session import Session
 
 
 class Lsps:
-    def __init__(self, session):
-        self.session, self.front, self.all, self.names, self.is_synced = session, session.front, {}, {}, False
+    def __init__(self, session: Session):
+        self.session, self.is_synced = session, False
+        self.front: SessionFront = session.front
+        self.all: dict[int, Lsp] = {}  # by PLSP-IDs
+        self.names: dict[str, Lsp] = {}
         self.srp = (session.number - 1 << 12) % (1 << 32)  # a PCC may report numbers of an earlier session
-        self.moves, self.making = Moves(self), Making(self)
+        self.moves: Moves = Moves(self)
+        self.making: Making = Making(self)
 
-    def reports(self, objects):
+    def reports(self, objects: list[Object]) -> None:
         at = 0
         if not objects:
             raise Refused(6, 8)
@@ -26,7 +37,7 @@ class Lsps:
             self.report(objects[at:end])
             at = end
 
-    def report(self, given):
+    def report(self, given: list[Object]) -> None:
         setup_type, srp = 0, 0
         if given[0].kind == wire.O_SRP:
             srp, = fields("!4xI", given[0].body)
@@ -71,12 +82,12 @@ class Lsps:
         if lsp.is_ours():
             self.moves.ask(lsp)
 
-    def forget(self, lsp, name):
+    def forget(self, lsp: Lsp, name: str) -> None:
         """The LSP has that name no more. A name is of one LSP of a PCC (RFC 8231 7.3.2)."""
         if self.names.get(name) is lsp:
             del self.names[name]
 
-    def request_of(self, lsp, tlvs, given):
+    def request_of(self, lsp: Lsp, tlvs: dict[int, bytes], given: list[Object]) -> Request | None:
         """What is asked for an LSP; None, and the delegation is returned, where a row can't say it."""
         if not lsp.flags & DELEGATED or lsp.is_leaving:
             lsp.is_returned, lsp.vain_ero = False, None
@@ -108,7 +119,7 @@ class Lsps:
             return None
         return request
 
-    def give_back(self, lsp, fault):
+    def give_back(self, lsp: Lsp, fault: Refused) -> None:
         """Returns the delegation, once (RFC 8231 5.7.3)."""
         if lsp.is_returned:
             return
@@ -118,7 +129,7 @@ class Lsps:
         self.update(lsp, pack(wire.O_ERO, lsp.ero if len(lsp.ero) + 60 <= wire.MOST else b""), 0, b"")
         lsp.srp = 0
 
-    def removed(self, number):
+    def removed(self, number: int) -> None:
         lsp = self.all.pop(number, None)
         if lsp:
             self.forget(lsp, lsp.name)
@@ -126,14 +137,14 @@ class Lsps:
             if lsp.is_leaving:
                 self.making.initiate()
 
-    def synced(self):
+    def synced(self) -> None:
         if not self.is_synced:
             self.is_synced = True
             self.front.say("info", f"{self.session.peer}: synchronized, {len(self.all)} LSPs")
             self.making.initiate()
             self.moves.again()
 
-    def refused(self, srps):
+    def refused(self, srps: list[int]) -> None:
         """Its PCC refused updates or new LSPs."""
         for lsp in self.all.values():
             if lsp.srp and lsp.srp in srps:
@@ -141,18 +152,18 @@ class Lsps:
                 self.front.say("error", f"{self.named(lsp)} stays where it is: its PCC refused the update")
         self.making.refused(srps)
 
-    def update(self, lsp, ero, delegated, attributes):
+    def update(self, lsp: Lsp, ero: bytes, delegated: int, attributes: bytes) -> None:
         lsp.srp = self.next_srp()
         self.session.send(wire.message(
             wire.UPDATE, self.srp_object(0, lsp.setup_type),
             pack(wire.O_LSP, struct.pack("!I", lsp.number << 12 | delegated | lsp.flags & ADMIN), must=True), ero, attributes))
 
-    def named(self, lsp):
+    def named(self, lsp: Lsp) -> str:
         return f"{self.session.peer}: LSP {lsp.name!r} ({lsp.number})"
 
-    def next_srp(self):
+    def next_srp(self) -> int:
         self.srp = self.srp % 0xfffffffe + 1
         return self.srp
 
-    def srp_object(self, flags, setup_type):
+    def srp_object(self, flags: int, setup_type: int) -> bytes:
         return pack(wire.O_SRP, struct.pack("!II", flags, self.srp) + wire.setup_type_tlv(setup_type), must=True)

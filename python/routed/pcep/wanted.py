@@ -10,9 +10,9 @@ from .requests import Request
 TESTS = [journals.is_address] * 2 + [re.compile("[0-7]").fullmatch, journals.is_rate] + [journals.MASK.fullmatch] * 3
 
 
-def wanted(path):
+def wanted(path: str | None) -> dict[tuple[str, str], Request]:
     """Requests by PCC and name."""
-    found = {}
+    found: dict[tuple[str, str], Request] = {}
     if path is None:
         return found
     with tried(f"{path}: read"):
@@ -31,7 +31,7 @@ def wanted(path):
     return found
 
 
-def refusal(fields):
+def refusal(fields: list[str]) -> str | None:
     """Why the fields behind a name are no LSP, None where they are one."""
     if len(fields) != len(TESTS):
         return "it has no eight fields"
@@ -41,10 +41,10 @@ def refusal(fields):
     return "it ends where it begins" if fields[0] == fields[1] else None
 
 
-def request_of(fields):
+def request_of(fields: list[str]) -> Request:
     request = Request()
     request.ends, request.setup, request.bandwidth = (fields[0], fields[1]), int(fields[2]), int(fields[3])
-    request.masks = tuple(int(mask, 16) for mask in fields[4:7])
+    request.masks = int(fields[4], 16), int(fields[5], 16), int(fields[6], 16)
     request.attributes = wire.pack(wire.O_LSPA, struct.pack("!IIIBBBx", *request.masks, request.setup, request.setup, 0))
     if request.bandwidth:
         request.attributes += wire.pack(wire.O_BANDWIDTH, struct.pack("!f", request.bandwidth))

@@ -2,7 +2,8 @@
 import math
 import socket
 import struct
-from collections import namedtuple
+from collections.abc import Iterable
+from typing import NamedTuple
 
 OPEN, KEEPALIVE, REQUEST, REPLY, NOTIFICATION, ERROR, CLOSE, REPORT, UPDATE, INITIATE = 1, 2, 3, 4, 5, 6, 7, 10, 11, 12
 # Classes of objects; the RFC's names of some: O_RRO the reported route, O_BANDWIDTH of type 1 a request's.
@@ -15,8 +16,20 @@ MALFORMED = 3  # the reason of a Close
 NAI_ADJACENCY = 3  # an SR-ERO's NAI type: the addresses of both interfaces
 IS_MPLS, NO_NAI, NO_SID = 1, 8, 4  # flags of an SR-ERO subobject: M, F, S
 
-Object = namedtuple("Object", "kind type must body")  # class, type, the P flag, and what follows the header
-Hop = namedtuple("Hop", "far label")  # of an ERO: the address of the far interface, and the SID; None where there is none
+
+class Object(NamedTuple):
+    kind: int  # its class
+    type: int
+    must: bool  # the P flag
+    body: bytes  # what follows the header
+
+
+class Hop(NamedTuple):
+    """A hop of an ERO."""
+
+    far: str | None  # the address of the far interface
+    label: int | None  # the SID
+
 
 
 class Malformed(Exception):
@@ -30,27 +43,28 @@ class Refused(Exception):
 class BadObject(Refused):
     """An object that is too short or has a value that it can't have (RFC 8408 8.6)."""
 
-    def __init__(self):
+    def __init__(self) -> None:
         super().__init__(10, 11)
 
 
-def tlv(kind, body):
+def tlv(kind: int, body: bytes) -> bytes:
     return struct.pack("!HH", kind, len(body)) + body + bytes(-len(body) % 4)
 
 
-def pack(kind, body, type_=1, must=False, ignored=False):
+def pack(kind: int, body: bytes, type_: int = 1, must: bool = False, ignored: bool = False) -> bytes:
     """The bytes of an object."""
     return struct.pack("!BBH", kind, type_ << 4 | must << 1 | ignored, len(body) + 4) + body
 
 
-def message(kind, *objects):
+def message(kind: int, *objects: bytes) -> bytes:
     body = b"".join(objects)
     return struct.pack("!BBH", 0x20, kind, len(body) + 4) + body
 
 
-def cut(data):
+def cut(data: bytes) -> tuple[list[tuple[int, bytes]], bytes]:
     """The whole messages at the front of bytes, as kinds and bodies, and what remains."""
-    found, at = [], 0
+    found: list[tuple[int, bytes]] = []
+    at = 0
     while len(data) - at >= 4:
         first, kind, size = struct.unpack_from("!BBH", data, at)
         if first >> 5 != 1 or size < 4:
@@ -62,7 +76,7 @@ def cut(data):
     return found, data[at:]
 
 
-def objects_of(body):
+def objects_of(body: bytes) -> list[Object]:
     found, at = [], 0
     while at < len(body):
         if len(body) - at < 4:
@@ -75,9 +89,10 @@ def objects_of(body):
     return found
 
 
-def tlvs_of(data):
+def tlvs_of(data: bytes) -> dict[int, bytes]:
     """The first value of each type."""
-    found, at = {}, 0
+    found: dict[int, bytes] = {}
+    at = 0
     while at < len(data):
         if len(data) - at < 4:
             raise BadObject
@@ -89,14 +104,14 @@ def tlvs_of(data):
     return found
 
 
-def fields(form, data):
+def fields(form: str, data: bytes) -> tuple:
     """The values at the front of an object."""
     if len(data) < struct.calcsize(form):
         raise BadObject
     return struct.unpack_from(form, data)
 
 
-def number(data):
+def number(data: bytes) -> float:
     """A float that is a number of at least 0."""
     value, = fields("!f", data)
     if math.isnan(value) or value < 0:
@@ -104,45 +119,45 @@ def number(data):
     return value
 
 
-def address(data):
+def address(data: bytes) -> str:
     return socket.inet_ntoa(data)
 
 
-def error(kind, value, *front):
+def error(kind: int, value: int, *front: bytes) -> bytes:
     """A PCErr. The objects that it is about come first."""
     return message(ERROR, *front, pack(O_ERROR, bytes([0, 0, kind, value])))
 
 
-def close(reason):
+def close(reason: int) -> bytes:
     return message(CLOSE, pack(O_CLOSE, bytes([0, 0, 0, reason])))
 
 
-def setup_type_tlv(setup_type):
+def setup_type_tlv(setup_type: int) -> bytes:
     return tlv(T_SETUP_TYPE, bytes([0, 0, 0, setup_type])) if setup_type else b""
 
 
-def setup_type_of(tlvs):
+def setup_type_of(tlvs: dict[int, bytes]) -> int:
     """The path setup type; 0 where none is given (RFC 8408 4)."""
     return fields("!3xB", tlvs[T_SETUP_TYPE])[0] if T_SETUP_TYPE in tlvs else 0
 
 
-def metric(kind, value, is_bound=False, is_computed=False):
+def metric(kind: int, value: float, is_bound: bool = False, is_computed: bool = False) -> bytes:
     return pack(O_METRIC, struct.pack("!xxBBf", is_bound | is_computed << 1, kind, value))
 
 
-def addresses_ero(fars):
+def addresses_ero(fars: Iterable[str]) -> bytes:
     """An ERO of strict IPv4 prefixes, one for each link (RFC 3209 4.3.3.2)."""
     return pack(O_ERO, b"".join(bytes([1, 8, *socket.inet_aton(far), 32, 0]) for far in fars))
 
 
-def segments_ero(links):
+def segments_ero(links: Iterable[tuple[str, str, int]]) -> bytes:
     """An ERO of adjacency SIDs, of near and far address and label each (RFC 8664 4.3.1)."""
     parts = (struct.pack("!BBHI4s4s", 36, 16, NAI_ADJACENCY << 12 | IS_MPLS, label << 12, socket.inet_aton(near), socket.inet_aton(far))
              for near, far, label in links)
     return pack(O_ERO, b"".join(parts))
 
 
-def hops_of(ero):
+def hops_of(ero: bytes) -> list[Hop | None]:
     """The hops of an ERO; None for a hop of another kind."""
     found, at = [], 0
     while at < len(ero):
@@ -155,7 +170,7 @@ def hops_of(ero):
     return found
 
 
-def hop_of(kind, part):
+def hop_of(kind: int, part: bytes) -> Hop | None:
     if kind == 1:  # strict
         far, length = fields("!2x4sB", part)
         return Hop(address(far), None) if length == 32 else None

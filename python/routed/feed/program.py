@@ -1,0 +1,122 @@
+"""Where the rows of a feed go, and where their lines come from."""
+from __future__ import annotations
+
+import collections
+import contextlib
+import os
+import shlex
+import subprocess
+import time
+from collections.abc import Callable, Iterator
+
+from ..net.loop import READ, WRITE, Loop
+from ..net.endpoints import Endpoint
+from ..net.stream import Stream
+from .batches import Ended
+
+ANSWER = 60.0  # seconds that the program has for each line by which it tells what it has
+PATIENCE = 5.0  # seconds that the program has to end, or to say why, once it takes no more rows
+FULL = 1 << 20  # bytes that wait for the program before asks wait too
+
+
+@contextlib.contextmanager
+def naming(what: str) -> Iterator[None]:
+    """Ends the feed by what was tried, where the system refuses it."""
+    try:
+        yield
+    except OSError as fault:
+        raise Ended(f"{what}: {fault.strerror or fault}") from None
+
+
+class Program:
+    """What takes rows and writes lines: a command, a place of `routed-tools listen`, or whatever is at standard output and input.
+    `take` is called once there are lines."""
+
+    def __init__(self, loop: Loop, command: list[str], endpoint: Endpoint | None, take: Callable[[], None] = lambda: None) -> None:
+        self.loop, self.take = loop, take
+        self.child: subprocess.Popen | None = None
+        self.lines: collections.deque[bytes] = collections.deque()  # whole ones that weren't taken yet
+        self.is_broken, self.heard_at = False, 0.0  # it takes no more rows
+        if endpoint:
+            self.name = endpoint.text
+            with naming(f"can't connect to {self.name}"):
+                self.stream = Stream(loop, endpoint.connect())
+        elif command:
+            self.name = " ".join(shlex.join(command).split())  # one line
+            self.stream = self.started(command)
+        else:
+            self.name = "standard input and output"
+            self.stream = Stream(loop, 0, 1, is_shared=True)
+        self.stream.give(None, self.go_on)
+        self.want()
+
+    def started(self, command: list[str]) -> Stream:
+        (rows_out, rows_in), (lines_out, lines_in) = os.pipe(), os.pipe()
+        try:
+            with naming(f"can't start {self.name}"):
+                self.child = subprocess.Popen(command, stdin=rows_out, stdout=lines_in)
+        finally:
+            os.close(rows_out)
+            os.close(lines_in)
+        return Stream(self.loop, lines_out, rows_in)
+
+    def want(self) -> None:
+        self.stream.wait(True)
+
+    def is_full(self) -> bool:
+        return len(self.stream.waiting) >= FULL
+
+    def write(self, text: str | bytes) -> None:
+        """Writes rows. Where they aren't taken any more the program's last lines say why, or the error does."""
+        self.stream.write(text.encode() if isinstance(text, str) else text)
+        self.look()
+        self.want()
+
+    def look(self) -> None:
+        """Sees whether rows are still taken."""
+        if self.stream.fault and not self.stream.is_ended and not self.is_broken:
+            self.is_broken = True
+            if not isinstance(self.stream.fault, (BrokenPipeError, ConnectionError)):
+                self.give_up()
+            self.loop.after(PATIENCE, self.give_up)
+
+    def give_up(self) -> None:
+        raise Ended(f"{self.name}: rows can't be written: {self.stream.why()}")
+
+    def go_on(self, events: int) -> None:
+        if events & WRITE:
+            self.stream.flush()
+            self.look()
+        if events & READ:
+            found, self.heard_at = self.stream.lines(), time.monotonic()
+            self.lines.extend(found)
+            if found:
+                self.take()
+            if self.stream.is_ended:
+                if self.stream.fault and not self.is_broken:
+                    raise Ended(f"{self.name}: lines can't be read: {self.stream.why()}")
+                raise Ended(f"{self.name}: the program ended")
+        self.want()
+
+    def line(self) -> str:
+        """The next line, by itself: nothing else is done before it comes."""
+        end = time.monotonic() + ANSWER
+        while not self.lines:
+            if time.monotonic() >= end:
+                raise Ended(f"{self.name}: no line came for {ANSWER:g} s, by which the feed learns what is there")
+            self.loop.turn(end - time.monotonic())
+        return self.lines.popleft().decode(errors="replace")
+
+    def end(self, is_read: bool) -> None:
+        """Writes no more rows. The lines that it still writes are taken, where they are read, and its own child ends."""
+        if not self.child and not self.stream.socket:
+            return
+        self.stream.shut()
+        self.heard_at = time.monotonic()
+        with contextlib.suppress(Ended):
+            while is_read and (left := self.heard_at + PATIENCE - time.monotonic()) > 0:
+                self.loop.turn(left)
+        self.stream.close()
+        if self.child:
+            self.child.terminate()
+            self.child.wait()

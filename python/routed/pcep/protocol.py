@@ -1,0 +1,51 @@
+"""What the sessions of PCCs ask of the front that they share."""
+from argparse import Namespace
+from collections.abc import Callable, Iterable
+from typing import Protocol
+
+from ..net.loop import Owner
+from .network import Network, Sids
+from .requests import Request
+
+Link = tuple[str, str, int]  # a link of a segment routing path: near address, far address, label
+
+
+class SessionFront(Protocol):
+    """The options, the server's answers and versions, the network, the wanted LSPs, figures and the log."""
+
+    options: Namespace
+    network: Network
+    sids: Sids | None
+    version: int  # the newest that is known
+    is_away: bool  # there is no server that tells versions
+    clock: Callable[[], float]
+
+    def say(self, level: str, text: str) -> None:
+        """Writes a line of the log."""
+
+    def count(self, what: str, value: str) -> None:
+        """Adds one to the figure `routed_pcep_WHAT_total`, under this value of its label."""
+
+    def later(self, seconds: float, call: Callable[[], object], owner: Owner | None) -> None:
+        """Calls this after so many seconds. An exception in it ends the owner."""
+
+    def capabilities(self) -> bytes:
+        """The TLVs of this side's Open."""
+
+    def ask(self, row: str, call: Callable[[str | None], None], owner: Owner | None) -> None:
+        """Asks the server, and gives its line to `call`; None where no line comes. An exception in it ends the owner."""
+
+    def segments(self, head: str, fars: list[str], version: int) -> list[Link] | None:
+        """The links of a route at a version, with their SIDs; None where a link has none."""
+
+    def owner(self, session: object, head: str, name: str) -> bool:
+        """Whether another PCC has delegated the LSP of that head-end and name."""
+
+    def wanted(self, peer: str, name: str) -> Request | None:
+        """What the file of --initiate wants for a PCC under a name."""
+
+    def all_wanted(self, peer: str) -> Iterable[tuple[str, Request]]:
+        """All that the file wants of a PCC: names and requests."""
+
+    def unwanted(self, peer: str) -> Iterable[str]:
+        """The names of a PCC whose lines are gone."""
