@@ -15,6 +15,7 @@ from checks import TOP
 from reference import formats
 from reference.formats import Network
 
+from routed.model.rows import Reply
 from routed.net.endpoints import Endpoint, Stopped
 from routed.net.loop import Loop
 from routed.net.stream import Stream
@@ -23,7 +24,7 @@ from routed.pcep.asks import Asks
 from routed.pcep.network import Network as Followed
 from routed.pcep.network import Sids
 from routed.pcep.pcc import Pcc as Connected
-from routed.pcep.requests import Request, answer_of
+from routed.pcep.requests import Request
 from routed.pcep.session import Session
 from routed.pcep.versions import Watch
 from routed.pcep.wanted import request_of
@@ -565,8 +566,8 @@ def strange(checks, room):
     for line in ("ask 1 v1 route cost=1 hops=1 again=no ero=000c14010", "ask 1 v1 route cost=1 hops=1 again=no ero=000c14010108",
                  "ask 1 v1 route cost=1 hops=1 again=no ero=000c1401", f"ask 1 v{'1' * 5000} none",
                  f"ask 1 v1 route cost={'1' * 5000} hops=1 again=no ero=000c140101080a000c022000", "row 1 refused: kind", ""):
-        checks.same(f"a reply that can't be read: {line[:60]}", answer_of(line), None)
-    checks.same("and one that can", answer_of("ask 7 v1 route cost=10 hops=1 again=no ero=000c140101080a000c022000"), (1, None, 10, ["10.0.12.2"]))
+        checks.same(f"a reply that can't be read: {line[:60]}", Reply.parse(line), None)
+    checks.same("and one that can", Reply.parse("ask 7 v1 route cost=10 hops=1 again=no ero=000c140101080a000c022000"), Reply(7, 1, None, 10, ("10.0.12.2",)))
 
 
 def lost(pcc):
@@ -729,7 +730,7 @@ def followed(checks, room):
             file.write(f"{[*rows()][at]}\nend,1,1\n")
         os.utime(os.path.join(folder, name), (at, at))
     network = Followed(folder)
-    checks.same("the newest journal of a folder", (network.reach(1), [*network.links]), (True, [("10.0.0.2", "10.1.2.2")]))
+    checks.same("the newest journal of a folder", (network.reach(1), [link.key for link in network.links()]), (True, [("10.0.0.2", "10.1.2.2")]))
 
 
 def drawn_ask(draw):

@@ -17,6 +17,7 @@ from checks import TOP
 from tools.ring import A, ASKS, B, BEFORE, DROPS, HANGS, OF_CIRCUITS, OF_ROUTERS, RING, SWEEP, THIRD, ask, link, sweep, wrapped
 
 from routed.model.networks import Stopped, read_requests
+from routed.model.rows import Link
 from routed.sweep.machines import Connections, Lost
 
 WHOLE = (0, BEFORE + OF_CIRCUITS, "")
@@ -71,7 +72,7 @@ def connections(program, checks):
         taken, found = Connections(given, 1, io.BytesIO(text.encode())), []
         try:
             for _ in range(2):
-                found.append(taken.ask({(A, "10.0.12.1"): CIRCUIT.strip()}, [0]))
+                found.append(taken.ask({(A, "10.0.12.1"): Link.parse(CIRCUIT.strip().split(","))}, [0]))
             found.append(taken.end())
         except Lost:
             found.append("lost")

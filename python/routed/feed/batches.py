@@ -1,10 +1,13 @@
 """Numbered batches of rows: what the program was given, and what its lines say of it."""
+from __future__ import annotations
+
 import re
+from collections.abc import Callable, Container, Iterator
 
+from ..model.database import Database
+from ..model.rows import MOST_CHANGES, Batch, Change, Drop, Key, Row, rank, removal_of
 from ..net.loop import Stopped
-from .ospf.lsas import rank
 
-MOST = 4096  # changes in a batch
 MOST_VAIN = 8  # refusals in a row from which nothing followed
 REFUSED_ROW = re.compile(r"row \d+ refused: .+")
 OTHERS = "another program has published, and the feed has to be the only one: end that program, and start the feed again"
@@ -15,70 +18,59 @@ class Ended(Stopped):
     """Why no more batches can be written."""
 
 
-def key_of(change):
-    """A link's router and local address; for a mark the router alone."""
-    kind, *fields = change.split(",")
-    return tuple(fields[:1 if kind == "node" else 2])
-
-
-def removal_of(key):
-    return f"drop,{','.join(key)}" if len(key) == 2 else f"node,{key[0]},1"
-
-
-def is_removal(change):
-    return change == removal_of(key_of(change))
-
-
-def apply(change, given):
-    """Changes rows by key as the program changes its database."""
-    if is_removal(change):
-        given.pop(key_of(change), None)
-    else:
-        given[key_of(change)] = change
-
-
-def named(change):
+def named(change: Change) -> str:
     """The change without its figures: its word, the router and the local address, or what a mark is."""
-    return " ".join(change.split(",")[:3])
+    return " ".join(change.text().split(",")[:3])
 
 
 class Batches:
     """One batch at a time: the next is written once the line of the last has come."""
 
-    def __init__(self, say, given, version, count=lambda word: None):
-        self.say, self.count = say, count  # the latter is called with the first word of each refusal of a batch
-        self.given, self.version = given, version  # rows by key: the links and marks that the program has at its version
-        self.barred = {}  # rows by key: those that it refused
-        self.sent = []  # the changes of the batch whose line hasn't come
+    def __init__(self, database: Database, say: Callable[[str], None], count: Callable[[str], None]) -> None:
+        self.database, self.say, self.count = database, say, count  # the last is called with the first word of each refusal of a batch
+        self.barred: dict[Key, Row] = {}  # those that the program refused
+        self.sent: list[Change] = []  # the changes of the batch whose line hasn't come
         self.before, self.behind = 0, 0  # asks whose lines haven't come: sent before that batch, and behind it
         self.row = ""  # the last line by which a row of that batch was refused
-        self.size = MOST
+        self.size = MOST_CHANGES
         self.is_cut = False  # whether there is more to do than that batch
         self.vain = 0  # refusals in a row from which nothing followed
 
-    def links(self):
-        """The keys of the links and marks that the program has or was sent."""
-        return self.given.keys() | {key_of(change) for change in self.sent if not is_removal(change)}
+    @property
+    def given(self) -> dict[Key, Row]:
+        """The links and marks that the program has at its version."""
+        return self.database.rows
 
-    def next(self, wanted, held=()):
+    @property
+    def version(self) -> int:
+        return self.database.version
+
+    def links(self) -> set[Key]:
+        """The keys of the links and marks that the program has or was sent."""
+        return self.given.keys() | {change.key for change in self.sent if not change.is_removal}
+
+    def next(self, wanted: dict[Key, Row], held: Container[Key] = ()) -> str:
         """The text of the next batch towards the wanted rows, drops first; empty where there is none.
         Links that are held aren't dropped, and marks that are held aren't taken away."""
         wanted = {key: row for key, row in wanted.items() if self.barred.get(key) != row}
         gone = [key for key in self.given if key not in wanted and key not in held]
         puts = [key for key, row in wanted.items() if self.given.get(key) != row]
-        changes = [removal_of(key) for key in sorted(gone, key=rank)]
-        changes += [wanted[key] for key in sorted(puts, key=rank)]
+        changes = [*map(removal_of, sorted(gone, key=rank)), *(wanted[key] for key in sorted(puts, key=rank))]
         self.sent, self.is_cut, self.row = changes[:self.size], len(changes) > self.size, ""
-        return "\n".join([*self.sent, f"end,{self.version + 1},{len(self.sent)}\n"]) if self.sent else ""
+        return self.batch().text() if self.sent else ""
 
-    def ask(self):
+    def batch(self) -> Batch:
+        """The batch that was sent."""
+        return Batch(self.version + 1, tuple(self.sent))
+
+    def ask(self) -> None:
         """Counts an ask row that was sent. Its line comes in its turn."""
         if self.sent:
             self.behind += 1
         else:
             self.before += 1
 
-    def read(self, line):
+    def read(self, line: str) -> bool:
         """Takes a line of the program; whether it was about batches and their rows."""
         if line == "too many rows":
             raise Ended("the program takes no more rows")
@@ -101,18 +93,17 @@ class Batches:
             self.refused(line, found[3].split())
         return True
 
-    def accepted(self, line):
+    def accepted(self, line: str) -> None:
         if self.row:  # a change that was left open made up for it
             raise Ended(f"{self.row}, and then {line}: {UNKNOWN}")
-        for change in self.sent:
-            apply(change, self.given)
-        if any(map(is_removal, self.sent)):  # there is room again
+        self.database.apply(self.batch())
+        if any(change.is_removal for change in self.sent):  # there is room again
             self.is_cut |= bool(self.barred)
             self.barred.clear()
-        self.version, self.sent, self.vain = self.version + 1, [], 0
-        self.size = min(MOST, 2 * self.size)
+        self.sent, self.vain = [], 0
+        self.size = min(MOST_CHANGES, 2 * self.size)
 
-    def refused(self, line, why):
+    def refused(self, line: str, why: list[str]) -> None:
         """Goes on with what can be put: in smaller batches, until the change that is at fault is the only one of its batch."""
         changes, self.sent, self.is_cut = self.sent, [], True
         self.count(why[0])
@@ -125,17 +116,17 @@ class Batches:
             self.say(f"{line}: changes were left open, which are dropped with this batch; trying again")
         elif len(changes) > 1:
             self.size, self.vain = len(changes) // 2, 0
-        elif not is_removal(changes[0]):  # it is left out until the link changes, or another is dropped
-            self.say(f"{self.row or line}: {named(changes[0])} is left out")
-            self.barred[key_of(changes[0])] = changes[0]
+        elif not isinstance(first := changes[0], Drop) and not first.is_removal:  # it is left out until it changes, or a link is dropped
+            self.say(f"{self.row or line}: {named(first)} is left out")
+            self.barred[first.key] = first
             self.vain = 0
         if self.vain > MOST_VAIN:
             raise Ended(f"{line}: {named(changes[0])}: for the {self.vain}th time in a row")
 
 
-def journal(rows):
+def journal(rows: dict[Key, Row]) -> Iterator[str]:
     """The rows as the batches of a journal from nothing."""
-    batches = Batches(None, {}, 0)
+    batches = Batches(Database(), print, print)
     while text := batches.next(rows):
         yield text
         batches.accepted("")

@@ -14,6 +14,7 @@ import time
 from collections.abc import Callable, Container
 from typing import NamedTuple, Protocol
 
+from ..model.rows import Key, Link, Row
 from ..net.loop import Loop, Owner
 from ..net.endpoints import Endpoint, Stopped
 from ..net.stream import Stream
@@ -28,8 +29,6 @@ LONGEST = 1.0  # seconds that such a run of events may put a batch off
 AGAIN = 1.0  # seconds from one try to connect to the next
 ASK = re.compile(rb"ask,[0-9A-Za-z.,:/ ]*")
 
-Key = tuple[str, ...]  # a link's router and local address, or a marked router
-
 
 class Lost(Exception):
     """Why the session with the router can't go on."""
@@ -38,7 +37,7 @@ class Lost(Exception):
 class Network(NamedTuple):
     """The network that a session was told of."""
 
-    rows: dict[Key, str]
+    rows: dict[Key, Row]
     left: dict[str, list[Key]]  # links that are left out, by the reason
     notes: dict[Key, str]  # what is said once of a link
     sids: dict[Key, int]  # labels of adjacency SIDs
@@ -49,8 +48,8 @@ class Session(Owner, Protocol):
 
     def network(self) -> Network: ...
 
-    def without_sid(self, row: str) -> str:
-        """The row of a link that is held without a SID."""
+    def without_sid(self, link: Link) -> Link:
+        """A link that is held without a SID."""
 
     def close(self) -> None: ...
 
@@ -101,11 +100,11 @@ class Feed:
     def run(self) -> None:
         if self.asked.metrics:
             self.figures.serve(self.asked.metrics)
-        given, version = begun(self.program, self.asked.journal)
-        self.batches = Batches(self.asked.say, given, version, self.refused)
-        if version:
-            marks = sum(len(key) == 1 for key in given)
-            self.asked.say(f"going on from version {version}, of {len(given) - marks} links and {marks} marks; "
+        database = begun(self.program, self.asked.journal)
+        self.batches = Batches(database, self.asked.say, self.refused)
+        if database.version:
+            marks = len(database.marks())
+            self.asked.say(f"going on from version {database.version}, of {len(database.rows) - marks} links and {marks} marks; "
                            f"what the router doesn't tell of within {self.asked.hold:g} s is dropped")
         self.program.take = self.take_lines
         if self.asks:
@@ -228,8 +227,8 @@ class Feed:
         if self.hold_until is not None and now >= self.hold_until:
             self.hold_until, self.awaited, self.awaited_sids = None, set(), {}
         sids, given = network.sids | self.awaited_sids, self.batches.given
-        held = {key for key in self.awaited & given.keys() - sids.keys() if len(key) == 2}
-        wanted = network.rows | {key: row for key in held if (row := self.session.without_sid(given[key])) != given[key]}
+        held = [row for key, row in given.items() if key in self.awaited and key not in sids and isinstance(row, Link)]
+        wanted = network.rows | {link.key: left for link in held if (left := self.session.without_sid(link)) != link}
         text = self.batches.next(wanted, self.awaited)
         if self.sids:
             self.sids.write(self.batches, sids, wanted)

@@ -3,15 +3,18 @@
 A reply at version V goes by the last line of each link whose version isn't above V. Each line is written before the batch
 of its number is sent.
 """
+from __future__ import annotations
+
 import contextlib
 import os
+from collections.abc import Iterator
 
-from .batches import Ended
-from .ospf.lsas import rank
+from ..model.rows import Key, Row, rank
+from .batches import Batches, Ended
 
 
 @contextlib.contextmanager
-def naming(path):
+def naming(path: str) -> Iterator[None]:
     try:
         yield
     except OSError as fault:
@@ -22,17 +25,19 @@ class SidFile:
     """It is made anew beside FILE, and takes its place by a rename once the first SIDs are in it. So a reader has the file of
     before until then, never one that lacks SIDs, and sees by the inode that it is another one."""
 
-    def __init__(self, path):
-        self.path, self.beside, self.length = path, f"{path}.new", 0
-        self.labels = {}  # by link: what the last lines say
-        self.settled = {}  # the same at the program's version
-        self.open, self.again = set(), set()  # the links of lines whose batch is on its way, and of those whose batch was refused
+    def __init__(self, path: str) -> None:
+        self.path, self.length = path, 0
+        self.beside: str | None = f"{path}.new"
+        self.labels: dict[Key, int] = {}  # by link: what the last lines say
+        self.settled: dict[Key, int] = {}  # the same at the program's version
+        self.open: set[Key] = set()  # the links of lines whose batch is on its way
+        self.again: set[Key] = set()  # those whose batch was refused
         with naming(path):
             if os.path.exists(path) and not os.path.isfile(path):
                 raise Ended(f"--sids {path}: it is no regular file")
             self.file = os.open(self.beside, os.O_WRONLY | os.O_CREAT | os.O_TRUNC, 0o644)
 
-    def write(self, batches, known, rows):
+    def write(self, batches: Batches, known: dict[Key, int], rows: dict[Key, Row]) -> None:
         """Writes what changes, before the batch that `batches` has made or, where there is none, for the present version."""
         wanted = {**known, **self.put_off(batches, known, rows)}
         number = batches.version + bool(batches.sent)
@@ -51,13 +56,13 @@ class SidFile:
         else:
             self.settled = dict(wanted)
 
-    def put_off(self, batches, known, rows):
+    def put_off(self, batches: Batches, known: dict[Key, int], rows: dict[Key, Row]) -> dict[Key, int]:
         """The labels of links whose SID is gone, if a later batch changes the link."""
-        sent = {tuple(change.split(",")[1:3]) for change in batches.sent}
+        sent = {change.key for change in batches.sent}
         return {key: label for key, label in self.settled.items()
                 if key not in known and key in batches.given and key not in sent and batches.given[key] != rows.get(key)}
 
-    def append(self, text):
+    def append(self, text: str) -> None:
         """Writes whole lines by one write; what is cut is taken back."""
         data = text.encode()
         with naming(self.path):
@@ -73,7 +78,7 @@ class SidFile:
                 os.rename(self.beside, self.path)
                 self.beside = None
 
-    def accepted(self):
+    def accepted(self) -> None:
         """The batch that was on its way is the program's version."""
         for key in self.open:
             if key in self.labels:
@@ -82,12 +87,12 @@ class SidFile:
                 self.settled.pop(key, None)
         self.open = set()
 
-    def refused(self):
+    def refused(self) -> None:
         """Another batch takes the number of the one that was on its way: its lines are written again."""
         self.again |= self.open
         self.open = set()
 
-    def close(self):
+    def close(self) -> None:
         os.close(self.file)
         if self.beside:
             with contextlib.suppress(OSError):

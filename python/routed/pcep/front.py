@@ -3,7 +3,7 @@ import signal
 import socket
 import time
 from argparse import Namespace
-from collections.abc import Callable, Iterable, Iterator
+from collections.abc import Callable, Iterable, Iterator, Sequence
 
 from ..front.metrics import Figures
 from ..net.endpoints import BACKLOG, Door, say, tried
@@ -77,7 +77,7 @@ class Front:
         flags = 1 | 4 * (self.options.initiate is not None)
         return (stateful(flags) if self.options.stateful else b"") + (setup_types() if self.sids else b"")
 
-    def segments(self, head: str, fars: list[str], version: int) -> list[Link] | None:
+    def segments(self, head: str, fars: Sequence[str], version: int) -> list[Link] | None:
         assert self.sids is not None
         self.sids.look()
         self.network.reach(version)

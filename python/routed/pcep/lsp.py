@@ -20,9 +20,9 @@ class Lsp:
         self.is_made, self.has_changed = False, False  # a line of --initiate has made it; that has changed since
         self.is_leaving = False  # it is to be removed
 
-    def fars(self) -> list[str] | None:
+    def fars(self) -> tuple[str, ...] | None:
         """The far addresses of its present route; None where they aren't known."""
-        found = [hop.far for hop in self.hops if hop and hop.far]
+        found = tuple(hop.far for hop in self.hops if hop and hop.far)
         return found if found and len(found) == len(self.hops) else None
 
     def is_ours(self) -> bool:

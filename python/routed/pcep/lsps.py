@@ -99,11 +99,11 @@ class Lsps:
         elif lsp.request:
             request.ends = lsp.request.ends
         wanted = self.front.wanted(self.session.peer, lsp.name) if lsp.flags & CREATED else None
-        if wanted and request.ends and wanted.ends[1] == request.ends[1]:
+        if wanted and wanted.ends[1] == request.ends[1]:
             lsp.is_made = True
             return wanted
         try:
-            if request.ends is None or request.ends[0] == request.ends[1]:
+            if request.ends[0] == request.ends[1]:
                 raise Refused(6, 11)
             if self.front.owner(self.session, request.ends[0], lsp.name):
                 raise Refused(23, 1)

@@ -4,10 +4,11 @@ from __future__ import annotations
 import struct
 import typing
 
+from ..model.rows import Reply
 from . import wire
 from .lsp import ADMIN, CREATED, DELEGATED, Lsp
 from .protocol import SessionFront
-from .requests import Request, answer_of
+from .requests import Request
 from .wire import pack
 
 if typing.TYPE_CHECKING:
@@ -88,7 +89,7 @@ class Making:
     def create(self, name: str, request: Request, setup_type: int, line: str | None) -> None:
         if self.session.state != "up":
             return
-        answer = answer_of(line or "")
+        answer = Reply.parse(line or "")
         if answer and not answer.why:
             ero, refusal = self.session.ero(answer, request.ends[0], setup_type)
             why = refusal and refusal[1]

@@ -3,10 +3,11 @@ from __future__ import annotations
 
 import typing
 
+from ..model.rows import Reply
 from . import wire
 from .lsp import DELEGATED, Lsp
 from .protocol import SessionFront
-from .requests import Answer, Request, answer_of
+from .requests import Request
 
 if typing.TYPE_CHECKING:
     from .lsps import Lsps
@@ -43,7 +44,7 @@ class Moves:
             return
         if line is None and not self.front.is_away:  # the server is busy
             self.front.later(1, lambda: self.ask_again(lsp), self.session.owner)
-        answer = answer_of(line or "")
+        answer = Reply.parse(line or "")
         if answer and request is lsp.request and answer.version >= self.front.network.version:
             self.judge(lsp, group, answer)
         elif line is not None and answer is None:
@@ -51,7 +52,7 @@ class Moves:
         if answer and (request is not lsp.request or answer.version < self.front.version):
             self.ask(lsp)
 
-    def judge(self, lsp: Lsp, group: int, answer: Answer) -> None:
+    def judge(self, lsp: Lsp, group: int, answer: Reply) -> None:
         """Moves the LSP where its best route is another one, unless what it has still serves and little is gained."""
         fars, request = lsp.fars(), lsp.asked()
         if answer.why or request.broken(answer.cost):
@@ -89,7 +90,7 @@ class Moves:
         self.front.later(lsp.moved_at + options.calm - self.front.clock(), lambda: self.ask_again(lsp), self.session.owner)
         return True
 
-    def move(self, lsp: Lsp, ero: bytes, why: str, answer: Answer) -> None:
+    def move(self, lsp: Lsp, ero: bytes, why: str, answer: Reply) -> None:
         attributes = lsp.asked().attributes + wire.metric(wire.TE_METRIC, answer.cost, is_computed=True) + lsp.asked().iro
         if len(ero) + len(attributes) + 60 > wire.MOST:
             self.lose(lsp, "its path has no room in a message")

@@ -1,6 +1,14 @@
 """The network as the server has it at a version: the links of its journal, and the SIDs that the feed tells."""
+from __future__ import annotations
+
 import os
 import re
+from collections.abc import Iterable
+from typing import IO
+
+from ..model.database import Database
+from ..model.rows import Batch, Key, Link
+from .requests import Request
 
 SID = re.compile(r"sid,([0-9]{1,7}),([0-9.]+),([0-9.]+),([0-9]{0,7})")
 
@@ -8,32 +16,31 @@ SID = re.compile(r"sid,([0-9]{1,7}),([0-9.]+),([0-9.]+),([0-9]{0,7})")
 class Tail:
     """The lines that a growing file has got since the last look. A file that is replaced is read from its beginning."""
 
-    def __init__(self, path):
-        self.path, self.file, self.unread = path, None, b""
+    def __init__(self, path: str):
+        self.path, self.unread = path, b""
+        self.file: IO[bytes] | None = None
 
-    def lines(self):
+    def lines(self) -> tuple[bool, list[str]]:
         """Whether the file is another one than before, and its new lines."""
         try:
             path = newest(self.path)
-            found = os.stat(path)
-            is_new = self.file is None or (found.st_dev, found.st_ino) != self.identity or found.st_size < self.file.tell()
-            if is_new:
+            found, had = os.stat(path), os.fstat(self.file.fileno()) if self.file else None
+            is_new = self.file is None or had is None or not os.path.samestat(found, had) or found.st_size < self.file.tell()
+            if is_new or self.file is None:
                 self.close()
                 self.file = open(path, "rb")
-                found = os.fstat(self.file.fileno())
-                self.identity = found.st_dev, found.st_ino
             *lines, self.unread = (self.unread + self.file.read()).split(b"\n")
         except OSError:
             return False, []
         return is_new, [line.decode("ascii", "replace") for line in lines]
 
-    def close(self):
+    def close(self) -> None:
         if self.file:
             self.file.close()
         self.file, self.unread = None, b""
 
 
-def newest(path):
+def newest(path: str) -> str:
     """The newest journal of a folder; what is no folder is itself."""
     if not os.path.isdir(path):
         return path
@@ -41,24 +48,25 @@ def newest(path):
     return max(found, key=lambda entry: entry.stat().st_mtime_ns).path if found else path
 
 
-class Network:
-    """Links by router and local address, and marks, at a version that only grows until the run ends."""
+class Network(Database):
+    """The database of the server at a version that only grows until the run ends, and the links that went from it."""
 
-    def __init__(self, path):
+    def __init__(self, path: str | None):
         self.tail = Tail(path) if path else None
         self.begin()
 
-    def begin(self):
+    def begin(self) -> None:
         """A new run has begun: its journal is read from the beginning."""
         self.forget()
         if self.tail:
             self.tail.close()
 
-    def forget(self):
-        self.version, self.links, self.marks, self.waiting = 0, {}, set(), []
-        self.towards, self.gone = {}, {}  # links from a router to a far address: by their keys, and the last that was there before
+    def forget(self) -> None:
+        super().__init__()
+        self.waiting: list[str] = []  # rows that aren't of this version yet
+        self.gone: dict[tuple[str, str], Link] = {}  # by a router and a far address: the last link that was there before
 
-    def reach(self, version):
+    def reach(self, version: int) -> bool:
         """Applies batches up to a version; whether it is at that version then."""
         if self.tail and version > self.version:
             is_new, lines = self.tail.lines()
@@ -68,50 +76,28 @@ class Network:
             at = 0
             for number, line in enumerate(self.waiting, 1):
                 if line.startswith("end,"):
-                    for row in self.waiting[at:number - 1]:
-                        self.change(row.split(","))
-                    at, self.version = number, int(line.split(",")[1])
+                    for had in self.apply(Batch.parse([row.split(",") for row in self.waiting[at:number]])):
+                        self.gone[had.router, had.remote] = had
+                    at = number
                     if self.version == version:
                         break
             del self.waiting[:at]
         return self.tail is not None and version == self.version
 
-    def change(self, row):
-        if row[0] == "node":
-            (self.marks.add if row[2] == "0" else self.marks.discard)(row[1])
-            return
-        key = row[1], row[2]
-        had = self.links.pop(key, None)
-        if had:
-            del self.towards[had[0], had[3]][key]
-            self.gone[had[0], had[3]] = had
-        if row[0] == "put":
-            self.links[key] = link = row[1:]
-            self.towards.setdefault((link[0], link[3]), {})[key] = link
+    def known(self, router: str, far: str) -> Iterable[Link]:
+        """The links from a router to a far address; the last one of an earlier version where there is none any more."""
+        return self.from_to(router, far) or [self.gone[router, far]] * ((router, far) in self.gone)
 
-    def from_to(self, router, far):
-        """The links from a router to a far address; of an earlier version where there is none any more."""
-        there = self.towards.get((router, far))
-        return [*there.values()] if there else [self.gone[router, far]] if (router, far) in self.gone else []
-
-    def cost(self, request, group, fars):
+    def cost(self, request: Request, group: int, fars: Iterable[str]) -> int | None:
         """The cost of a route by the far addresses of its links; None where one of them may not be used any more."""
-        at, whole = request.ends[0], 0
+        asked, whole = request.asked(group), 0
+        at = asked.head
         for number, far in enumerate(fars):
-            if number and at in self.marks:
-                return None
-            usable = [link for link in self.towards.get((at, far), {}).values() if self.admits(request, group, link)]
+            usable = self.usable(at, far, asked, number > 0)
             if not usable:
                 return None
-            at, whole = usable[0][2], whole + min(int(link[4]) for link in usable)
-        return whole if at == request.ends[1] else None
-
-    def admits(self, request, group, link):
-        router, local, neighbor, remote = link[:4]
-        back = self.links.get((neighbor, remote))
-        mask, (exclude, any_, all_) = int(link[5], 16), request.masks
-        return (back is not None and back[2:4] == [router, local] and int(link[6 + request.setup]) >= request.bandwidth
-                and not mask & exclude and (not any_ or mask & any_) and not ~mask & (all_ | group))
+            at, whole = usable[0].neighbor, whole + min(link.metric for link in usable)
+        return whole if at == asked.tail else None
 
 
 class Sids:
@@ -120,10 +106,11 @@ class Sids:
 
     KEPT = 8
 
-    def __init__(self, path):
-        self.tail, self.links = Tail(path), {}
+    def __init__(self, path: str):
+        self.tail = Tail(path)
+        self.links: dict[Key, list[tuple[int, int | None]]] = {}  # versions and labels
 
-    def look(self):
+    def look(self) -> bool:
         """Reads what is new; whether anything is."""
         is_new, lines = self.tail.lines()
         if is_new:
@@ -136,7 +123,7 @@ class Sids:
                 del values[:-self.KEPT]
         return is_new or bool(lines)
 
-    def find(self, key, version):
+    def find(self, key: Key, version: int) -> int | None:
         """The label of a link at a version: that of the last line of that version or an earlier one. None where there is none."""
         found = None
         for since, label in self.links.get(key, ()):
@@ -144,14 +131,14 @@ class Sids:
                 found = label
         return found
 
-    def segments(self, network, head, fars, version):
+    def segments(self, network: Network, head: str, fars: Iterable[str], version: int) -> list[tuple[str, str, int]] | None:
         """The near address, the far address and the label of each link of a route; None if a link has no SID."""
         at, found = head, []
         for far in fars:
-            links = ((link, self.find((link[0], link[1]), version)) for link in network.from_to(at, far))
-            link, label = next((pair for pair in links if pair[1] is not None), (None, None))
-            if link is None:
+            pairs = [(link, label) for link in network.known(at, far) if (label := self.find(link.key, version)) is not None]
+            if not pairs:
                 return None
-            found.append((link[1], far, label))
-            at = link[2]
+            link, label = pairs[0]
+            found.append((link.local, far, label))
+            at = link.neighbor
         return found

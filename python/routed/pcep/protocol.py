@@ -1,6 +1,6 @@
 """What the sessions of PCCs ask of the front that they share."""
 from argparse import Namespace
-from collections.abc import Callable, Iterable
+from collections.abc import Callable, Iterable, Sequence
 from typing import Protocol
 
 from ..net.loop import Owner
@@ -35,7 +35,7 @@ class SessionFront(Protocol):
     def ask(self, row: str, call: Callable[[str | None], None], owner: Owner | None) -> None:
         """Asks the server, and gives its line to `call`; None where no line comes. An exception in it ends the owner."""
 
-    def segments(self, head: str, fars: list[str], version: int) -> list[Link] | None:
+    def segments(self, head: str, fars: Sequence[str], version: int) -> list[Link] | None:
         """The links of a route at a version, with their SIDs; None where a link has none."""
 
     def owner(self, session: object, head: str, name: str) -> bool:

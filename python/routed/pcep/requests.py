@@ -2,13 +2,14 @@
 
 What a row can't say is refused by its own error where the object must be processed (the P flag), and is ignored and
 returned with the I flag where it needn't be. It is never answered as if there were no path."""
-import math
-import re
-import struct
-from collections import namedtuple
+from __future__ import annotations
 
+import math
+import struct
+
+from ..model import rows
 from . import wire
-from .wire import BadObject, Refused, TE_METRIC, fields, pack
+from .wire import BadObject, Object, Refused, TE_METRIC, fields, pack
 
 MOST_HOPS = 7  # of a row
 MINIMUM_COST = 1  # the objective function that a row has (RFC 5541 3.1)
@@ -17,28 +18,27 @@ UNKNOWN_CLASS, UNKNOWN_TYPE = (3, 1), (3, 2)
 UNAVAILABLE, UNKNOWN_TO, UNKNOWN_FROM = 1, 2, 4  # bits of the NO-PATH-VECTOR
 REVERSE = 1 << 4  # RP: both directions
 REOPTIMIZE = 1 << 3  # RP
+NOWHERE = "", ""  # the ends of a request that has none yet
 VECTORS = {"none": 0, "unknown-to": UNKNOWN_TO, "unknown-from": UNKNOWN_FROM}
-NUMBER = "[0-9]{1,20}"
-REPLY = re.compile(rf"ask {NUMBER} v({NUMBER}) (?:route cost=({NUMBER}) hops={NUMBER} again=(?:yes|no) "
-                   "ero=([0-9a-f]{8}(?:[0-9a-f]{16})+)|(none|unknown-from|unknown-to))")  # the header, and 8 bytes of each link
-
-Answer = namedtuple("Answer", "version why cost fars")  # why there is no route: a word of a reply line; else its cost and far addresses
 
 
 class Request:
     """One request: the fields of a row, bounds of the cost, and what is returned of its objects."""
 
-    def __init__(self):
-        self.ends, self.bandwidth, self.setup, self.masks, self.hops, self.bounds = None, 0, 7, (0, 0, 0), "", []
+    def __init__(self) -> None:
+        self.ends: tuple[str, str] = NOWHERE
+        self.bandwidth, self.setup, self.hops = 0, 7, ""
+        self.masks = 0, 0, 0
+        self.bounds: list[float] = []
         self.attributes, self.iro, self.ignored = b"", b"", b""  # objects as a PCUpd returns them, and with the I flag
 
-    def take(self, given):
+    def take(self, given: Object) -> None:
         """Reads an object."""
         try:
             read = READERS.get(given.kind)
             if read is None:
                 raise Refused(*UNKNOWN_CLASS)
-            if given.type not in TYPES.get(given.kind, (1,)):
+            if given.type != 1:
                 raise Refused(*(TYPE if (given.kind, given.type) in KNOWN else UNKNOWN_TYPE))
             read(self, given.body)
             if given.kind == wire.O_IRO:
@@ -52,23 +52,23 @@ class Request:
                 raise
             self.ignored += pack(given.kind, given.body, given.type, ignored=True)
 
-    def take_ends(self, body):
+    def take_ends(self, body: bytes) -> None:
         here, there = fields("!4s4s", body)
         self.ends = wire.address(here), wire.address(there)
 
-    def take_bandwidth(self, body):
+    def take_bandwidth(self, body: bytes) -> None:
         value = wire.number(body)
         if value >= 2.0 ** 64:
             raise Refused(*PARAMETER)
         self.bandwidth = math.ceil(value)
 
-    def take_lspa(self, body):
-        *masks, setup, holding, _ = fields("!IIIBBBx", body)
+    def take_lspa(self, body: bytes) -> None:
+        exclude, any_, all_, setup, holding, _ = fields("!IIIBBBx", body)
         if setup > 7 or holding > 7:
             raise BadObject
-        self.masks, self.setup = tuple(masks), setup
+        self.masks, self.setup = (exclude, any_, all_), setup
 
-    def take_metric(self, body):
+    def take_metric(self, body: bytes) -> None:
         flags, kind = fields("!2xBB", body)
         value = wire.number(body[4:])
         if kind != TE_METRIC:
@@ -76,7 +76,7 @@ class Request:
         if flags & 1:
             self.bounds.append(value)
 
-    def take_iro(self, body):
+    def take_iro(self, body: bytes) -> None:
         hops, at = [], 0
         while at < len(body):
             kind, size = fields("!BB", body[at:])
@@ -93,20 +93,22 @@ class Request:
             raise Refused(*PARAMETER)
         self.hops = " ".join(hops)
 
-    def take_objective(self, body):
+    def take_objective(self, body: bytes) -> None:
         if fields("!H", body)[0] != MINIMUM_COST:
             raise Refused(*PARAMETER)
 
-    def take_unsupported(self, body):
+    def take_unsupported(self, body: bytes) -> None:
         raise Refused(*CLASS)
 
-    def row(self, group=0):
-        """An `ask` row without its word and id. The links that it may use are in the group, too."""
-        exclude, any_, all_ = self.masks
-        masks = f"0x{exclude:08x},0x{any_:08x},0x{all_ | group:08x}"
-        return f"{self.ends[0]},{self.ends[1]},{self.setup},{self.bandwidth},{masks},{self.hops}"
+    def asked(self, group: int = 0) -> rows.Request:
+        """What is asked. The links that it may use are in the group, too."""
+        return rows.Request(0, *self.ends, self.setup, self.bandwidth, *self.masks, self.hops).within(group)
 
-    def broken(self, cost):
+    def row(self, group: int = 0) -> str:
+        """An `ask` row without its word and id."""
+        return self.asked(group).constraints()
+
+    def broken(self, cost: int) -> list[float]:
         """The bounds that the least cost exceeds."""
         return [bound for bound in self.bounds if cost > bound]
 
@@ -114,23 +116,22 @@ class Request:
 READERS = {wire.O_ENDS: Request.take_ends, wire.O_BANDWIDTH: Request.take_bandwidth, wire.O_LSPA: Request.take_lspa,
            wire.O_METRIC: Request.take_metric, wire.O_IRO: Request.take_iro, wire.O_OF: Request.take_objective,
            wire.O_RRO: Request.take_unsupported}
-TYPES = {}
 KNOWN = {(wire.O_ENDS, kind) for kind in (2, 3, 4)} | {(wire.O_BANDWIDTH, 2)}  # IPv6 and P2MP ends; bandwidth that is held
 
 
 class Asked:
     """A request of a PCReq: its RP, and what its objects ask for."""
 
-    def __init__(self, rp):
+    def __init__(self, rp: Object) -> None:
         self.flags, self.id = fields("!II", rp.body)
         self.must, self.setup_type, self.request = rp.must, 0, Request()
         self.tlvs = rp.body[8:]
 
-    def rp(self):
+    def rp(self) -> bytes:
         """The RP of an answer, with the flags that PCEP has from the beginning."""
         return pack(wire.O_RP, struct.pack("!II", self.flags & 0x3f, self.id) + wire.setup_type_tlv(self.setup_type), must=True)
 
-    def read(self, objects, setup_types):
+    def read(self, objects: list[Object], setup_types: set[int]) -> None:
         """Reads the objects behind the RP."""
         if not self.must:
             raise Refused(10, 1)
@@ -150,7 +151,7 @@ class Asked:
             raise Refused(*PARAMETER)
 
 
-def requests_of(objects):
+def requests_of(objects: list[Object]) -> tuple[list[Object], list[tuple[Object, list[Object]]]]:
     """The requests of a PCReq, each its RP and the objects behind it, and the SVECs before them."""
     starts = [at for at, given in enumerate(objects) if given.kind == wire.O_RP]
     if not starts:
@@ -162,24 +163,12 @@ def requests_of(objects):
     return before, [(objects[at], objects[at + 1:end]) for at, end in zip(starts, [*starts[1:], len(objects)])]
 
 
-def answer_of(line):
-    """A reply line; None for another line."""
-    found = REPLY.fullmatch(line)
-    if not found:
-        return None
-    version, cost, ero, why = found.groups()
-    if why:
-        return Answer(int(version), why, None, None)
-    data = bytes.fromhex(ero)
-    return Answer(int(version), None, int(cost), [wire.address(data[at + 2:at + 6]) for at in range(4, len(data), 8)])
-
-
-def no_path(front, vector=0, unmet=b""):
+def no_path(front: bytes, vector: int = 0, unmet: bytes = b"") -> bytes:
     """A PCRep of a request that has no path: the reason's bits, and the constraints that aren't met."""
     more = wire.tlv(wire.T_NO_PATH_VECTOR, struct.pack("!I", vector)) if vector else b""
     return wire.message(wire.REPLY, front, pack(wire.O_NO_PATH, bytes([0, 0x80 if unmet else 0, 0, 0]) + more), unmet)
 
 
-def path(front, ero, cost, ignored):
+def path(front: bytes, ero: bytes, cost: int, ignored: bytes) -> bytes:
     """A PCRep with a path and its cost."""
     return wire.message(wire.REPLY, front, ero, wire.metric(TE_METRIC, cost, is_computed=True), ignored)

@@ -5,11 +5,12 @@ import functools
 import struct
 from collections.abc import Callable
 
+from ..model.rows import Reply
 from ..net.loop import Owner
 from . import wire
 from .lsps import Lsps
 from .protocol import SessionFront
-from .requests import UNAVAILABLE, VECTORS, Answer, Asked, answer_of, no_path, path, requests_of
+from .requests import UNAVAILABLE, VECTORS, Asked, no_path, path, requests_of
 from .wire import Malformed, Object, Refused, pack, tlv
 
 KEEPALIVE, DEAD, PATIENCE = 30, 120, 60  # seconds: what this side announces, and what each step of the beginning may take
@@ -226,12 +227,12 @@ class Session:
     def answered(self, asked: Asked, svec: bytes, line: str | None) -> None:
         self.asked -= 1
         if self.state == UP:
-            data, outcome = self.answer(asked, svec, answer_of(line or ""), line)
+            data, outcome = self.answer(asked, svec, Reply.parse(line or ""), line)
             self.front.count("requests", outcome)
             if data:
                 self.send(data)
 
-    def answer(self, asked: Asked, svec: bytes, answer: Answer | None, line: str | None) -> tuple[bytes, str]:
+    def answer(self, asked: Asked, svec: bytes, answer: Reply | None, line: str | None) -> tuple[bytes, str]:
         """The message for a request, and what became of it. Ignored objects come back where it has room for them (RFC 5440 7.2)."""
         front = svec + asked.rp() if len(svec) < wire.MOST // 2 else asked.rp()
         if line is None:
@@ -257,7 +258,7 @@ class Session:
         has_room = len(front) + len(ero) + len(asked.request.ignored) + 16 <= wire.MOST
         return path(front, ero, answer.cost, asked.request.ignored) if has_room else path(asked.rp(), ero, answer.cost, b""), "route"
 
-    def ero(self, answer: Answer, head: str, setup_type: int) -> tuple[bytes, tuple[tuple[int, int] | None, str] | None]:
+    def ero(self, answer: Reply, head: str, setup_type: int) -> tuple[bytes, tuple[tuple[int, int] | None, str] | None]:
         """The ERO of a route, or why there is none: the error that says so, if any, and words."""
         if setup_type == 0:
             return wire.addresses_ero(answer.fars), None
@@ -285,7 +286,7 @@ class Session:
 
     def vain_answered(self, asked: Asked, line: str | None) -> None:
         self.asked -= 1
-        answer = answer_of(line or "")
+        answer = Reply.parse(line or "")
         if self.state == UP and asked.id in self.vain and answer and not answer.why and not asked.request.broken(answer.cost):
             self.stop(f"request {asked.id}, which had no path, has one now: its PCC asks again in a new session", wire.close(1))
 

@@ -1,13 +1,14 @@
 """The LSPs that a file wants: lines `NAME,FROM,TO,SETUP,BANDWIDTH,EXCLUDE_ANY,INCLUDE_ANY,INCLUDE_ALL`."""
 import re
 import struct
+from collections.abc import Callable
 
-from ..model import journals
+from ..model.rows import is_address, is_mask, is_rate
 from ..net.endpoints import Stopped, tried
 from . import wire
 from .requests import Request
 
-TESTS = [journals.is_address] * 2 + [re.compile("[0-7]").fullmatch, journals.is_rate] + [journals.MASK.fullmatch] * 3
+TESTS: list[Callable[[str], object]] = [is_address, is_address, re.compile("[0-7]").fullmatch, is_rate, is_mask, is_mask, is_mask]
 
 
 def wanted(path: str | None) -> dict[tuple[str, str], Request]:

@@ -1,10 +1,13 @@
 """A picture's size and colors, where routers are in it, and its legend."""
+from __future__ import annotations
+
 import collections
 import math
+from collections.abc import Callable, Iterable, Iterator, Sequence
 from xml.sax.saxutils import escape
 
-from .labels import ASCENT, FONT, SMALL, TEXT, base_of, wrapped
-from .layout import bounds, near_pairs
+from .labels import ASCENT, FONT, SMALL, TEXT, Box, base_of, wrapped
+from .layout import Places, bounds, near_pairs
 
 AREA = 22_000  # square pixels for each router
 NARROWEST, MARGIN_ASIDE, MARGIN = 720, 90, 45  # pixels
@@ -16,8 +19,10 @@ BLUE, ORANGE, GREEN, PURPLE, SKY, YELLOW, RED, GRAY = (
 STYLE = (f"text{{font:{TEXT}px {FONT}}}.name{{text-anchor:middle;paint-order:stroke;stroke:#fff;stroke-width:4px;stroke-linejoin:round}}"
          f".counts{{font-size:{SMALL}px;text-anchor:middle}}.number{{font-size:9px;text-anchor:middle}}path,line{{fill:none}}")
 
+Note = tuple[Callable[[float, float], str] | None, str]  # of the legend: a sample, made from the middle of its place, and a text
 
-def fit(places):
+
+def fit(places: Places) -> tuple[Places, int, int]:
     """Places in pixels, and the picture's width and height: the same scale across and down, and as much room for each router."""
     if not places:
         return {}, NARROWEST, 2 * MARGIN
@@ -33,9 +38,10 @@ def fit(places):
             wide, round(bottom - top + 2 * MARGIN))
 
 
-def apart(places):
+def apart(places: Places) -> Places:
     """The places, moved where routers would cover each other."""
-    routers, at, there = list(places), [], collections.Counter()
+    routers, at = list(places), []
+    there: dict[tuple[float, float], int] = collections.Counter()
     for x, y in places.values():  # several at one place go round it, as the seeds of a sunflower
         far, angle = 0.6 * LEAST_GAP * math.sqrt(there[x, y]), 2.4 * there[x, y]
         there[x, y] += 1
@@ -55,23 +61,23 @@ def apart(places):
     return dict(zip(routers, at))
 
 
-def shown(text):
+def shown(text: str) -> str:
     """The text as it may be in a document: markup is taken for text, and a character that XML doesn't have is replaced."""
     return escape("".join(it if it >= " " and not "\ud800" <= it <= "\udfff" and it not in "\ufffe\uffff" else "\ufffd" for it in text))
 
 
-def hover(text):
+def hover(text: str) -> str:
     """What a browser shows where the pointer is; a line for each line of the text."""
     return "<title>" + "\n".join(shown(line) for line in text.split("\n")) + "</title>"
 
 
-def text_in(box, text, kind, size=TEXT, color=""):
+def text_in(box: Box, text: str, kind: str, size: int = TEXT, color: str = "") -> str:
     (x, y), style = base_of(box, size), f' style="fill:{color}"' if color else ""
     return f'<text class="{kind}" x="{x:.1f}" y="{y:.1f}"{style}>{shown(text)}</text>'
 
 
-def legend(notes, wide, top):
-    """The lines of the legend, and its height. A note is a sample, made from the middle of its place, or None, and a text."""
+def legend(notes: Sequence[Note], wide: int, top: int) -> tuple[list[str], int]:
+    """The lines of the legend, and its height."""
     lines, y = [], top
     for sample, text in notes:
         if sample:
@@ -82,7 +88,7 @@ def legend(notes, wide, top):
     return lines, y - top
 
 
-def picture(title, wide, high, drawn):
+def picture(title: str, wide: int, high: int, drawn: Iterable[str]) -> Iterator[str]:
     """The picture's lines."""
     yield f'<svg xmlns="http://www.w3.org/2000/svg" viewBox="0 0 {wide} {high}" width="{wide}" role="img">'
     yield f"<title>{shown(title)}</title>"

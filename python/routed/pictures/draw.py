@@ -3,38 +3,39 @@
 The rows are those of a journal or of a stream of `routed solve`; asks are skipped, and so are
 changes after the last end row. A row or a batch that `routed` refuses is refused. The picture goes to standard output.
 """
+from __future__ import annotations
+
 import argparse
-import collections
 import re
 import sys
 
-from ..model.networks import Refused, read_database, reverse_of
+from ..model.database import Database
+from ..model.journals import read_database
+from ..model.rows import Link, Refused, Reply, Request, rank
 from ..sweep.swept import overbooked_before
 from . import positions
-from .network_picture import ROUTE_STYLES, Route, network_picture
+from .network_picture import ROUTE_STYLES, Full, Route, network_picture
+
+ANY = Request(0, "", "")  # which each link has enough for
 
 
-def walk_of(links, marks, reply):
+def walk_of(database: Database, line: str) -> list[Link]:
     """The links of a reply's route: each leads to the next address of its object, and has its reverse. They pass through no mark."""
-    found = re.fullmatch(r"(?:ask|place) \d+ v\d+ route cost=(\d+) hops=\d+ again=\w+ ero=([0-9a-f]+)", reply)
-    if not found:
-        raise ValueError(f"no route in the reply: {reply}")
-    data = bytes.fromhex(found[2])[4:]
-    ends = [".".join(map(str, data[at + 2:at + 6])) for at in range(0, len(data), 8)]
-    onward = collections.defaultdict(list)
-    for link in links.values():
-        if reverse_of(link, links):
-            onward[link.key[0], link.remote].append(link)
-    walks = [[link] for (_, remote), them in onward.items() if remote == ends[0] for link in them]
-    for end in ends[1:]:
-        walks = [walk + [link] for walk in walks if walk[-1].neighbor not in marks for link in onward[walk[-1].neighbor, end]]
-    walks = [walk for walk in walks if sum(link.metric for link in walk) == int(found[1])]
+    reply = Reply.parse(line)
+    if not reply or reply.why:
+        raise ValueError(f"no route in the reply: {line}")
+    first, *others = reply.fars
+    walks = [[link] for link in database.links() if link.remote == first and not database.why_not(link, ANY, False)]
+    for far in others:
+        walks = [[*walk, link] for walk in walks
+                 for link in sorted(database.usable(walk[-1].neighbor, far, ANY, True), key=lambda link: rank(link.key))]
+    walks = [walk for walk in walks if sum(link.metric for link in walk) == reply.cost]
     if not walks:
-        raise ValueError(f"the network has no such route: {reply}")
+        raise ValueError(f"the network has no such route: {line}")
     return walks[0]
 
 
-def read_routes(asked, links, marks):
+def read_routes(asked: argparse.Namespace, database: Database) -> list[Route]:
     """The routes of the replies that are asked for. In the lines of a book these are the last routes that it placed."""
     if len(asked.ask) > len(ROUTE_STYLES):
         raise ValueError(f"at most {len(ROUTE_STYLES)} routes")
@@ -43,23 +44,23 @@ def read_routes(asked, links, marks):
     absent = [ask for ask in asked.ask if ask not in replies]
     if absent:
         raise ValueError(f"no reply to {absent[0]}")
-    return [Route(ask, " ".join(replies[ask].split()[:3]), walk_of(links, marks, replies[ask])) for ask in asked.ask]
+    return [Route(" ".join(replies[ask].split()[:3]), walk_of(database, replies[ask])) for ask in asked.ask]
 
 
-def read_overbooked(path, links):
+def read_overbooked(path: str, database: Database) -> Full:
     """What is overbooked, by the lines of a sweep of this network."""
     with open(path) as file:
         lines = file.read().splitlines()
     if not any(line.startswith("before routes=") for line in lines):
         raise ValueError(f"overbooked: {path} has no lines of a sweep")
     found = overbooked_before(lines)
-    absent = sorted(set(found) - {link.name for link in links.values()})
+    absent = sorted(set(found) - {link.name for link in database.links()})
     if absent:
         raise ValueError(f"overbooked: the network has no link {absent[0]}")
     return found
 
 
-def version(text):
+def version(text: str) -> int:
     """The number of a batch, 0 for the network before the first."""
     value = int(text)
     if value < 0:
@@ -67,7 +68,7 @@ def version(text):
     return value
 
 
-def options(words):
+def options(words: list[str] | None) -> argparse.Namespace:
     asked = argparse.ArgumentParser(prog="draw", description=__doc__.split("\n\n")[0])
     asked.add_argument("rows", help="the file of rows or the journal")
     asked.add_argument("--version", type=version, metavar="N", help="the network after batch N, by default the last")
@@ -85,18 +86,16 @@ def options(words):
     return given
 
 
-def main(words=None):
+def main(words: list[str] | None = None) -> int:
     """Takes the words of a command line, and answers the status."""
     asked = options(words)
     try:
         with open(asked.rows, "rb") as rows:
-            _, links, marks = read_database(rows.read(), asked.version, has_asks=True)
-        routers = sorted({end for link in links.values() for end in (link.key[0], link.neighbor)})
-        routes = read_routes(asked, links, marks) if asked.replies else []
-        overbooked = read_overbooked(asked.overbooked, links) if asked.overbooked else {}
-        pairs = sorted({tuple(sorted((link.key[0], link.neighbor))) for link in links.values()})
-        places, names = positions.positions(asked, routers, pairs, "draw")
-        print(*network_picture(asked.title, links, marks, places, names, routes, asked.priority, overbooked), sep="\n")
+            database = read_database(rows.read(), asked.version, has_asks=True)
+        routes = read_routes(asked, database) if asked.replies else []
+        overbooked = read_overbooked(asked.overbooked, database) if asked.overbooked else {}
+        places, names = positions.positions(asked, [(link.router, link.neighbor) for link in database.links()], "draw")
+        print(*network_picture(asked.title, database, places, names, routes, asked.priority, overbooked), sep="\n")
     except Refused as fault:
         print(f"draw: {asked.rows}: {fault}", file=sys.stderr)
         return 1

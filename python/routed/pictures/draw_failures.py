@@ -3,13 +3,19 @@
 The color of a circuit is the worst effect of its failure. Its text says how many requests lose their route, how many get a longer
 one, and how many links are then overbooked. The lines come on standard input, and the picture goes to standard output.
 """
+from __future__ import annotations
+
 import argparse
 import sys
+from collections.abc import Iterable
 
-from ..sweep.swept import failures, overbooked_before
+from ..sweep.swept import Failure, Overbooked, failures, overbooked_before
 from . import positions, shapes
-from .canvas import BLUE, GRAY, ORANGE, RED, fit, legend, picture, text_in
+from .canvas import BLUE, GRAY, ORANGE, RED, Note, fit, legend, picture, text_in
 from .labels import SMALL, Sheet, Wanted, box_of
+from .layout import Places
+from .positions import Names
+from .shapes import Curve
 
 KINDS = {"lost": (f"stroke:{RED};stroke-width:6", "a request loses its route"),
          "longer": (f"stroke:{BLUE};stroke-width:4", "no request loses its route, and one gets a longer one"),
@@ -20,19 +26,19 @@ ALONG = (0.5, 0.44, 0.56, 0.38, 0.62, 0.32, 0.68, 0.26, 0.74, 0.2, 0.8)  # where
 IDS = 12  # of requests that are named where the pointer is
 
 
-def kind_of(failure):
+def kind_of(failure: Failure) -> str:
     return "lost" if failure.lost else "longer" if failure.longer else "overbooked" if failure.overbooked else "none"
 
 
-def counts_of(failure):
+def counts_of(failure: Failure) -> str:
     return f"{failure.lost}/{failure.longer}/{len(failure.overbooked)}"
 
 
-def between(failure, names):
+def between(failure: Failure, names: Names) -> str:
     return f"{names[failure.one]} {'–' if failure.is_circuit else 'to'} {names[failure.other]}"
 
 
-def about(failure, names, over):
+def about(failure: Failure, names: Names, over: list[Overbooked]) -> str:
     """What is said of a circuit where the pointer is on it."""
     says = [f"without {between(failure, names)} ({failure.link})"]
     for count, ids, what in ((failure.lost, failure.lost_ids, "lose their route"), (failure.longer, failure.longer_ids, "get a longer one")):
@@ -42,7 +48,7 @@ def about(failure, names, over):
     return "\n".join(says)
 
 
-def place_counts(found, curves, sheet):
+def place_counts(found: list[Failure], curves: list[Curve], sheet: Sheet) -> None:
     """Gives the counts their boxes, each on its circuit or beside it."""
     wanted = []
     for index, (failure, line) in enumerate(zip(found, curves)):
@@ -53,7 +59,7 @@ def place_counts(found, curves, sheet):
     sheet.place(wanted, ink=0.3)
 
 
-def failures_picture(title, found, over, places, names):
+def failures_picture(title: str, found: list[Failure], over: dict[Failure, list[Overbooked]], places: Places, names: Names) -> Iterable[str]:
     """The lines of the whole picture."""
     places, wide, high = fit(places)
     sheet, curves, drawn = Sheet(wide, high), shapes.curves([(it.one, it.other) for it in found], places), []
@@ -75,10 +81,10 @@ def failures_picture(title, found, over, places, names):
     return picture(title, wide, high + more + 10, drawn + shown)
 
 
-def notes_of(found, over, names, absent, numbers):
+def notes_of(found: list[Failure], over: dict[Failure, list[Overbooked]], names: Names, absent: list[Failure], numbers: dict[str, int]) -> list[Note]:
     """The legend, and what has no room in the picture."""
     kinds = {kind_of(failure) for failure in found}
-    notes = [(shapes.sample(style), text) for kind, (style, text) in KINDS.items() if kind in kinds]
+    notes: list[Note] = [(shapes.sample(style), text) for kind, (style, text) in KINDS.items() if kind in kinds]
     if not found:
         notes.append((None, "The network has no circuits."))
     if kinds - {"none"}:
@@ -92,15 +98,15 @@ def notes_of(found, over, names, absent, numbers):
     return notes + shapes.number_notes(numbers, names)
 
 
-def by_circuit(found, before):
+def by_circuit(found: list[Failure], before: dict[str, list[Overbooked]]) -> dict[Failure, list[Overbooked]]:
     """What is overbooked of each circuit while nothing fails, in either direction. A line names a link by its addresses in order."""
-    def names_of(failure):
+    def names_of(failure: Failure) -> tuple[str, str]:
         router, local, neighbor, remote = failure.link.split()
         return failure.link, f"{neighbor} {remote} {router} {local}"
     return {failure: [it for name in names_of(failure)[:2 if failure.is_circuit else 1] for it in before.get(name, ())] for failure in found}
 
 
-def main(words=None):
+def main(words: list[str] | None = None) -> int:
     """Takes the words of a command line, and answers the status."""
     asked = argparse.ArgumentParser(prog="draw-failures", description=__doc__, formatter_class=argparse.RawDescriptionHelpFormatter)
     positions.add_options(asked)
@@ -110,9 +116,7 @@ def main(words=None):
         lines = sys.stdin.read().splitlines()
         found = failures(lines)
         over = by_circuit(found, overbooked_before(lines))
-        routers = sorted({end for failure in found for end in (failure.one, failure.other)})
-        pairs = sorted({tuple(sorted((failure.one, failure.other))) for failure in found})
-        places, names = positions.positions(given, routers, pairs, "draw-failures")
+        places, names = positions.positions(given, [(failure.one, failure.other) for failure in found], "draw-failures")
         print(*failures_picture(given.title, found, over, places, names), sep="\n")
     except (ValueError, OSError) as fault:
         print(f"draw-failures: {fault}", file=sys.stderr)

@@ -3,9 +3,13 @@
 A box is left, top, right and bottom in pixels. The widths of characters are those of DejaVu Sans or Verdana, the wider of the two, so a
 text is never wider than its box in the fonts that pictures name.
 """
+from __future__ import annotations
+
 import collections
 import math
 import unicodedata
+from collections.abc import Hashable, Iterable, Iterator, Sequence
+from typing import NamedTuple
 
 FONT = "'DejaVu Sans',Verdana,sans-serif"
 TEXT, SMALL = 15, 13  # pixels: of names and the legend, and of counts
@@ -22,11 +26,17 @@ WIDTHS = [int(it) for it in (
     "1000 684 686 698 771 632 575 776 752 421 455 693 557 863 748 788 603 788 696 685 616 732 684 989 686 616 686 454 454 454 838 636 "
     "636 613 635 550 635 615 352 635 634 278 344 592 278 974 634 612 635 635 427 521 394 634 592 818 592 592 526 636 454 636 838").split()]
 
-# A text that wants a place: what it is of, and its spots: pairs of a box and what is against it, 0 for the best.
-Wanted = collections.namedtuple("Wanted", "key spots")
+Box = tuple[float, float, float, float]
 
 
-def width(text, size=TEXT):
+class Wanted(NamedTuple):
+    """A text that wants a place: what it is of, and its spots: pairs of a box and what is against it, 0 for the best."""
+
+    key: Hashable
+    spots: list[tuple[Box, float]]
+
+
+def width(text: str, size: int = TEXT) -> float:
     """The pixels of a line of text. What isn't ASCII is as wide as its base letter, or as the widest letters are."""
     whole = 0
     for letter in unicodedata.normalize("NFD", text):
@@ -37,18 +47,18 @@ def width(text, size=TEXT):
     return whole * size / 1000
 
 
-def box_of(x, y, text, size=TEXT):
+def box_of(x: float, y: float, text: str, size: int = TEXT) -> Box:
     """The box of a text whose middle is at a point."""
     wide, high = width(text, size) / 2, (ASCENT + DESCENT) * size / 2
     return x - wide, y - high, x + wide, y + high
 
 
-def base_of(box, size=TEXT):
+def base_of(box: Box, size: int = TEXT) -> tuple[float, float]:
     """The middle of a box, and the base line of the text in it."""
     return (box[0] + box[2]) / 2, box[3] - DESCENT * size
 
 
-def cut(text, room, size=TEXT):
+def cut(text: str, room: float, size: int = TEXT) -> str:
     """The text, cut where it is wider than the room."""
     if width(text, size) <= room:
         return text
@@ -57,7 +67,7 @@ def cut(text, room, size=TEXT):
     return text + "…"
 
 
-def wrapped(text, room, size=TEXT):
+def wrapped(text: str, room: float, size: int = TEXT) -> list[str]:
     """The text as lines that are no wider than the room."""
     lines = [""]
     for word in text.split():
@@ -69,12 +79,12 @@ def wrapped(text, room, size=TEXT):
     return [line for line in lines if line]
 
 
-def spots_round(x, y, radius, text, size=TEXT):
+def spots_round(x: float, y: float, radius: float, text: str, size: int = TEXT) -> list[tuple[Box, float]]:
     """Where a text may be round a circle, the better ones first."""
     wide, high = width(text, size) / 2, (ASCENT + DESCENT) * size / 2
     up, aside, slant = radius + high + GAP, radius + wide + GAP_ASIDE, 0.7 * radius + GAP_ASIDE
     corner = slant + wide, slant + high
-    around = [(0, -up, 0), (aside, 0, 1), (-aside, 0, 1), (0, up, 1)]
+    around: list[tuple[float, float, int]] = [(0, -up, 0), (aside, 0, 1), (-aside, 0, 1), (0, up, 1)]
     around += [(side * corner[0], down * corner[1], 2) for down in (-1, 1) for side in (1, -1)]
     around += [(side * wide * part, down * up, 3) for part in (0.4, 0.75) for down in (-1, 1) for side in (1, -1)]
     around += [(side * aside, down * high * 0.6, 3) for down in (-1, 1) for side in (1, -1)]
@@ -82,32 +92,32 @@ def spots_round(x, y, radius, text, size=TEXT):
     return [(box_of(x + to_x, y + to_y, text, size), against) for to_x, to_y, against in around]
 
 
-def meet(one, other):
+def meet(one: Box, other: Box) -> bool:
     return one[0] < other[2] and other[0] < one[2] and one[1] < other[3] and other[1] < one[3]
 
 
 class Boxes:
     """Boxes by the cells that they touch, each under a key."""
 
-    def __init__(self):
-        self.cells = collections.defaultdict(dict)
+    def __init__(self) -> None:
+        self.cells: dict[tuple[int, int], dict[Hashable, Box]] = collections.defaultdict(dict)
 
-    def cells_of(self, box):
+    def cells_of(self, box: Box) -> Iterator[tuple[int, int]]:
         for column in range(int(box[0] // CELL), int(box[2] // CELL) + 1):
             for row in range(int(box[1] // CELL), int(box[3] // CELL) + 1):
                 yield column, row
 
-    def put(self, key, box):
+    def put(self, key: Hashable, box: Box) -> None:
         for cell in self.cells_of(box):
             self.cells[cell][key] = box
 
-    def drop(self, key, box):
+    def drop(self, key: Hashable, box: Box) -> None:
         for cell in self.cells_of(box):
             del self.cells[cell][key]
 
-    def meeting(self, box):
+    def meeting(self, box: Box) -> dict[Hashable, Box]:
         """The boxes that the box meets, by their keys."""
-        found = {}
+        found: dict[Hashable, Box] = {}
         for cell in self.cells_of(box):
             for key, other in self.cells.get(cell, {}).items():
                 if meet(box, other):
@@ -118,16 +128,18 @@ class Boxes:
 class Sheet:
     """A picture's free room: what is drawn there, and the texts placed so far."""
 
-    def __init__(self, wide, high):
+    def __init__(self, wide: float, high: float) -> None:
         self.wide, self.high = wide, high
-        self.drawn, self.texts, self.ink = Boxes(), Boxes(), collections.Counter()
-        self.spots, self.placed = {}, {}
+        self.drawn, self.texts = Boxes(), Boxes()
+        self.ink: dict[tuple[int, int], float] = collections.defaultdict(float)
+        self.spots: dict[Hashable, list[Box]] = {}
+        self.placed: dict[Hashable, Box] = {}
 
-    def block(self, key, box):
+    def block(self, key: Hashable, box: Box) -> None:
         """No text may be there."""
         self.drawn.put(key, box)
 
-    def line(self, points, weight=1):
+    def line(self, points: Sequence[tuple[float, float]], weight: float = 1) -> None:
         """Texts had better not be on this line."""
         for (x, y), (to_x, to_y) in zip(points, points[1:]):
             steps = max(1, int(math.hypot(to_x - x, to_y - y) / STEP))
@@ -135,14 +147,14 @@ class Sheet:
                 at = step / steps
                 self.ink[int((x + (to_x - x) * at) // STEP), int((y + (to_y - y) * at) // STEP)] += weight
 
-    def under(self, box):
+    def under(self, box: Box) -> float:
         """How much of lines is under a box."""
         if not self.ink:
             return 0
         return sum(self.ink.get((column, row), 0) for column in range(int(box[0] // STEP), int(box[2] // STEP) + 1)
                    for row in range(int(box[1] // STEP), int(box[3] // STEP) + 1))
 
-    def place(self, wanted, ink=1.0):
+    def place(self, wanted: Iterable[Wanted], ink: float = 1.0) -> None:
         """Gives texts their boxes, those with the fewest spots first; then each may move to a better one. Texts of calls before may move, and
         stay in the picture. The ink is what is against a spot for each point of a line under it."""
         for text in wanted:
@@ -161,10 +173,10 @@ class Sheet:
                     self.placed[key] = box
                     self.texts.put(key, box)
 
-    def first_free(self, key):
+    def first_free(self, key: Hashable) -> Box | None:
         return next((box for box in self.spots[key] if not self.texts.meeting(box)), None)
 
-    def make_room(self, key):
+    def make_room(self, key: Hashable) -> bool:
         """Moves one text so that another has a spot, where that can be done."""
         for box in self.spots[key]:
             in_the_way = list(self.texts.meeting(box))
@@ -178,20 +190,20 @@ class Sheet:
                     return True
         return False
 
-    def box(self, key):
+    def box(self, key: Hashable) -> Box | None:
         """The box of a text, None where it has no room."""
         return narrower(self.placed[key]) if key in self.placed else None
 
-    def is_free(self, box):
+    def is_free(self, box: Box) -> bool:
         is_inside = EDGE <= box[0] and EDGE <= box[1] and box[2] <= self.wide - EDGE and box[3] <= self.high - EDGE
         return is_inside and not self.drawn.meeting(box)
 
 
-def wider(box, aside=None):
+def wider(box: Box, aside: float | None = None) -> Box:
     """The box with the gaps of texts round it, or with as much on each side."""
     across, down = (GAP_ASIDE, GAP) if aside is None else (aside, aside)
     return box[0] - across, box[1] - down, box[2] + across, box[3] + down
 
 
-def narrower(box):
+def narrower(box: Box) -> Box:
     return box[0] + GAP_ASIDE, box[1] + GAP, box[2] - GAP_ASIDE, box[3] - GAP

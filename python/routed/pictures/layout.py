@@ -4,9 +4,12 @@ Each component is laid out by itself. Pivot MDS (Brandes and Pich, 2006) places 
 rounds of springs and of repulsion within a grid of cells make the rest even. Components are put beside each other in rows.
 A place is a pair of x and y, in units of a usual circuit's length.
 """
+from __future__ import annotations
+
 import collections
 import math
 import random
+from collections.abc import Container, Iterable, Iterator, Sequence
 
 PIVOTS = 30
 ROUNDS = 60  # half as many in a large network
@@ -18,13 +21,18 @@ SMALL = 100
 NEAR = 0.8  # the same where some routers stay where they are
 APART = 1.5  # between components
 
+Place = tuple[float, float]
+Places = dict[str, Place]  # by a router's address
+Pair = tuple[str, str]  # of routers that have a circuit
+Neighbors = dict[str, list[str]]
 
-def lay_out(routers, pairs):
-    """A place for each router, from the pairs of routers that have a circuit."""
+
+def lay_out(routers: Sequence[str], pairs: Sequence[Pair]) -> Places:
+    """A place for each router."""
     return packed([component(part, neighbors) for part, neighbors in components(routers, pairs)])
 
 
-def complete(places, routers, pairs):
+def complete(places: Places, routers: Sequence[str], pairs: Sequence[Pair]) -> Places:
     """The places, and one for each router that has none: among its neighbors where a way leads to a router with a place, else beside all
     of these."""
     places = {router: places[router] for router in routers if router in places}
@@ -35,7 +43,7 @@ def complete(places, routers, pairs):
     for _ in range(30):
         for router in order:
             near = [places[other] for other in neighbors[router] if other in places]
-            places[router] = tuple(sum(axis) / len(near) for axis in zip(*near))
+            places[router] = sum(x for x, _ in near) / len(near), sum(y for _, y in near) / len(near)
     if order:
         drawn = random.Random(1)
         scaled = {router: (x / unit + drawn.uniform(-0.1, 0.1), y / unit + drawn.uniform(-0.1, 0.1)) for router, (x, y) in places.items()}
@@ -48,24 +56,25 @@ def complete(places, routers, pairs):
     return places
 
 
-def usual_length(places, pairs, count):
+def usual_length(places: Places, pairs: Sequence[Pair], count: int) -> float:
     """The median length of circuits between routers with places, or what is usual for their number."""
     lengths = sorted(math.dist(places[one], places[other]) for one, other in pairs if one in places and other in places)
     left, top, right, bottom = bounds(places)
     return (lengths and lengths[len(lengths) // 2]) or max(right - left, bottom - top) / math.sqrt(count) or 1.0
 
 
-def neighbors_of(routers, pairs):
-    neighbors = {router: set() for router in routers}
+def neighbors_of(routers: Sequence[str], pairs: Sequence[Pair]) -> Neighbors:
+    neighbors: dict[str, set[str]] = {router: set() for router in routers}
     for one, other in pairs:
         neighbors[one].add(other)
         neighbors[other].add(one)
     return {router: sorted(near) for router, near in neighbors.items()}
 
 
-def hops_from(roots, neighbors):
+def hops_from(roots: Iterable[str], neighbors: Neighbors) -> dict[str, int]:
     """How many hops each router is from the nearest of the roots, those that can be reached, the nearest first."""
-    hops, queue = {root: 0 for root in roots}, collections.deque(roots)
+    hops = {root: 0 for root in roots}
+    queue = collections.deque(hops)
     while queue:
         router = queue.popleft()
         for other in neighbors[router]:
@@ -75,9 +84,10 @@ def hops_from(roots, neighbors):
     return hops
 
 
-def components(routers, pairs):
+def components(routers: Sequence[str], pairs: Sequence[Pair]) -> list[tuple[list[str], Neighbors]]:
     """The components, the largest first: the routers of each, and their neighbors."""
-    neighbors, seen, found = neighbors_of(routers, pairs), set(), []
+    neighbors, found = neighbors_of(routers, pairs), []
+    seen: set[str] = set()
     for router in sorted(routers):
         if router not in seen:
             part = sorted(hops_from([router], neighbors))
@@ -86,34 +96,40 @@ def components(routers, pairs):
     return sorted(found, key=lambda it: -len(it[0]))
 
 
-def component(routers, neighbors):
+def component(routers: list[str], neighbors: Neighbors) -> Places:
     places = pivoted(routers, neighbors)
     return relaxed(places, {router: neighbors[router] for router in routers}) if len(routers) > 2 else places
 
 
-def pivoted(routers, neighbors):
+def pivoted(routers: list[str], neighbors: Neighbors) -> Places:
     """Places by Pivot MDS, in units of a hop. Each is moved a little, so that no two are the same."""
     drawn = random.Random(1)
-    columns, nearest, pivot = [], dict.fromkeys(routers, math.inf), routers[0]
+    nearest: dict[str, float] = dict.fromkeys(routers, math.inf)
+    columns: list[list[int]] = []
+    pivot = routers[0]
     while len(columns) < min(PIVOTS, len(routers)):
         hops = hops_from([pivot], neighbors)
         columns.append([hops[router] ** 2 for router in routers])
         nearest = {router: min(nearest[router], hops[router]) for router in routers}
-        pivot = max(routers, key=nearest.get)
+        pivot = max(routers, key=nearest.__getitem__)
     means = [sum(column) / len(routers) for column in columns]
     rows = [[square - mean for square, mean in zip(row, means)] for row in zip(*columns)]
     rows = [[(sum(row) / len(row) - it) / 2 for it in row] for row in rows]
-    axes = []
+    axes: list[list[float]] = []
     for _ in range(2):
         axes.append(main_axis(rows, axes, drawn))
     points = [[sum(a * b for a, b in zip(row, axis)) for axis in axes] for row in rows]
     usual = sorted(math.hypot(*point) for point in points)[len(points) // 2] or 1.0
     unit = math.sqrt(len(routers)) / 3 / usual  # so that about one router is on each unit of area
-    return {router: tuple(it * unit * min(1, FARTHEST * usual / (math.hypot(*point) or 1.0)) + drawn.uniform(-0.1, 0.1) for it in point)
-            for router, point in zip(routers, points)}
+    places = {}
+    for router, point in zip(routers, points):
+        part = min(1, FARTHEST * usual / (math.hypot(*point) or 1.0))
+        x, y = (it * unit * part + drawn.uniform(-0.1, 0.1) for it in point)
+        places[router] = x, y
+    return places
 
 
-def main_axis(rows, others, drawn):
+def main_axis(rows: list[list[float]], others: list[list[float]], drawn: random.Random) -> list[float]:
     """The axis along which rows are spread most, across those that are found already: by the power method."""
     axis = [drawn.uniform(-1, 1) for _ in rows[0]]
     for _ in range(25):
@@ -129,12 +145,12 @@ def main_axis(rows, others, drawn):
     return axis
 
 
-def relaxed(places, neighbors, still=()):
+def relaxed(places: Places, neighbors: Neighbors, still: Container[str] = ()) -> Places:
     """The places behind some rounds, in which circuits pull and near routers push. Some stay where they are."""
     index = {router: at for at, router in enumerate(places)}
     reach = NEAR if still else REACH if len(places) > SMALL else 4 * REACH
     moving = [at for router, at in index.items() if router not in still]
-    xs, ys = ([place[axis] for place in places.values()] for axis in (0, 1))
+    xs, ys = [x for x, _ in places.values()], [y for _, y in places.values()]
     pairs = [(index[one], index[other], 3 / (len(neighbors[one]) + len(neighbors[other])))
              for one in places for other in neighbors[one] if one < other]
     rounds = ROUNDS if len(places) <= 4 * SMALL else ROUNDS // 2
@@ -164,9 +180,9 @@ def relaxed(places, neighbors, still=()):
     return dict(zip(places, zip(xs, ys)))
 
 
-def near_pairs(places, reach):
+def near_pairs(places: Sequence[Place], reach: float) -> Iterator[tuple[int, int]]:
     """The pairs of indexes of places that may be nearer than the reach, by a grid of cells of that size."""
-    cells = collections.defaultdict(list)
+    cells: dict[tuple[int, int], list[int]] = collections.defaultdict(list)
     for index, (x, y) in enumerate(places):
         cells[int(x // reach), int(y // reach)].append(index)
     for (column, row), here in list(cells.items()):
@@ -179,14 +195,15 @@ def near_pairs(places, reach):
                     yield one, other
 
 
-def bounds(places):
+def bounds(places: Places) -> tuple[float, float, float, float]:
     xs, ys = zip(*places.values())
     return min(xs), min(ys), max(xs), max(ys)
 
 
-def packed(parts):
+def packed(parts: list[Places]) -> Places:
     """The places of components in one picture: beside each other in rows, the largest first."""
-    places, across, down, high = {}, 0.0, 0.0, 0.0
+    across = down = high = 0.0
+    places: Places = {}
     sizes = [bounds(part) for part in parts]
     wide = max([1.4 * math.sqrt(sum((r - l + APART) * (b - t + APART) for l, t, r, b in sizes)), *(r - l for l, _, r, _ in sizes)], default=0)
     for part, (left, top, right, bottom) in zip(parts, sizes):

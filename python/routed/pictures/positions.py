@@ -1,17 +1,23 @@
 """Where routers are: by a file of positions, by what was kept of the last picture, else laid out."""
+from __future__ import annotations
+
+import argparse
 import os
 import sys
+from collections.abc import Iterable, Iterator
 
-from .layout import complete
+from .layout import Place, Places, complete
 
 FARTHEST = 1e12  # of x and y from 0
 MANY = 300  # routers
 
+Names = dict[str, str]  # of routers, by their addresses
 
-def read_places(lines):
+
+def read_places(lines: Iterable[str]) -> Iterator[tuple[int, str, Place, str]]:
     """Where routers stand: the number of the line, the router's address, its place and its name, from an address, x, y and a name in
     each line."""
-    seen = set()
+    seen: set[str] = set()
     for number, line in enumerate(lines, 1):
         fields = line.split(None, 3)
         if fields and not fields[0].startswith("#"):
@@ -27,14 +33,18 @@ def read_places(lines):
             yield number, router, place, " ".join(fields[3].split()) if len(fields) > 3 else router
 
 
-def add_options(parser):
+def add_options(parser: argparse.ArgumentParser) -> None:
     parser.add_argument("--places", metavar="FILE", help="lines of a router's address, x, y and a name; routers without one are laid out")
     parser.add_argument("--keep", metavar="FILE", help="read positions from this file, and add those of new routers to it")
 
 
-def positions(asked, routers, pairs, program):
-    """Positions and names of the routers. A position of a router that isn't there is said and passed over."""
-    places, names, kept = {}, {router: router for router in routers}, {}
+def positions(asked: argparse.Namespace, circuits: Iterable[tuple[str, str]], program: str) -> tuple[Places, Names]:
+    """Positions and names of the routers that have circuits. A position of a router that isn't there is said and passed over."""
+    pairs = sorted({(min(pair), max(pair)) for pair in circuits})
+    routers = sorted({router for pair in pairs for router in pair})
+    names = {router: router for router in routers}
+    places: Places = {}
+    kept: dict[str, tuple[Place, str]] = {}
     if asked.keep and os.path.exists(asked.keep):
         with open(asked.keep, encoding="utf-8") as lines:
             kept = {router: (place, name) for _, router, place, name in read_places(lines)}
@@ -55,7 +65,7 @@ def positions(asked, routers, pairs, program):
     return places, names
 
 
-def keep(path, kept):
+def keep(path: str, kept: dict[str, tuple[Place, str]]) -> None:
     """Writes the positions whole, or not at all."""
     with open(f"{path}.new", "w", encoding="utf-8") as file:
         file.writelines(f"{router} {x!r} {y!r} {name}\n" for router, ((x, y), name) in kept.items())

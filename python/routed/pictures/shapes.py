@@ -1,9 +1,15 @@
 """The shapes of pictures: curves of circuits, routers, marks and names."""
+from __future__ import annotations
+
 import collections
 import math
+from collections.abc import Callable, Collection, Iterator, Sequence
+from typing import NamedTuple
 
-from .canvas import hover, text_in
-from .labels import Boxes, Wanted, spots_round
+from .canvas import Note, hover, text_in
+from .labels import Box, Boxes, Sheet, Wanted, spots_round
+from .layout import Place, Places
+from .positions import Names
 
 BEND = 16  # how far apart circuits between the same two routers are
 BENDS = [0, 20, -20, 34, -34, 50, -50]  # how far a circuit may go aside, so that it doesn't pass under a third router
@@ -14,55 +20,62 @@ INK = 1.5  # what a name pays for each point of a circuit under it
 MOST_SAMPLED = 3000  # circuits, above which they don't go round routers, and names don't go round circuits
 
 
-class Curve(collections.namedtuple("Curve", "start control end")):
+class Curve(NamedTuple):
     """A quadratic Bézier curve."""
 
-    def at(self, part):
-        """The point at a part of the curve, from 0 to 1."""
-        return tuple((1 - part) ** 2 * a + 2 * part * (1 - part) * b + part ** 2 * c for a, b, c in zip(*self))
+    start: Place
+    control: Place
+    end: Place
 
-    def angle(self, part):
+    def at(self, part: float) -> Place:
+        """The point at a part of the curve, from 0 to 1."""
+        x, y = ((1 - part) ** 2 * a + 2 * part * (1 - part) * b + part ** 2 * c for a, b, c in zip(*self))
+        return x, y
+
+    def angle(self, part: float) -> float:
         """The direction at a part of the curve, in radians."""
         over, down = ((1 - part) * (b - a) + part * (c - b) for a, b, c in zip(*self))
         return math.atan2(down, over)
 
-    def points(self):
+    def points(self) -> list[Place]:
         steps = max(2, int(math.dist(self.start, self.end) / 8))
         return [self.at(step / steps) for step in range(steps + 1)]
 
-    def reversed(self):
+    def reversed(self) -> Curve:
         return Curve(self.end, self.control, self.start)
 
-    def aside(self, far):
+    def aside(self, far: float) -> Curve:
         """The curve moved to the right of its direction, in pixels."""
         angle = math.atan2(self.end[1] - self.start[1], self.end[0] - self.start[0])
         over, down = -far * math.sin(angle), far * math.cos(angle)
         return Curve(*((x + over, y + down) for x, y in self))
 
-    def path(self, verb="M"):
+    def path(self, verb: str = "M") -> str:
         (x, y), (by_x, by_y), (to_x, to_y) = self
         return f"{verb}{x:.1f} {y:.1f}Q{by_x:.1f} {by_y:.1f} {to_x:.1f} {to_y:.1f}"
 
 
-def curve(start, end, bend):
+def curve(start: Place, end: Place, bend: float) -> Curve:
     """A curve whose middle is that far to the right of the straight line."""
     angle = math.atan2(end[1] - start[1], end[0] - start[0])
     return Curve(start, ((start[0] + end[0]) / 2 - 2 * bend * math.sin(angle), (start[1] + end[1]) / 2 + 2 * bend * math.cos(angle)), end)
 
 
-def curves(ends, places):
+def curves(ends: Sequence[tuple[str, str]], places: Places) -> list[Curve]:
     """A curve for each pair of ends. Several between the same two routers are apart, and none passes under a third router where that can be
     avoided."""
-    between, found, routers = collections.defaultdict(list), [None] * len(ends), Boxes()
+    between: dict[tuple[str, str], list[int]] = collections.defaultdict(list)
+    found: dict[int, Curve] = {}
+    routers = Boxes()
     for router, (x, y) in places.items():
         routers.put(router, (x - CLEAR, y - CLEAR, x + CLEAR, y + CLEAR))
     for index, pair in enumerate(ends):
-        between[tuple(sorted(pair))].append(index)
+        between[min(pair), max(pair)].append(index)
     for pair, together in between.items():
-        def tried(bend):
+        def tried(bend: float, pair: tuple[str, str] = pair, together: list[int] = together) -> list[Curve]:
             return [curve(places[pair[0]], places[pair[1]], bend + (at - (len(together) - 1) / 2) * BEND) for at in range(len(together))]
 
-        def is_clear(them):
+        def is_clear(them: list[Curve], pair: tuple[str, str] = pair) -> bool:
             return all(set(routers.meeting((x, y, x, y))) <= set(pair) for it in them for x, y in it.points())
 
         made = tried(0)
@@ -70,21 +83,21 @@ def curves(ends, places):
             made = next((them for them in map(tried, BENDS) if is_clear(them)), made)
         for index, it in zip(together, made):
             found[index] = it if ends[index] == pair else it.reversed()
-    return found
+    return [found[index] for index in range(len(ends))]
 
 
-def arrow(line, color, part=0.55):
+def arrow(line: Curve, color: str, part: float = 0.55) -> str:
     """The head of an arrow on a curve."""
     (x, y), angle = line.at(part), line.angle(part)
     tip, left, right = ((x + far * math.cos(angle + turn), y + far * math.sin(angle + turn)) for far, turn in ((8, 0), (7, 2.5), (7, -2.5)))
     return f'<path class="arrow" d="M{tip[0]:.1f} {tip[1]:.1f}L{left[0]:.1f} {left[1]:.1f}L{right[0]:.1f} {right[1]:.1f}z" style="fill:{color}"/>'
 
 
-def line(kind, path, style, text=""):
+def line(kind: str, path: str, style: str, text: str = "") -> str:
     return f'<path class="{kind}" d="{path}" style="{style}">{hover(text)}</path>' if text else f'<path class="{kind}" d="{path}" style="{style}"/>'
 
 
-def router(x, y, is_marked, radius=ROUTER, text=""):
+def router(x: float, y: float, is_marked: bool, radius: float = ROUTER, text: str = "") -> str:
     """A circle; a square with a cross in it for a router without transit."""
     style, inside = 'style="fill:#fff;stroke:#000;stroke-width:2"', hover(text) if text else ""
     if not is_marked:
@@ -93,33 +106,33 @@ def router(x, y, is_marked, radius=ROUTER, text=""):
     return f'<path class="no-transit" d="M{x - half:.1f} {y - half:.1f}h{2 * half}v{2 * half}h-{2 * half}z{cross}" {style}>{inside}</path>'
 
 
-def plate(box):
+def plate(box: Box) -> str:
     """White under a text that is on a line."""
     left, top, right, bottom = box
     return f'<rect x="{left - 1:.1f}" y="{top + 1:.1f}" width="{right - left + 2:.1f}" height="{bottom - top - 2:.1f}" rx="4" style="fill:#fff"/>'
 
 
-def ring(x, y, radius, color, dash=""):
+def ring(x: float, y: float, radius: float, color: str, dash: str = "") -> str:
     """Where a route begins."""
     return f'<circle class="from" cx="{x:.1f}" cy="{y:.1f}" r="{radius}" style="fill:none;stroke:{color};stroke-width:2.5;stroke-dasharray:{dash or "none"}"/>'
 
 
-def diamond(x, y, radius, color, dash=""):
+def diamond(x: float, y: float, radius: float, color: str, dash: str = "") -> str:
     """Where a route ends."""
     return (f'<path class="to" d="M{x:.1f} {y - radius:.1f}l{radius} {radius}l-{radius} {radius}l-{radius} -{radius}z" '
             f'style="stroke:{color};stroke-width:2.5;stroke-dasharray:{dash or "none"}"/>')
 
 
-def sample(style):
+def sample(style: str) -> Callable[[float, float], str]:
     """A line of the legend's sample."""
     return lambda x, y: f'<line x1="{x - 20}" y1="{y}" x2="{x + 20}" y2="{y}" style="{style}"/>'
 
 
-def one_way_sample(x, y):
+def one_way_sample(x: float, y: float) -> str:
     return sample("stroke:#444;stroke-width:2")(x, y) + arrow(curve((x - 20, y), (x + 20, y), 0), "#444", 0.8)
 
 
-def place_names(sheet, places, names, radii, curves):
+def place_names(sheet: Sheet, places: Places, names: Names, radii: dict[str, float], curves: list[Curve]) -> None:
     """Gives the routers' names their boxes, beside the routers and off the circuits where that can be."""
     for router, (x, y) in places.items():
         half = radii[router] + 0.5
@@ -129,14 +142,14 @@ def place_names(sheet, places, names, radii, curves):
     sheet.place([Wanted(router, spots_round(*places[router], radii[router], names[router])) for router in sorted(places)])
 
 
-def texts_of_names(sheet, places, names):
+def texts_of_names(sheet: Sheet, places: Places, names: Names) -> tuple[list[str], dict[str, int]]:
     """The names that have room, and the numbers of the routers whose names have none."""
     boxes = {router: sheet.box(router) for router in sorted(places)}
     return ([text_in(box, names[router], "name") for router, box in boxes.items() if box],
             {router: number for number, router in enumerate([router for router, box in boxes.items() if not box], 1)})
 
 
-def routers(places, names, marks, numbers):
+def routers(places: Places, names: Names, marks: Collection[str], numbers: dict[str, int]) -> Iterator[str]:
     """The routers. One whose name has no room has a number in it."""
     for at in sorted(places):
         says = names[at] if names[at] == at else f"{names[at]}, {at}"
@@ -146,6 +159,6 @@ def routers(places, names, marks, numbers):
             yield f'<text class="number" x="{x:.1f}" y="{y + 3.3:.1f}">{numbers[at]}</text>'
 
 
-def number_notes(numbers, names):
+def number_notes(numbers: dict[str, int], names: Names) -> list[Note]:
     """The list of the names that have no room."""
     return [(None, "Names without room: " + ", ".join(f"{number} {names[router]}" for router, number in numbers.items()))] if numbers else []

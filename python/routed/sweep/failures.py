@@ -16,54 +16,66 @@ docs/run/SWEEP.md says which requests are asked again. All others keep their ans
 - `unknown-from`, `unknown-to`. A head-end or tail-end disappears with its last link, which is the first or the last link of the
   route, so the request is asked again. If there was no route before, it makes no difference which of these words the answer has.
 """
+from __future__ import annotations
+
 import collections
 import os
-import re
+from collections.abc import Callable, Container, Generator, Iterable
+from typing import NamedTuple
 
-from ..model.networks import Refused, Stopped, accepts, circuits_of, number, read_database, read_requests, reverse_of, routers_of, value
+from ..model.journals import read_database
+from ..model.networks import Part, Stopped, circuits_of, read_requests, routers_of
+from ..model.rows import Key, Link, Refused, Reply, Request, value
 from .solving import MOST_ASKS, Question, Solve, run
 
-ROUTE = re.compile(r"route cost=(\d+) hops=\d+ again=(?:no|yes) ero=([0-9a-f]+)")
-NO_ROUTE = ("none", "unknown-from", "unknown-to")
 NOTHING = (0,) * 8  # asked of a link, by priority
 
-Answer = collections.namedtuple("Answer", "text cost walk")  # without a route: cost None, and no links
+Ask = Callable[[dict[Key, Link], list[int]], list[str]]  # what a program says of some requests, by their indexes, without some links
+Outcome = tuple[str, list[int], list[int], int]
+Outcomes = Generator[Outcome | Exception, None, None]
+
+
+class Answer(NamedTuple):
+    """The cost and the links of a route; the word that says why there is none, cost None and no links."""
+
+    why: str | None
+    cost: int | None
+    walk: tuple[Link, ...]
 
 
 class Network:
     """The last version of a journal, with requests and their answers, which every scenario is compared with."""
 
-    def __init__(self, program, workers, journal, requests):
+    def __init__(self, program: str, workers: int, journal: bytes, requests: bytes) -> None:
         self.program = program
         journal += b"\n"  # the last row may be without one, and an empty line is no row
         lines = self.run_batch(journal, requests, workers)
         self.requests = read_requests(requests)
         self.version = len(lines) - len(self.requests)
         self.rows = run(program, ["snapshot", "--journal", "/dev/stdin"], journal)  # short, however long the journal is
-        _, self.links, self.marks = read_database("\n".join(self.rows).encode())
-        self.puts = {tuple(row.split(",", 3)[1:3]): row for row in self.rows if row.startswith("put,")}
+        self.database = read_database("\n".join(self.rows).encode())
+        self.links = {link.key: link for link in self.database.links()}
         self.rank = {key: place for place, key in enumerate(self.links)}
-        self.ways = {}  # by router and the address that a link from it leads to; one that runs one way alone is on no route
-        for link in self.links.values():
-            if reverse_of(link, self.links):
-                self.ways.setdefault((link.key[0], link.remote), []).append(link)
         self.answers = self.first_answers(lines)
         self.users = self.find_users()
-        self.loads = {}  # of each link that a route takes, the bandwidth that is asked of it at each setup priority
+        self.loads: dict[Key, list[int]] = {}  # of each link that a route takes, the bandwidth asked of it at each setup priority
         for request, answer in zip(self.requests, self.answers):
             for link in answer.walk:
                 self.loads.setdefault(link.key, [0] * 8)[request.setup] += request.bandwidth
-        self.full = {key: found for key in sorted(self.loads, key=self.rank.get) if (found := self.overbooked(key, self.loads[key]))}
-        self.idle = collections.deque()  # programs that wait for a question
+        self.full = {key: found for key in self.in_order(self.loads) if (found := self.overbooked(key, self.loads[key]))}
+        self.idle: collections.deque[Solve] = collections.deque()  # programs that wait for a question
 
-    def run_batch(self, journal, requests, workers):
+    def in_order(self, keys: Iterable[Key]) -> list[Key]:
+        return sorted(keys, key=self.rank.__getitem__)
+
+    def run_batch(self, journal: bytes, requests: bytes, workers: int) -> list[str]:
         """The lines of `routed batch`: the versions, and the replies to all requests while nothing is out."""
         with os.fdopen(os.memfd_create("requests"), "wb", buffering=0) as asks:
             asks.write(requests)
             words = ["batch", "--journal", "/dev/stdin", "--requests", f"/dev/fd/{asks.fileno()}", "--workers", str(workers)]
             return run(self.program, words, journal, pass_fds=[asks.fileno()])
 
-    def first_answers(self, lines):
+    def first_answers(self, lines: list[str]) -> list[Answer]:
         """The answers while nothing is out."""
         versions = [f"version {at}" for at in range(1, self.version + 1)]
         if self.version < 0 or lines[:self.version] != versions:
@@ -76,28 +88,27 @@ class Network:
             answers.append(self.answer_of(request, line[len(head):], frozenset()))
         return answers
 
-    def answer_of(self, request, text, out):
-        """An answer with its links. What is out is out in both directions, so each other link still has its reverse."""
-        if text in NO_ROUTE:
-            return Answer(text, None, ())
-        found = ROUTE.fullmatch(text)
-        if not found:
+    def answer_of(self, request: Request, text: str, out: Container[Key]) -> Answer:
+        """The answer that is told behind the version. What is out is out in both directions, so each other link still has its reverse."""
+        reply = Reply.parse(f"ask {request.id} v{self.version} {text}")
+        if not reply:
             raise Stopped(f"{self.program} wrote no reply to request {request.id}: {text}")
-        data, router, walk = bytes.fromhex(found[2]), request.head, []
-        for at in range(4, len(data), 8):
-            end = ".".join(map(str, data[at + 2:at + 6]))
-            is_left = not walk or router not in self.marks  # no route passes through a marked router
-            links = [link for link in self.ways.get((router, end), ()) if is_left and link.key not in out and accepts(link, request)]
+        if reply.why:
+            return Answer(reply.why, None, ())
+        router = request.head
+        walk: list[Link] = []
+        for far in reply.fars:
+            links = [link for link in self.database.usable(router, far, request, bool(walk)) if link.key not in out]
             if len(links) > 1:  # to several neighbors, since each has one link from that address
-                one, other = sorted((link.neighbor for link in links), key=number)[:2]
-                raise Refused(f"{one} and {other} have the same address {end}, seen from {router}")
-            router = links[0].neighbor if links else None
+                one, other = sorted((link.neighbor for link in links), key=value)[:2]
+                raise Refused(f"{one} and {other} have the same address {far}, seen from {router}")
+            router = links[0].neighbor if links else ""
             walk += links
-        if router != request.tail or sum(link.metric for link in walk) != int(found[1]):
+        if router != request.tail or sum(link.metric for link in walk) != reply.cost:
             raise Stopped(f"{self.program} wrote a route that the network doesn't have, to request {request.id}: {text}")
-        return Answer(text, int(found[1]), tuple(walk))
+        return Answer(None, reply.cost, tuple(walk))
 
-    def find_users(self):
+    def find_users(self) -> dict[Key, list[int]]:
         """By link, the indexes of the requests that may be answered otherwise without it: those whose route takes it or its reverse,
         and those that have a hop which a router of the route may meet by the link's local address alone."""
         users, links_from = collections.defaultdict(list), collections.defaultdict(list)
@@ -106,48 +117,48 @@ class Network:
         for index, (request, answer) in enumerate(zip(self.requests, self.answers)):
             for link in answer.walk:
                 users[link.key].append(index)
-                users[link.neighbor, link.remote].append(index)
-            if answer.walk and request.prefixes:
+                users[link.back].append(index)
+            if answer.walk and (wanted := request.prefixes()):
                 for router in {request.head, *(link.neighbor for link in answer.walk)}:
                     own = value(router)
-                    prefixes = [(bits, shift) for bits, shift in request.prefixes if own >> shift != bits]
+                    prefixes = [(bits, shift) for bits, shift in wanted if own >> shift != bits]
                     for key, local in links_from[router] if prefixes else ():
                         if any(local >> shift == bits for bits, shift in prefixes):
                             users[key].append(index)
         return dict(users)
 
-    def overbooked(self, key, load):
+    def overbooked(self, key: Key, load: list[int]) -> dict[int, tuple[int, str]]:
         """By priority, what a link has too little of: what is asked of it there and at better priorities, and the words for it."""
         link, above, found = self.links[key], 0, {}
-        for priority, (asked, free) in enumerate(zip(load, link.free)):
+        for priority, (asked, free) in enumerate(zip(load, link.unreserved)):
             if asked and asked + above > free:
                 found[priority] = asked + above, f"overbooked {link.name} priority={priority} asked={asked} above={above} unreserved={free}"
             above += asked
         return found
 
-    def before(self):
+    def before(self) -> list[str]:
         """The network's own lines, those before anything is out."""
         facts = [text for found in self.full.values() for _, text in found.values()]
         without = [(request, answer) for request, answer in zip(self.requests, self.answers) if answer.cost is None]
-        return [f"network version={self.version} routers={len(routers_of(self.links))} links={len(self.links)} "
-                f"circuits={len(circuits_of(self.links))} requests={len(self.requests)}",
-                *(f"before without request {request.id} {answer.text}" for request, answer in without),
+        return [f"network version={self.version} routers={len(routers_of(self.database))} links={len(self.links)} "
+                f"circuits={len(circuits_of(self.database))} requests={len(self.requests)}",
+                *(f"before without request {request.id} {answer.why}" for request, answer in without),
                 *(f"before {fact}" for fact in facts),
                 f"before routes={len(self.requests) - len(without)} without={len(without)} overbooked={len(facts)}"]
 
-    def question(self, parts):
-        """The links of these parts with their rows, and the indexes of the requests that may be answered otherwise without them."""
-        keys = sorted({key for _, keys in parts for key in keys}, key=self.rank.get)
-        return {key: self.puts[key] for key in keys}, sorted({index for key in keys for index in self.users.get(key, ())})
+    def question(self, parts: Iterable[Part]) -> tuple[dict[Key, Link], list[int]]:
+        """The links of these parts, and the indexes of the requests that may be answered otherwise without them."""
+        keys = self.in_order({key for _, keys in parts for key in keys})
+        return {key: self.links[key] for key in keys}, sorted({index for key in keys for index in self.users.get(key, ())})
 
-    def ask(self, links, indexes):
+    def ask(self, links: dict[Key, Link], indexes: list[int]) -> list[str]:
         """What a program that stays up says of these requests without these links."""
         try:
             solve = self.idle.pop()
         except IndexError:
             solve = Solve(self.program, self.rows)
         try:
-            texts = []
+            texts: list[str] = []
             for at in range(0, len(indexes), MOST_ASKS):
                 requests = [self.requests[index] for index in indexes[at:at + MOST_ASKS]]
                 question = Question(links, requests, solve.version)
@@ -162,12 +173,12 @@ class Network:
         self.idle.append(solve)
         return texts
 
-    def close(self):
+    def close(self) -> None:
         """Ends the programs that wait for a question."""
         while self.idle:
             self.idle.pop().close()
 
-    def outcome(self, place, parts, ask=None):
+    def outcome(self, place: int, parts: Iterable[Part], ask: Ask | None = None) -> Outcome | Exception:
         """The text of a scenario in which these parts are out, the indexes of the requests that are lost and of those that get longer,
         and how many links are overbooked that weren't, or more than they were; else the fault."""
         links, indexes = self.question(parts)
@@ -176,24 +187,25 @@ class Network:
             answers = {index: self.answer_of(self.requests[index], text, links) for index, text in zip(indexes, texts)}
         except (Refused, Stopped) as fault:
             return type(fault)(f"scenario {place}: {fault}")
-        said, lost, longer, most, loads = [f"out {name}" for name, _ in parts], [], [], 0, {}
+        said = [f"out {name}" for name, _ in parts]
+        lost: list[int] = []
+        longer: dict[int, tuple[int, int]] = {}  # its costs with and without the parts
+        loads: dict[Key, list[int]] = {}
         for index, new in answers.items():
             request, old = self.requests[index], self.answers[index]
             for sign, walk in ((-1, old.walk), (1, new.walk)) if new.walk != old.walk else ():
                 for link in walk:
                     loads.setdefault(link.key, list(self.loads.get(link.key, NOTHING)))[request.setup] += sign * request.bandwidth
-            if new.cost is None:
+            if new.cost is None or old.cost is None:
                 lost.append(index)
-                said.append(f"lost request {request.id} {new.text} was={old.cost}")
+                said.append(f"lost request {request.id} {new.why} was={old.cost}")
             elif new.cost > old.cost:
-                longer.append(index)
-        for index in longer:
-            new, old = answers[index].cost, self.answers[index].cost
-            said.append(f"longer request {self.requests[index].id} cost={new} was={old} more={new - old}")
-            most = max(most, new - old)
-        facts = []
-        for key in sorted(loads, key=self.rank.get):
+                longer[index] = new.cost, old.cost
+        said += [f"longer request {self.requests[index].id} cost={new} was={old} more={new - old}" for index, (new, old) in longer.items()]
+        most = max((new - old for new, old in longer.values()), default=0)
+        facts: list[str] = []
+        for key in self.in_order(loads):
             before = self.full.get(key, {})
             facts += [text for priority, (taken, text) in self.overbooked(key, loads[key]).items() if taken > before.get(priority, (0,))[0]]
         said += [*facts, f"lost={len(lost)} longer={len(longer)} most={most} overbooked={len(facts)}"]
-        return "\n".join(f"scenario {place} {line}" for line in said), lost, longer, len(facts)
+        return "\n".join(f"scenario {place} {line}" for line in said), lost, list(longer), len(facts)

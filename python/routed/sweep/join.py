@@ -4,11 +4,16 @@ They come from the files that are named, else from standard input. Standard outp
 scenarios prints. All parts have to be there, whole, in order, and of one network. Otherwise one line on standard error says what
 is wrong, and the status is 1.
 """
+from __future__ import annotations
+
 import argparse
 import fileinput
 import re
 import sys
+from collections.abc import Iterable, Iterator
+from typing import NamedTuple
 
+from ..model.rows import Refused
 from .ranking import LINE, MOST, Ranking
 
 LAST = re.compile(r"part (\d+)/(\d+) input=([0-9a-f]{16}) scenarios=(\d+) lost=(\d+) longer=(\d+) overbooked=(\d+)")
@@ -17,17 +22,26 @@ ENDED = re.compile(r"scenario (\d+) lost=(\d+) longer=(\d+) most=\d+ overbooked=
 TOUCHED = re.compile(r"scenario \d+ (lost|longer) request (\d+) .*")
 
 
-class Refused(Exception):
-    """What the parts lack."""
+class Part(NamedTuple):
+    """The lines before its scenarios, those of the scenarios, the ranked ones, and what its last line says."""
+
+    before: list[str]
+    scenarios: list[str]
+    ranked: list[str]
+    at: int
+    of: int
+    source: str
+    counts: list[int]
 
 
-def parts(lines):
-    """Of each part the lines before its scenarios, those of the scenarios, the ranked ones, and what its last line says."""
-    before, scenarios, ranked = [], [], []
+def parts(lines: Iterable[str]) -> Iterator[Part]:
+    before: list[str] = []
+    scenarios: list[str] = []
+    ranked: list[str] = []
     for line in lines:
         if last := LAST.fullmatch(line):
-            part, of, source, *counts = last.groups()
-            yield before, scenarios, ranked, int(part), int(of), source, [int(count) for count in counts]
+            at, of, source, *counts = last.groups()
+            yield Part(before, scenarios, ranked, int(at), int(of), source, [int(count) for count in counts])
             before, scenarios, ranked = [], [], []
         elif SCENARIO.fullmatch(line) and not ranked:
             scenarios.append(line)
@@ -41,41 +55,42 @@ def parts(lines):
         raise Refused(f"a part ends by {said[-1]!r}, and not by a line that says which part it is")
 
 
-def rank(ranking, scenarios, ranked):
+def rank(ranking: Ranking, part: Part) -> None:
     """Adds a part to a ranking: from the scenarios the requests that they touch, and from the part's own ranking the failures."""
-    for found in filter(None, map(TOUCHED.fullmatch, scenarios)):
-        ranking.touch(found[2], found[1] == "longer")
-    for found in filter(None, map(LINE.fullmatch, ranked)):
-        ranking.keep(found[1], (*map(int, found.groups()[1:5]), found[6]))
+    for found in filter(None, map(TOUCHED.fullmatch, part.scenarios)):
+        ranking.touch(int(found[2]), found[1] == "longer")
+    for found in filter(None, map(LINE.fullmatch, part.ranked)):
+        ranking.keep(found[1], (int(found[2]), int(found[3]), int(found[4]), int(found[5]), found[6]))
 
 
-def join(lines):
+def join(lines: Iterable[str]) -> Iterator[str]:
     """The lines of the whole."""
-    first, at, of, totals, ranking = None, 0, 1, [0, 0, 0, 0], Ranking()
-    for before, scenarios, ranked, part, parts_of, source, counts in parts(lines):
-        at, of = at + 1, of if first else parts_of
-        if (part, parts_of) != (at, of):
-            raise Refused(f"part {part}/{parts_of} stands where part {at}/{of} has to be")
-        if first and (source, before) != first:
-            raise Refused(f"part {part}/{of} is of another journal, other requests, other failures or another program")
-        ended = [[int(number) for number in found.groups()] for found in map(ENDED.fullmatch, scenarios) if found]
-        if [place for place, _, _ in ended] != list(range(totals[0] + 1, totals[0] + counts[0] + 1)):
-            raise Refused(f"part {part}/{of} hasn't the scenarios from {totals[0] + 1} to {totals[0] + counts[0]}")
+    first: Part | None = None
+    at, of, totals, ranking = 0, 1, [0, 0, 0, 0], Ranking()
+    for part in parts(lines):
+        at, of = at + 1, of if first else part.of
+        if (part.at, part.of) != (at, of):
+            raise Refused(f"part {part.at}/{part.of} stands where part {at}/{of} has to be")
+        if first and (part.source, part.before) != (first.source, first.before):
+            raise Refused(f"part {at}/{of} is of another journal, other requests, other failures or another program")
+        ended = [[int(number) for number in found.groups()] for found in map(ENDED.fullmatch, part.scenarios) if found]
+        if [place for place, _, _ in ended] != list(range(totals[0] + 1, totals[0] + part.counts[0] + 1)):
+            raise Refused(f"part {at}/{of} hasn't the scenarios from {totals[0] + 1} to {totals[0] + part.counts[0]}")
         own = Ranking()
-        rank(own, scenarios, ranked)
-        counted = {"requests": sum(lost + longer > 0 for _, lost, longer in ended), "bandwidth": counts[1]}
-        if list(own.lines()) != ranked or any(len(own.worst[kind]) != min(count, MOST) for kind, count in counted.items()):
-            raise Refused(f"part {part}/{of} hasn't the ranking of its scenarios")
-        rank(ranking, scenarios, ranked)
-        yield from scenarios if first else before + scenarios
-        first, totals = (source, before), [total + count for total, count in zip(totals, counts)]
+        rank(own, part)
+        counted = {"requests": sum(lost + longer > 0 for _, lost, longer in ended), "bandwidth": part.counts[1]}
+        if list(own.lines()) != part.ranked or any(len(own.worst[kind]) != min(count, MOST) for kind, count in counted.items()):
+            raise Refused(f"part {at}/{of} hasn't the ranking of its scenarios")
+        rank(ranking, part)
+        yield from part.scenarios if first else part.before + part.scenarios
+        first, totals = part, [total + count for total, count in zip(totals, part.counts)]
     if at != of or not first:
         raise Refused(f"part {at + 1}/{of} isn't there")
     yield from ranking.lines()
     yield "scenarios={} lost={} longer={} overbooked={}".format(*totals)
 
 
-def main(words=None):
+def main(words: list[str] | None = None) -> int:
     """Takes the words of a command line, and answers the status."""
     asked = argparse.ArgumentParser(prog="join", description=__doc__, formatter_class=argparse.RawDescriptionHelpFormatter)
     asked.add_argument("files", nargs="*", metavar="FILE")

@@ -1,4 +1,6 @@
 """Scenarios of a sweep on other machines: by Dask's distributed, and by GNU parallel over ssh."""
+from __future__ import annotations
+
 import collections
 import csv
 import itertools
@@ -10,9 +12,14 @@ import subprocess
 import sys
 import tempfile
 import threading
+from collections.abc import Callable, Iterable, Iterator
+from typing import IO, Any
 
-from ..model.networks import Refused, Stopped
-from .solving import MOST_ASKS, MOST_CHANGES, MOST_ROWS, Question, checked, ended, heads_of
+from ..model.journals import MOST_ROWS
+from ..model.networks import Part, Stopped
+from ..model.rows import MOST_CHANGES, Key, Link, Refused
+from .failures import Network, Outcomes
+from .solving import MOST_ASKS, Question, checked, ended, heads_of
 
 AHEAD = 2  # tasks for each thread of Dask's workers that are handed out
 MOST_IN_TASK = 64  # scenarios
@@ -25,17 +32,20 @@ COMMAND = "exec sh -c"
 BEGINS = re.compile(r"connection (\d+) (\S+)\n")
 ENDS = re.compile(r"status (\d+)")
 
+Scenario = tuple[int, Iterable[Part]]  # its place, and what is out in it
+Scenarios = Callable[[], Iterator[Scenario]]
+
 
 class Teller:
     """What each worker of Dask gets."""
 
-    def __init__(self, given):
+    def __init__(self, given: Network) -> None:
         self.given = given
 
-    def tell(self, scenarios):
+    def tell(self, scenarios: list[Scenario]) -> tuple[str, list[tuple]]:
         """The worker's address, and in plain types the outcomes of these scenarios, up to the first fault: of what kind it is, and its text."""
         from distributed import get_worker
-        said = []
+        said: list[tuple] = []
         for place, parts in scenarios:
             found = self.given.outcome(place, parts)
             if isinstance(found, Exception):
@@ -47,16 +57,16 @@ class Teller:
 class ByValue:
     """What arrives with its classes and functions, so that the other side doesn't need this package."""
 
-    def __init__(self, sent):
+    def __init__(self, sent: object) -> None:
         self.sent = sent
 
-    def __reduce__(self):
-        import cloudpickle
+    def __reduce__(self) -> tuple[Callable, tuple[bytes]]:
+        import cloudpickle  # type: ignore[import]
         cloudpickle.register_pickle_by_value(sys.modules[__package__.partition(".")[0]])
         return cloudpickle.loads, (cloudpickle.dumps(self.sent),)
 
 
-def over_dask(address, given, scenarios, count):
+def over_dask(address: str, given: Network, scenarios: Scenarios, count: int) -> Outcomes:
     """The scenarios' outcomes, in their order, from the workers of the scheduler at this address. All that are there have to stay."""
     try:
         import distributed
@@ -68,22 +78,23 @@ def over_dask(address, given, scenarios, count):
             workers = client.scheduler_info()["workers"]
             if not workers:
                 raise Stopped(f"{address}: there is no worker")
-            far, waiting, left = client.scatter(ByValue(Teller(given)), broadcast=True, hash=False), collections.deque(), scenarios()
+            far, left = client.scatter(ByValue(Teller(given)), broadcast=True, hash=False), scenarios()
+            waiting: collections.deque[tuple[int, Any]] = collections.deque()
             threads = sum(worker["nthreads"] for worker in workers.values())
             size = max(1, min(MOST_IN_TASK, count // (SHARES * threads)))
             while some := [(place, [tuple(part) for part in parts]) for place, parts in itertools.islice(left, size)]:
                 if len(waiting) == AHEAD * threads:
-                    yield from results(client, workers, *waiting.popleft(), distributed.TimeoutError)
+                    yield from results(client, workers, distributed.TimeoutError, *waiting.popleft())
                 waiting.append((some[0][0], client.submit(operator.methodcaller("tell", some), far, pure=False)))
             while waiting:
-                yield from results(client, workers, *waiting.popleft(), distributed.TimeoutError)
+                yield from results(client, workers, distributed.TimeoutError, *waiting.popleft())
     except (Refused, Stopped):
         raise
     except Exception as fault:
         raise Stopped(f"{address}: {type(fault).__name__}: {fault}") from None
 
 
-def results(client, workers, place, future, late):
+def results(client: Any, workers: Iterable[str], late: type[Exception], place: int, future: Any) -> Outcomes:
     """The outcomes of a task, which begins with the scenario at this place, as soon as they are there."""
     found = fault = None
     while found is None:
@@ -108,7 +119,7 @@ def results(client, workers, place, future, late):
             yield Stopped(f"{worker}: {outcome[1]}") if outcome[0] == "Stopped" else outcome
 
 
-def over_ssh(logins, jobs, given, scenarios, count, most_links):
+def over_ssh(logins: str, jobs: int, given: Network, scenarios: Scenarios, count: int, most_links: int) -> Outcomes:
     """The scenarios' outcomes, in their order, from what `routed solve` says on these machines, which need no Python."""
     most_rows = 2 * (most_links + most_links // MOST_CHANGES + 1) + min(len(given.requests), MOST_ASKS)
     most = max(1, min(MOST_AT_ONCE, count // (SHARES * jobs * len(logins.split(","))), (MOST_ROWS - len(given.rows)) // most_rows))
@@ -119,7 +130,8 @@ def over_ssh(logins, jobs, given, scenarios, count, most_links):
             running = subprocess.Popen(command, stdin=subprocess.PIPE, stdout=subprocess.PIPE, stderr=said)
         except OSError as fault:
             raise Stopped(f"parallel: {fault.strerror}") from None
-        writer = threading.Thread(target=write, args=(running.stdin, Connections(given, most), scenarios))
+        assert running.stdin and running.stdout
+        writer = threading.Thread(target=write, args=(running.stdin, Connections(given, most, running.stdout), scenarios))
         writer.start()
         try:
             connections = Connections(given, most, running.stdout)
@@ -149,11 +161,11 @@ class Lost(Exception):
 class Connections:
     """The questions that connections share, and the lines that come back of them."""
 
-    def __init__(self, given, most, stream=None):
+    def __init__(self, given: Network, most: int, stream: IO[bytes]) -> None:
         self.given, self.most, self.stream, self.asked = given, most, stream, 0
-        self.heads, self.version, self.name, self.read = heads_of(given.rows), None, None, None
+        self.heads, self.version, self.name, self.read = heads_of(given.rows), 0, "", ""
 
-    def questions(self, links, indexes):
+    def questions(self, links: dict[Key, Link], indexes: list[int]) -> Iterator[tuple[Question, bool]]:
         """The questions of a scenario, and of each whether a connection begins with it."""
         for at in range(0, len(indexes), MOST_ASKS):
             is_first = self.asked % self.most == 0
@@ -162,16 +174,16 @@ class Connections:
             self.asked, self.version = self.asked + 1, question.version
             yield question, is_first
 
-    def ask(self, links, indexes):
+    def ask(self, links: dict[Key, Link], indexes: list[int]) -> list[str]:
         """What the far programs say of these requests without these links."""
-        texts = []
+        texts: list[str] = []
         for question, is_first in self.questions(links, indexes):
             if is_first:
                 self.begin()
             texts += self.checked(question.heads)[question.replies]
         return texts
 
-    def begin(self):
+    def begin(self) -> None:
         """Reads the lines before the answers to a connection's first question."""
         number = (self.asked - 1) // self.most + 1
         self.end()
@@ -181,14 +193,14 @@ class Connections:
         self.name = f"{found[2]}: {self.given.program}"
         self.checked(self.heads)
 
-    def end(self):
+    def end(self) -> None:
         """Reads the end of the connection so far, if there is one. It has only the program's status."""
         if self.name:
             status, lines = self.rest()
             if status or lines != [""]:
                 raise ended(self.name, status, lines)
 
-    def line(self):
+    def line(self) -> str:
         """The next line of the connection."""
         line = self.stream.readline().decode(errors="replace")
         if not line or BEGINS.fullmatch(line):
@@ -196,7 +208,7 @@ class Connections:
         self.read = line.rstrip("\n")
         return self.read
 
-    def checked(self, heads):
+    def checked(self, heads: list[str]) -> list[str]:
         """What the next lines say after these first words. If the program has failed, the fault says how."""
         try:
             return checked(self.name, heads, iter(self.line, None))
@@ -206,7 +218,7 @@ class Connections:
                 raise ended(self.name, status, [read, *lines]) from None
             raise
 
-    def rest(self):
+    def rest(self) -> tuple[int, list[str]]:
         """The program's status, and the lines that stand before it."""
         lines = []
         while not (found := ENDS.fullmatch(line := self.line())):
@@ -214,7 +226,7 @@ class Connections:
         return int(found[1]), lines
 
 
-def write(stream, connections, scenarios):
+def write(stream: IO[bytes], connections: Connections, scenarios: Scenarios) -> None:
     """The network, with which each connection begins, and the questions, one line each."""
     try:
         with stream:
@@ -226,11 +238,11 @@ def write(stream, connections, scenarios):
         pass
 
 
-def line_of(rows):
+def line_of(rows: list[str]) -> bytes:
     return f"{';'.join(rows)}\n".encode()
 
 
-def cause(log, said):
+def cause(log: str, said: IO[bytes]) -> str:
     """Why GNU parallel ended: which machine failed first, and the last line on standard error that isn't parallel's own."""
     said.seek(0)
     lines = [line for line in said.read().decode(errors="replace").splitlines() if line and not line.startswith(("parallel:", COMMAND))]

@@ -1,25 +1,29 @@
 """Runs of `routed`: over whole files, and `routed solve` that stays up while links are dropped and put back."""
+from __future__ import annotations
+
 import os
 import select
 import subprocess
 import tempfile
+from collections.abc import Iterable, Sequence
 
-from ..model.journals import MOST_CHANGES, MOST_ROWS  # each version takes a row, so a stream has no more versions
-from ..model.networks import Refused, Stopped
+from ..model.journals import MOST_ROWS, in_batches  # each version takes a row, so a stream has no more versions
+from ..model.networks import Stopped
+from ..model.rows import Drop, Key, Link, Refused, Request
 
 MOST_ASKS = 4096  # of a question
 
 
-def ended(program, status, lines):
+def ended(program: str, status: int, lines: list[str]) -> Stopped:
     """How a program ended that had to go on or to say no more, and the last that it said."""
     how = f"ended with status {status}" if status >= 0 else f"was ended by signal {-status}"
     return Stopped(f"{program} {how}" + "".join(f": {line}" for line in [line for line in lines if line][-1:]))
 
 
-def run(program, words, data, **options):
+def run(program: str, words: list[str], data: bytes, pass_fds: Sequence[int] = ()) -> list[str]:
     """The lines that a run of the program over this standard input writes."""
     try:
-        ran = subprocess.run([program, *words], input=data, capture_output=True, **options)
+        ran = subprocess.run([program, *words], input=data, capture_output=True, pass_fds=pass_fds)
     except OSError as fault:
         raise Stopped(f"{program}: {fault.strerror}") from None
     lines = ran.stdout.decode(errors="replace").splitlines()
@@ -30,21 +34,12 @@ def run(program, words, data, **options):
     return lines
 
 
-def batches(changes, version):
-    """The rows that make these changes after a version, most often as one batch, and the version after them."""
-    rows = []
-    for at in range(0, len(changes), MOST_CHANGES):
-        some, version = changes[at:at + MOST_CHANGES], version + 1
-        rows += [*some, f"end,{version},{len(some)}"]
-    return rows, version
-
-
-def heads_of(rows):
+def heads_of(rows: list[str]) -> list[str]:
     """The lines of `routed solve` to the batches of a network."""
     return [f"version {row.split(',')[1]}" for row in rows if row.startswith("end,")]
 
 
-def checked(program, heads, lines):
+def checked(program: str, heads: list[str], lines: Iterable[str]) -> list[str]:
     """What these lines say after the first words that they have to have."""
     said = []
     for head, line in zip(heads, lines):
@@ -57,10 +52,10 @@ def checked(program, heads, lines):
 class Question:
     """Some requests without some links: the rows that drop the links, ask the requests and put the links back."""
 
-    def __init__(self, links, requests, version):
-        drops, without = batches([f"drop,{router},{local}" for router, local in links], version)
-        puts, self.version = batches(list(links.values()), without)  # the one that is left
-        self.rows = [*drops, *(request.row for request in requests), *puts]
+    def __init__(self, links: dict[Key, Link], requests: list[Request], version: int) -> None:
+        drops, without = in_batches([Drop(*key).text() for key in links], version)
+        puts, self.version = in_batches([link.text() for link in links.values()], without)  # the one that is left
+        self.rows = [*drops, *(request.text() for request in requests), *puts]
         self.heads = [*(f"version {at}" for at in range(version + 1, without + 1)),
                       *(f"ask {request.id} v{without}" for request in requests),
                       *(f"version {at}" for at in range(without + 1, self.version + 1))]
@@ -70,75 +65,77 @@ class Question:
 class Solve:
     """A running `routed solve` on the network that some rows make."""
 
-    def __init__(self, program, rows):
-        self.program, self.rows, self.version, self.process = program, 0, len(heads_of(rows)), None
+    process: subprocess.Popen[bytes] | None = None
+
+    def __init__(self, program: str, rows: list[str]) -> None:
+        self.program, self.rows, self.version = program, 0, len(heads_of(rows))
         self.said = tempfile.TemporaryFile()
         try:
             self.process = subprocess.Popen([program, "solve"], stdin=subprocess.PIPE, stdout=subprocess.PIPE, stderr=self.said, bufsize=0)
         except OSError as fault:
             raise Stopped(f"{program}: {fault.strerror}") from None
-        os.set_blocking(self.process.stdin.fileno(), False)
+        assert self.process.stdin and self.process.stdout
+        self.into, self.out = self.process.stdin.fileno(), self.process.stdout.fileno()
+        os.set_blocking(self.into, False)
         try:
             self.exchange(rows, heads_of(rows))
         except BaseException:
             self.close()
             raise
 
-    def has_room(self, count):
+    def has_room(self, count: int) -> bool:
         return self.rows + count <= MOST_ROWS
 
-    def ask(self, question):
+    def ask(self, question: Question) -> list[str]:
         """What the program says of each request."""
         said = self.exchange(question.rows, question.heads)
         self.version = question.version
         return said[question.replies]
 
-    def exchange(self, rows, heads):
+    def exchange(self, rows: list[str], heads: list[str]) -> list[str]:
         """Writes rows, and returns what their lines say after these first words. The program is read while it is written to, so neither
         waits for the other."""
         self.rows += len(rows)
-        into, out = self.process.stdin.fileno(), self.process.stdout.fileno()
-        left, found, missing, waiting = memoryview("".join(f"{row}\n" for row in rows).encode()), [], len(heads), select.poll()
-        waiting.register(into, select.POLLOUT)
-        waiting.register(out, select.POLLIN)
+        left, found, missing, waiting = memoryview("".join(f"{row}\n" for row in rows).encode()), b"", len(heads), select.poll()
+        waiting.register(self.into, select.POLLOUT)
+        waiting.register(self.out, select.POLLIN)
         while missing > 0:
             for file, _ in waiting.poll():
-                if file == out:
-                    found.append(os.read(out, 1 << 20))
-                    missing -= found[-1].count(b"\n")
-                    if not found[-1]:
+                if file == self.out:
+                    data = os.read(self.out, 1 << 20)
+                    found, missing = found + data, missing - data.count(b"\n")
+                    if not data:
                         raise self.gone()
                 else:
                     left = left[self.write(left):]
                     if not left:
-                        waiting.unregister(into)
-        lines = b"".join(found).decode(errors="replace").split("\n")
+                        waiting.unregister(self.into)
+        lines = found.decode(errors="replace").split("\n")
         said = checked(self.program, heads, lines)
         if len(lines) > len(heads) + 1 or lines[-1]:
             raise Stopped(f"{self.program} wrote a line that nobody asked for: {lines[len(heads)]}")
         return said
 
-    def write(self, data):
+    def write(self, data: memoryview) -> int:
         """How many bytes are written without waiting; all where the program reads no more, which its output shows."""
         try:
-            return os.write(self.process.stdin.fileno(), data)
+            return os.write(self.into, data)
         except BlockingIOError:
             return 0
         except BrokenPipeError:
             return len(data)
 
-    def gone(self):
+    def gone(self) -> Stopped:
         """Why the program writes no more."""
-        self.process.stdin.close()
-        status = self.process.wait()
+        assert self.process
+        self.process.communicate()
         self.said.seek(0)
-        return ended(self.program, status, self.said.read().decode(errors="replace").splitlines())
+        return ended(self.program, self.process.returncode, self.said.read().decode(errors="replace").splitlines())
 
-    def close(self):
+    def close(self) -> None:
         if self.process:
             self.process.kill()
-            self.process.wait()
-            for file in (self.process.stdin, self.process.stdout, self.said):
-                file.close()
+            with self.process, self.said:  # which waits for it, and closes its pipes
+                pass
 
     __del__ = close  # at a worker of Dask nobody says when the sweep has ended

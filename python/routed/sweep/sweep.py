@@ -3,6 +3,8 @@
 It lists the requests that lose their route or get a costlier one, and the links that become overbooked, or more overbooked than
 before. `routed batch` answers all requests once. In a scenario `routed solve` answers those that the failure can change.
 """
+from __future__ import annotations
+
 import argparse
 import contextlib
 import hashlib
@@ -13,16 +15,19 @@ import os
 import re
 import signal
 import sys
+from collections.abc import Generator, Iterator
+from multiprocessing.connection import Connection
 
-from ..model.networks import Refused, Stopped, circuits_of, routers_of
+from ..model.networks import Stopped, circuits_of, routers_of
+from ..model.rows import Refused
 from ..program import add_option, find
-from .failures import Network
-from .machines import over_dask, over_ssh
+from .failures import Network, Outcomes
+from .machines import Scenario, Scenarios, over_dask, over_ssh
 from .progress import Progress
 from .ranking import Ranking
 
 
-def work(given, scenarios, at, jobs, readers, results):
+def work(given: Network, scenarios: Scenarios, at: int, jobs: int, readers: list[Connection], results: Connection) -> None:
     """One of the jobs: the scenario at this index, and then every Nth one, where N is the number of jobs."""
     for reader in readers:
         reader.close()  # so that a job whose results nobody takes any more ends
@@ -35,9 +40,10 @@ def work(given, scenarios, at, jobs, readers, results):
         given.close()
 
 
-def over_jobs(jobs, given, scenarios):
+def over_jobs(jobs: int, given: Network, scenarios: Scenarios) -> Outcomes:
     """The scenarios' outcomes, in their order. A job that is ahead of the others waits once its pipe is full."""
-    fork, readers = multiprocessing.get_context("fork"), []
+    fork = multiprocessing.get_context("fork")
+    readers: list[Connection] = []
     try:
         for at in range(jobs):
             reader, writer = fork.Pipe(duplex=False)
@@ -54,15 +60,15 @@ def over_jobs(jobs, given, scenarios):
             reader.close()
 
 
-def sweep(asked, journal, requests):
+def sweep(asked: argparse.Namespace, journal: bytes, requests: bytes) -> Generator[str, None, None]:
     """What is printed, one scenario after the other."""
     given = Network(asked.program, asked.workers, journal, requests)
-    parts = routers_of(given.links) if asked.fail == "routers" else circuits_of(given.links)
+    parts = routers_of(given.database) if asked.fail == "routers" else circuits_of(given.database)
     size, counts, ranking = 2 if asked.fail == "pairs" else 1, [0, 0, 0], Ranking()
     (part, of), whole = asked.part or (1, 1), math.comb(len(parts), size)
     places = range(whole * (part - 1) // of, whole * part // of)
 
-    def scenarios():
+    def scenarios() -> Iterator[Scenario]:
         return itertools.islice(enumerate(itertools.combinations(parts, size), 1), places.start, places.stop)
 
     yield "\n".join(given.before())
@@ -76,45 +82,44 @@ def sweep(asked, journal, requests):
         for found, (place, out) in zip(outcomes, scenarios()):
             if isinstance(found, Exception):
                 raise found
-            text, *touched = found
+            text, lost, longer, overbooked = found
             progress.make_room()
             yield text
             progress.step()
-            counts = [total + bool(some) for total, some in zip(counts, touched)]
-            lost, longer = ([given.requests[index] for index in some] for some in touched[:2])
-            ranking.add(place, " and ".join(name for name, _ in out), lost, longer)
+            counts = [total + bool(some) for total, some in zip(counts, (lost, longer, overbooked))]
+            ranking.add(place, " and ".join(name for name, _ in out), *([given.requests[index] for index in some] for some in (lost, longer)))
     yield from ranking.lines()
     name = f"part {part}/{of} input={asked.input} " if asked.part else ""
     yield f"{name}scenarios={len(places)} lost={counts[0]} longer={counts[1]} overbooked={counts[2]}"
 
 
-def ended(*_):
+def ended(*_: object) -> None:
     """At SIGTERM the jobs and their programs end, too."""
     for job in multiprocessing.active_children():
         job.terminate()
     sys.exit(128 + signal.SIGTERM)
 
 
-def count(text):
+def count(text: str) -> int:
     if not re.fullmatch("[1-9][0-9]?", text) or int(text) > 64:
         raise argparse.ArgumentTypeError(f"{text!r} is no number from 1 to 64")
     return int(text)
 
 
-def address(text):
+def address(text: str) -> str:
     if not re.fullmatch(r"(tcp|tls)://\S+:[0-9]+", text):
         raise argparse.ArgumentTypeError(f"{text!r} is no address of a scheduler as tcp://HOST:8786")
     return text
 
 
-def part(text):
+def part(text: str) -> tuple[int, int]:
     found = re.fullmatch("([1-9][0-9]{0,5})/([1-9][0-9]{0,5})", text)
     if not found or int(found[1]) > int(found[2]):
         raise argparse.ArgumentTypeError(f"{text!r} is no part I/N, with I from 1 to N")
     return int(found[1]), int(found[2])
 
 
-def options(words):
+def options(words: list[str] | None) -> argparse.Namespace:
     asked = argparse.ArgumentParser(prog="sweep", description=__doc__.split("\n\n")[0])
     asked.add_argument("journal", help="a clean journal; its last version is the network")
     asked.add_argument("requests", help="ask rows with different ids")
@@ -136,7 +141,7 @@ def options(words):
     return given
 
 
-def main(words=None):
+def main(words: list[str] | None = None) -> int:
     """Takes the words of a command line, and answers the status."""
     asked = options(words)
     signal.signal(signal.SIGTERM, ended)

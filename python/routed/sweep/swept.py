@@ -1,6 +1,10 @@
 """Reads what `sweep` prints: what each circuit's failure does, and which links are overbooked while nothing fails."""
+from __future__ import annotations
+
 import collections
 import re
+from collections.abc import Iterable
+from typing import NamedTuple
 
 OUT = re.compile(r"scenario (\d+) out (circuit|link) (\S+) (\S+) (\S+) (\S+)")
 REQUEST = re.compile(r"scenario (\d+) (lost|longer) request (\d+) .*")
@@ -8,26 +12,45 @@ OVERBOOKED = re.compile(r"(?:before|scenario (\d+)) overbooked (\S+ \S+ \S+ \S+)
 COUNTS = re.compile(r"scenario (\d+) lost=(\d+) longer=(\d+) most=\d+ overbooked=\d+")
 WHOLE = re.compile(r"scenarios=(\d+) lost=\d+ longer=\d+ overbooked=\d+")
 
-# A link's setup priority, what is asked of it at that priority and above, and what it has unreserved.
-Overbooked = collections.namedtuple("Overbooked", "priority asked unreserved")
-# A circuit's link, its router and its neighbor, whether it is a circuit; how many requests lose their route and how many get a longer one,
-# and which; and the links that are overbooked without it, and not as much with it.
-Failure = collections.namedtuple("Failure", "link one other is_circuit lost longer lost_ids longer_ids overbooked")
+class Overbooked(NamedTuple):
+    """A link's setup priority, what is asked of it at that priority and above, and what it has unreserved."""
+
+    priority: int
+    asked: int
+    unreserved: int
 
 
-def overbooked_before(lines):
+class Failure(NamedTuple):
+    """A circuit that is out, by a link of it; the requests that lose their route and those that get a longer one, and how many; and the
+    links that are overbooked without it, and not as much with it."""
+
+    link: str
+    one: str
+    other: str
+    is_circuit: bool
+    lost: int
+    longer: int
+    lost_ids: tuple[str, ...]
+    longer_ids: tuple[str, ...]
+    overbooked: tuple[str, ...]
+
+
+def overbooked_before(lines: Iterable[str]) -> dict[str, list[Overbooked]]:
     """What is overbooked while nothing fails: of each link, by its name."""
-    found = collections.defaultdict(list)
+    found: dict[str, list[Overbooked]] = collections.defaultdict(list)
     for line in lines:
         if (over := OVERBOOKED.fullmatch(line.rstrip("\n"))) and over[1] is None:
             found[over[2]].append(Overbooked(int(over[3]), int(over[4]) + int(over[5]), int(over[6])))
     return dict(found)
 
 
-def failures(lines):
+def failures(lines: Iterable[str]) -> list[Failure]:
     """What each scenario does, all being there and each having one circuit out."""
-    outs, requests, over, found, count = {}, collections.defaultdict(list), collections.defaultdict(set), [], None
-    before = collections.Counter()
+    outs: dict[str, tuple[str, str, str, bool]] = {}
+    requests: dict[tuple[str, str], list[str]] = collections.defaultdict(list)
+    over: dict[str, set[str]] = collections.defaultdict(set)
+    before: dict[tuple[str, str], int] = collections.defaultdict(int)
+    found, count = [], None
     for line in lines:
         line = line.rstrip("\n")
         if out := OUT.fullmatch(line):
@@ -45,8 +68,8 @@ def failures(lines):
         elif counts := COUNTS.fullmatch(line):
             if counts[1] not in outs:
                 raise ValueError(f"scenario {counts[1]} has no circuit out")
-            found.append(Failure(*outs[counts[1]], int(counts[2]), int(counts[3]), *(tuple(requests[counts[1], kind]) for kind in ("lost", "longer")),
-                                 tuple(sorted(over[counts[1]]))))
+            lost, longer = (tuple(requests[counts[1], kind]) for kind in ("lost", "longer"))
+            found.append(Failure(*outs[counts[1]], int(counts[2]), int(counts[3]), lost, longer, tuple(sorted(over[counts[1]]))))
         elif whole := WHOLE.fullmatch(line):
             count = int(whole[1])
     if count is None or count != len(found):

@@ -1,9 +1,15 @@
 """The LSAs that rows are made of: router LSAs (RFC 2328 A.4.2) and traffic engineering LSAs (RFC 3630 2). Extended link
 LSAs (RFC 7684 3) have the adjacency SIDs (RFC 8665 6.1)."""
+from __future__ import annotations
+
+import dataclasses
 import math
 import socket
 import struct
-from collections import namedtuple
+from collections.abc import Callable, Iterator
+from typing import NamedTuple, Union
+
+from ...model.rows import Key, Link, Mark, Row
 
 ROUTER_LSA, AREA_OPAQUE_LSA = 1, 10
 TE_OPAQUE, LINK_TLV = 1, 2
@@ -14,28 +20,61 @@ POINT_TO_POINT = 1  # in all these kinds of LSA
 STUB_NETWORK = 3  # in a router LSA
 MAX_METRIC = 0xffff  # of links that nothing is to pass through the router by (RFC 6987)
 MAX_AGE = 3600
-ABSENT = "absent"
+ABSENT, UNREAD = "absent", "unread"  # in the place of an LSA's content
 LSA_HEADER = struct.Struct(">HBB4s4siHH")  # age, options, type, id, router, sequence number, checksum, length
 BEFORE_LSA = 12  # bytes of a message's body: address of an interface, area, is it the router's own, padding
 # What ospfd announces where nothing is configured for a circuit of so many Gbit/s, since the bits a
 # second are counted in 32 bits.
 WRAPPED = {(speed * 10**9 % 2**32) / 8: speed for speed in (10, 25, 40, 50, 100, 200, 400, 800)}
 
-Lsa = namedtuple("Lsa", "sequence content")  # the content is None where it can't be read
-RouterLinks = namedtuple("RouterLinks", "adjacent is_stub")
-TeLink = namedtuple("TeLink", "kind neighbor local remote metric group free most")
+Area = tuple[str, str]  # an area and a router
 
 
-def dotted(data):
+class RouterLinks(NamedTuple):
+    """What a router LSA tells: by the local address of each point-to-point link the neighbor and the cost."""
+
+    adjacent: dict[str, tuple[str, int]]
+    is_stub: bool
+
+
+class TeLsa(NamedTuple):
+    """What a TE LSA tells of a link, None where it doesn't."""
+
+    kind: int | None
+    neighbor: str | None
+    local: str | None
+    remote: str | None
+    metric: int | None
+    group: int
+    free: tuple[float, ...] | None
+    most: float | None
+
+
+class LinkSid(NamedTuple):
+    """The adjacency SID of a link."""
+
+    local: str
+    label: int
+
+
+Content = Union[RouterLinks, TeLsa, LinkSid, None]
+
+
+class Lsa(NamedTuple):
+    sequence: int
+    content: Content | str  # UNREAD where it can't be read, None where it has nothing that is needed
+
+
+LsaKey = tuple[str, int, bytes, str]  # area, type, id and router
+# Rows of links and marks by their keys, what is left out by its reason, and bandwidths that look wrapped.
+Look = tuple[dict[Key, Row], dict[str, list[Key]], dict[Key, float]]
+
+
+def dotted(data: bytes) -> str:
     return socket.inet_ntoa(data[:4])
 
 
-def rank(key):
-    """Orders keys of links as numbers."""
-    return tuple(socket.inet_aton(part) for part in key)
-
-
-def tlvs(data):
+def tlvs(data: bytes) -> Iterator[tuple[int, bytes]]:
     """Types and values, each padded to four bytes (RFC 3630 2.3.2)."""
     while data:
         kind, length = struct.unpack_from(">HH", data)
@@ -45,45 +84,47 @@ def tlvs(data):
         data = data[4 + (length + 3) // 4 * 4:]
 
 
-def te_link(body):
-    """The link of a TE LSA, empty where it has none."""
+def te_link(body: bytes) -> TeLsa | None:
+    """The link of a TE LSA, None where it has none."""
     values = next((value for kind, value in tlvs(body) if kind == LINK_TLV), None)
     if values is None:
-        return ()
+        return None
     of = dict(tlvs(values))
 
     def value(kind, form):
-        return struct.unpack_from(form, of[kind]) if kind in of else (None,)
+        return struct.unpack_from(form, of[kind])[0] if kind in of else None
 
-    def address(kind):
-        raw = value(kind, "4s")[0]
+    def address(kind: int) -> str | None:
+        raw = value(kind, "4s")
         return dotted(raw) if raw not in (None, bytes(4)) else None
 
-    return TeLink(value(1, "B")[0], address(2), address(3), address(4), value(5, ">I")[0],
-                  value(9, ">I")[0] or 0, value(8, ">8f") if 8 in of else None, value(6, ">f")[0])
+    return TeLsa(value(1, "B"), address(2), address(3), address(4), value(5, ">I"), value(9, ">I") or 0,
+                 struct.unpack_from(">8f", of[8]) if 8 in of else None, value(6, ">f"))
 
 
-def link_sid(body):
-    """The local address and the label of the point-to-point link of an extended link LSA, empty where it has none. A SID of a
-    backup or of a group of links isn't the link's own."""
+def link_sid(body: bytes) -> LinkSid | None:
+    """The adjacency SID of the point-to-point link of an extended link LSA, None where it has none. A SID of a backup or of a group
+    of links isn't the link's own."""
     value = next((value for kind, value in tlvs(body) if kind == EXTENDED_LINK_TLV), None)
     if value is None:
-        return ()
-    kind, local, found = *struct.unpack_from(">B7x4s", value), ()
+        return None
+    (kind, local), found = struct.unpack_from(">B7x4s", value), None
     for part, sid in tlvs(value[12:]):
         if part == ADJACENCY_SID:
-            flags, label = struct.unpack_from(">B3x3s", sid)
-            label = int.from_bytes(label, "big") & 0xfffff
+            flags, raw = struct.unpack_from(">B3x3s", sid)
+            label = int.from_bytes(raw, "big") & 0xfffff
             is_own = flags & (BACKUP | IS_LABEL | IS_LOCAL | IS_GROUP) == IS_LABEL | IS_LOCAL
             if is_own and len(sid) == 7 and label >= FIRST_LABEL and not found:
-                found = dotted(local), label
-    return found if kind == POINT_TO_POINT else ()
+                found = LinkSid(dotted(local), label)
+    return found if kind == POINT_TO_POINT else None
 
 
-def router_links(body):
-    """The point-to-point links of a router LSA, the neighbor and the cost by the local address, and whether it is that of a
-    stub router, whose links to routers and transit networks all have the greatest metric."""
-    count, at, found, costs = struct.unpack_from(">H", body, 2)[0], 4, {}, set()
+def router_links(body: bytes) -> RouterLinks:
+    """The point-to-point links of a router LSA, and whether it is that of a stub router, whose links to routers and transit networks
+    all have the greatest metric."""
+    (count,), at = struct.unpack_from(">H", body, 2), 4
+    found: dict[str, tuple[str, int]] = {}
+    costs: set[int] = set()
     for _ in range(count):
         neighbor, local, kind, metrics, cost = struct.unpack_from(">4s4sBBH", body, at)
         at += 12 + 4 * metrics
@@ -94,7 +135,7 @@ def router_links(body):
     return RouterLinks(found, costs == {MAX_METRIC})
 
 
-def whole(rate):
+def whole(rate: float) -> int | None:
     """Bytes per second, rounded down; None for what is no rate of a row."""
     return math.floor(rate) if 0 <= rate < 2**64 else None
 
@@ -103,15 +144,17 @@ class Lsdb:
     """The LSAs of a router that are needed, and the rows of the links that they show. With `has_sids` it keeps adjacency SIDs,
     too, and with a group (0 to 31) exactly the links that have one are in that administrative group."""
 
-    def __init__(self, has_sids=False, group=None):
-        self.opaque = {TE_OPAQUE: te_link} | ({EXTENDED_LINK_OPAQUE: link_sid} if has_sids or group is not None else {})
+    def __init__(self, has_sids: bool = False, group: int | None = None) -> None:
+        self.opaque: dict[int, Callable[[bytes], Content]] = {TE_OPAQUE: te_link}
+        if has_sids or group is not None:
+            self.opaque[EXTENDED_LINK_OPAQUE] = link_sid
         self.bit = 0 if group is None else 1 << group
-        self.sids = {}  # labels by the key of the link, as the last look found them
-        self.lsas = {}  # by area, type, id and router
-        self.before = {}  # contents at the last look, of the LSAs that something came for since
-        self.looked = {}, {}, {}  # what that look found
+        self.sids: dict[Key, int] = {}  # labels by the key of the link, as the last look found them
+        self.lsas: dict[LsaKey, Lsa] = {}
+        self.before: dict[LsaKey, Content | str] = {}  # contents at the last look, of the LSAs that something came for since
+        self.looked: Look = ({}, {}, {})  # what that look found
 
-    def take(self, body, is_removal):
+    def take(self, body: bytes, is_removal: bool) -> bool:
         """One event; whether anything changed."""
         if len(body) < BEFORE_LSA + LSA_HEADER.size:
             return False
@@ -127,15 +170,16 @@ class Lsdb:
                 return False
             del self.lsas[key]
             return True
+        content: Content | str
         try:
             read = router_links if kind == ROUTER_LSA else self.opaque[number[0]]
             content = read(lsa[LSA_HEADER.size:length])
         except struct.error:
-            content = None
+            content = UNREAD
         self.lsas[key] = Lsa(sequence, content)
         return had is None or had.content != content
 
-    def network(self):
+    def network(self) -> Look:
         """As `look` says. LSAs that were only refreshed need no new look."""
         now = {key: self.lsas[key].content if key in self.lsas else ABSENT for key in self.before}
         if now != self.before:
@@ -143,35 +187,38 @@ class Lsdb:
         self.before = {}
         return self.looked
 
-    def look(self):
-        """Rows of links and marks by their keys, what is left out by its reason, and bandwidths that look wrapped."""
-        up, stubs, links, left, labels = {}, {}, [], {}, {}
+    def look(self) -> Look:
+        """What the LSAs show now."""
+        up: dict[Area, dict[str, tuple[str, int]]] = {}
+        stubs: dict[str, list[bool]] = {}
+        left: dict[str, list[Key]] = {}
+        labels: dict[tuple[str, str, str], dict[bytes, int]] = {}
+        links: list[tuple[str, str, TeLsa, str]] = []
         for (area, kind, number, router), lsa in self.lsas.items():
-            is_extended = kind == AREA_OPAQUE_LSA and number[0] == EXTENDED_LINK_OPAQUE
-            if lsa.content is None:
+            if lsa.content == UNREAD:
+                is_extended = kind == AREA_OPAQUE_LSA and number[0] == EXTENDED_LINK_OPAQUE
                 which = "router LSA" if kind == ROUTER_LSA else f"{'extended link' if is_extended else 'TE'} LSA {dotted(number)}"
                 left.setdefault("an LSA that can't be read", []).append((router, which))
-            elif kind == ROUTER_LSA:
+            elif isinstance(lsa.content, RouterLinks):
                 up[area, router] = lsa.content.adjacent
                 stubs.setdefault(router, []).append(lsa.content.is_stub)
-            elif is_extended:
-                if lsa.content:
-                    local, label = lsa.content
-                    labels.setdefault((area, router, local), {})[number] = label
-            elif lsa.content:
+            elif isinstance(lsa.content, LinkSid):
+                labels.setdefault((area, router, lsa.content.local), {})[number] = lsa.content.label
+            elif isinstance(lsa.content, TeLsa):
                 links.append((area, router, lsa.content, lsa.content.local or f"TE LSA {dotted(number)}"))
-        made, wrapped, sids = {}, {}, {}
-        for area, router, link, name in links:
-            why = why_not(up, area, router, link)
-            if why:
-                left.setdefault(why, []).append((router, name))
+        made: dict[Key, set[Link]] = {}
+        wrapped: dict[Key, float] = {}
+        sids: dict[Key, int] = {}
+        for area, router, told, name in links:
+            link = link_of(up, area, router, told)
+            if isinstance(link, str):
+                left.setdefault(link, []).append((router, name))
                 continue
             if (area, router, name) in labels:
-                sids[router, name] = min(labels[area, router, name].items())[1]  # that of the smallest number (RFC 7684 3)
-            group = link.group & ~self.bit | (self.bit if (router, name) in sids else 0)
-            made.setdefault((router, name), set()).add(row_of(router, link._replace(group=group), up[area, router][name][1]))
-            if link.most in WRAPPED:
-                wrapped[router, name] = link.most
+                sids[link.key] = min(labels[area, router, name].items())[1]  # that of the smallest number (RFC 7684 3)
+            made.setdefault(link.key, set()).add(grouped(link, self.bit, link.key in sids))
+            if told.most in WRAPPED:
+                wrapped[link.key] = told.most
         announced = {(area, router, name) for area, router, _, name in links}
         for (area, router), locals_up in up.items():
             for local in locals_up:
@@ -182,39 +229,35 @@ class Lsdb:
             sids.pop(key, None)
             left.setdefault("two TE LSAs that differ", []).append(key)
         self.sids = sids
-        marks = {(router,): f"node,{router},0" for router, areas in stubs.items() if all(areas)}
+        marks: dict[Key, Row] = {(router,): Mark(router) for router, areas in stubs.items() if all(areas)}
         return {key: rows.pop() for key, rows in made.items()} | marks, left, wrapped
 
 
-def why_not(up, area, router, link):
-    """Why a TE LSA makes no row, None where it makes one."""
-    if link.kind != POINT_TO_POINT:
+def link_of(up: dict[Area, dict[str, tuple[str, int]]], area: str, router: str, told: TeLsa) -> Link | str:
+    """The link of a TE LSA; else why it makes none."""
+    if told.kind != POINT_TO_POINT:
         return "not point-to-point"
-    if not link.local or not link.remote or not link.neighbor:
+    if not told.local or not told.remote or not told.neighbor:
         return "no addresses"
     if (area, router) not in up:
         return "no router LSA"
-    if link.local not in up[area, router]:
+    if told.local not in up[area, router]:
         return "no adjacency"
-    if up[area, router][link.local][0] != link.neighbor:
+    neighbor, cost = up[area, router][told.local]
+    if neighbor != told.neighbor:
         return "an adjacency with another router"
-    if link.neighbor == router:
+    if neighbor == router:
         return "a link to itself"
-    if up.get((area, link.neighbor), {}).get(link.remote, (None,))[0] != router:
+    if up.get((area, neighbor), {}).get(told.remote, ("",))[0] != router:
         return "no adjacency back"
-    if link.free is None:
+    if told.free is None:
         return "no unreserved bandwidth"
-    if None in map(whole, link.free):
+    free = [rate for rate in map(whole, told.free) if rate is not None]
+    if len(free) < len(told.free):
         return "an unreserved bandwidth that is no number of a row"
-    return None
+    return Link(router, told.local, neighbor, told.remote, told.metric or cost, told.group, tuple(free))
 
 
-def outside(bit, row):
-    """The row of a link, out of the groups of these bits."""
-    fields = row.split(",")
-    return ",".join([*fields[:6], f"0x{int(fields[6], 16) & ~bit:08x}", *fields[7:]])
-
-
-def row_of(router, link, cost):
-    free = ",".join(str(whole(rate)) for rate in link.free)
-    return f"put,{router},{link.local},{link.neighbor},{link.remote},{link.metric or cost},0x{link.group:08x},{free}"
+def grouped(link: Link, bit: int, is_in: bool) -> Link:
+    """The link in or out of the group of this bit."""
+    return dataclasses.replace(link, group=link.group & ~bit | bit * is_in)

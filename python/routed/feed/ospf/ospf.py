@@ -10,10 +10,11 @@ from __future__ import annotations
 import argparse
 import functools
 
+from ...model.rows import Key, Link
 from ...net.stream import Stream
-from ..feed import Key, Listener, Lost, Network, host, number, options, run
+from ..feed import Listener, Lost, Network, host, number, options, run
 from .api import LSA_DELETE, LSA_UPDATE, cut, sockets
-from .lsas import WRAPPED, Lsdb, outside
+from .lsas import WRAPPED, Lsdb, grouped
 
 
 class Router:
@@ -56,8 +57,8 @@ class Router:
         rows, left, wrapped = self.lsdb.network()
         return Network(rows, left, {key: note_of(key, most) for key, most in wrapped.items()}, self.lsdb.sids)
 
-    def without_sid(self, row: str) -> str:
-        return outside(self.lsdb.bit, row)
+    def without_sid(self, link: Link) -> Link:
+        return grouped(link, self.lsdb.bit, False)
 
 
 def note_of(key: Key, most: float) -> str:
