@@ -1,6 +1,6 @@
 """Tests of the feed's adjacency SIDs: the file that `--sids` writes, beside the batches, and the group of `--sid-group`.
 
-The router is the one that tests/feed/rows.py plays, and its LSAs are built here.
+The router is the one that tests/feed/played.py plays, and its LSAs are built here.
 """
 import os
 import resource
@@ -9,8 +9,8 @@ import stat
 import subprocess
 import tempfile
 
-from feed.rows import A, A_B, B, B_A, B_C, C, FEED, HOLD, PAIR_ROWS, PATIENCE, ROUTERS, Feed, Router
-from feed.rows import lsa, raw, removal, router_lsa, row, snapshot, te_lsa, tlv, update
+from feed.played import A, A_B, B, B_A, B_C, C, FEED, HOLD, PAIR_ROWS, PATIENCE, ROUTERS, Feed, Router
+from feed.played import lsa, raw, removal, router_lsa, row, snapshot, te_lsa, tlv, update
 
 OWN, OF_BACKUP, OF_GROUP, INDEX = 0x60, 0xe0, 0x70, 0  # flags: a local label of one link; of a backup; of links; of no label
 

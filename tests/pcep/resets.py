@@ -6,8 +6,8 @@ import struct
 import tempfile
 import time
 
-from pcep.sessions import PATH, request, rows
-from pcep.runs import OPENED, Client, Run, begun, wait
+from pcep.played import PATH, request, rows
+from pcep.beside import OPENED, Client, Run, begun, wait
 
 from routed.pcep import wire
 from routed.pcep.wire import pack

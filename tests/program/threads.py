@@ -20,7 +20,7 @@ from checks import TOP
 from program.refusal import COMPILER, Refuser
 from program.serving import CLIENTS, PATIENCE
 from reference import formats
-from tools.listened import Front
+from tools.fronts import Front
 
 FEW, SOME = 8, (1, 2, CLIENTS // 2, CLIENTS - 1, CLIENTS)  # clients of which each thread is refused, and those of 64 that are
 MOST = 20  # threads of a user, fewer than 64

@@ -2,7 +2,6 @@
 import os
 import pty
 import re
-import select
 import shutil
 import signal
 import socket
@@ -13,20 +12,15 @@ import threading
 import time
 
 from checks import TOOLS, TOP
-from feed import rows as feeds
-from program.serving import PATIENCE
-from tools.listened import CLIENTS, Connection, Front, admitted, busy
+from feed import played as feeds
+from program.serving import CLIENTS, PATIENCE
+from tools.fronts import Connection, Front, admitted, busy
+from tools.logs import blocked, logged, priorities
+from tools.reading import ASKS, PAIR, answered, eventually, exchanged, figures_of, got, seen, sent
 
 from routed.front import metrics, status
-from routed.net import http, log
-from routed.net.endpoints import Endpoint
+from routed.net import http
 
-MASKS = "0x0,0x0,0x0"
-FREE = ",".join(["1000"] * 8)
-PAIR = f"put,1.1.1.1,10.0.12.1,2.2.2.2,10.0.12.2,10,0x1,{FREE}\nput,2.2.2.2,10.0.12.2,1.1.1.1,10.0.12.1,10,0x1,{FREE}\n"
-ASKS = {  # a row of each outcome
-    "route": f"ask,1,1.1.1.1,2.2.2.2,0,5,{MASKS},\n", "none": f"ask,2,1.1.1.1,2.2.2.2,0,1001,{MASKS},\n",
-    "unknown-from": f"ask,3,3.3.3.3,2.2.2.2,0,5,{MASKS},\n", "unknown-to": f"ask,4,1.1.1.1,3.3.3.3,0,5,{MASKS},\n"}
 REFUSALS = [  # an alarm, its figure and a word of it, and whether one refusal is told of for good
     ("RoutedJournalFailed", "routed_refused_batches_total", "journal", True), ("RoutedJournalFailed", "routed_refused_batches_total", "stopped", True),
     ("RoutedOutOfMemory", "routed_refused_batches_total", "memory", False), ("RoutedBatchRefused", "routed_refused_batches_total", "version", False),
@@ -39,51 +33,6 @@ def figures(program, checks):
     with tempfile.TemporaryDirectory() as room:
         checks.parts_in(room, (text, sums, alarms, watched, half_closed, page, logged, priorities, blocked, each, screen, of_feed, audited), program, checks)
     print(f"figures: {CLIENTS} connections, {VERSIONS} versions, {time.monotonic() - start:.0f} s")
-
-
-def seen(program, room, *words, **how):
-    """A run of routed-tools listen with both places, below a folder."""
-    return Front(program, room, "--watch", os.path.join(room, "watch"), "--metrics", os.path.join(room, "metrics"), *words, **how)
-
-
-def figures_of(room, name="metrics"):
-    """The numbers by name and label's value."""
-    return status.read(Endpoint(os.path.join(room, name)))
-
-
-def eventually(checks, name, test, wanted):
-    """What is true once the last connection's end has been seen."""
-    end = time.monotonic() + PATIENCE
-    while (found := test()) != wanted and time.monotonic() < end:
-        time.sleep(0.01)
-    checks.same(name, found, wanted)
-
-
-def got(room, path="/metrics", method="GET"):
-    """The head and the body of an answer."""
-    return exchanged(room, f"{method} {path} HTTP/1.1\r\nHost: routed\r\n\r\n".encode())
-
-
-def exchanged(room, data):
-    return answered(sent(room, data))
-
-
-def sent(room, data):
-    """A connection to the place of figures on which this is sent. It is refused where too many wait to be accepted."""
-    made = socket.socket(socket.AF_UNIX)
-    made.settimeout(PATIENCE)
-    made.connect(os.path.join(room, "metrics"))
-    made.sendall(data)
-    return made
-
-
-def answered(made):
-    with made:
-        said = b""
-        while more := made.recv(1 << 16):
-            said += more
-    head, _, body = said.partition(b"\r\n\r\n")
-    return head.decode(), body.decode()
 
 
 # ---- figures
@@ -291,87 +240,6 @@ def page(program, checks, room):
 
 def figures_of_patiently(room):
     return {(found[1], found[3]): found[4] for line in got(room)[1].splitlines() if (found := status.SAMPLE.fullmatch(line))}
-
-
-# ---- the log
-
-
-def spoken(front, *rows):
-    """One asking connection and one for updates, with a refused row and a refused batch, one after the other."""
-    for place, rows in ((front.ask, ASKS["route"] + "foo\n"), (front.updates, "end,7,0\n")):
-        taken = Connection(place)
-        taken.say(rows)
-        taken.leave()
-    busy_one = Connection(front.updates)
-    busy_one.talk("end,7,0\n")
-    busy(front.updates)
-    busy_one.say("GET / HTTP/1.1\n")
-    busy_one.rest()
-
-
-def logged(program, checks, room):
-    """The lines of each level."""
-    me = f"pid=P uid={os.getuid()} gid={os.getgid()}"
-    info = [f"ask 1: connected, {me}", "ask 1: row 2 refused: kind", "ask 1: ended, 2 rows, 2 lines, T s", f"updates 1: connected, {me}",
-            "!updates 1: batch 7 refused: expected 1", "updates 1: ended, 1 rows, 1 lines, T s", f"updates 2: connected, {me}",
-            "!updates 2: batch 7 refused: expected 1", f"updates: busy, {me}", "updates 2: refused, for a line that isn't passed on",
-            "updates 2: ended, 1 rows, 1 lines, T s", "stopped by SIGTERM"]
-    for level, wanted in (("info", [line.removeprefix("!") for line in info]), ("warning", [line[1:] for line in info if line[0] == "!"]), ("error", [])):
-        os.mkdir(inner := os.path.join(room, level))
-        with seen(program, inner, "--log-level", level) as front:
-            spoken(front)
-            front.child.terminate()
-            lines = [re.sub(r"pid=\d+", "pid=P", re.sub(r"[0-9.]+ s$", "T s", line)) for line in front.ended()[1].splitlines()]
-            checks.same(f"the log at the level {level}", lines, [f"listen: {line}" for line in wanted])
-    os.mkdir(inner := os.path.join(room, "debug"))
-    with seen(program, inner, "--log-level", "debug") as front:
-        Connection(front.updates).talk(PAIR + "end,1,2\n")
-        front.child.terminate()
-        checks.true("versions at the level debug", "listen: version 1\n" in front.ended()[1])
-
-
-def priorities(program, checks, room):
-    """Where standard error is the stream that systemd names, a line has its priority in front."""
-    reading, writing = os.pipe()
-    found = os.fstat(writing)
-    with Front(program, room, "--log-level", "info", env={**os.environ, "JOURNAL_STREAM": f"{found.st_dev}:{found.st_ino}"}, stderr=writing) as front:
-        spoken(front)
-        front.child.terminate()
-        front.child.wait(PATIENCE)
-    os.close(writing)
-    with open(reading) as said:
-        lines = said.read().splitlines()
-    checks.true("lines with priorities", lines and all(re.match(r"<[46]>listen: ", line) for line in lines), lines)
-    checks.same("refused batches are warnings", [line[:3] for line in lines if "batch" in line], ["<4>"] * 2)
-
-
-def blocked(program, checks, room):
-    """A log that nobody takes is dropped and counted, and asks go on."""
-    reading, writing = os.pipe()
-    os.set_blocking(writing, False)
-    while True:
-        try:
-            os.write(writing, b"x" * 4096)
-        except BlockingIOError:
-            break
-    os.set_blocking(writing, True)
-    with seen(program, room, "--log-level", "info", stderr=writing) as front:
-        for _ in range(5):
-            taken = Connection(front.ask)
-            checks.same("an ask beside a log that blocks", taken.talk(ASKS["route"]), "ask 1 v0 unknown-from\n")
-            taken.leave()
-        eventually(checks, "dropped lines are counted", lambda: figures_of(room).get(("routed_log_dropped_total", None)), 10)
-        while select.select([reading], [], [], 0)[0]:
-            os.read(reading, 1 << 16)
-        taken = Connection(front.ask)
-        taken.talk(ASKS["route"])
-        said = os.read(reading, 1 << 16).decode()
-        checks.true("and told once it is read", said.startswith("listen: 10 lines of the log were dropped\nlisten: ask 6: connected, "), said)
-    for file in (reading, writing):
-        os.close(file)
-    counting = log.Log("x", "info", None)
-    counting.say("info", "nobody hears this")
-    checks.same("without standard error", counting.dropped, 1)
 
 
 # ---- fairness and the screen

@@ -12,11 +12,12 @@ import time
 from importlib.machinery import SourceFileLoader
 
 from checks import TOP
-from feed.rows import PAIR, Router
-from pcep.runs import Client
-from pcep.sessions import request
+from feed.played import PAIR, Router
+from pcep.beside import Client
+from pcep.played import request
+from program.serving import PATIENCE
 from tools.kept import started
-from tools.listened import PATIENCE, Connection
+from tools.fronts import Connection
 
 from routed.pcep.wire import pack
 

@@ -13,9 +13,10 @@ import threading
 import time
 
 from checks import TOP
+from program.serving import PATIENCE
 from program.snapshots import snapshot_of
 from reference.formats import publish, whole_batches
-from tools.listened import PATIENCE, Connection
+from tools.fronts import Connection
 
 DEPLOY = os.path.join(TOP, "deploy")
 KILLS, SERVING = 100, 0.2  # and the seconds of a run in which it is killed

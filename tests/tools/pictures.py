@@ -1,79 +1,23 @@
-"""Tests of routed-tools draw and routed-tools draw-failures: what a picture shows, where routers are, and that no text covers another."""
+"""Tests of routed-tools draw and routed-tools draw-failures: what a picture shows, and where routers are."""
 import itertools
 import math
 import os
-import random
 import re
 import resource
-import shutil
-import subprocess
 import tempfile
 import xml.etree.ElementTree as xml
 
-from checks import TOOLS, TOP
-from tools.measured import by_browser, by_table, faults
+from checks import TOP
+from tools.drawing import SVG, begin_of, big_network, classes, draw, draw_failures, hovers, least_distance, link, names, notes, places_in
+from tools.drawing import shapes
+from tools.labels import apart, placer
 from tools.ring import BEFORE, OF_CIRCUITS
-
-SVG = "{http://www.w3.org/2000/svg}"
-FREE = ",".join(["1000"] * 8)
-
-
-def link(router, local, neighbor, remote, group="0x1", free=FREE):
-    return f"put,{router},{local},{neighbor},{remote},10,{group},{free}\n"
-
 
 LINE = "".join(link(*one, *other) for one, other in (
     (("1.1.1.1", "10.0.0.1"), ("2.2.2.2", "10.0.0.2")), (("2.2.2.2", "10.0.0.2"), ("1.1.1.1", "10.0.0.1")),
     (("2.2.2.2", "10.0.1.1"), ("3.3.3.3", "10.0.1.2")), (("3.3.3.3", "10.0.1.2"), ("2.2.2.2", "10.0.1.1"))))
 PAIR = link("1.1.1.1", "10.0.0.1", "2.2.2.2", "10.0.0.2") + link("2.2.2.2", "10.0.0.2", "1.1.1.1", "10.0.0.1")
 REPLY = "ask 7 v1 route cost=10 hops=1 again=no ero=000c140101080a0000022000\n"
-
-
-def draw(rows, *words, places=None, replies=None, overbooked=None):
-    """Status, picture and standard error of one drawing."""
-    with tempfile.TemporaryDirectory() as room:
-        given = []
-        for option, text in (("rows", rows), ("--places", places), ("--replies", replies), ("--overbooked", overbooked)):
-            if text is not None:
-                path = os.path.join(room, option.strip("-"))
-                with open(path, "w") as file:
-                    file.write(text)
-                given += [path] if option == "rows" else [option, path]
-        ran = subprocess.run([TOOLS, "draw", *given, *words], capture_output=True, text=True)
-        return ran.returncode, ran.stdout, ran.stderr
-
-
-def shapes(picture, kind):
-    return [path for path in xml.fromstring(picture).iter(SVG + "path") if path.get("class") == kind]
-
-
-def classes(picture, *wanted):
-    """The kinds of the picture's shapes, in order, those that are wanted."""
-    return [it.get("class") for it in xml.fromstring(picture).iter() if it.get("class") in wanted]
-
-
-def hovers(picture, kind):
-    """What is said where the pointer is on shapes of a kind."""
-    return [it.find(SVG + "title").text for it in xml.fromstring(picture).iter() if it.get("class") == kind]
-
-
-def begin_of(path):
-    """Where a path begins."""
-    return tuple(float(it) for it in re.match("M([0-9.]+) ([0-9.]+)", path.get("d")).groups())
-
-
-def notes(picture):
-    return [text.text for text in xml.fromstring(picture).iter(SVG + "text") if text.get("class") == "note"]
-
-
-def places_in(picture):
-    """The middles of the routers, by what is said of them."""
-    return {it.find(SVG + "title").text: (float(it.get("cx")), float(it.get("cy")))
-            for it in xml.fromstring(picture).iter(SVG + "circle") if it.get("class") == "router"}
-
-
-def names(picture):
-    return [text for text in xml.fromstring(picture).iter(SVG + "text") if text.get("class") == "name"]
 
 
 def circuits(_, checks):
@@ -261,18 +205,6 @@ def where(checks):
         checks.same("and stays as it is", open(kept).read(), "1.1.1.1 0\n")
 
 
-def big_network(routers, circuits, seed=1):
-    """Rows of a connected network with drawn circuits, some of which are between the same routers."""
-    drawn, rows = random.Random(seed), []
-    pairs = [(at, at + 1) for at in range(1, routers)]
-    while len(pairs) < circuits:
-        pairs.append(tuple(drawn.sample(range(1, routers + 1), 2)))
-    for at, (one, other) in enumerate(pairs):
-        ends = [(f"172.16.{router >> 8}.{router & 255}", f"10.0.{at >> 7}.{2 * (at & 127) + side}") for side, router in enumerate((one, other))]
-        rows += [link(*ends[0], *ends[1]), link(*ends[1], *ends[0])]
-    return "".join("".join(rows[at:at + 4096]) + f"end,{at // 4096 + 1},{len(rows[at:at + 4096])}\n" for at in range(0, len(rows), 4096))
-
-
 def layouts(_, checks):
     """The largest network is laid out and drawn in ten seconds of processor time. A grid is laid out as one."""
     before = resource.getrusage(resource.RUSAGE_CHILDREN)
@@ -297,19 +229,6 @@ def layouts(_, checks):
                                  ("a star", list(range(40)), [(0, it) for it in range(1, 40)]), ("routers alone", list(range(30)), [])):
         at = lay_out(routers, pairs)
         checks.true(f"the layout of {name}", sorted(at) == sorted(routers) and least_distance(list(at.values())) > 0.1, at)
-
-
-def least_distance(places):
-    return min((math.dist(one, other) for one, other in itertools.combinations(places, 2)), default=1.0)
-
-
-def draw_failures(lines, places):
-    """Status, picture and standard error of one drawing of failures."""
-    with tempfile.NamedTemporaryFile("w") as file:
-        file.write(places)
-        file.flush()
-        ran = subprocess.run([TOOLS, "draw-failures", "--places", file.name], input=lines, capture_output=True, text=True)
-        return ran.returncode, ran.stdout, ran.stderr
 
 
 def failures(_, checks):
@@ -351,102 +270,6 @@ def failures(_, checks):
             ("routers", (OF_CIRCUITS.replace("out circuit", "out router"),), "scenario 1 has no circuit out"),
             ("a place without numbers", (OF_CIRCUITS, "1.1.1.1 a b\n"), "places, line 1: an address, x and y are wanted")]:
         checks.same(f"not drawn: {name}", drawn(*given), (1, "", f"draw-failures: {why}\n"))
-
-
-def placer(_, checks):
-    """Texts that are placed never cover each other, what is drawn or the edge, and none stays out that has room."""
-    from routed.pictures.labels import TEXT, Sheet, Wanted, box_of, cut, spots_round, width, wrapped
-    drawn = random.Random(2)
-    for count in (5, 60, 300):
-        sheet, points = Sheet(900, 600), [(drawn.uniform(0, 900), drawn.uniform(0, 600)) for _ in range(count)]
-        for at, (x, y) in enumerate(points):
-            sheet.block(at, (x - 7, y - 7, x + 7, y + 7))
-        words = ["x" * drawn.randint(1, 20) for _ in points]
-        sheet.place([Wanted(at, spots_round(*point, 7, word)) for at, (point, word) in enumerate(zip(points, words))])
-        sheet.place([Wanted(("second", at), [(box_of(x + 30, y, "1/2/3"), 0)]) for at, (x, y) in enumerate(points)])
-        boxes = [box for key in sheet.spots if (box := sheet.box(key))]
-        blocks = [(x - 7, y - 7, x + 7, y + 7) for x, y in points]
-        bad = sum(meets(one, other) for one, other in itertools.combinations(boxes, 2)) + sum(meets(box, it) for box in boxes for it in blocks)
-        bad += sum(not (0 <= box[0] and 0 <= box[1] and box[2] <= 900 and box[3] <= 600) for box in boxes)
-        checks.same(f"{count} texts and {len(boxes) - count} more", bad, 0)
-        out = [key for key in sheet.spots if not sheet.box(key)]
-        checks.true("no text is out that has room", all(sheet.first_free(key) is None for key in out), out)
-    sheet = Sheet(200, 80)
-    sheet.place([Wanted("a", [(box_of(100, 30, "name"), 0), (box_of(100, 50, "name"), 1)])])
-    sheet.place([Wanted("b", [(box_of(100, 30, "name"), 0)])])
-    checks.true("a text moves so that another has room", sheet.box("a") and sheet.box("b"), sheet.placed)
-    sheet = Sheet(200, 200)
-    sheet.line([(0, 50), (200, 50)])
-    sheet.place([Wanted("a", [(box_of(100, 50, "name"), 0), (box_of(100, 90, "name"), 1)])])
-    checks.same("a text isn't on a line where it need not be", sheet.box("a")[1] > 60, True)
-    sheet = Sheet(200, 200)
-    sheet.block("a", (93, 70, 107, 84))
-    sheet.block("b", (93, 25, 107, 39))
-    sheet.place([Wanted("a", [(box_of(100, 55, "name"), 0), (box_of(100, 100, "name"), 1)])])
-    checks.true("a text isn't near another router where it need not be", sheet.box("a")[1] > 84, sheet.box("a"))
-    checks.true("a letter that is rare is wide", width("\u5317") >= TEXT and width("\u00e9") == width("e"), width("\u5317"))
-    checks.same("a long text is wrapped", [wrapped("one two three", width("one two") + 1), wrapped("", 100)], [["one two", "three"], []])
-    checks.true("a long word is cut", width(cut("x" * 200, 100)) <= 100 and cut("short", 100) == "short", cut("x" * 200, 100))
-
-
-def meets(one, other):
-    return one[0] < other[2] and other[0] < one[2] and one[1] < other[3] and other[1] < one[3]
-
-
-def apart(program, checks):
-    """In none of the pictures does a text cover another or a router, or is cut: by the table, and in a browser where there is one."""
-    pictures = crowded(checks) | examples(program, checks)
-    for name, picture in pictures.items():
-        checks.same(f"{name}: texts", faults(picture, by_table(picture)), [])
-    if not shutil.which("chromium"):
-        print("skipped: pictures in a browser, since there is no chromium")
-        return
-    for (name, picture), boxes in zip(pictures.items(), by_browser(pictures.values())):
-        checks.same(f"{name}: texts in a browser", faults(picture, boxes), [])
-
-
-def crowded(checks):
-    """Pictures of networks whose names have hardly any room; those that have none are numbered and listed."""
-    found = {}
-    for sites in (14, 28, 50, 200):
-        places = "".join(f"172.16.0.{at} {at * at % 7} {at * at % 11} Rechenzentrum {at} <Nord> & Süd\n" for at in range(1, sites + 1))
-        rows = big_network(sites, 2 * sites)
-        status, picture, said = draw(rows, places=places)
-        numbers = [text.text for text in xml.fromstring(picture).iter(SVG + "text") if text.get("class") == "number"]
-        listed = re.findall(r"(?:^|, |: )(\d+) Rechenzentrum", " ".join(notes(picture)))
-        checks.true(f"{sites} crowded sites: each has a name or a number that is listed", status == 0 and len(names(picture)) + len(numbers) == sites
-                    and sorted(numbers, key=int) == listed == [str(at) for at in range(1, len(numbers) + 1)], (said, numbers, listed))
-        at = list(places_in(picture).values())
-        checks.true(f"{sites} crowded sites: no router covers another", len(at) == sites and least_distance(at) > 2 * 9, least_distance(at))
-        found[f"{sites} crowded sites"] = picture
-        circuits = list(dict.fromkeys(re.findall(r"(?m)^put,([^,]*,[^,]*,[^,]*,[^,]*),", rows)))[::2]
-        lines = "".join(f"scenario {at} out circuit {' '.join(it.split(','))}\nscenario {at} lost={at % 3} longer={at} most=1 overbooked=0\n"
-                        for at, it in enumerate(circuits, 1))
-        status, picture, said = draw_failures(f"{lines}scenarios={len(circuits)} lost=1 longer=1 overbooked=0\n", places)
-        counts = [text.text for text in xml.fromstring(picture).iter(SVG + "text") if text.get("class") == "counts"]
-        text = " ".join(note.removeprefix("Counts without room: ") for note in notes(picture))
-        wanted = {f"{at % 3}/{at}/0" for at in range(1, len(circuits) + 1)}
-        listed = set(re.findall(r"Rechenzentrum \d+ <Nord> & Süd (\d+/\d+/0)", text))
-        checks.true(f"{sites} crowded sites: each count is on its circuit or is listed", status == 0 and not listed & set(counts)
-                    and set(counts) | listed == wanted and len(counts) + len(listed) == len(wanted), (said, wanted - set(counts) - listed))
-        found[f"failures of {sites} crowded sites"] = picture
-        found[f"{sites} sites laid out"] = draw(rows)[1]
-    sizes = [math.prod(float(it) for it in re.search('viewBox="0 0 (.*?) (.*?)"', found[f"{sites} sites laid out"]).groups()) for sites in (14, 28, 50, 200)]
-    checks.true("a picture grows with its network", all(1.3 * one < other for one, other in zip(sizes, sizes[1:])), sizes)
-    return found
-
-
-def examples(program, checks):
-    """The pictures of the examples' page are those that its commands draw."""
-    page, found = open(os.path.join(TOP, "examples/README.md")).read(), {}
-    commands = re.findall(r"^    (.*tools/routed-tools draw(?:-failures)? .*) > (examples/\S+\.svg)$", page, re.M)
-    checks.true("the page draws pictures", len(commands) > 2, f"{len(commands)} commands")
-    for command, path in commands:
-        command = command.replace("crates/routed/out/routed", f'"{program.path}"').replace("routed-tools sweep ", f'routed-tools sweep --program "{program.path}" ')
-        drawn = subprocess.run(command, shell=True, cwd=TOP, capture_output=True, text=True).stdout
-        checks.same(path, drawn, open(os.path.join(TOP, path)).read())
-        found[path] = drawn
-    return found
 
 
 def pictures(program, checks):

@@ -1,4 +1,4 @@
--- The addresses that texts spell.
+-- Which texts spell which addresses.
 use Rattle.std.proofs.Common.{◌≡◌, ◌≢◌, ℕ, ◌^◌, ◌<◌, ◌/◌, ◌%◌, zero, suc, List, [], ◌∷◌, ◌++◌, length, get_or, map, Option, Some, None, Result, Ok, Err, IfOk, OnErr, refl, sym, ap, ◌∙◌, lit<, arith}
 use Rattle.std.proofs.lemmas.Bool.{ltb-true, lt-ltb}
 use Rattle.std.proofs.lemmas.Fmt.{digits_decimal, decimal_nonempty}
@@ -13,13 +13,13 @@ use Rattle.cspf_addr.proofs.CutLemmas.{Lacks, Lacks-digits, before-front, after-
 use Rattle.cspf_addr.proofs.Readers.{ok_spelled, only_spelled}
 use Rattle.cspf_addr.proofs.NumberLemmas.{own, chosen, number_of-spelled, number_of-decimal}
 
--- the first step of two that gave a value
+-- Two steps gave a value, so the first step gave a value.
 pub first_step : {A B : Type 0} (o : Option A) (f : A → Option B) (y : B)
     → option_and_then f o ≡ Some y → (x : A) × (o ≡ Some x) × (f x ≡ Some y)
 first_step None f y found = absurd (cc)
 first_step (Some x) f y found = (x, refl, found)
 
--- an octet that is read is spelled
+-- If a text is read as an octet, it is the text of this octet.
 octet_of-spelled : (text : List ℕ) (n : ℕ) → octet_of text ≡ Some n → (n < 256) × (text ≡ decimal n)
 unfolding octet_of
 octet_of-spelled text n found =
@@ -27,18 +27,18 @@ octet_of-spelled text n found =
     let choice = chosen _ _ _ step.2 in
     rw (← choice.1) (ltb-true _ _ choice.0, (number_of-spelled text step.0 step.1).1)
 
--- and an octet that is spelled is read
+-- The text of an octet is read as this octet.
 octet_of-decimal : (n : ℕ) → n < 256 → octet_of (decimal n) ≡ Some n
 unfolding octet_of
 octet_of-decimal n small = rw (number_of-decimal n (omega arith), lt-ltb n 256 small) refl
 
--- what a map of a value that is there came from
+-- If the map of an option has a value, so has the option.
 mapped : {A B : Type 0} (f : A → B) (o : Option A) (y : B) → option_map f o ≡ Some y
     → (x : A) × (o ≡ Some x) × (f x ≡ y)
 mapped f None y found = absurd (cc)
 mapped f (Some x) y found = (x, refl, cc)
 
--- four values that are there
+-- four options that have values
 record Four (first second third fourth : Option ℕ) (all : List ℕ) : Type 0 where
   a : ℕ
   b : ℕ
@@ -69,7 +69,7 @@ four_steps (Some a) (Some b) (Some c) (Some d) all found = record {
   whole = cc;
 }
 
--- the four octets of a text, and the text
+-- the four octets of a text, and that the text spells them
 record Spelled (text all : List ℕ) : Type 0 where
   a : ℕ
   b : ℕ
@@ -116,7 +116,7 @@ octets_spelled text all found =
       whole = first.1;
     }
 
--- each of four octets is a byte
+-- Each of the four octets is below 256.
 four_small : (a b c d : ℕ) → a < 256 → b < 256 → c < 256 → d < 256 → (i : ℕ)
     → get_or (a ∷ b ∷ c ∷ d ∷ []) i 0 < 256
 four_small a b c d ha hb hc hd zero = ha
@@ -125,7 +125,7 @@ four_small a b c d ha hb hc hd (suc (suc zero)) = hc
 four_small a b c d ha hb hc hd (suc (suc (suc zero))) = hd
 four_small a b c d ha hb hc hd (suc (suc (suc (suc i)))) = lit< tt
 
--- the number of four octets, and the octets of that number
+-- Four octets make a number below 2^32, and these octets are the bytes of this number.
 four_number : (a b c d n : ℕ) → a < 256 → b < 256 → c < 256 → d < 256
     → from_be_bytes w32 (a ∷ b ∷ c ∷ d ∷ []) ≡ n
     → (n < 2 ^ 32) × (to_be_bytes w32 n ≡ a ∷ b ∷ c ∷ d ∷ [])
@@ -146,7 +146,7 @@ address_of-spelled text n found =
 lacks_point : (n : ℕ) → n < 256 → Lacks 46 (decimal n)
 lacks_point n small = Lacks-digits 46 (decimal n) (lit< tt) (digits_decimal own n (omega arith))
 
--- what is written for four octets is read as those
+-- The text that is written for four octets is read as these octets.
 octets_of-written : (a b c d : ℕ) → a < 256 → b < 256 → c < 256 → d < 256
     → octets_of (decimal a ++ 46 ∷ (decimal b ++ 46 ∷ (decimal c ++ 46 ∷ decimal d))) ≡ Some (a ∷ b ∷ c ∷ d ∷ [])
 unfolding octets_of
@@ -166,7 +166,7 @@ octets_of-written a b c d ha hb hc hd =
       octet_of-decimal d hd,
     ) refl
 
--- the address of the text that is written for one is that address
+-- The text of an address is read as this address.
 pub address_of-address_text : (n : ℕ) → n < 2 ^ 32 → address_of (address_text n) ≡ Some n
 unfolding address_of address_text
 address_of-address_text n small =
@@ -174,33 +174,33 @@ address_of-address_text n small =
     (octets_of-written (n / 256 ^ 3 % 256) (n / 256 ^ 2 % 256) (n / 256 ^ 1 % 256) (n % 256) (omega arith) (omega arith) (omega arith) (omega arith))
     ∙ ap Some (from_be_bytes-to_be_bytes_4 n small)
 
--- a text spells an address exactly where it is what is written for it
+-- A text is read as an address exactly if it is the text of this address.
 pub addresses_spelled_once : AreAddressesSpelledOnce
 addresses_spelled_once text n =
     (address_of-spelled text n, λ h. ap address_of h.1 ∙ address_of-address_text n h.0)
 
--- the address that was read is spelled
+-- If an address was read, the text is the text of this address.
 pub address_ok : {E : Type 0} (text : List ℕ) (r : Result ℕ E) → result_ok r ≡ address_of text
     → IfOk r (λ n. text ≡ address_text n)
 address_ok text r same =
     ok_spelled r (address_of text) (λ n. text ≡ address_text n) same
     (λ n found. (address_of-spelled text n found).1)
 
--- where none was read, none is spelled
+-- If no address was read, the text isn't the text of an address.
 pub address_err : {E : Type 0} (text : List ℕ) (r : Result ℕ E) → result_ok r ≡ address_of text
     → OnErr r ((n : ℕ) → n < 2 ^ 32 → text ≢ address_text n)
 address_err text (Ok n) same = tt
 address_err text (Err e) same =
     λ n small spelled. let found = ap address_of spelled ∙ address_of-address_text n small in cc
 
--- the address that is spelled was read
+-- If the text is the text of an address, this address was read.
 pub address_only : {E : Type 0} (text : List ℕ) (r : Result ℕ E) → result_ok r ≡ address_of text
     → (n : ℕ) → n < 2 ^ 32 → text ≡ address_text n → r ≡ Ok n
 address_only text r same n small spelled =
     only_spelled r (address_of text) same n
     (ap address_of spelled ∙ address_of-address_text n small)
 
--- two addresses are never spelled alike
+-- No two addresses have the same text.
 pub spelling_injective : IsAddressTextInjective
 spelling_injective m n small_m small_n same =
     let found : Some m ≡ Some n = sym (address_of-address_text m small_m) ∙ (ap address_of same ∙ address_of-address_text n small_n) in

@@ -1,4 +1,4 @@
--- A text cut at the first byte of a kind.
+-- A text that is cut at the first byte `mark`.
 use Rattle.std.proofs.Common.{◌≡◌, ◌≢◌, ℕ, ◌+◌, ◌-◌, ◌<◌, ◌≤◌, Bool, true, false, cond, ltb, eqb, List, [], ◌∷◌, ◌++◌, length, get_or, take, drop, add-one, suc, Some, None, refl, sym, ap, ◌∙◌, arith}
 use Rattle.std.proofs.lemmas.Bool.{ltb-true, ltb-false, eqb-true, eq-eqb, ne_eqb}
 use Rattle.std.proofs.lemmas.List.{take_rest, drop_all, take_at, length-drop}
@@ -21,24 +21,24 @@ place_none : (place whole : ℕ) (b : Bool) → ltb place whole ≡ b → place 
 place_none place whole true test most found = absurd (cc)
 place_none place whole false test most found = omega (arith, ltb-false _ _ test)
 
--- where a byte is found, it is the first of its kind
+-- The index that is found is the index of the first byte `mark`.
 pub position_some : (mark : ℕ) (text : List ℕ) (at : ℕ)
     → position (λ byte. eqb byte mark) text ≡ Some at
     → (position_or_len (λ byte. eqb byte mark) text ≡ at) × (at < length text)
 position_some mark text at found = place_some _ _ at _ refl found
 
--- where none is found, the whole text has none
+-- If no index is found, no byte of the text is `mark`.
 pub position_none : (mark : ℕ) (text : List ℕ) → position (λ byte. eqb byte mark) text ≡ None
     → position_or_len (λ byte. eqb byte mark) text ≡ length text
 position_none mark text found = place_none _ _ _ refl (prefix_len-le-length _ text) found
 
--- the part of a text up to the byte that was found
+-- The part of the text before the index is the text before the first byte `mark`.
 pub before_some : (mark : ℕ) (text : List ℕ) (at : ℕ)
     → position (λ byte. eqb byte mark) text ≡ Some at → take at text ≡ text_before mark text
 unfolding text_before
 before_some mark text at found = ap (λ n. take n text) (sym (position_some mark text at found).0)
 
--- and the part after it
+-- The part of the text after the index is the text after the first byte `mark`.
 pub after_some : (mark : ℕ) (text : List ℕ) (at : ℕ)
     → position (λ byte. eqb byte mark) text ≡ Some at
     → take (length text - (at + 1)) (drop (at + 1) text) ≡ text_after mark text
@@ -46,7 +46,7 @@ unfolding text_after
 after_some mark text at found =
     take_rest text (at + 1) ∙ ap (λ n. drop (n + 1) text) (sym (position_some mark text at found).0)
 
--- where no such byte was found, the whole text and the empty one
+-- If no byte is `mark`, the two parts are the whole text and the empty text.
 pub before_none : (mark : ℕ) (text : List ℕ) → position (λ byte. eqb byte mark) text ≡ None
     → text ≡ text_before mark text
 unfolding text_before
@@ -58,17 +58,17 @@ pub after_none : (mark : ℕ) (text : List ℕ) → position (λ byte. eqb byte 
 unfolding text_after
 after_none mark text found = sym (drop_all _ text (omega (arith, position_none mark text found)))
 
--- a byte of this kind is not in the text
+-- No byte of the text is `mark`.
 abbrev pub Lacks : ℕ → List ℕ → Type 0
 Lacks mark text = AllByRecursion (λ byte. byte ≢ mark) text
 
--- digits hold no byte that is no digit
+-- A text of digits has no byte that isn't a digit.
 pub Lacks-digits : (mark : ℕ) (text : List ℕ) → mark < 48 → AllDigits 10 text → Lacks mark text
 Lacks-digits mark [] low digits = tt
 Lacks-digits mark (byte ∷ rest) low digits =
     (λ same. omega (arith, same, digit_from_value byte digits.0), Lacks-digits mark rest low digits.1)
 
--- the first mark after a text with none is right after it
+-- After a text without `mark`, the first `mark` is the next byte.
 position-front : (mark : ℕ) (front back : List ℕ) → Lacks mark front
     → position_or_len (λ byte. eqb byte mark) (front ++ mark ∷ back) ≡ length front
 position-front mark [] back lacks = rw (eq-eqb mark mark refl) refl
@@ -84,7 +84,7 @@ drop_behind mark front back = rw add-one (behind mark front back)
     behind mark [] back = refl
     behind mark (byte ∷ front) back = behind mark front back
 
--- a text without marks, then a mark and more, is cut after the first text
+-- A text without `mark`, then `mark` and more bytes: the cut gives the first text and these bytes.
 pub before-front : (mark : ℕ) (front back : List ℕ) → Lacks mark front
     → text_before mark (front ++ mark ∷ back) ≡ front
 unfolding text_before
@@ -98,7 +98,7 @@ after-front mark front back lacks =
     ap (λ at. drop (at + 1) (front ++ mark ∷ back)) (position-front mark front back lacks)
     ∙ drop_behind mark front back
 
--- a text with bytes after its first mark is its two parts with the mark between them
+-- If bytes follow the first `mark`, the text is the two parts with `mark` between them.
 pub cut_whole : (mark : ℕ) (text : List ℕ) → 0 < length (text_after mark text)
     → text ≡ text_before mark text ++ mark ∷ text_after mark text
 unfolding text_before text_after
@@ -112,7 +112,7 @@ cut_whole mark text some =
         → position_or_len (λ byte. eqb byte mark) text < length text
     inside mark text some = omega (arith, simp length-drop at some)
 
--- two texts that lack a byte, joined, lack it
+-- If two texts lack a byte, so does the joined text.
 pub Lacks-append : (mark : ℕ) (front back : List ℕ) → Lacks mark front → Lacks mark back
     → Lacks mark (front ++ back)
 Lacks-append mark [] back lacks_front lacks_back = lacks_back

@@ -9,12 +9,12 @@ use Rattle.std.specs.Char.{digit_value}
 use Rattle.std.specs.Str.Parse.{AllDigits, digits_value}
 use Rattle.cspf_addr.specs.Numbers.{are_digits}
 
--- both parts of a conjunction that is true
+-- Both parts of a true conjunction are true.
 pub and_parts : (x y : Bool) → (x && y) ≡ true → (x ≡ true) × (y ≡ true)
 and_parts true y h = (refl, h)
 and_parts false y h = absurd (cc)
 
--- what passes the test is digits
+-- If the test holds, all bytes are digits.
 pub AllDigits-are_digits : (base : ℕ) (ds : List ℕ) → are_digits base ds ≡ true → AllDigits base ds
 unfolding are_digits
 AllDigits-are_digits base [] h = tt
@@ -22,7 +22,7 @@ AllDigits-are_digits base (c ∷ cs) h =
     let parts = and_parts _ _ h in
     (ltb-true _ _ parts.0, AllDigits-are_digits base cs parts.1)
 
--- and digits pass it
+-- If all bytes are digits, the test holds.
 pub are_digits-AllDigits : (base : ℕ) (ds : List ℕ) → AllDigits base ds → are_digits base ds ≡ true
 unfolding are_digits
 are_digits-AllDigits base [] h = refl
@@ -35,7 +35,7 @@ AllDigits-at base [] i h within = absurd (omega arith)
 AllDigits-at base (c ∷ cs) zero h within = h.0
 AllDigits-at base (c ∷ cs) (suc i) h within = AllDigits-at base cs i h.1 (omega arith)
 
--- the value of more digits is no less
+-- Appending a digit never makes the value smaller.
 digits_value_more_le : (base : ℕ) (text : List ℕ) (at value : ℕ) → 1 ≤ base → at < length text
     → value ≡ digits_value base (take at text)
     → value * base + digit_value (get_or text at 0) ≤ digits_value base text
@@ -43,7 +43,7 @@ digits_value_more_le base text at value least within same =
     rw same
     (rw (← digits_value_more base text at within) (digits_value-take-le base text (at + 1) least))
 
--- where no digit follows below 2^64, the text is no number below it
+-- If appending the next digit gives no value below 2^64, the whole text has no value below 2^64.
 pub digits_more_none : (base : ℕ) (text : List ℕ) (at value : ℕ) → 1 ≤ base → at < length text
     → value ≡ digits_value base (take at text)
     → (digit_value (get_or text at 0) < base → 2 ^ 64 ≤ value * base + digit_value (get_or text at 0)) → are_digits base text ≡ true → 2 ^ 64 ≤ digits_value base text
@@ -51,7 +51,7 @@ digits_more_none base text at value least within same more all =
     let large = more (AllDigits-at base text at (AllDigits-are_digits base text all) within) in
     omega (arith, large, digits_value_more_le base text at value least within same)
 
--- one more digit of a text
+-- One more digit of the text is appended to the value.
 pub digits_more_some : (base : ℕ) (text : List ℕ) (at value more : ℕ) → at < length text
     → AllDigits base (take at text) × (value ≡ digits_value base (take at text))
     → (digit_value (get_or text at 0) < base) × (more ≡ value * base + digit_value (get_or text at 0))
@@ -61,7 +61,7 @@ digits_more_some base text at value more within before next = (
   next.1 ∙ rw before.1 (sym (digits_value_more base text at within)),
 )
 
--- the digits up to the end are the whole text
+-- After the last digit the value is the value of the whole text.
 pub digits_whole : (base : ℕ) (text : List ℕ) (at value : ℕ) → length text ≤ at
     → AllDigits base (take at text) × (value ≡ digits_value base (take at text))
     → (are_digits base text ≡ true) × (value ≡ digits_value base text)

@@ -1,4 +1,4 @@
--- The hops that texts spell.
+-- Which texts spell which hops.
 use Rattle.std.proofs.Common.{◌≡◌, ℕ, ◌-◌, Bool, true, false, List, [], ◌∷◌, ◌++◌, length, get_or, Option, Some, None, Ok, refl, sym, arith, Result, Err, ◌∙◌, ap, ◌<◌, ◌+◌, cond, eqb, take, lit<}
 use Rattle.std.proofs.lemmas.List.{take_at, take_all, take_more, length_push}
 use Rattle.std.proofs.lemmas.Bool.{eqb-true}
@@ -15,13 +15,13 @@ nothing_after : {A B : Type 0} (first : Option A) → option_and_then {U = B} (�
 nothing_after None = refl
 nothing_after (Some x) = refl
 
--- no text is no hop
+-- The empty text isn't a hop.
 pub hop_of-empty : (text : List ℕ) → length text ≡ 0 → None ≡ hop_of text
 unfolding hop_of loose_of
 hop_of-empty [] empty = sym (nothing_after _)
 hop_of-empty (byte ∷ rest) empty = absurd (omega arith)
 
--- a letter that is written is read
+-- The letter that is written for a hop is read back.
 loose_of-letter : (loose : Bool) → loose_of (hop_letter loose) ≡ Some loose
 unfolding loose_of
 loose_of-letter true = refl
@@ -32,7 +32,7 @@ last_byte : (front : List ℕ) (letter : ℕ)
 last_byte [] letter = refl
 last_byte (byte ∷ front) letter = last_byte front letter
 
--- a prefix and the letter of a hop are read as the hop
+-- The text of a prefix and then the letter of a hop are read as this hop.
 hop_of-front : (front : List ℕ) (hop : Hop) → prefix_of front ≡ Ok hop.prefix
     → hop_of (front ++ (hop_letter hop.loose ∷ [])) ≡ Some hop
 unfolding hop_of
@@ -40,7 +40,7 @@ hop_of-front front hop read =
     let at : length (front ++ (hop_letter hop.loose ∷ [])) - 1 ≡ length front = omega (arith, length_push front (hop_letter hop.loose)) in
     rw (at, take_at front (hop_letter hop.loose ∷ []) (length front) refl, read, last_byte front (hop_letter hop.loose), loose_of-letter hop.loose) refl
 
--- the two results that a hop was read from
+-- If a hop was read, its prefix and its letter were read.
 two_steps : (found : Result PrefixParts PrefixError) (letter : Option Bool) (hop : Hop)
     → option_and_then (λ prefix. option_and_then (λ loose. Some (record { prefix = prefix; loose = loose })) letter) (result_ok found) ≡ Some hop
     → (found ≡ Ok hop.prefix) × (letter ≡ Some hop.loose)
@@ -60,13 +60,13 @@ letter_cases letter false true true first second found = absurd (cc)
 letter_cases letter false true false first second found = eqb-true letter 115 second
 letter_cases letter false false loose first second found = absurd (cc)
 
--- a letter that is read is that of the hop
+-- If a letter is read, it is the letter that is written.
 letter_of-loose : (letter : ℕ) (loose : Bool) → loose_of letter ≡ Some loose
     → letter ≡ hop_letter loose
 unfolding loose_of
 letter_of-loose letter loose found = letter_cases letter _ _ loose refl refl found
 
--- a text is all but its last byte, and that byte
+-- A text that isn't empty is the text without its last byte, and then this byte.
 all_but_last : (text : List ℕ) → 0 < length text
     → text ≡ take (length text - 1) text ++ (get_or text (length text - 1) 0 ∷ [])
 all_but_last text some =
@@ -77,7 +77,7 @@ letter_some : (loose : Bool) → 0 < hop_letter loose
 letter_some true = lit< tt
 letter_some false = lit< tt
 
--- a text with a letter is not empty
+-- If the last byte isn't 0, the text isn't empty.
 some_text : (text : List ℕ) → 0 < get_or text (length text - 1) 0 → 0 < length text
 some_text [] letter = letter
 some_text (byte ∷ rest) letter = omega arith
@@ -95,17 +95,17 @@ hop_of-text text hop found =
       prefix = steps.0;
     }
 
--- a text is read as a hop exactly where it is a prefix and the letter of the hop
+-- A text is read as a hop exactly if it spells the hop's prefix and ends with the hop's letter.
 pub hop_texts_read : AreHopTextsRead
 hop_texts_read text hop =
     (hop_of-text text hop, λ h. ap hop_of h.whole ∙ hop_of-front h.front hop h.prefix)
 
--- a hop is read back where its prefix is
+-- If the prefix of a hop is read back, so is the hop.
 pub hop_of-written : (hop : Hop) → prefix_of (prefix_text hop.prefix) ≡ Ok hop.prefix
     → hop_of (hop_text hop) ≡ Some hop
 unfolding hop_text
 hop_of-written hop read = hop_of-front (prefix_text hop.prefix) hop read
 
--- a hop is read back from its text
+-- A hop is read back from its text.
 pub hop_of-hop_text : AreHopsReadBack
 hop_of-hop_text hop proper = hop_of-written hop (prefix_of-prefix_text hop.prefix proper)

@@ -1,4 +1,4 @@
--- Lists of hops, in their places and as text.
+-- Lists of hops: how they are kept in places, and how they are read.
 use Rattle.std.proofs.Common.{◌≡◌, ℕ, ◌+◌, ◌-◌, ◌<◌, List, [], ◌∷◌, ◌++◌, length, get_or, set, drop, replicate, Some, None, Result, Ok, Err, append_assoc, append-nil, refl, sym, ap, ◌∙◌, arith}
 use Rattle.std.proofs.lemmas.List.{length-set, drop-set-lt, drop-drop, drop-replicate}
 use Rattle.std.proofs.lemmas.List.{drop_more, drop_all}
@@ -13,7 +13,7 @@ use Rattle.cspf_addr.specs.declared.hop.Hop.{Hop}
 one_less : (count : ℕ) → 7 - count - 1 ≡ 7 - (count + 1)
 one_less count = omega arith
 
--- the places with one more hop
+-- One more hop is put into the first free place.
 pub kept_after_push : (places : List Hop) (count : ℕ) (hop : Hop) → AreKept places count → count < 7
     → AreKept (set places count hop) (count + 1)
 kept_after_push places count hop kept room = record {
@@ -27,7 +27,7 @@ kept_after_push places count hop kept room = record {
       ∙ ap (λ n. replicate n free_place) (one_less count))));
 }
 
--- the result of a reader that has these hops, by the result for the rest of the parts
+-- the result of a reader that has read these hops, from its result for the other parts
 abbrev pub joined : List Hop → Result (List Hop) HopsError → Result (List Hop) HopsError
 joined hops (Ok more) = Ok (hops ++ more)
 joined hops (Err e) = Err e
@@ -42,7 +42,7 @@ part_here : (parts : List (List ℕ)) (n : ℕ) (part : List ℕ) → n < length
 part_here parts n part within at =
     drop_more parts n part within ∙ ap (λ first. first ∷ drop (n + 1) parts) (sym at)
 
--- the parts from one that is a hop
+-- The next part is a hop, so the reader goes on.
 pub read_more : (parts : List (List ℕ)) (n : ℕ) (part : List ℕ) (hops : List Hop) (hop : Hop)
     → n < length parts → part ≡ get_or parts n part → Some hop ≡ hop_of part
     → joined hops (hops_from (n + 1) (drop n parts)) ≡ hops_from 1 parts
@@ -51,7 +51,7 @@ read_more parts n part hops hop within at found before =
     sym (joined_more hops hop (hops_from (n + 1 + 1) (drop (n + 1) parts)))
     ∙ rw (part_here parts n part within at, ← found) at before
 
--- the first part that is no hop
+-- The next part isn't a hop, so the text is refused.
 pub read_refused : (parts : List (List ℕ)) (n : ℕ) (part : List ℕ) (hops : List Hop)
     → n < length parts → part ≡ get_or parts n part → None ≡ hop_of part
     → joined hops (hops_from (n + 1) (drop n parts)) ≡ hops_from 1 parts
@@ -59,7 +59,7 @@ pub read_refused : (parts : List (List ℕ)) (n : ℕ) (part : List ℕ) (hops :
 read_refused parts n part hops within at found before =
     rw (part_here parts n part within at, ← found) at before
 
--- all parts
+-- All parts were read.
 pub read_all : (parts : List (List ℕ)) (n : ℕ) (hops : List Hop) → n ≡ length parts
     → joined hops (hops_from (n + 1) (drop n parts)) ≡ hops_from 1 parts
     → Ok hops ≡ hops_from 1 parts

@@ -16,7 +16,7 @@ use Rattle.cspf_addr.proofs.CutLemmas.{Lacks, Lacks-append}
 use Rattle.cspf_addr.proofs.PrefixLemmas.{lacks_in_prefix_text}
 use Rattle.cspf_addr.proofs.HopLemmas.{hop_texts_read, hop_of-hop_text}
 
--- a piece that no mark cuts, by place
+-- If no byte of a piece is `mark`, the byte at each index isn't `mark`.
 lacks_by_place : (mark : ℕ) (piece : List ℕ) → Lacks mark piece
     → All (λ byte. eqb byte mark ≡ false) piece
 lacks_by_place mark piece lacks =
@@ -26,7 +26,7 @@ lacks_by_place mark piece lacks =
     each [] lacks = tt
     each (byte ∷ rest) lacks = (ne_eqb byte mark lacks.0, each rest lacks.1)
 
--- pieces that were joined are cut again
+-- Pieces without spaces that are joined by spaces are cut into the same pieces.
 pub split_join : (pieces : List (List ℕ)) → 0 < length pieces → AllByRecursion (Lacks 32) pieces
     → slice_split (λ byte. eqb byte 32) (join_with_byte 32 pieces) ≡ pieces
 split_join [] some lacks = absurd (omega arith)
@@ -37,7 +37,7 @@ split_join (piece ∷ next ∷ pieces) some lacks =
     (lacks_by_place 32 piece lacks.0) refl
     ∙ ap (λ rest. piece ∷ rest) (split_join (next ∷ pieces) (omega arith) lacks.1)
 
--- a text is cut into parts with no space
+-- The parts of a text have no spaces.
 parts_lack : (text : List ℕ) → AllByRecursion (Lacks 32) (slice_split (λ byte. eqb byte 32) text)
 parts_lack [] = (tt, tt)
 parts_lack (byte ∷ text) = by_first (parts_lack text) (eqb byte 32) refl
@@ -53,20 +53,20 @@ parts_lack (byte ∷ text) = by_first (parts_lack text) (eqb byte 32) refl
     by_first rest true test = (tt, rest)
     by_first rest false test = onto (slice_split (λ c. eqb c 32) text) (eqb-false byte 32 test) rest
 
--- the parts of a text, joined by spaces
+-- The parts of a text, joined by spaces, are the text.
 parts_are : (text : List ℕ) → AreParts text (parts_of text)
 unfolding parts_of
 parts_are text =
     record { whole = sym (join_with_byte-slice_split 32 text); without_space = parts_lack text }
 
--- there are no other parts
+-- A text has no other parts.
 parts_only : (text : List ℕ) (parts : List (List ℕ)) → 0 < length parts → AreParts text parts
     → parts_of text ≡ parts
 unfolding parts_of
 parts_only text parts some are =
     ap (slice_split (λ byte. eqb byte 32)) are.whole ∙ split_join parts some are.without_space
 
--- the text of a hop has no space
+-- The text of a hop has no space.
 lacks_in_hop : (text : List ℕ) (hop : Hop) → IsHopText text hop → Lacks 32 text
 lacks_in_hop text hop is =
     subst (Lacks 32) (sym is.whole)
@@ -91,7 +91,7 @@ length-AreHopTexts (text ∷ texts) (hop ∷ hops) each = ap suc (length-AreHopT
 length-AreHopTexts [] (hop ∷ hops) each = absurd each
 length-AreHopTexts (text ∷ texts) [] each = absurd each
 
--- texts of hops are read as those
+-- Texts of hops are read as these hops.
 hops_from-texts : (at : ℕ) (texts : List (List ℕ)) (hops : List Hop) → AreHopTexts texts hops
     → hops_from at texts ≡ Ok hops
 hops_from-texts at [] [] each = refl
@@ -100,7 +100,7 @@ hops_from-texts at (text ∷ texts) (hop ∷ hops) each =
 hops_from-texts at [] (hop ∷ hops) each = absurd each
 hops_from-texts at (text ∷ texts) [] each = absurd each
 
--- the texts that are read as hops are texts of these hops
+-- If texts are read as hops, they are the texts of these hops.
 texts_of-hops_from : (at : ℕ) (texts : List (List ℕ)) (hops : List Hop)
     → hops_from at texts ≡ Ok hops → AreHopTexts texts hops
 texts_of-hops_from at [] hops read = let none : [] ≡ hops = cc in subst (AreHopTexts []) none tt
@@ -117,7 +117,7 @@ texts_of-hops_from at (text ∷ texts) hops read =
         subst (AreHopTexts (text ∷ texts)) all
         ((hop_texts_read text hop).0 first, behind more later)
 
--- texts of hops, and then at this place a text of no hop; the first text is at `at`
+-- The parts before the number `place` are texts of hops, and this part isn't. The first part has the number `at`.
 record IsNoHopFrom (at : ℕ) (parts : List (List ℕ)) (place : ℕ) : Type 0 where
   pub front : List (List ℕ)
   pub part : List ℕ
@@ -131,7 +131,7 @@ record IsNoHopFrom (at : ℕ) (parts : List (List ℕ)) (place : ℕ) : Type 0 w
 none_some : {A : Type 0} (x : A) → ◌≡◌ {A = Option A} None (Some x) → ⊥
 none_some x e = cc
 
--- a part that isn't read is no hop
+-- A part that isn't read as a hop isn't the text of a hop.
 no_hop : (part : List ℕ) → hop_of part ≡ None → (hop : Hop) → ¬ IsHopText part hop
 no_hop part none hop is = none_some hop (sym none ∙ (hop_texts_read part hop).1 is)
 
@@ -139,7 +139,7 @@ refused_at : (r : Result (List Hop) HopsError) (k place : ℕ) → r ≡ Err (Ba
     → r ≡ Err (BadHop place)
 refused_at r k place is same = is ∙ ap (λ n. Err (BadHop n)) same
 
--- one hop more in front
+-- One more hop before the other parts.
 one_more : (at : ℕ) (part : List ℕ) (parts : List (List ℕ)) (place : ℕ) (hop : Hop)
     → hop_of part ≡ Some hop → IsNoHopFrom (at + 1) parts place
     → IsNoHopFrom at (part ∷ parts) place
@@ -154,7 +154,7 @@ one_more at part parts place hop first b = record {
   here = b.here;
 }
 
--- the part that is refused is the first that is no hop
+-- If a part is refused, it is the first part that isn't a hop.
 no_hop-hops_from : (at : ℕ) (parts : List (List ℕ)) (place : ℕ)
     → hops_from at parts ≡ Err (BadHop place) → IsNoHopFrom at parts place
 no_hop-hops_from at [] place read = absurd (cc)
@@ -173,7 +173,7 @@ no_hop-hops_from at (part ∷ parts) place read =
         let same : k ≡ place = cc (rw (first, later) at read) in
         one_more at part parts place hop first (more (refused_at _ k place later same))
 
--- the first part that is no hop is refused
+-- The first part that isn't a hop is refused.
 hops_from-no_hop : (at : ℕ) (front : List (List ℕ)) (part : List ℕ) (behind : List (List ℕ)) (hops : List Hop) → AreHopTexts front hops → ((hop : Hop) → ¬ IsHopText part hop)
     → hops_from at (front ++ part ∷ behind) ≡ Err (BadHop (length front + at))
 hops_from-no_hop at [] part behind hops before here = step (hop_of part) refl
@@ -187,7 +187,7 @@ hops_from-no_hop at (text ∷ front) part behind (hop ∷ hops) before here =
     (ap (λ n. Err (BadHop n)) (omega arith))
 hops_from-no_hop at (text ∷ front) part behind [] before here = absurd before
 
--- parts that are read one by one are not too many
+-- Reading the parts one by one never gives `TooManyHops`.
 not_many : (at : ℕ) (parts : List (List ℕ)) → hops_from at parts ≢ Err TooManyHops
 not_many at [] read = cc
 not_many at (part ∷ parts) read =
@@ -200,11 +200,11 @@ not_many at (part ∷ parts) read =
     step behind (Some hop) first (Err (BadHop k)) later = cc (rw (first, later) at read)
     step behind (Some hop) first (Err TooManyHops) later = behind later
 
--- a text with a byte has a length
+-- A text with a first byte isn't of length 0.
 longer_than_0 : (byte : ℕ) (text : List ℕ) → eqb (length (byte ∷ text)) 0 ≡ false
 longer_than_0 byte text = ne_eqb (length (byte ∷ text)) 0 (λ none. omega (arith, none))
 
--- a text that is not empty, of at most seven parts
+-- A text that isn't empty and has at most seven parts is read part by part.
 hops_of-few : (text : List ℕ) → text ≢ [] → length (parts_of text) ≤ 7
     → hops_of text ≡ hops_from 1 (parts_of text)
 unfolding hops_of
@@ -212,7 +212,7 @@ hops_of-few [] some few = absurd (some refl)
 hops_of-few (byte ∷ text) some few =
     rw (longer_than_0 byte text, le-ltb 7 (length (parts_of (byte ∷ text))) few) refl
 
--- a text of more parts
+-- A text of more than seven parts is refused.
 hops_of-many : (text : List ℕ) → 7 < length (parts_of text) → hops_of text ≡ Err TooManyHops
 unfolding hops_of parts_of
 hops_of-many [] many = absurd (omega arith)
@@ -220,7 +220,7 @@ hops_of-many (byte ∷ text) many =
     rw (longer_than_0 byte text, lt-ltb 7 (length (slice_split (λ c. eqb c 32) (byte ∷ text))) many)
     refl
 
--- seven or less, or more
+-- A number is at most 7, or above 7.
 few_or_many : (n : ℕ) → (n ≤ 7) ⊎ (7 < n)
 few_or_many n = step (ltb 7 n) refl
   where
@@ -232,11 +232,11 @@ hops_of-empty : hops_of [] ≡ Ok []
 unfolding hops_of
 hops_of-empty = refl
 
--- a byte and more is no empty text
+-- A text with a first byte isn't the empty text.
 not_empty : (byte : ℕ) (text : List ℕ) → byte ∷ text ≢ []
 not_empty byte text same = cc
 
--- the text of a hop is not empty, and neither is that of several
+-- The text of a hop isn't empty, and neither is the text of several hops.
 hop_longer : (text : List ℕ) (hop : Hop) → IsHopText text hop → 0 < length text
 hop_longer text hop is =
     omega (arith, ap length is.whole, length_push is.front (hop_letter hop.loose))
@@ -250,7 +250,7 @@ join_longer (text ∷ next ∷ texts) (hop ∷ hops) some each =
     omega
     (arith, hop_longer text hop each.0, length-append text (32 ∷ join_with_byte 32 (next ∷ texts)))
 
--- the texts of at most seven hops, joined, are read as those hops
+-- The texts of at most seven hops, joined by spaces, are read as these hops.
 hops_of-join : (texts : List (List ℕ)) (hops : List Hop) → AreHopTexts texts hops → length hops ≤ 7
     → hops_of (join_with_byte 32 texts) ≡ Ok hops
 hops_of-join [] [] each most = hops_of-empty
@@ -262,12 +262,12 @@ hops_of-join (text ∷ texts) hops each most =
     (rw parts (omega (arith, length-AreHopTexts (text ∷ texts) hops each)))
     ∙ ap (hops_from 1) parts ∙ hops_from-texts 1 (text ∷ texts) hops each
 
--- a text has few parts, and is read by them
+-- A text has at most seven parts, and is read part by part.
 record IsReadByParts (text : List ℕ) : Type 0 where
   few : length (parts_of text) ≤ 7
   read : hops_of text ≡ hops_from 1 (parts_of text)
 
--- a text that is not empty and not refused for too many parts is read by its parts
+-- A text that isn't empty and isn't refused with `TooManyHops` is read part by part.
 by_parts : (byte : ℕ) (text : List ℕ) → hops_of (byte ∷ text) ≢ Err TooManyHops
     → IsReadByParts (byte ∷ text)
 by_parts byte text not = step (few_or_many _)
@@ -278,7 +278,7 @@ by_parts byte text not = step (few_or_many _)
     step (inl few) =
         record { few = few; read = hops_of-few (byte ∷ text) (not_empty byte text) few }
 
--- a text that is read as hops is the texts of these hops
+-- If a text is read as hops, it has the texts of these hops.
 read_texts : (text : List ℕ) (hops : List Hop) → hops_of text ≡ Ok hops → IsHopListText text hops
 read_texts [] hops read =
     let none : [] ≡ hops = cc hops_of-empty in
@@ -288,12 +288,12 @@ read_texts (byte ∷ text) hops read =
     let each = texts_of-hops_from 1 _ hops (sym by.read ∙ read) in
     record { parts = parts_of (byte ∷ text); whole = (parts_are (byte ∷ text)).whole; each = each; most = omega (arith, by.few, length-AreHopTexts _ hops each) }
 
--- a text is read as hops exactly where it is their texts
+-- A text is read as a list of hops exactly if it has the texts of these hops.
 pub hop_lists_read : AreHopListsRead
 hop_lists_read text hops =
     (read_texts text hops, λ is. ap hops_of is.whole ∙ hops_of-join is.parts hops is.each is.most)
 
--- a part that is refused
+-- If a part is refused, the text has a first part that isn't a hop.
 refused_part : (text : List ℕ) (place : ℕ) → hops_of text ≡ Err (BadHop place)
     → HasBadHop text place
 refused_part [] place read = absurd (cc hops_of-empty)
@@ -309,7 +309,7 @@ refused_part (byte ∷ text) place read =
           record { front = b.front; part = b.part; behind = b.behind; whole = b.whole; is_place = b.is_place; hops = b.hops; before = b.before; here = b.here };
     }
 
--- the parts before one, this part and those after it are not none
+-- A list of parts that has this part isn't empty.
 some_parts : (parts front : List (List ℕ)) (part : List ℕ) (behind : List (List ℕ))
     → parts ≡ front ++ part ∷ behind → 0 < length parts
 some_parts parts front part behind whole =
@@ -324,7 +324,7 @@ part_refused text place has =
     ∙ hops_from-no_hop 1 bad.front bad.part bad.behind bad.hops bad.before bad.here
     ∙ ap (λ n. Err (BadHop n)) (sym bad.is_place)
 
--- the first part that is no hop is named
+-- The first part that isn't a hop is reported.
 pub bad_hops_named : AreBadHopsNamed
 bad_hops_named text place = (refused_part text place, part_refused text place)
 
@@ -339,21 +339,21 @@ refused_many (byte ∷ text) read = step (few_or_many _)
     step (inl few) =
         absurd (not_many 1 _ (sym (hops_of-few (byte ∷ text) (not_empty byte text) few) ∙ read))
 
--- more than seven parts are too many
+-- A text of more than seven parts is refused with `TooManyHops`.
 pub too_many_refused : AreTooManyRefused
 too_many_refused text = (
   refused_many text,
   λ has. hops_of-many text (rw (parts_only text has.parts (omega (arith, has.many)) has.are_parts) has.many),
 )
 
--- the texts that are written for hops are texts of hops
+-- The text that is written for a hop is a text of this hop.
 hop_texts : (hops : List Hop) → AllByRecursion (λ hop. IsPrefix hop.prefix) hops
     → AreHopTexts (map hop_text hops) hops
 hop_texts [] proper = tt
 hop_texts (hop ∷ hops) proper =
     ((hop_texts_read (hop_text hop) hop).0 (hop_of-hop_text hop proper.0), hop_texts hops proper.1)
 
--- a list of hops is read back from its text
+-- A list of hops is read back from its text.
 pub hops_of-hops_text : AreHopListsReadBack
 unfolding hops_text
 hops_of-hops_text hops most proper =

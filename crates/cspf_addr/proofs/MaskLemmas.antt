@@ -1,4 +1,4 @@
--- The masks that texts spell.
+-- Which texts spell which masks.
 use Rattle.std.proofs.Common.{◌≡◌, ℕ, ◌^◌, ◌<◌, ◌≤◌, Bool, true, false, cond, List, ◌++◌, length, take, drop, codes, Some, None, Result, Ok, IfOk, OnErr, lit<, refl, sym, ap, ◌∙◌, arith, ◌+◌, ◌*◌, ◌/◌, ◌%◌, [], ◌∷◌, map}
 use Rattle.std.proofs.lemmas.Bool.{ltb-true, lt-ltb, leb-true, le-leb}
 use Rattle.std.proofs.lemmas.Int.Digits.{digits_value-lt, digits_value_is}
@@ -20,14 +20,14 @@ use Rattle.cspf_addr.proofs.DigitLemmas.{and_parts, AllDigits-are_digits, are_di
 use Rattle.cspf_addr.proofs.NumberLemmas.{chosen}
 use Rattle.cspf_addr.proofs.Readers.{ok_spelled, err_unspelled, only_spelled}
 
--- eight hexadecimal digits are below 2^32
+-- The value of up to eight hexadecimal digits is below 2^32.
 pub short_value : (digits : List ℕ) → length digits ≤ 8 → are_digits 16 digits ≡ true
     → digits_value 16 digits < 2 ^ 32
 short_value digits short all =
     let most : 16 ^ length digits ≤ 16 ^ 8 = pow-le-pow_right (lit< tt) short in
     omega (arith, most, digits_value-lt 16 digits (AllDigits-are_digits 16 digits all))
 
--- where a byte is no digit, or the value is too large, there is no mask
+-- If a byte isn't a digit, or the value is too large, the text isn't a mask.
 pub word_none : (digits : List ℕ) → length digits ≤ 8
     → (are_digits 16 digits ≡ true → 2 ^ 64 ≤ digits_value 16 digits)
     → None ≡ cond (are_digits 16 digits) (Some (digits_value 16 digits)) None
@@ -68,36 +68,36 @@ mask_of-spells text n spells =
     ap mask_of spells.whole
     ∙ (mask_of-digits spells.digits spells.some spells.most spells.hexadecimal ∙ ap Some (sym spells.value))
 
--- the masks that are read are those that are spelled
+-- A text is read as a mask exactly if it spells the mask.
 pub masks_read : AreMasksRead
 masks_read text n = (mask_of-spelled text n, mask_of-spells text n)
 
--- the mask that was read is spelled
+-- If a mask was read, the text spells it.
 pub mask_ok : {E : Type 0} (text : List ℕ) (r : Result ℕ E) → result_ok r ≡ mask_of text
     → IfOk r (SpellsMask text)
 mask_ok text r same = ok_spelled r (mask_of text) (SpellsMask text) same (mask_of-spelled text)
 
--- where none was read, none is spelled
+-- If no mask was read, the text spells no mask.
 pub mask_err : {E : Type 0} (text : List ℕ) (r : Result ℕ E) → result_ok r ≡ mask_of text
     → OnErr r ((n : ℕ) → SpellsMask text n → ⊥)
 mask_err text r same = err_unspelled r (mask_of text) (SpellsMask text) same (mask_of-spells text)
 
--- the mask that is spelled was read
+-- If the text spells a mask, this mask was read.
 pub mask_only : {E : Type 0} (text : List ℕ) (r : Result ℕ E) → result_ok r ≡ mask_of text → (n : ℕ)
     → SpellsMask text n → r ≡ Ok n
 mask_only text r same n spells = only_spelled r (mask_of text) same n (mask_of-spells text n spells)
 
--- a text spells one mask at most
+-- A text spells at most one mask.
 pub spells_one_mask : SpellsOneMask
 spells_one_mask text m n spells_m spells_n =
     let found : Some m ≡ Some n = sym (mask_of-spells text m spells_m) ∙ mask_of-spells text n spells_n in
     cc
 
--- a hexadecimal digit that is written has its value
+-- The value of the hexadecimal digit that is written for a number is this number.
 glyph_value : (d : ℕ) → d < 16 → digit_value (digit_glyph false d) ≡ d
 glyph_value d small = grind (arith, nat_tests)
 
--- the two digits of a byte as numbers
+-- the numbers of the two hexadecimal digits of a byte
 abbrev halves : ℕ → List ℕ
 halves byte = byte / 16 ∷ byte % 16 ∷ []
 
@@ -115,7 +115,7 @@ glyph_digits (byte ∷ bytes) small = (
   (omega (arith, glyph_value (byte % 16) (omega arith)), glyph_digits bytes small.1),
 )
 
--- the number of hexadecimal digits is that of the bytes
+-- The hexadecimal digits of the bytes have the same value as the bytes.
 halves_number : (n : ℕ) (bytes : List ℕ)
     → number_from_digits_after 16 n (flat_map halves bytes) ≡ number_from_digits_after 256 n bytes
 halves_number n [] = refl
@@ -143,7 +143,7 @@ same_bytes : (a b c d n : ℕ) → a * 256 ^ 3 + b * 256 ^ 2 + c * 256 ^ 1 + d �
     → number_from_digits 256 (a ∷ b ∷ c ∷ d ∷ []) ≡ n
 same_bytes a b c d n same = omega (arith, same)
 
--- a mask is read back from its text
+-- A mask is read back from its text.
 pub mask_of-mask_text : AreMasksReadBack
 unfolding mask_text
 mask_of-mask_text bits small =

@@ -1,4 +1,4 @@
--- The numbers that texts spell.
+-- Which texts spell which numbers.
 use Rattle.std.proofs.Common.{◌≡◌, ◌≢◌, ℕ, ◌^◌, ◌<◌, ◌≤◌, Bool, true, false, cond, not, ◌&&◌, ◌||◌, ltb, eqb, List, length, get_or, Option, Some, None, IfSome, IfNone, refl, sym, ap, ◌∙◌, inl, inr, arith}
 use Rattle.std.proofs.lemmas.Bool.{ltb-true, lt-ltb, le-ltb, cases_lt}
 use Rattle.std.proofs.lemmas.Bool.Decides.{nat_tests}
@@ -10,16 +10,16 @@ use Rattle.std.specs.Str.Parse.{AllDigits, digits_value}
 use Rattle.cspf_addr.specs.Numbers.{are_digits, has_plain_start, is_decimal, number_of, AreSpelledOnce}
 use Rattle.cspf_addr.proofs.DigitLemmas.{and_parts, AllDigits-are_digits, are_digits-AllDigits}
 
--- std's words for texts of digits
+-- The definitions of digits here match those of the standard library.
 pub own : IsNumeralModel (AllDigits 10) (digits_value 10)
 own = numerals_by_value (AllDigits 10) tells_digits
 
--- a choice between a number and nothing that gave a number passed its test
+-- If a choice between a number and `None` gave a number, its test holds.
 pub chosen : (b : Bool) (v n : ℕ) → cond b (Some v) None ≡ Some n → (b ≡ true) × (v ≡ n)
 chosen true v n same = (refl, cc)
 chosen false v n same = absurd (cc)
 
--- the first byte of several is not `0`
+-- A text without a leading zero isn't empty, and its first byte is `0` only if this is its only byte.
 plain_start : (text : List ℕ) → has_plain_start text ≡ true
     → (0 < length text) × (get_or text 0 0 ≡ 48 → length text ≡ 1)
 plain_start text plain = (
@@ -42,14 +42,14 @@ decimal_start n small first =
       | inr least ↦ ap length (decimal_digit n (omega arith))
     ]
 
--- what is written for a number is a decimal
+-- The text that is written for a number has decimal digits without a leading zero.
 pub is_decimal-decimal : (n : ℕ) → n < 2 ^ 64 → is_decimal (decimal n) ≡ true
 unfolding is_decimal
 is_decimal-decimal n small =
     both_true (start_plain (decimal n) (decimal_nonempty n small) (decimal_start n small))
     (are_digits-AllDigits 10 (decimal n) (digits_decimal own n small))
 
--- and a decimal is what is written for its value
+-- A text of decimal digits without a leading zero is what is written for its value.
 pub decimal-is_decimal : (text : List ℕ) → is_decimal text ≡ true → digits_value 10 text < 2 ^ 64
     → decimal (digits_value 10 text) ≡ text
 unfolding is_decimal
@@ -58,12 +58,12 @@ decimal-is_decimal text passes small =
     let start = plain_start text parts.0 in
     decimal-digits_value own text (AllDigits-are_digits 10 text parts.1) start.0 start.1 small
 
--- a decimal has a digit
+-- A decimal text has at least one digit.
 pub is_decimal-some : (text : List ℕ) → is_decimal text ≡ true → 0 < length text
 unfolding is_decimal
 is_decimal-some text passes = (plain_start text (and_parts _ _ passes).0).0
 
--- a decimal is digits only
+-- All bytes of a decimal text are digits.
 pub is_decimal-AllDigits : (text : List ℕ) → is_decimal text ≡ true → AllDigits 10 text
 unfolding is_decimal
 is_decimal-AllDigits text passes = AllDigits-are_digits 10 text (and_parts _ _ passes).1
@@ -77,30 +77,30 @@ number_of-spelled text n found =
     let small = ltb-true _ _ parts.1 in
     rw (← choice.1) (small, sym (decimal-is_decimal text parts.0 small))
 
--- the number of the text that is written for a number is that number
+-- The text that is written for a number is read as this number.
 pub number_of-decimal : (n : ℕ) → n < 2 ^ 64 → number_of (decimal n) ≡ Some n
 unfolding number_of
 number_of-decimal n small =
     rw (is_decimal-decimal n small, digits_value-decimal own n small, lt-ltb n (2 ^ 64) small) refl
 
--- a text spells a number exactly where it is what is written for it
+-- A text is read as a number exactly if it is what is written for this number.
 pub spelled_once : AreSpelledOnce
 spelled_once text n = (number_of-spelled text n, λ h. ap number_of h.1 ∙ number_of-decimal n h.0)
 
--- a number that was read is spelled
+-- If a number was read, the text is what is written for it.
 pub number_some : (text : List ℕ) (r : Option ℕ) → r ≡ number_of text
     → IfSome r (λ n. text ≡ decimal n)
 number_some text None same = tt
 number_some text (Some n) same = (number_of-spelled text n (sym same)).1
 
--- where none was read, none is spelled
+-- If no number was read, the text isn't what is written for a number.
 pub number_none : (text : List ℕ) (r : Option ℕ) → r ≡ number_of text
     → IfNone r ((n : ℕ) → n < 2 ^ 64 → text ≢ decimal n)
 number_none text None same =
     λ n small spelled. let found = ap number_of spelled ∙ number_of-decimal n small in cc
 number_none text (Some n) same = tt
 
--- the number that is spelled was read
+-- If the text is what is written for a number, this number was read.
 pub number_only : (text : List ℕ) (r : Option ℕ) → r ≡ number_of text → (n : ℕ) → n < 2 ^ 64
     → text ≡ decimal n → r ≡ Some n
 number_only text r same n small spelled = same ∙ (ap number_of spelled ∙ number_of-decimal n small)
@@ -110,7 +110,7 @@ refused : (b : Bool) (value : ℕ) → (b ≡ true → 2 ^ 64 ≤ value)
 refused true value large = rw (le-ltb value (2 ^ 64) (large refl)) refl
 refused false value large = refl
 
--- after a test for a plain start, the reader of digits reads numbers
+-- If a text has no leading zero, the reader of digits reads its number.
 pub number_value : (text : List ℕ) (r : Option ℕ) → has_plain_start text ≡ true
     → IfSome r (λ n. (are_digits 10 text ≡ true) × (n ≡ digits_value 10 text))
     → IfNone r (are_digits 10 text ≡ true → 2 ^ 64 ≤ digits_value 10 text)
@@ -120,7 +120,7 @@ number_value text None plain some none small = rw plain (refused _ _ none)
 number_value text (Some n) plain some none small =
     rw (plain, some.0, ← some.1, lt-ltb n (2 ^ 64) small) refl
 
--- and elsewhere there is no number
+-- A text that is empty or has a leading zero isn't a number.
 pub number_refused : (text : List ℕ) → has_plain_start text ≡ false → number_of text ≡ None
 unfolding number_of is_decimal
 number_refused text plain = rw plain refl

@@ -1,4 +1,4 @@
--- The prefixes that texts spell.
+-- Which texts spell which prefixes.
 use Rattle.std.proofs.Common.{◌≡◌, ◌≢◌, ℕ, ◌^◌, ◌<◌, ◌≤◌, ◌/◌, ◌%◌, Bool, true, false, cond, ltb, leb, List, ◌∷◌, ◌++◌, Option, Some, None, Ok, Err, refl, sym, ap, subst, ◌∙◌, lit<, arith}
 use Rattle.std.proofs.lemmas.Bool.{ltb-false, le-leb, lt-leb}
 use Rattle.std.proofs.lemmas.Fmt.{digits_decimal, digits_value-decimal}
@@ -19,7 +19,7 @@ none_large : (value : ℕ) (b : Bool) → ltb value (2 ^ 64) ≡ b → cond b (S
 none_large value true test found = absurd (cc)
 none_large value false test found = ltb-false value (2 ^ 64) test
 
--- a decimal of 2^64 or more is refused as a length
+-- A decimal number of 2^64 or more is refused as a prefix length.
 pub length_none : (text : List ℕ) → is_decimal text ≡ true → number_of text ≡ None
     → length_of text ≡ Err error.TooLong
 unfolding length_of number_of
@@ -27,7 +27,7 @@ length_none text passes found =
     let large = none_large _ _ refl (rw passes at found) in
     rw (passes, lt-leb (digits_value 10 text) 32 (omega arith)) refl
 
--- any other decimal is judged by its value
+-- A decimal number below 2^64 is a prefix length if it is at most 32.
 length_some : (text : List ℕ) (n : ℕ) → is_decimal text ≡ true → number_of text ≡ Some n
     → length_of text ≡ cond (leb n 32) (Ok n) (Err error.TooLong)
 unfolding length_of number_of
@@ -35,18 +35,18 @@ length_some text n passes found =
     let value : digits_value 10 text ≡ n = (chosen _ _ _ found).1 in
     rw (passes, value) refl
 
--- a number above 32 is refused as a length
+-- A number above 32 is refused as a prefix length.
 pub length_more : (text : List ℕ) (n : ℕ) → is_decimal text ≡ true → number_of text ≡ Some n
     → 32 < n → length_of text ≡ Err error.TooLong
 length_more text n passes found long = length_some text n passes found ∙ rw (lt-leb n 32 long) refl
 
--- any other number is a length
+-- A number of at most 32 is read as a prefix length.
 pub length_fits : (text : List ℕ) (n : ℕ) → is_decimal text ≡ true → number_of text ≡ Some n
     → n ≤ 32 → length_of text ≡ Ok n
 length_fits text n passes found short =
     length_some text n passes found ∙ rw (le-leb n 32 short) refl
 
--- the text of an address has digits and points only
+-- The text of an address has only digits and points.
 lacks_in_address : (mark n : ℕ) → mark < 48 → mark ≢ 46 → n < 2 ^ 32 → Lacks mark (address_text n)
 unfolding address_text
 lacks_in_address mark n low apart small =
@@ -70,7 +70,7 @@ prefix_of-whole address digits small passes =
     rw (before-front 47 (address_text address) digits (lacks_slash address small), after-front 47 (address_text address) digits (lacks_slash address small), address_of-address_text address small, passes)
     (with_length (leb (digits_value 10 digits) 32) (digits_value 10 digits) address)
 
--- an address, a slash and digits are read
+-- A text of an address, a slash and digits is read as this address and the value of these digits.
 pub prefix_texts_read : ArePrefixTextsRead
 prefix_texts_read text address digits spelled =
     ap prefix_of spelled.whole ∙ prefix_of-whole address digits spelled.small spelled.decimal
@@ -87,11 +87,11 @@ refused_from text (Some address) true front back other =
     let cut = cut_whole 47 text (is_decimal-some (text_after 47 text) back) in
     (address, text_after 47 text, record { small = spelled.0; decimal = back; whole = rw spelled.1 at cut })
 
--- nothing else is
+-- Any other text is refused.
 pub others_refused : AreOthersRefused
 others_refused text other = refused_from text _ _ refl refl other
 
--- a text that is read as a prefix has digits, points and a slash only
+-- A text that is read as a prefix has only digits, points and a slash.
 pub lacks_in_prefix_text : (mark : ℕ) (text : List ℕ) (prefix : PrefixParts) → mark < 46
     → prefix_of text ≡ Ok prefix → Lacks mark text
 lacks_in_prefix_text mark text prefix low read =
@@ -100,7 +100,7 @@ lacks_in_prefix_text mark text prefix low read =
     (Lacks-append mark (address_text address) (47 ∷ digits) (lacks_in_address mark address (omega arith) (λ same. omega (arith, same)) is.small)
     (λ same. omega (arith, same), Lacks-digits mark digits (omega arith) (is_decimal-AllDigits digits is.decimal)))
 
--- a prefix is read back from its text
+-- A prefix is read back from its text.
 pub prefix_of-prefix_text : ArePrefixesReadBack
 unfolding prefix_text
 prefix_of-prefix_text prefix proper =

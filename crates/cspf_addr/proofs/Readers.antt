@@ -1,4 +1,4 @@
--- The results of a reader of texts, and which texts spell which values.
+-- The results of a reader of texts, and the values that the texts spell.
 use Rattle.std.proofs.Common.{◌≡◌, Option, Some, None, Result, Ok, Err, IfOk, OnErr, refl, sym, ap, ◌∙◌}
 use Rattle.std.specs.Option.{ok_or}
 use Rattle.std.specs.Result.{result_ok}
@@ -8,24 +8,24 @@ result_ok-ok_or : {A E : Type 0} (o : Option A) (e : E) → result_ok (ok_or o e
 result_ok-ok_or None e = refl
 result_ok-ok_or (Some a) e = refl
 
--- a reader that returns one error where nothing is found returns the value that is found
+-- A reader that turns `None` into an error returns the value that is found.
 pub ok_or_read : {A E : Type 0} {r : Result A E} {o found : Option A} (e : E) → r ≡ ok_or o e
     → o ≡ found → result_ok r ≡ found
 ok_or_read e same is = ap result_ok same ∙ (result_ok-ok_or _ _ ∙ is)
 
--- what was read is spelled
+-- If a value was read, the text spells it.
 pub ok_spelled : {A E : Type 0} (r : Result A E) (o : Option A) (Spells : A → Type 0)
     → result_ok r ≡ o → ((a : A) → o ≡ Some a → Spells a) → IfOk r Spells
 ok_spelled (Ok a) o Spells same spelled = spelled a (sym same)
 ok_spelled (Err e) o Spells same spelled = tt
 
--- where nothing was read, nothing is spelled
+-- If no value was read, the text spells no value.
 pub err_unspelled : {A E : Type 0} (r : Result A E) (o : Option A) (Spells : A → Type 0)
     → result_ok r ≡ o → ((a : A) → Spells a → o ≡ Some a) → OnErr r ((a : A) → Spells a → ⊥)
 err_unspelled (Ok a) o Spells same read = tt
 err_unspelled (Err e) o Spells same read = λ a spells. let found = read a spells in cc
 
--- what is spelled was read
+-- If the text spells a value, this value was read.
 pub only_spelled : {A E : Type 0} (r : Result A E) (o : Option A) → result_ok r ≡ o → (a : A)
     → o ≡ Some a → r ≡ Ok a
 only_spelled (Ok b) o same a read = let found : Some b ≡ Some a = same ∙ read in cc

@@ -1,4 +1,4 @@
--- How addresses are spelled: their four bytes in decimal, with a point between each two.
+-- How addresses are written: their four bytes in decimal, separated by points.
 use Rattle.std.specs.Prelude.{◌≡◌, ℕ, ◌^◌, ◌<◌, ◌↔◌, ◌==◌, nat_lt, if◌then◌else◌, List, [], ◌∷◌, map, Option, Some, None}
 use Rattle.std.specs.Fmt.{decimal}
 use Rattle.std.specs.Int.{w32, to_be_bytes, from_be_bytes}
@@ -11,11 +11,11 @@ use Rattle.cspf_addr.specs.Numbers.{number_of}
 unfoldable pub address_text : ℕ → List ℕ
 address_text n = join_with_byte 46 (map decimal (to_be_bytes w32 n))
 
--- the text before the first such byte, or the whole text where there is none
+-- the text before the first byte `mark`, or the whole text if it has none
 unfoldable pub text_before : ℕ → List ℕ → List ℕ
 text_before mark text = before_first (λ byte. byte == mark) text
 
--- the text after the first such byte, or the empty text where there is none
+-- the text after the first byte `mark`, or the empty text if it has none
 unfoldable pub text_after : ℕ → List ℕ → List ℕ
 text_after mark text = after_first (λ byte. byte == mark) text
 
@@ -25,7 +25,7 @@ octet_of text = do
   n ← number_of text
   if nat_lt n 256 then Some n else None
 
--- the four numbers that a text spells with a point between each two
+-- the four numbers that a text spells, separated by points
 unfoldable pub octets_of : List ℕ → Option (List ℕ)
 octets_of text = do
   first ← octet_of (text_before 46 text)
@@ -40,13 +40,13 @@ octets_of text = do
 unfoldable pub address_of : List ℕ → Option ℕ
 address_of text = option_map (from_be_bytes w32) (octets_of text)
 
--- a text spells an address exactly where it is what is written for that address
+-- A text is read as an address exactly if it is the text of this address.
 abbrev pub AreAddressesSpelledOnce : Type 0
 AreAddressesSpelledOnce =
     (text : List ℕ) (n : ℕ)
     → (address_of text ≡ Some n) ↔ ((n < 2 ^ 32) × (text ≡ address_text n))
 
--- two addresses are never spelled alike
+-- No two addresses have the same text.
 abbrev pub IsAddressTextInjective : Type 0
 IsAddressTextInjective =
     (m n : ℕ) → m < 2 ^ 32 → n < 2 ^ 32 → address_text m ≡ address_text n → m ≡ n

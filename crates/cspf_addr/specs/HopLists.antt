@@ -1,4 +1,4 @@
--- How lists of hops are spelled: at most seven hops with a space between each two.
+-- How lists of hops are written: at most seven hops, separated by single spaces.
 use Rattle.std.specs.Prelude.{◌≡◌, ℕ, ◌+◌, ◌≤◌, ◌==◌, nat_lt, if◌then◌else◌, List, [], ◌∷◌, length, map, Result, Ok, Err}
 use Rattle.std.specs.List.{slice_split, join_with_byte, AllByRecursion}
 use Rattle.std.specs.Option.{ok_or}
@@ -10,11 +10,12 @@ use Rattle.cspf_addr.specs.declared.hops.TheConstants.{MOST_HOPS}
 use Rattle.cspf_addr.specs.declared.hop_reader.HopsError.{HopsError}
 use Rattle.cspf_addr.specs.declared.hop_reader.HopsError.TheVariants as error
 
--- the parts of a text between its spaces, also those that are empty
+-- the parts of a text before, between and after its spaces; a part may be empty
 unfoldable pub parts_of : List ℕ → List (List ℕ)
 parts_of text = slice_split (λ byte. byte == 32) text
 
--- the hops of parts, the first of which is at this number; the first part that is no hop is refused
+-- The hops that these parts spell, or the error for the first part that isn't a hop. The first part has the number
+-- `at`.
 abbrev pub hops_from : ℕ → List (List ℕ) → Result (List Hop) HopsError
 hops_from at [] = Ok []
 hops_from at (part ∷ parts) = do
@@ -22,8 +23,8 @@ hops_from at (part ∷ parts) = do
   hops ← hops_from (at + 1) parts
   Ok (hop ∷ hops)
 
--- the hops that a text spells, none by the empty text; more than seven parts are refused before any
--- of them is read
+-- The hops that a text spells. The empty text spells no hops. If there are more than seven parts, the text is
+-- refused before a part is read.
 unfoldable pub hops_of : List ℕ → Result (List Hop) HopsError
 hops_of text =
     if length text == 0
@@ -36,7 +37,7 @@ hops_of text =
 unfoldable pub hops_text : List Hop → List ℕ
 hops_text hops = join_with_byte 32 (map hop_text hops)
 
--- a list of at most seven hops is read back from its text
+-- A list of at most seven hops is read back from its text.
 abbrev pub AreHopListsReadBack : Type 0
 AreHopListsReadBack =
     (hops : List Hop) → length hops ≤ MOST_HOPS → AllByRecursion (λ hop. IsPrefix hop.prefix) hops

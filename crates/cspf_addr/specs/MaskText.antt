@@ -1,4 +1,4 @@
--- How masks are spelled: `0x` and up to eight hexadecimal digits.
+-- How masks are written: `0x` and one to eight hexadecimal digits.
 use Rattle.std.specs.Prelude.{◌≡◌, ℕ, ◌/◌, ◌%◌, ◌^◌, ◌<◌, ◌≤◌, ◌↔◌, Bool, false, ◌&&◌, nat_lt, nat_le, nat_eq, if◌then◌else◌, List, [], ◌∷◌, ◌++◌, length, drop, codes, IsTrue, Option, Some, None}
 use Rattle.std.specs.Fmt.{digit_glyph}
 use Rattle.std.specs.Int.{w32, to_be_bytes}
@@ -6,7 +6,7 @@ use Rattle.std.specs.List.{starts_with, flat_map}
 use Rattle.std.specs.Str.Parse.{digits_value}
 use Rattle.cspf_addr.specs.Numbers.{are_digits}
 
--- a text is `0x` and one to eight hexadecimal digits of either case, and their value is n
+-- The text is `0x` and one to eight hexadecimal digits, upper or lower case, and their value is n.
 pub record SpellsMask (text : List ℕ) (n : ℕ) : Type 0 where
   pub digits : List ℕ
   pub whole : text ≡ codes "0x" ++ digits
@@ -15,7 +15,7 @@ pub record SpellsMask (text : List ℕ) (n : ℕ) : Type 0 where
   pub hexadecimal : IsTrue (are_digits 16 digits)
   pub value : n ≡ digits_value 16 digits
 
--- one to eight hexadecimal digits
+-- The bytes are one to eight hexadecimal digits.
 abbrev pub are_mask_digits : List ℕ → Bool
 are_mask_digits digits =
     nat_lt 0 (length digits) && nat_le (length digits) 8 && are_digits 16 digits
@@ -27,11 +27,11 @@ mask_of text =
     then Some (digits_value 16 (drop 2 text))
     else None
 
--- the reader of masks finds exactly what is spelled
+-- A text is read as a mask exactly if it spells the mask.
 abbrev pub AreMasksRead : Type 0
 AreMasksRead = (text : List ℕ) (n : ℕ) → (mask_of text ≡ Some n) ↔ SpellsMask text n
 
--- a text spells one mask at most
+-- A text spells at most one mask.
 abbrev pub SpellsOneMask : Type 0
 SpellsOneMask = (text : List ℕ) (m n : ℕ) → SpellsMask text m → SpellsMask text n → m ≡ n
 
@@ -43,6 +43,6 @@ byte_digits byte = digit_glyph false (byte / 16) ∷ digit_glyph false (byte % 1
 unfoldable pub mask_text : ℕ → List ℕ
 mask_text bits = codes "0x" ++ flat_map byte_digits (to_be_bytes w32 bits)
 
--- a mask is read back from its text
+-- A mask is read back from its text.
 abbrev pub AreMasksReadBack : Type 0
 AreMasksReadBack = (bits : ℕ) → bits < 2 ^ 32 → mask_of (mask_text bits) ≡ Some bits

@@ -1,7 +1,7 @@
--- `>>=` at an `Option`, for the steps of a reader that may find nothing.
+-- `>>=` for an `Option`: the steps of a reader that may find nothing.
 use Rattle.std.specs.Prelude.{Option, option_and_then}
 
--- the second step, where the first gave a value
+-- the second step, if the first step gave a value
 infixl 10 ◌>>=◌
 abbrev pub ◌>>=◌ : {A B : Type 0} → Option A → (A → Option B) → Option B
 first >>= second = option_and_then second first

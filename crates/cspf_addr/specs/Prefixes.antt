@@ -1,4 +1,4 @@
--- Prefixes of addresses (RFC 3209 4.3.3.2): what they cover, and how they are spelled.
+-- Prefixes of addresses (RFC 3209 4.3.3.2): which addresses they cover, and how they are written.
 use Rattle.std.specs.Prelude.{◌≡◌, ◌≢◌, ℕ, ◌-◌, ◌/◌, ◌^◌, ◌<◌, nat_le, if◌then◌else◌, List, ◌∷◌, ◌++◌, IsTrue, Result, Ok, Err}
 use Rattle.std.specs.Fmt.{decimal}
 use Rattle.std.specs.Option.{ok_or}
@@ -10,12 +10,12 @@ use Rattle.cspf_addr.specs.PrefixParts.{PrefixParts, IsPrefix, with_first_bits}
 use Rattle.cspf_addr.specs.declared.prefix.PrefixError.{PrefixError}
 use Rattle.cspf_addr.specs.declared.prefix.PrefixError.TheVariants as error
 
--- two addresses agree in the first bits of a prefix
+-- The address begins with the bits of the prefix.
 abbrev pub Covers : PrefixParts → ℕ → Type 0
 Covers prefix address =
     prefix.address / 2 ^ (32 - prefix.length) ≡ address / 2 ^ (32 - prefix.length)
 
--- the length that a text of digits spells, at most 32
+-- the prefix length that a text of digits spells, at most 32
 unfoldable pub length_of : List ℕ → Result ℕ PrefixError
 length_of text =
     if is_decimal text
@@ -33,29 +33,29 @@ prefix_of text = do
 unfoldable pub prefix_text : PrefixParts → List ℕ
 prefix_text prefix = address_text prefix.address ++ 47 ∷ decimal prefix.length
 
--- a text is an address, a slash and these digits, which are decimal with no leading zeros
+-- The text is an address, a slash and these decimal digits without leading zeros.
 pub record IsPrefixText (text : List ℕ) (address : ℕ) (digits : List ℕ) : Type 0 where
   pub small : address < 2 ^ 32
   pub decimal : IsTrue (is_decimal digits)
   pub whole : text ≡ address_text address ++ 47 ∷ digits
 
--- the first bits of the address that are asked for, where they are at most 32
+-- the prefix of this length with the first bits of the address, if the length is at most 32
 abbrev pub prefix_with : ℕ → ℕ → Result PrefixParts PrefixError
 prefix_with length address =
     if nat_le length 32 then Ok (with_first_bits length address) else Err error.TooLong
 
--- such a text is read as its address and the value of its digits, however many they are
+-- Such a text is read as its address and the value of its digits. There may be any number of digits.
 abbrev pub ArePrefixTextsRead : Type 0
 ArePrefixTextsRead =
     (text : List ℕ) (address : ℕ) (digits : List ℕ) → IsPrefixText text address digits
     → prefix_of text ≡ prefix_with (digits_value 10 digits) address
 
--- and each other text is no prefix
+-- Any other text is refused as no prefix.
 abbrev pub AreOthersRefused : Type 0
 AreOthersRefused = (text : List ℕ) → prefix_of text ≢ Err error.NotAPrefix
     → (address : ℕ) × (digits : List ℕ) × IsPrefixText text address digits
 
--- a prefix is read back from its text
+-- A prefix is read back from its text.
 abbrev pub ArePrefixesReadBack : Type 0
 ArePrefixesReadBack =
     (prefix : PrefixParts) → IsPrefix prefix → prefix_of (prefix_text prefix) ≡ Ok prefix

@@ -27,7 +27,7 @@ impl Model for Addr {
     ghost inverse = { λ n. record { 0 = n } };
 }
 
-/// Why a text is no address.
+/// Why a text isn't an address.
 #[derive(Clone, Copy, Debug, PartialEq, Eq, Error)]
 pub enum AddrError {
     #[error("not an IPv4 address")]
@@ -49,8 +49,8 @@ impl Addr {
         self.0
     }
 
-    /// The address that a text spells: four decimal numbers of at most 255 with no leading zeros,
-    /// and a point between each two.
+    /// The address that a text spells: four decimal numbers, separated by points. Each is at most
+    /// 255 and has no leading zeros.
     pub fn parse(text: &[u8]) -> Result<Addr, AddrError>
         ensures value { result_ok result ≡ address_of text.now }
         ensures ok { IfOk result (λ address. text.now ≡ address_text address) }
@@ -90,7 +90,7 @@ fn read_address(text: &[u8]) -> Option<Addr>
     Some(Addr(u32::from_be_bytes(bytes)))
 }
 
-/// The number at most 255 that a text spells.
+/// The number that a text spells, if it is at most 255.
 #[tactic(auto, unfolding(crate::specs::AddressText::octet_of))]
 fn octet(text: &[u8]) -> Option<u8>
     ensures { result ≡ octet_of text.now }
@@ -109,8 +109,8 @@ fn octets(text: &[u8]) -> Option<[u8; 4]>
     Some([octet(first)?, octet(second)?, octet(third)?, octet(fourth)?])
 }
 
-/// Law: an address is read exactly where the text is what is written for it, and each text is
-/// written for one address.
+/// Law: a text is read as an address exactly if it is the text of this address. No two addresses
+/// have the same text.
 pub fn addresses_are_spelled_once()
     ensures read { AreAddressesSpelledOnce }
     ensures one { IsAddressTextInjective }

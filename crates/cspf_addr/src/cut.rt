@@ -1,8 +1,8 @@
 ghost use Rattle.std.specs.Prelude.{◌≡◌, ◌==◌, position};
 ghost use Rattle.cspf_addr.specs.AddressText.{text_before, text_after};
 
-/// The text before the first byte `mark`, and the text after it. Where there is no such byte these
-/// are the whole text and the empty one.
+/// The text before the first byte `mark`, and the text after it. If no byte is `mark`, they are the
+/// whole text and the empty text.
 pub(crate) fn cut(text: &[u8], mark: u8) -> (&[u8], &[u8])
     ensures before { result.0.now ≡ text_before mark text.now }
     ensures after { result.1.now ≡ text_after mark text.now }
@@ -13,7 +13,7 @@ pub(crate) fn cut(text: &[u8], mark: u8) -> (&[u8], &[u8])
     }
 }
 
-/// The index of the first byte `mark`.
+/// The index of the first byte `mark`, if there is one.
 fn place(text: &[u8], mark: u8) -> Option<usize>
     ensures { result ≡ position (λ byte. byte == mark) text.now }
 {

@@ -6,8 +6,8 @@ ghost use Rattle.std.specs.Char.{digit_value};
 ghost use Rattle.std.specs.Str.Parse.{digits_value};
 ghost use Rattle.cspf_addr.specs.Numbers.{are_digits, is_decimal, number_of, has_plain_start, AreSpelledOnce};
 
-/// The value of a text of digits in base `base`; `None` where a byte is no such digit, or the value
-/// is 2^64 or more.
+/// The value of a text of digits in base `base`. `None` if a byte isn't a digit of this base, or if
+/// the value is 2^64 or more.
 pub(crate) fn value(text: &[u8], base: u32) -> Option<u64>
     requires least { 2 ≤ base }
     requires most { base ≤ 36 }
@@ -24,8 +24,8 @@ pub(crate) fn value(text: &[u8], base: u32) -> Option<u64>
     Some(value)
 }
 
-/// The value with one more digit at its end; `None` where the byte is no digit in base `base`, or
-/// the value is 2^64 or more.
+/// The value after one more digit is appended. `None` if the byte isn't a digit of base `base`, or
+/// if the value is 2^64 or more.
 fn one_more(value: u64, byte: u8, base: u32) -> Option<u64>
     requires least { 2 ≤ base }
     requires most { base ≤ 36 }
@@ -41,14 +41,14 @@ fn one_more(value: u64, byte: u8, base: u32) -> Option<u64>
         .checked_add(u64::from(digit))
 }
 
-/// Whether a text is one byte or more, the first of several not `0`.
+/// Whether a text is not empty and has no leading zero. The text `0` itself counts.
 fn has_plain_start(text: &[u8]) -> bool
     ensures { result ≡ has_plain_start text.now }
 {
     !text.is_empty() && (text.len() == 1 || text[0] != b'0')
 }
 
-/// The number that a text spells in decimal: digits with no sign and no leading zeros, below 2^64.
+/// The number that a text spells in decimal, below 2^64. A sign or a leading zero isn't allowed.
 pub fn number(text: &[u8]) -> Option<u64>
     ensures value { result ≡ number_of text.now }
     ensures some { IfSome result (λ n. text.now ≡ decimal n) }
@@ -62,7 +62,7 @@ pub fn number(text: &[u8]) -> Option<u64>
     }
 }
 
-/// Whether a text is decimal digits with no leading zeros, however many.
+/// Whether a text is one or more decimal digits without a leading zero.
 #[tactic(auto, unfolding(crate::specs::Numbers::is_decimal))]
 pub(crate) fn is_decimal(text: &[u8]) -> bool
     ensures { result ≡ is_decimal text.now }
@@ -78,7 +78,7 @@ fn are_digits(text: &[u8]) -> bool
     text.iter().all(|byte| char::from(*byte).is_digit(10))
 }
 
-/// Law: `number` finds a number exactly where the text is what is written for it.
+/// Law: a text is read as a number exactly if it is the text that is written for this number.
 pub fn numbers_are_spelled_once()
     ensures { AreSpelledOnce }
 {}

@@ -7,13 +7,14 @@ ghost use Rattle.cspf_addr.specs.HopText.{hop_of, loose_of, AreHopTextsRead, Are
 use crate::prefix::Prefix;
 use std::alloc::{AllocError, Global};
 
-/// A hop of an explicit route: any router that the prefix covers. A strict hop is adjacent to the
-/// hop before it. Other routers may come before a loose hop (RFC 3209 4.3.3.1).
+/// A hop of an explicit route. It stands for any router that its prefix covers. A strict hop is
+/// adjacent to the hop before it. On the way to a loose hop the route may visit other routers (RFC
+/// 3209 4.3.3.1).
 #[derive(Clone, Copy, Debug, PartialEq, Eq)]
 pub struct Hop {
-    /// The routers that the hop may be.
+    /// The prefix that covers the routers that the hop may be.
     pub prefix: Prefix,
-    /// Whether other routers may come before it.
+    /// Whether the route may visit other routers on the way to this hop.
     pub loose: bool,
 }
 
@@ -43,7 +44,7 @@ pub(crate) fn read_hop(text: &[u8]) -> Option<Hop>
     Some(Hop { prefix, loose })
 }
 
-/// Whether a letter is that of a loose hop; `None` where it is neither `s` nor `l`.
+/// Whether a letter is `l`, the letter of a loose hop. `None` if it is neither `s` nor `l`.
 #[tactic(auto, unfolding(crate::specs::HopText::loose_of))]
 fn read_loose(letter: u8) -> Option<bool>
     ensures { result ≡ loose_of letter }
@@ -55,8 +56,8 @@ fn read_loose(letter: u8) -> Option<bool>
     }
 }
 
-/// Law: a hop is read exactly where the text is that of a prefix and the letter of the hop, and it
-/// is read back from its text.
+/// Law: a text is read as a hop exactly if it is the text of the hop's prefix followed by the hop's
+/// letter. A hop is read back from its text.
 pub fn hops_are_spelled()
     ensures read { AreHopTextsRead }
     ensures back { AreHopsReadBack }

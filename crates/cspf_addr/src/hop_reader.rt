@@ -1,4 +1,4 @@
-//! The reader of a list of hops, and why a text is refused as one.
+//! The reader of a list of hops, and why a text isn't read as a list.
 
 ghost use Rattle.std.specs.Prelude.{◌≡◌, ◌≤◌, length};
 ghost use Rattle.cspf_addr.specs.HopLists.{hops_of, hops_from, parts_of, AreHopListsReadBack};
@@ -8,20 +8,20 @@ use crate::hop::read_hop;
 use crate::hops::{Hops, MOST_HOPS};
 use thiserror::Error;
 
-/// Why a text is no list of hops.
+/// Why a text isn't a list of hops.
 #[derive(Clone, Copy, Debug, PartialEq, Eq, Error)]
 pub enum HopsError {
-    /// More than seven parts.
+    /// The text has more than seven parts.
     #[error("more than {most} hops", most = MOST_HOPS)]
     TooManyHops,
-    /// The first part that is no hop, numbered from 1.
+    /// This part isn't a hop, and all parts before it are hops. Parts are numbered from 1.
     #[error("part {at} is not a hop")]
     BadHop { at: usize },
 }
 
-/// The hops that a text spells, with a space (0x20) between each two. The empty text spells no hop.
-/// Any other text spells one hop by each part before, between and after the spaces. More than seven
-/// parts are refused before any is read.
+/// The hops that a text spells, separated by single spaces (0x20). The empty text spells no hops.
+/// Otherwise each part before, between and after the spaces has to spell a hop. If there are more
+/// than seven parts, the text is refused before a part is read.
 #[tactic(auto, unfolding(crate::specs::HopLists::hops_of))]
 pub fn parse_hops(text: &[u8]) -> Result<Hops, HopsError>
     ensures { result ≡ hops_of text.now }
@@ -43,7 +43,7 @@ fn part_count(text: &[u8]) -> usize
     text.iter().filter(|byte| **byte == b' ').count() + 1
 }
 
-/// The hops of the parts of a text.
+/// The hops that the parts of a text spell.
 fn read_parts(text: &[u8]) -> Result<Hops, HopsError>
     requires { length (parts_of text.now) ≤ MOST_HOPS }
     ensures { result ≡ hops_from 1 (parts_of text.now) }
@@ -58,9 +58,9 @@ fn read_parts(text: &[u8]) -> Result<Hops, HopsError>
     Ok(hops)
 }
 
-/// Law: a text is read as hops exactly where it is their texts, at most seven, with one space
-/// between each two. Of others with at most seven parts the first part that is no hop is named, and
-/// those with more are refused for that.
+/// Law: a text is read as a list of hops exactly if it has the texts of these hops, at most seven,
+/// separated by single spaces. Otherwise a text of more than seven parts is refused as too long,
+/// and of any other text the first part that isn't a hop is reported.
 pub fn hop_lists_are_read()
     ensures read { AreHopListsRead }
     ensures bad { AreBadHopsNamed }

@@ -1,4 +1,4 @@
-//! Lists of at most seven hops, which are kept in place and take no memory.
+//! Lists of at most seven hops. A list is an array, so it takes no memory on the heap.
 
 ghost use Rattle.std.specs.Prelude.{◌≡◌, ◌<◌, ◌≤◌, ◌++◌, [], ◌∷◌, length, slice_get, ◌==◌};
 
@@ -37,7 +37,7 @@ impl Model for Hops {
 }
 
 impl Hops {
-    /// No hops.
+    /// The empty list.
     pub fn none() -> Hops
         ensures { result ≡ [] }
     {
@@ -51,7 +51,7 @@ impl Hops {
         }
     }
 
-    /// How many hops there are.
+    /// How many hops the list has.
     pub fn len(&self) -> usize
         ensures value { result ≡ length self.now }
         ensures most { length self.now ≤ MOST_HOPS }
@@ -59,14 +59,14 @@ impl Hops {
         self.count
     }
 
-    /// Whether there is no hop.
+    /// Whether the list is empty.
     pub fn is_empty(&self) -> bool
         ensures { result ≡ (length self.now == 0) }
     {
         self.count == 0
     }
 
-    /// The hop at a place, the first at 0.
+    /// The hop at an index, if there is one. The first hop is at 0.
     pub fn get(&self, place: usize) -> Option<Hop>
         ensures { result ≡ slice_get self.now place }
     {
@@ -80,7 +80,7 @@ impl Hops {
         &self.places[..self.count]
     }
 
-    /// Appends a hop to the others, which are fewer than `MOST_HOPS`.
+    /// Appends a hop to the list, which has fewer than `MOST_HOPS` hops.
     pub fn push(&mut self, hop: Hop)
         requires { length self.old < MOST_HOPS }
         ensures { self.new ≡ self.old ++ hop ∷ [] }

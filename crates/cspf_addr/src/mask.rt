@@ -12,8 +12,8 @@ use std::alloc::{AllocError, Global};
 use std::marker::Model;
 use thiserror::Error;
 
-/// A set of administrative groups, one bit each (RFC 3630 2.5.9), as a link's own groups or as an
-/// affinity of a request (RFC 3209 4.7.4).
+/// A set of administrative groups, with one bit for each group (RFC 3630 2.5.9). A mask has the
+/// groups of a link, or is an affinity of a request (RFC 3209 4.7.4).
 #[derive(Clone, Copy, Debug, PartialEq, Eq)]
 pub struct Mask(u32);
 
@@ -27,7 +27,7 @@ impl Model for Mask {
     ghost inverse = { λ n. record { 0 = n } };
 }
 
-/// Why a text is no mask.
+/// Why a text isn't a mask.
 #[derive(Clone, Copy, Debug, PartialEq, Eq, Error)]
 pub enum MaskError {
     #[error("not a mask of up to eight hexadecimal digits after 0x")]
@@ -35,7 +35,7 @@ pub enum MaskError {
 }
 
 impl Mask {
-    /// The mask with these bits, the least significant one for group 0.
+    /// The mask with these bits. The least significant bit is for group 0.
     pub fn new(bits: u32) -> Self
         ensures { result ≡ bits }
     {
@@ -49,7 +49,8 @@ impl Mask {
         self.0
     }
 
-    /// The mask that a text spells: `0x` and one to eight hexadecimal digits of either case.
+    /// The mask that a text spells: `0x` and then one to eight hexadecimal digits, upper or lower
+    /// case.
     pub fn parse(text: &[u8]) -> Result<Mask, MaskError>
         ensures value { result_ok result ≡ mask_of text.now }
         ensures ok { IfOk result (SpellsMask text.now) }
@@ -82,7 +83,7 @@ fn read_mask(text: &[u8]) -> Option<Mask>
     word(digits)
 }
 
-/// The mask of up to eight hexadecimal digits.
+/// The mask that up to eight hexadecimal digits spell.
 fn word(digits: &[u8]) -> Option<Mask>
     requires { length digits.now ≤ 8 }
     ensures { result
@@ -92,8 +93,8 @@ fn word(digits: &[u8]) -> Option<Mask>
     Some(Mask(bits as u32))
 }
 
-/// Law: a mask is read exactly where the text spells it, a text spells one mask at most, and a mask
-/// is read back from its text.
+/// Law: a text is read as a mask exactly if it spells the mask. A text spells at most one mask. A
+/// mask is read back from its text.
 pub fn masks_are_spelled()
     ensures read { AreMasksRead }
     ensures one { SpellsOneMask }

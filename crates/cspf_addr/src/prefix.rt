@@ -1,4 +1,4 @@
-//! Prefixes of addresses: the type, which addresses one covers, its text, and the reader of
+//! Prefixes of addresses: the type, which addresses a prefix covers, its text, and the reader of
 //! that text.
 
 ghost use Rattle.std.specs.Prelude.{◌≡◌, ◌<◌, ◌≤◌, ◌↔◌, IsTrue, IfOk, IfErr};
@@ -14,7 +14,7 @@ use std::alloc::{AllocError, Global};
 use std::marker::Model;
 use thiserror::Error;
 
-/// The first bits of an address, 0 to 32 of them (RFC 3209 4.3.3.2). The bits past them are zero.
+/// An address prefix of 0 to 32 bits (RFC 3209 4.3.3.2). All bits after the prefix are zero.
 #[derive(Clone, Copy, Debug, PartialEq, Eq)]
 pub struct Prefix {
     address: Addr,
@@ -33,13 +33,13 @@ impl Model for Prefix {
     ghost inverse = { λ p. record { address = p.address; length = p.length } };
 }
 
-/// Why a prefix was not made.
+/// Why a prefix isn't made.
 #[derive(Clone, Copy, Debug, PartialEq, Eq, Error)]
 pub enum PrefixError {
-    /// No address, slash and decimal.
+    /// The text isn't an address, a slash and a decimal number.
     #[error("not an IPv4 address, a slash and a prefix length")]
     NotAPrefix,
-    /// A length above 32.
+    /// The length is above 32.
     #[error("a prefix length above 32")]
     TooLong,
 }
@@ -47,8 +47,8 @@ pub enum PrefixError {
 impl Prefix {
     ghost use Rattle.cspf_addr.specs.Prefixes.{Covers, prefix_of, prefix_text};
 
-    /// The prefix of this length, 0 to 32 bits, with the first bits of an address. The others are
-    /// set to zero.
+    /// The prefix of this length, 0 to 32 bits, with the first bits of an address. The other bits
+    /// are set to zero.
     pub fn new(address: Addr, length: u8) -> Result<Prefix, PrefixError>
         ensures ok { IfOk result (λ prefix.
             (length ≤ 32) × (prefix ≡ with_first_bits length address)) }
@@ -83,14 +83,14 @@ impl Prefix {
         }
     }
 
-    /// The address, its bits past the length zero.
+    /// The address of the prefix. Its bits after the prefix length are zero.
     pub fn address(self) -> Addr
         ensures { result ≡ self.address }
     {
         self.address
     }
 
-    /// How many bits of the address count, 0 to 32.
+    /// The prefix length in bits, 0 to 32.
     pub fn length(self) -> u8
         ensures value { result ≡ self.length }
         ensures proper { IsPrefix self }
@@ -98,7 +98,8 @@ impl Prefix {
         self.length
     }
 
-    /// Whether an address begins with the bits of the prefix. A prefix of length 0 covers all.
+    /// Whether the address begins with the bits of the prefix. A prefix of length 0 covers all
+    /// addresses.
     pub fn covers(&self, address: Addr) -> bool
         ensures { IsTrue result ↔ Covers self.now address }
     {
@@ -107,7 +108,8 @@ impl Prefix {
     }
 
     /// The prefix that a text spells, as in `10.0.0.0/8`: an address, a slash and a length in
-    /// decimal with no leading zeros. Bits of the address past the length may be set.
+    /// decimal without leading zeros. Bits of the address after the prefix may be set; they are
+    /// dropped.
     #[tactic(auto, unfolding(crate::specs::Prefixes::prefix_of))]
     pub fn parse(text: &[u8]) -> Result<Prefix, PrefixError>
         ensures value { result ≡ prefix_of text.now }
@@ -131,7 +133,7 @@ impl Prefix {
     }
 }
 
-/// The length that a text spells.
+/// The prefix length that a text spells.
 #[tactic(auto, unfolding(crate::specs::Prefixes::length_of))]
 fn read_length(text: &[u8]) -> Result<u8, PrefixError>
     ensures value { result ≡ length_of text.now }
@@ -149,8 +151,8 @@ fn read_length(text: &[u8]) -> Result<u8, PrefixError>
     Ok(bits as u8)
 }
 
-/// Law: a text that is an address, a slash and a decimal is read as these, each other text is
-/// refused, and a prefix is read back from its text.
+/// Law: a text of an address, a slash and a decimal number is read as these two. Any other text is
+/// refused. A prefix is read back from its text.
 pub fn prefixes_are_spelled()
     ensures read { ArePrefixTextsRead }
     ensures refused { AreOthersRefused }

@@ -1,4 +1,4 @@
--- The findings that were read and compared are an audit.
+-- The findings of the lines that were read and compared make an audit.
 use Rattle.std.proofs.Common.{◌≡◌, ℕ, suc, IsPermutation, Result, Ok, Err, IfOk, Bool, true, false, List, [], ◌∷◌, Some, inl, inr, refl, arith}
 use Rattle.std.proofs.lemmas.List.Sorted.{Contains-permutation, IsPermutation-sym}
 use Rattle.cspf_model.specs.declared.request.Request.{Request}
@@ -8,7 +8,7 @@ use Rattle.cspf_audit.specs.declared.finding.Finding.{Finding}
 use Rattle.cspf_audit.specs.Audits.{AreUnanswered}
 use Rattle.cspf_audit.specs.Reading.{AreClaims, AreOpenFindings, AreNamed, unnamed_faults}
 
--- ---- claims in another order
+-- ---- the claims are sorted
 
 module _ (requests : List Request) (lines : List (List ℕ)) (claims sorted : List Claim) (shuffled : IsPermutation claims sorted) where
   pub claims_sorted : (last : ℕ) → AreClaims requests last lines claims → AreClaims requests last lines sorted
@@ -23,7 +23,7 @@ module _ (requests : List Request) (lines : List (List ℕ)) (claims sorted : Li
     ];
   }
 
--- ---- the requests that no line names
+-- ---- the requests whose ids no line has
 
 named_behind : (q : Request) (requests : List Request) (lines : List (List ℕ)) (b : Bool) (named : List Bool) → AreNamed (q ∷ requests) lines (b ∷ named) → AreNamed requests lines named
 named_behind q requests lines b named are = record { counted = omega (arith, are.counted); each = λ index r there. are.each (suc index) r there }
@@ -35,7 +35,7 @@ are_unanswered (q ∷ requests) lines (true ∷ named) are = inl ((are.each 0 q 
 are_unanswered (q ∷ requests) lines (false ∷ named) are =
     inr ((λ now. let no : Some false ≡ Some true = (are.each 0 q refl).1 now in cc), (unnamed_faults requests named, refl, are_unanswered requests lines named (named_behind q requests lines false named are)))
 
--- ---- both clauses of a report
+-- ---- both clauses of a report hold together
 
 pub both_ok : {A E : Type 0} {P Q R : A → Type 0} (r : Result A E) → IfOk r P → IfOk r Q → ((a : A) → P a → Q a → R a) → IfOk r R
 both_ok (Ok a) p q f = f a p q

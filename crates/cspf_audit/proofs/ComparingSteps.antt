@@ -1,4 +1,4 @@
--- One claim after the other is compared.
+-- The claims are compared one after the other.
 use Rattle.std.proofs.Common.{◌≡◌, ℕ, ◌<◌, ◌⊎◌, ◌↔◌, Bool, IsTrue, suc, zero, List, [], ◌∷◌, Some, length, take, get_or, inl, inr, refl, sym, ap, subst, ◌∙◌, arith}
 use Rattle.std.proofs.lemmas.Bool.{cases_eq}
 use Rattle.std.proofs.lemmas.List.{length-set, get_or_default}
@@ -15,12 +15,12 @@ use Rattle.cspf_audit.specs.Findings.{IsFinding, AreFindings, IsRightReply}
 use Rattle.cspf_audit.proofs.Lookups.{one_element, get-set_same, get-set_other}
 use Rattle.cspf_audit.specs.Reading.{IsClaim, IsClaimed, AreClaims, AreOpenFindings}
 
--- a claim that is read at an index is one
+-- the item at an index of a list of claims is a claim
 pub claim_at : (requests : List Request) (last : ℕ) (lines : List (List ℕ)) (claims : List Claim) (i : ℕ) (d : Claim) → AreClaims requests last lines claims → i < length claims
     → IsClaim requests last lines (get_or claims i d)
 claim_at requests last lines claims i d are within = are (get_or claims i d) (i, within, get_or_default claims i (get_or claims i d) d within)
 
--- and its request and its line are there
+-- the indexes of that claim's request and line are within their lists
 pub claim_within : (requests : List Request) (last : ℕ) (lines : List (List ℕ)) (claims : List Claim) (i : ℕ) (d : Claim) → AreClaims requests last lines claims → i < length claims
     → ((get_or claims i d).request < length requests) × ((get_or claims i d).line < length lines)
 claim_within requests last lines claims i d are within =
@@ -30,14 +30,14 @@ claim_within requests last lines claims i d are within =
 read_at : {A : Type 0} (xs : List A) (i : ℕ) (x : A) → i < length xs → x ≡ get_or xs i x → slice_get xs i ≡ Some x
 read_at xs i x within is = slice_get-get_or xs i x within ∙ ap Some (sym is)
 
--- the claims after the first one
+-- the claim of a line is either the first claim or a claim of the rest
 claimed_behind : (claim : Claim) (rest : List Claim) (index : ℕ) → IsClaimed (claim ∷ rest) index → (claim.line ≡ index) ⊎ IsClaimed rest index
 claimed_behind claim rest index (c, (zero, within, is), at) = inl (ap (λ (k : Claim). k.line) is ∙ at)
 claimed_behind claim rest index (c, (suc k, within, is), at) = inr (c, (k, omega arith, is), at)
 
 module _ (batches : List NumberedChanges) (requests : List Request) (lines : List (List ℕ)) (claim : Claim) (rest : List Claim) (findings : List Finding)
     (open_ones : AreOpenFindings batches requests lines (claim ∷ rest) findings) (is_claim : IsClaim requests (length batches) lines claim) where
-  -- what holds of a database, a request and a line holds of those of the claim
+  -- the test that a line is the right reply, applied to the claim's database, request and line
   pub asked_of_claim : (d : Database) (q : Request) (line : List ℕ) (right : Bool) → d ≡ database_after (take claim.version batches)
       → claim.request < length requests → q ≡ get_or requests claim.request q → claim.line < length lines → line ≡ get_or lines claim.line line
       → IsTrue right ↔ IsRightReply d q claim.version line
@@ -49,7 +49,7 @@ module _ (batches : List NumberedChanges) (requests : List Request) (lines : Lis
       (subst (λ r. IsTrue right ↔ IsRightReply d r claim.version is_claim.line) same_q
       (subst (λ l. IsTrue right ↔ IsRightReply d q claim.version l) same_line test))
 
-  -- the line of the claim is its reply
+  -- a claim whose line is its reply is settled
   pub right_step : IsRightReply (database_after (take claim.version batches)) is_claim.q claim.version is_claim.line → AreOpenFindings batches requests lines rest findings
   right_step right = record { counted = open_ones.counted; each = λ index line found is_line is_found. go index line found is_line (open_ones.each index line found is_line is_found) }
     where
@@ -67,7 +67,7 @@ module _ (batches : List NumberedChanges) (requests : List Request) (lines : Lis
 
 module _ (batches : List NumberedChanges) (requests : List Request) (lines : List (List ℕ)) (claim : Claim) (rest : List Claim) (findings : List Finding)
     (open_ones : AreOpenFindings batches requests lines (claim ∷ rest) findings) (is_claim : IsClaim requests (length batches) lines claim) where
-  -- the line of the claim isn't its reply
+  -- a claim whose line isn't its reply is settled once the line's finding is `Altered`
   pub altered_step : ¬ IsRightReply (database_after (take claim.version batches)) is_claim.q claim.version is_claim.line
       → AreOpenFindings batches requests lines rest (slice_set findings claim.line finding.Altered)
   altered_step wrong = record {
@@ -95,7 +95,7 @@ module _ (batches : List NumberedChanges) (requests : List Request) (lines : Lis
             | inr more ↦ inr (good, more)
           ]
 
--- where no claim is left, there is a finding of each line
+-- if no claim is left, each line has its finding
 pub all_settled : (batches : List NumberedChanges) (requests : List Request) (lines : List (List ℕ)) (findings : List Finding)
     → AreOpenFindings batches requests lines [] findings → AreFindings batches requests lines findings
 all_settled batches requests lines findings open_ones = record {

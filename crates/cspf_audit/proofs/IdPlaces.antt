@@ -1,4 +1,4 @@
--- The index of a request by its id, one request after the other.
+-- The index of a request by its id, as the requests are added one after the other.
 use Rattle.std.proofs.Common.{◌≡◌, ◌≢◌, ℕ, ◌+◌, ◌<◌, Bool, true, false, cond, eqb, nat_eq, List, [], ◌∷◌, ◌++◌, Contains, length, map, take, drop, get_or, Option, Some, None, is_some, refl, sym, ap, subst, ◌∙◌, arith, suc, zero, append_assoc}
 use Rattle.std.proofs.lemmas.Bool.{eqb-true, eqb-false, eq-eqb, ne_eqb}
 use Rattle.std.proofs.lemmas.Grind.{take_at_read}
@@ -13,7 +13,7 @@ use Rattle.cspf_model.specs.declared.request.Request.{Request}
 use Rattle.cspf_audit.specs.Requests.{HaveOwnIds, RepeatsId}
 use Rattle.cspf_audit.specs.Reading.{place_from, place_of, ArePlaces}
 
--- none of the requests has the id
+-- none of the requests has this id
 abbrev pub LackId : List Request → ℕ → Type 0
 LackId requests id = AllByRecursion (λ (q : Request). q.id ≢ id) requests
 
@@ -25,7 +25,8 @@ lack_id n id (q ∷ requests) found = go (eqb q.id id) refl found (lack_id (n + 
     go true same found behind = absurd (cc)
     go false other found behind = (eqb-false q.id id other, behind found)
 
--- a request after those with other ids is found where none was
+-- If no earlier request has the id of a new request, the new request is found by its id at the next
+-- index. The other ids are found where they were.
 pub place_more : (n : ℕ) (requests : List Request) (q : Request) (id : ℕ) → LackId requests q.id
     → place_from n id (requests ++ q ∷ []) ≡ cond (eqb q.id id) (Some (n + length requests)) (place_from n id requests)
 place_more n [] q id lack = ap (λ k. cond (eqb q.id id) (Some k) None) (omega arith)
@@ -39,7 +40,7 @@ place_more n (r ∷ requests) q id lack = go (eqb r.id id) (eqb q.id id) refl re
     go false true first second behind = rw (first, behind, second) (ap Some (omega arith))
     go false false first second behind = rw (first, behind, second) refl
 
--- an index that is found is that of a request with the id
+-- if an index is found for an id, the request at that index has the id
 pub place_found : (n id : ℕ) (requests : List Request) (index : ℕ) → place_from n id requests ≡ Some index
     → (k : ℕ) × (q : Request) × (index ≡ n + k) × (slice_get requests k ≡ Some q) × (q.id ≡ id)
 place_found n id [] index found = absurd (cc)
@@ -53,7 +54,7 @@ place_found n id (r ∷ requests) index found = go (eqb r.id id) refl found (pla
         let more = behind found in
         (suc more.0, more.1, omega (arith, more.2), more.3, more.4)
 
--- ---- one more request
+-- ---- one more request is added
 
 no_other : (id : ℕ) (requests : List Request) → LackId requests id → list_any (nat_eq id) (map (λ (q : Request). q.id) requests) ≡ false
 no_other id [] lack = refl
@@ -112,9 +113,9 @@ module _ (requests : List Request) (i : ℕ) (r : Request) (within : i < length 
         again = (first.1, read_there (take i requests) first.0 first.1 first.3, first.4);
       }
 
--- ---- requests that are there
+-- ---- requests that are in the list
 
--- one of the requests hasn't the id that they lack
+-- if no request of a list has an id, each request of the list has another id
 pub lack_one : (id : ℕ) (requests : List Request) (q : Request) → LackId requests id → Contains requests q → q.id ≢ id
 lack_one id [] q lack (k, within, is) = absurd (omega (arith, within))
 lack_one id (r ∷ requests) q lack (zero, within, is) = λ same. lack.0 (ap (λ (x : Request). x.id) is ∙ same)
@@ -125,7 +126,7 @@ other_id id k [] q apart found = absurd (cc)
 other_id id zero (r ∷ requests) q apart found = let same : r ≡ q = cc in subst (λ (x : Request). nat_eq id x.id ≡ false) same apart.0
 other_id id (suc k) (r ∷ requests) q apart found = other_id id k requests q apart.1 found
 
--- the request at an index is found by its id where ids differ
+-- if no two requests have the same id, the request at an index is found by its id
 pub own_place : (n k : ℕ) (requests : List Request) (q : Request) → HaveOwnIds requests → slice_get requests k ≡ Some q → place_from n q.id requests ≡ Some (n + k)
 own_place n k [] q own found = absurd (cc)
 own_place n zero (r ∷ requests) q own found =
@@ -135,7 +136,7 @@ own_place n (suc k) (r ∷ requests) q own found =
     ap (λ b. cond b (Some n) (place_from (n + 1) q.id requests)) (other_id r.id k requests q (IsDistinct-head nat_eq r.id (map (λ (x : Request). x.id) requests) own) found)
     ∙ own_place (n + 1) k requests q (IsDistinct-tail nat_eq r.id (map (λ (x : Request). x.id) requests) own) found ∙ ap Some (omega arith)
 
--- an index that is found is one of the requests'
+-- an index that is found is below the number of requests
 pub place_within : (id : ℕ) (requests : List Request) (index : ℕ) → place_of id requests ≡ Some index → index < length requests
 place_within id requests index found =
     let there = place_found 0 id requests index found in

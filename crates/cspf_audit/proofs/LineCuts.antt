@@ -1,4 +1,4 @@
--- Lines of a text, one after the other.
+-- How the lines of a text are read one after the other.
 use Rattle.std.proofs.Common.{◌≡◌, ◌≢◌, ℕ, ◌+◌, ◌-◌, ◌⊎◌, Bool, true, false, cond, eqb, nat_lt, ◌&&◌, List, [], ◌∷◌, ◌++◌, length, take, get_or, Option, Some, None, IfSome, inl, inr, refl, sym, ap, ◌∙◌, subst, append_assoc, append-nil, length-append, arith}
 use Rattle.std.proofs.lemmas.Bool.{eqb-true, eqb-false, eq-eqb, ne_eqb, lt-ltb}
 use Rattle.std.proofs.lemmas.List.{take_at}
@@ -8,7 +8,7 @@ use Rattle.cspf_rows.specs.declared.limits.TheConstants.{MOST_ROWS}
 use Rattle.cspf_audit.specs.Lines.{HasNoFeed, AreLines, IsLastLine, HasTooManyLines}
 use Rattle.cspf_audit.specs.LineReading.{IsLineBefore, TakesLine, AreSeen}
 
--- ---- a text has lines
+-- ---- each text consists of lines
 
 put_first : (x : ℕ) (text : List ℕ) → x ≢ 10 → (lines : List (List ℕ)) → AreLines text lines → (more : List (List ℕ)) × AreLines (x ∷ text) more
 put_first x text other [] are = ((x ∷ []) ∷ [], ((other, tt), inl ((rw are refl, λ same. absurd (cc)), refl)))
@@ -23,7 +23,7 @@ has_lines (x ∷ text) = go (eqb x 10) refl (has_lines text)
     go true same rest = ([] ∷ rest.0, (tt, inr (text, rw (eqb-true x 10 same) refl, rest.1)))
     go false other rest = put_first x text (eqb-false x 10 other) rest.0 rest.1
 
--- ---- the line that is read first
+-- ---- the first line of a text is read
 
 last_byte : (x : ℕ) (line : List ℕ) → HasNoFeed (x ∷ line) → get_or (x ∷ line) (length line) 0 ≢ 10
 last_byte x [] none = none.0
@@ -70,11 +70,11 @@ is_cut (x ∷ text) = go (eqb x 10) refl (is_cut text)
     go false other (inr parts) =
         inr (x ∷ parts.0, parts.1, (eqb-false x 10 other, parts.2), ap (λ t. x ∷ t) parts.3, rw (other, parts.4) refl, rw (other, parts.5) refl)
 
--- where a byte is read, bytes are
+-- if the reader read some bytes, there are some bytes
 pub some_bytes : (bytes : List ℕ) (n : ℕ) → length bytes ≡ 0 + n → n ≢ 0 → bytes ≢ []
 some_bytes bytes n counted read empty = read (omega (arith, counted, ap length empty))
 
--- the bytes up to a line feed, without the line feed, are the first line
+-- the bytes up to a line feed, without that line feed, are the first line
 pub takes_line : (old new : Option (List ℕ)) (bytes line : List ℕ) → IfSome old (λ text. bytes ≡ take_through 10 text) → DropsThrough old new 10 → bytes ≢ []
     → line ≡ strip_last 10 bytes → TakesLine old new (Some line)
 takes_line None new bytes line read drops some cut = tt
@@ -92,12 +92,12 @@ takes_line (Some text) (Some rest) bytes line read drops some cut = go (is_cut t
         let same : line ≡ first = cut ∙ ap (strip_last 10) (read ∙ took) ∙ feed_ends first in
         (subst HasNoFeed (sym same) none, inr (rw (same, left, behind) is))
 
--- where nothing is left, nothing is taken
+-- at the end of a text no line is taken
 pub takes_none : (old new : Option (List ℕ)) → IsAtEnd old → TakesLine old new None
 takes_none None new at_end = tt
 takes_none (Some text) new at_end = at_end
 
--- ---- one line after the other
+-- ---- the lines are read one after the other
 
 pub sees_none : (all : Option (List ℕ)) → AreSeen all all []
 sees_none None = tt

@@ -1,4 +1,4 @@
--- One line after the other is read.
+-- The lines are read one after the other.
 use Rattle.std.proofs.Common.{◌≡◌, ℕ, ◌+◌, ◌<◌, ◌⊎◌, suc, zero, List, [], ◌∷◌, ◌++◌, Contains, Some, length, take, get_or, inl, inr, refl, sym, ap, ◌∙◌, length-append, arith}
 use Rattle.std.proofs.lemmas.List.{take_at, take-append-le}
 use Rattle.std.proofs.lemmas.List.Elements.{Contains-append_left, Contains-append_right, Contains-append_cases}
@@ -14,7 +14,7 @@ use Rattle.cspf_audit.specs.declared.finding.Finding.TheVariants as finding
 use Rattle.cspf_audit.specs.Findings.{IsFinding, IsNamed}
 use Rattle.cspf_audit.specs.Reading.{IsClaim, IsClaimed, AreOpenFindings}
 
--- the lines up to one, and it
+-- the lines before an index and the line at the index are the lines up to the next index
 pub take_line : {A : Type 0} (lines : List A) (i : ℕ) (line text : A) → i < length lines → line ≡ get_or lines i line → text ≡ line → take i lines ++ text ∷ [] ≡ take (i + 1) lines
 take_line lines i line text within is same = ap (λ t. take i lines ++ t ∷ []) (same ∙ is) ∙ sym (take_at_read lines i line within).1
 
@@ -36,7 +36,7 @@ get_snoc (z ∷ xs) x (suc i) y found = elim (get_snoc xs x i y found) [
 claimed_more : (claims more : List Claim) (index : ℕ) → IsClaimed claims index → IsClaimed (claims ++ more) index
 claimed_more claims more index claimed = (claimed.0, Contains-append_left claims more claimed.0 claimed.1, claimed.2)
 
--- a claim is still one after another line
+-- a claim is still a claim after one more line
 pub claim_more : (requests : List Request) (last : ℕ) (seen : List (List ℕ)) (line : List ℕ) (claim : Claim) → IsClaim requests last seen claim → IsClaim requests last (seen ++ line ∷ []) claim
 claim_more requests last seen line claim is =
     let within = slice_get_within seen claim.line is.line is.is_line in record {
@@ -48,7 +48,7 @@ claim_more requests last seen line claim is =
       within = is.within;
     }
 
--- one more finding
+-- the findings stay right with the finding of one more line
 pub found_more : (batches : List NumberedChanges) (requests : List Request) (seen : List (List ℕ)) (line : List ℕ) (claims more : List Claim) (findings : List Finding) (found : Finding)
     → AreOpenFindings batches requests seen claims findings
     → IsFinding batches requests seen line found ⊎ ((found ≡ finding.Good) × IsClaimed (claims ++ more) (length seen))
@@ -72,7 +72,7 @@ found_more batches requests seen line claims more findings found open_ones next 
     go index l f (inr one) (inl other) = absurd (omega (arith, one.0, other.0, open_ones.counted))
     go index l f (inr one) (inr other) = rw (one.0, sym one.1, sym other.1, take_at seen (line ∷ []) (length seen) refl) next
 
--- the ids that are named after one more line
+-- an id that is named after one more line was named before it, or the line names it
 pub named_cases : (seen : List (List ℕ)) (line : List ℕ) (id : ℕ) → IsNamed (seen ++ line ∷ []) id
     → IsNamed seen id ⊎ ((version : ℕ) × BeginsWithHead line (record { id = id; version = version }))
 named_cases seen line id (l, version, there, begins) = elim (Contains-append_cases seen (line ∷ []) l there) [

@@ -1,4 +1,4 @@
--- A line is the reply of a best answer where it is the line that is written for that answer.
+-- A line is the reply of a best answer exactly if it is the line that is written for that answer.
 use Rattle.std.proofs.Common.{◌≡◌, ℕ, ◌-◌, ◌↔◌, Bool, true, IsTrue, List, [], ◌∷◌, ◌++◌, length, take, drop, sym, ap, ◌∙◌, length-append, arith}
 use Rattle.std.proofs.lemmas.List.{take-append-drop, take_at}
 use Rattle.std.proofs.lemmas.Slice.Eq.{bytes_eq-Decides}
@@ -10,7 +10,7 @@ use Rattle.cspf_model.specs.Laws.{OneBestAnswer}
 use Rattle.cspf_ero.specs.ReplyLine.{IsReply, HasOneReplyLine}
 use Rattle.cspf_audit.specs.Findings.{IsRightReply}
 
--- a line is the reply where the bytes that are written for a best answer are it and a line feed
+-- a line is the right reply exactly if the bytes written for a best answer are the line and a line feed
 pub right_reply : OneBestAnswer → HasOneReplyLine → (d : Database) (q : Request) (version : ℕ) (answer : Answer) (bytes line : List ℕ) (right : Bool)
     → IsBestAnswer d q answer → IsReply q.id version answer bytes → IsTrue right ↔ (bytes ≡ line ++ 10 ∷ [])
     → IsTrue right ↔ IsRightReply d q version line
@@ -19,8 +19,8 @@ right_reply one same d q version answer bytes line right best written test = (
   λ found. test.1 (same q.id version found.0 bytes (line ++ 10 ∷ []) (rw (sym (one d q answer found.0 best found.1)) written) found.2),
 )
 
--- bytes that end with a line feed are a line and its line feed where the bytes before the line feed
--- are the line
+-- Bytes that end with a line feed are a line and its line feed, exactly if the bytes before that line
+-- feed are the line.
 pub feed_behind : (bytes text line : List ℕ) (same : Bool) → bytes_eq (drop (length bytes - 1) bytes) (10 ∷ []) ≡ true → text ≡ take (length bytes - 1) bytes
     → same ≡ bytes_eq text line → IsTrue same ↔ (bytes ≡ line ++ 10 ∷ [])
 feed_behind bytes text line same feed front test =

@@ -1,4 +1,4 @@
--- The finding of one more line of replies.
+-- What one more line of the replies adds to the findings.
 use Rattle.std.proofs.Common.{◌≡◌, ◌≢◌, ℕ, ◌+◌, suc, zero, Bool, true, false, List, [], ◌∷◌, ◌++◌, Contains, Some, None, codes, length, inl, inr, refl, sym, ap, subst, ◌∙◌, append-nil, arith}
 use Rattle.std.proofs.lemmas.Bool.{cases_eq}
 use Rattle.std.proofs.lemmas.List.{take_at, length-set}
@@ -23,7 +23,7 @@ use Rattle.cspf_audit.proofs.IdPlaces.{lack_id, lack_one, place_found, own_place
 use Rattle.cspf_audit.proofs.Lookups.{one_element, get-set_same, get-set_other}
 use Rattle.cspf_audit.proofs.ReadingSteps.{claim_more, found_more, named_cases, named_before, named_last}
 
--- a line that is passed over begins with no id and version
+-- a line that is skipped doesn't begin with an id and a version
 passed_no_head : (line : List ℕ) (head : Head) → IsPassedOver line → ¬ BeginsWithHead line head
 passed_no_head line head passed begins = go passed
   where
@@ -42,18 +42,18 @@ get_last (y ∷ xs) x = get_last xs x
 module _ (one : HasOneHead) (batches : List NumberedChanges) (requests : List Request) (own : HaveOwnIds requests)
     (ids : BTreeMap ℕ ℕ) (places : ArePlaces ids requests)
     (seen : List (List ℕ)) (line : List ℕ) (before : List Bool) (named : AreNamed requests seen before) where
-  -- ---- by the id that the line names
+  -- ---- the request whose id the line has
 
   same_id : (id version other more : ℕ) → BeginsWithHead line (record { id = id; version = version }) → BeginsWithHead line (record { id = other; version = more }) → id ≡ other
   same_id id version other more a b = ap (λ (head : Head). head.id) (one line (record { id = id; version = version }) (record { id = other; version = more }) a b)
 
-  -- the request at the index that is kept for an id has it
+  -- the request at the index that is kept for an id has this id
   found_at : (id index : ℕ) → get nat_cmp ids id ≡ Some index → (q : Request) × (slice_get requests index ≡ Some q) × (q.id ≡ id)
   found_at id index is =
       let there = place_found 0 id requests index (sym (places id) ∙ is) in
       (there.1, subst (λ k. slice_get requests k ≡ Some there.1) (omega (arith, there.2)) there.3, there.4)
 
-  -- and no other
+  -- no request at another index has this id
   only_at : (id index : ℕ) → get nat_cmp ids id ≡ Some index → (other : ℕ) (q : Request) → slice_get requests other ≡ Some q → q.id ≡ id → other ≡ index
   only_at id index is other q there same =
       let found : Some (0 + other) ≡ Some index = sym (own_place 0 other requests q own there) ∙ ap (λ i. place_of i requests) same ∙ sym (places id) ∙ is in
@@ -69,9 +69,9 @@ module _ (one : HasOneHead) (batches : List NumberedChanges) (requests : List Re
   wasnt_named : (index : ℕ) (q : Request) → slice_get requests index ≡ Some q → slice_get before index ≡ Some false → ¬ IsNamed seen q.id
   wasnt_named index q there is now = let no : Some true ≡ Some false = sym ((named.each index q there).1 now) ∙ is in cc
 
-  -- ---- which requests are named then
+  -- ---- which requests have a line after this line
 
-  -- where the line names none of them
+  -- the line has the id of no request
   named_none : ((q : Request) (version : ℕ) → Contains requests q → ¬ BeginsWithHead line (record { id = q.id; version = version })) → AreNamed requests (seen ++ line ∷ []) before
   named_none none = record {
     counted = named.counted;
@@ -85,7 +85,7 @@ module _ (one : HasOneHead) (batches : List NumberedChanges) (requests : List Re
   }
 
   module _ (id version index : ℕ) (begins : BeginsWithHead line (record { id = id; version = version })) (is_at : get nat_cmp ids id ≡ Some index) where
-    -- where it names the request at an index
+    -- the line has the id of the request at an index
     named_at : (after : List Bool) → length after ≡ length before → slice_get after index ≡ Some true → ((other : ℕ) → other ≢ index → slice_get after other ≡ slice_get before other)
         → AreNamed requests (seen ++ line ∷ []) after
     named_at after counted marked others = record {
@@ -118,7 +118,7 @@ module _ (one : HasOneHead) (batches : List NumberedChanges) (requests : List Re
         named_at (slice_set before index true) (length-set before index true) (get-set_same before index true (slice_get_within before index false is))
         (λ other apart. get-set_other before index other true (λ same. apart (sym same)))
 
-    -- it is the first line with the id
+    -- the line is the first line with the id
     first_reply : slice_get before index ≡ Some false → (q : Request) × (slice_get requests index ≡ Some q) × IsFirstReply requests seen line q version
     first_reply is =
         let found = found_at id index is_at in (
@@ -131,10 +131,10 @@ module _ (one : HasOneHead) (batches : List NumberedChanges) (requests : List Re
           },
         )
 
-  -- ---- the lists after the line
+  -- ---- the findings, the claims and the named requests after the line
 
   module _ (claims : List Claim) (findings : List Finding) (open_ones : AreOpenFindings batches requests seen claims findings) (are_claims : AreClaims requests (length batches) seen claims) where
-    -- the findings, claims and named requests are those of one more line
+    -- these are the findings, the claims and the named requests after one more line
     abbrev pub AreThose : List Finding → List Claim → List Bool → Type 0
     AreThose found claimed after =
         AreOpenFindings batches requests (seen ++ line ∷ []) claimed found
@@ -202,7 +202,7 @@ module _ (one : HasOneHead) (batches : List NumberedChanges) (requests : List Re
             only (zero, low, same) = same
             only (suc k, low, same) = absurd (omega arith)
 
--- these lists are the result of reading one more line
+-- if the state of the audit has these lists, it is the state after one more line
 pub has_read : (batches : List NumberedChanges) (requests : List Request) (seen : List (List ℕ)) (replies : ReplyFindings) (findings : List Finding) (claims : List Claim) (named : List Bool)
     → replies.findings.items ≡ findings → replies.claims.items ≡ claims → replies.named.items ≡ named
     → AreOpenFindings batches requests seen claims findings × AreClaims requests (length batches) seen claims × AreNamed requests seen named → HasReadLines batches requests replies seen

@@ -1,4 +1,4 @@
--- The audit of streams, or the first reason why they aren't audited.
+-- The audit of whole streams, or the first reason why they aren't audited.
 use Rattle.std.specs.Prelude.{◌≡◌, ℕ, ◌<◌, ◌≤◌, ◌⊎◌, List, length, Option, IfSome}
 use Rattle.cspf_model.specs.declared.refusal.Refusal.{Refusal}
 use Rattle.cspf_model.specs.declared.request.Request.{Request}
@@ -19,33 +19,33 @@ use Rattle.cspf_audit.specs.Lines.{AreLines, HasTooManyLines}
 use Rattle.cspf_audit.specs.Requests.{HaveOwnIds, RepeatsId}
 use Rattle.cspf_audit.specs.Audits.{IsAudit}
 
--- The records of a journal, at most `MOST_ROWS`, are these batches with nothing after them. Each
--- batch fits the database of those before it.
+-- The journal has at most `MOST_ROWS` records. The records are these batches, with no rows after them.
+-- Each batch fits the database of the batches before it.
 pub record IsLawfulJournal (records : Records) (batches : List NumberedChanges) : Type 0 where
   pub few : length records ≤ MOST_ROWS
   pub journal : IsJournal records batches rest.Clean
   pub lawful : AreLawful batches
 
--- rows are left after this many batches
+-- rows follow this many whole batches of the journal
 pub record IsTornAfter (records : Records) (count : ℕ) : Type 0 where
   pub few : length records ≤ MOST_ROWS
   pub batches : List NumberedChanges
   pub journal : IsJournal records batches rest.Torn
   pub counted : count ≡ length batches
 
--- nothing is left after the batches of a journal, and this is the first batch that doesn't fit
+-- no rows follow the batches of the journal, and this is the first batch that doesn't fit
 pub record IsUnlawfulJournal (records : Records) (number : ℕ) (why : Refusal) : Type 0 where
   pub few : length records ≤ MOST_ROWS
   pub batches : List NumberedChanges
   pub journal : IsJournal records batches rest.Clean
   pub unfit : IsFirstUnfit batches number why
 
--- the records of a stream, of which there are at most `MOST_ROWS`, ask for these requests
+-- the stream has at most `MOST_ROWS` records, and they are these requests
 pub record AreAsked (records : Records) (requests : List Request) : Type 0 where
   pub few : length records ≤ MOST_ROWS
   pub asked : AreRequests records requests
 
--- The audit of a journal, of requests whose ids differ, and of the lines of a text.
+-- The audit of whole streams: of a journal, of requests with distinct ids, and of a text of replies.
 pub record IsAuditOf (journal requests : Records) (text : List ℕ) (audit : Audit) : Type 0 where
   pub batches : List NumberedChanges
   pub asked : List Request
@@ -57,11 +57,11 @@ pub record IsAuditOf (journal requests : Records) (text : List ℕ) (audit : Aud
   pub few : length lines ≤ MOST_ROWS
   pub is_audit : IsAudit batches asked lines audit
 
--- the journal is lawful
+-- the batches of the journal are lawful
 abbrev pub HasLawfulJournal : Records → Type 0
 HasLawfulJournal journal = (batches : List NumberedChanges) × IsLawfulJournal journal batches
 
--- the requests have distinct ids
+-- the requests are read, and no two of them have the same id
 abbrev pub HasOwnRequests : Records → Type 0
 HasOwnRequests requests = (asked : List Request) × AreAsked requests asked × HaveOwnIds asked
 
@@ -73,7 +73,7 @@ IsRowRefused records requests_error.TooManyRows = ⊥
 IsRowRefused records (requests_error.Bad row why) = IsRequestsFault records (requests_error.Bad row why)
 IsRowRefused records (requests_error.NotAsk row) = IsRequestsFault records (requests_error.NotAsk row)
 
--- one of the streams is too long, and the ones before it have no fault
+-- one of the streams is too long, and the streams before it have no fault
 abbrev pub IsOneTooLong : Records → Records → List ℕ → Type 0
 IsOneTooLong journal requests text =
     (MOST_ROWS < length journal)
@@ -81,9 +81,9 @@ IsOneTooLong journal requests text =
     × (IsRequestsFault requests requests_error.TooManyRows
     ⊎ (HasOwnRequests requests × HasTooManyLines text)))
 
--- Why streams aren't audited: the first reason that applies to the journal, its batches, the
--- requests, their ids and the replies, in this order. It is given where the bytes that it is about
--- are known.
+-- Why streams aren't audited: the first reason that applies. The journal, its batches, the requests,
+-- their ids and the replies are checked in this order. Nothing is claimed of a stream whose bytes
+-- aren't known.
 abbrev pub IsAuditError : Option (List ℕ) → Option (List ℕ) → Option (List ℕ) → AuditError → Type 0
 IsAuditError journal requests replies error.Memory = Unit {0}
 IsAuditError journal requests replies error.Device = Unit {0}

@@ -1,4 +1,4 @@
--- The audit of lines and of whole streams.
+-- The audit of the lines of replies.
 use Rattle.std.specs.Prelude.{◌≡◌, ℕ, ◌+◌, ◌⊎◌, Bool, true, false, Option, Some, None, List, [], ◌∷◌, ◌++◌}
 use Rattle.std.specs.List.{count_by}
 use Rattle.cspf_model.specs.declared.request.Request.{Request}
@@ -10,7 +10,7 @@ use Rattle.cspf_audit.specs.declared.finding.Finding.{Finding}
 use Rattle.cspf_audit.specs.declared.finding.Finding.TheVariants as finding
 use Rattle.cspf_audit.specs.Findings.{IsNamed, AreFindings}
 
--- the fault of the line at a place, which counts from 1, by its finding
+-- the fault of the line at this place, counted from 1, if its finding is a fault
 abbrev pub fault_at : ℕ → Finding → Option AuditFault
 fault_at place finding.PassedOver = None
 fault_at place finding.Good = None
@@ -20,17 +20,17 @@ fault_at place finding.Doubled = Some (fault.Doubled place)
 fault_at place finding.NoVersion = Some (fault.NoVersion place)
 fault_at place finding.Altered = Some (fault.Altered place)
 
--- a fault in front of others, if there is one
+-- a list of faults, with a fault before it if there is one
 abbrev pub with_fault : Option AuditFault → List AuditFault → List AuditFault
 with_fault None faults = faults
 with_fault (Some f) faults = f ∷ faults
 
--- the faults of lines, the first of which is at this place
+-- The faults of lines. The first line is at this place.
 abbrev pub faults_from : ℕ → List Finding → List AuditFault
 faults_from place [] = []
 faults_from place (found ∷ findings) = with_fault (fault_at place found) (faults_from (place + 1) findings)
 
--- a line with no fault that isn't passed over
+-- the line isn't skipped, and has no fault
 abbrev pub is_good : Finding → Bool
 is_good finding.PassedOver = false
 is_good finding.Good = true
@@ -44,7 +44,7 @@ is_good finding.Altered = false
 abbrev pub good_count : List Finding → ℕ
 good_count findings = count_by is_good findings
 
--- a fault for each request whose id is in no line, in the requests' order
+-- a fault for each request whose id no line has, in the order of the requests
 abbrev pub AreUnanswered : List (List ℕ) → List Request → List AuditFault → Type 0
 AreUnanswered lines [] faults = faults ≡ []
 AreUnanswered lines (q ∷ requests) faults =
@@ -52,8 +52,8 @@ AreUnanswered lines (q ∷ requests) faults =
     ⊎ ((¬ IsNamed lines q.id)
     × ((more : List AuditFault) × (faults ≡ fault.Unanswered q.id ∷ more) × AreUnanswered lines requests more))
 
--- The audit of lines, by a journal's batches and requests: the faults of the lines, in their order,
--- the requests that no line names, and the number of good lines.
+-- The audit of lines, by a journal's batches and the requests. The faults are those of the lines, in
+-- their order, and then the requests that no line names. The audit also counts the good lines.
 pub record IsAudit (batches : List NumberedChanges) (requests : List Request) (lines : List (List ℕ)) (audit : Audit) : Type 0 where
   pub findings : List Finding
   pub unanswered : List AuditFault

@@ -1,4 +1,4 @@
--- Private: the error of an audit for each fault of a stream, and why a journal is refused.
+-- Private: the error of an audit for each fault of a stream.
 use Rattle.std.specs.Prelude.{◌≡◌, ◌≢◌, ◌<◌, ◌⊎◌, List, length}
 use Rattle.std.specs.IoError.{error_kind}
 use Rattle.std.specs.declared.io.Error.{Error}
@@ -15,13 +15,13 @@ use Rattle.cspf_audit.specs.declared.audit_error.AuditError.{AuditError}
 use Rattle.cspf_audit.specs.declared.audit_error.AuditError.TheVariants as error
 use Rattle.cspf_audit.specs.AuditErrors.{IsTornAfter, IsUnlawfulJournal}
 
--- the error for a fault of the journal
+-- the audit's error for a fault of the journal
 abbrev pub audit_error_of : ReadError → AuditError
 audit_error_of read.Memory = error.Memory
 audit_error_of read.Device = error.Device
 audit_error_of read.TooManyRows = error.TooManyRows
 
--- the error for a fault of the requests
+-- the audit's error for a fault of the requests
 abbrev pub requests_error_of : RequestsError → AuditError
 requests_error_of requests.Memory = error.Memory
 requests_error_of requests.Device = error.Device
@@ -29,13 +29,13 @@ requests_error_of requests.TooManyRows = error.TooManyRows
 requests_error_of (requests.Bad row why) = error.Requests (requests.Bad row why)
 requests_error_of (requests.NotAsk row) = error.Requests (requests.NotAsk row)
 
--- the error for a fault of the replies: refused memory keeps its name
+-- the audit's error for a fault of the replies: `Memory` if memory was refused, and else `Device`
 abbrev pub IsIoFault : Error → AuditError → Type 0
 IsIoFault why e =
     ((error_kind why ≡ kind.OutOfMemory) × (e ≡ error.Memory))
     ⊎ ((error_kind why ≢ kind.OutOfMemory) × (e ≡ error.Device))
 
--- why a journal isn't lawful
+-- the audit's error for a journal that isn't lawful
 abbrev pub IsJournalFault : Records → AuditError → Type 0
 IsJournalFault records error.Memory = Unit {0}
 IsJournalFault records error.Device = Unit {0}
@@ -45,7 +45,7 @@ IsJournalFault records (error.Batch number why) = IsUnlawfulJournal records numb
 IsJournalFault records (error.Requests why) = ⊥
 IsJournalFault records (error.SameId row) = ⊥
 
--- why batches aren't lawful
+-- the audit's error for batches that aren't lawful
 abbrev pub IsUnfitBatch : List NumberedChanges → AuditError → Type 0
 IsUnfitBatch batches error.Memory = Unit {0}
 IsUnfitBatch batches error.Device = ⊥

@@ -1,10 +1,10 @@
--- The words of a fault.
+-- The text of a fault.
 use Rattle.std.specs.Prelude.{List, ℕ, ◌++◌, codes}
 use Rattle.std.specs.Fmt.{decimal}
 use Rattle.cspf_audit.specs.declared.faults.AuditFault.{AuditFault}
 use Rattle.cspf_audit.specs.declared.faults.AuditFault.TheVariants as fault
 
--- the words that name the line or the request, and what is wrong with it
+-- the text names the line or the request, and then what is wrong with it
 abbrev pub fault_words : AuditFault → List ℕ
 fault_words (fault.Unread line) = codes "line " ++ decimal line ++ codes " unread"
 fault_words (fault.Foreign line) = codes "line " ++ decimal line ++ codes " foreign"

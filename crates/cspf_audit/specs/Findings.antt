@@ -1,4 +1,4 @@
--- The finding of a line, by a journal's batches, the requests and the lines before it.
+-- What the audit finds of a line, by a journal's batches, the requests and the lines before it.
 use Rattle.std.specs.Prelude.{◌≡◌, ℕ, ◌<◌, ◌≤◌, ◌⊎◌, ◌==◌, List, [], ◌∷◌, ◌++◌, Contains, Some, length, take, codes}
 use Rattle.std.specs.List.{before_first, slice_get}
 use Rattle.cspf_model.specs.declared.request.Request.{Request}
@@ -13,34 +13,34 @@ use Rattle.cspf_audit.specs.declared.finding.Finding.{Finding}
 use Rattle.cspf_audit.specs.declared.finding.Finding.TheVariants as finding
 use Rattle.cspf_audit.specs.Requests.{IsAsked}
 
--- the bytes of a line before its first space, or all where there is none
+-- the bytes of a line before its first space, or the whole line if it has no space
 abbrev pub first_word : List ℕ → List ℕ
 first_word line = before_first (λ byte. byte == 32) line
 
--- the line reports a version, applied batches or a refused batch
+-- the line reports a version, applied batches or a refused batch, so the audit skips it
 abbrev pub IsPassedOver : List ℕ → Type 0
 IsPassedOver line =
     (first_word line ≡ codes "version")
     ⊎ ((first_word line ≡ codes "applied") ⊎ (first_word line ≡ codes "batch"))
 
--- one of the lines begins with this id and a version
+-- some line begins with this id and a version
 abbrev pub IsNamed : List (List ℕ) → ℕ → Type 0
 IsNamed lines id =
     (line : List ℕ) × (version : ℕ) × Contains lines line
     × BeginsWithHead line (record { id = id; version = version })
 
--- the line, followed by a line feed, is the reply of a best answer in a database at a version
+-- the line, with a line feed after it, is the reply of a best answer at this version
 abbrev pub IsRightReply : Database → Request → ℕ → List ℕ → Type 0
 IsRightReply d q version line =
     (answer : Answer) × IsBestAnswer d q answer × IsReply q.id version answer (line ++ 10 ∷ [])
 
--- the line is the first with the id of this request, at this version
+-- the line is the first with the id of this request, and names this version
 pub record IsFirstReply (requests : List Request) (before : List (List ℕ)) (line : List ℕ) (q : Request) (version : ℕ) : Type 0 where
   pub head : BeginsWithHead line (record { id = q.id; version = version })
   pub asked : Contains requests q
   pub first : ¬ IsNamed before q.id
 
--- The finding of a line, after the lines before it: the first that applies.
+-- What the audit finds of a line that comes after the lines `before`: the first finding that applies.
 abbrev pub IsFinding : List NumberedChanges → List Request → List (List ℕ) → List ℕ → Finding → Type 0
 IsFinding batches requests before line finding.PassedOver = IsPassedOver line
 IsFinding batches requests before line finding.Unread = (¬ IsPassedOver line) × HasNoHead line
@@ -60,7 +60,7 @@ IsFinding batches requests before line finding.Good =
     × (version ≤ length batches)
     × IsRightReply (database_after (take version batches)) q version line
 
--- there is a finding of each line
+-- each line has its finding
 pub record AreFindings (batches : List NumberedChanges) (requests : List Request) (lines : List (List ℕ)) (findings : List Finding) : Type 0 where
   pub counted : length findings ≡ length lines
   pub each : (index : ℕ) (line : List ℕ) (found : Finding) → slice_get lines index ≡ Some line

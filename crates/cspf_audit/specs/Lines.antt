@@ -7,12 +7,12 @@ use Rattle.cspf_rows.specs.declared.limits.TheConstants.{MOST_ROWS}
 abbrev pub HasNoFeed : List ℕ → Type 0
 HasNoFeed line = AllByRecursion (λ byte. byte ≢ 10) line
 
--- a text is one last line with no line feed after it
+-- the text is this line alone, without a line feed after it
 abbrev pub IsLastLine : List ℕ → List ℕ → Type 0
 IsLastLine text line = (text ≡ line) × (line ≢ [])
 
--- A text is these lines. Each is followed by a line feed, except the last, which may have none.
--- Where nothing follows the last line feed there is no further line.
+-- The text consists of these lines. A line feed follows each line, but may be missing after the last.
+-- No line follows the last line feed if the text ends there.
 abbrev pub AreLines : List ℕ → List (List ℕ) → Type 0
 AreLines text [] = text ≡ []
 AreLines text (line ∷ lines) =
@@ -20,6 +20,6 @@ AreLines text (line ∷ lines) =
     × ((IsLastLine text line × (lines ≡ []))
     ⊎ ((rest : List ℕ) × (text ≡ line ++ 10 ∷ rest) × AreLines rest lines))
 
--- there are more than `MOST_ROWS` lines
+-- the text has more than `MOST_ROWS` lines
 abbrev pub HasTooManyLines : List ℕ → Type 0
 HasTooManyLines text = (lines : List (List ℕ)) × AreLines text lines × (MOST_ROWS < length lines)

@@ -1,4 +1,4 @@
--- Private: the state of the code after some lines were read and compared.
+-- Private: the state of the audit after some lines were read and compared.
 use Rattle.std.specs.Prelude.{◌≡◌, ℕ, ◌+◌, ◌<◌, ◌≤◌, ◌⊎◌, ◌↔◌, Bool, true, false, nat_eq, if◌then◌else◌, Option, List, [], ◌∷◌, Contains, Some, None, length, slice_index_or, take}
 use Rattle.std.specs.BTreeMap.{BTreeMap, get}
 use Rattle.std.specs.List.{slice_get, slice_set}
@@ -24,7 +24,7 @@ use Rattle.cspf_audit.specs.declared.replies.Reading.TheVariants as reading
 use Rattle.cspf_audit.specs.Requests.{RepeatsId}
 use Rattle.cspf_audit.specs.Findings.{IsPassedOver, IsNamed, IsFirstReply, IsFinding}
 
--- the index of the first request with an id, where the first of these has this index
+-- the index of the first request with this id, if the first request of the list counts as `index`
 abbrev pub place_from : ℕ → ℕ → List Request → Option ℕ
 place_from index id [] = None
 place_from index id (q ∷ requests) = if nat_eq q.id id then Some index else place_from (index + 1) id requests
@@ -33,7 +33,7 @@ place_from index id (q ∷ requests) = if nat_eq q.id id then Some index else pl
 abbrev pub place_of : ℕ → List Request → Option ℕ
 place_of id requests = place_from 0 id requests
 
--- these are the indexes of the requests by their ids
+-- `ids` has the index of each request by its id
 abbrev pub ArePlaces : BTreeMap ℕ ℕ → List Request → Type 0
 ArePlaces ids requests = (id : ℕ) → get nat_cmp ids id ≡ place_of id requests
 
@@ -47,18 +47,19 @@ IsIdFault requests (error.Batch number refusal) = ⊥
 IsIdFault requests (error.Requests why) = ⊥
 IsIdFault requests (error.SameId row) = RepeatsId requests row
 
--- each of the first batches, as many as the number says, has its plan in the database of those before it
+-- each of the first `n` batches has its plan in the database of the batches before it
 pub record ArePlansUpTo (batches : List NumberedChanges) (plans : List Plan) (n : ℕ) : Type 0 where
   pub many : length plans ≡ n
   pub each : (i : ℕ) (b : NumberedChanges) (d : Plan) → i < n → b ≡ slice_index_or batches i b
       → IsPlanOf (database_after (take i batches)) b (slice_index_or plans i d)
 
--- the table has the database at its version of the batches
+-- the table has the database of the batches up to the replay's version
 pub record IsAtVersion (batches : List NumberedChanges) (replay : Replay) : Type 0 where
   pub within : replay.version ≤ length batches
   pub table : replay.table ≡ database_after (take replay.version batches)
 
--- the line at the claim's index is the first with the id of the request at its index
+-- the line at the claim's line index is the first with the id of the request at the claim's request
+-- index
 pub record IsClaim (requests : List Request) (last : ℕ) (lines : List (List ℕ)) (claim : Claim) : Type 0 where
   pub line : List ℕ
   pub q : Request
@@ -67,15 +68,16 @@ pub record IsClaim (requests : List Request) (last : ℕ) (lines : List (List �
   pub first : IsFirstReply requests (take claim.line lines) line q claim.version
   pub within : claim.version ≤ last
 
--- each claim is one
+-- each item of the list is a claim
 abbrev pub AreClaims : List Request → ℕ → List (List ℕ) → List Claim → Type 0
 AreClaims requests last lines claims = (claim : Claim) → Contains claims claim → IsClaim requests last lines claim
 
--- a claim is there of the line at this index
+-- there is a claim of the line at this index
 abbrev pub IsClaimed : List Claim → ℕ → Type 0
 IsClaimed claims index = (claim : Claim) × Contains claims claim × (claim.line ≡ index)
 
--- The finding of each line with no claim is right, and that of a line with one is `Good`, or right.
+-- A line without a claim has its right finding. A line with a claim has the finding `Good`, or its
+-- right finding.
 pub record AreOpenFindings (batches : List NumberedChanges) (requests : List Request) (lines : List (List ℕ)) (claims : List Claim) (findings : List Finding) : Type 0 where
   pub counted : length findings ≡ length lines
   pub each : (index : ℕ) (line : List ℕ) (found : Finding) → slice_get lines index ≡ Some line
@@ -83,20 +85,20 @@ pub record AreOpenFindings (batches : List NumberedChanges) (requests : List Req
       → IsFinding batches requests (take index lines) line found
       ⊎ ((found ≡ finding.Good) × IsClaimed claims index)
 
--- which requests lines name
+-- for each request, whether one of the lines has its id
 pub record AreNamed (requests : List Request) (lines : List (List ℕ)) (named : List Bool) : Type 0 where
   pub counted : length named ≡ length requests
   pub each : (index : ℕ) (q : Request) → slice_get requests index ≡ Some q
       → (slice_get named index ≡ Some true) ↔ IsNamed lines q.id
 
--- the state after these lines were read
+-- the findings, the claims and the named requests after these lines were read
 pub record HasReadLines (batches : List NumberedChanges) (requests : List Request) (replies : ReplyFindings) (seen : List (List ℕ)) : Type 0 where
   pub found : AreOpenFindings batches requests seen replies.claims.items replies.findings.items
   pub claims : AreClaims requests (length batches) seen replies.claims.items
   pub named : AreNamed requests seen replies.named.items
 
--- the reading of a line, by the index of each request by its id and the requests that were named
--- before
+-- What is found of a line by its head. `ids` has the index of each request by its id. `before` and
+-- `after` say which requests were named before and after the line.
 abbrev pub IsReading : BTreeMap ℕ ℕ → ℕ → List ℕ → List Bool → List Bool → Reading → Type 0
 IsReading ids last line before after (reading.Settled finding.PassedOver) = IsPassedOver line × (after ≡ before)
 IsReading ids last line before after (reading.Settled finding.Good) = ⊥

@@ -1,17 +1,17 @@
--- Requests by their ids.
+-- Requests and their ids.
 use Rattle.std.specs.Prelude.{◌≡◌, ℕ, ◌+◌, List, ◌∷◌, ◌++◌, Contains, length, map, nat_eq}
 use Rattle.std.specs.List.{IsDistinct}
 use Rattle.cspf_model.specs.declared.request.Request.{Request}
 
--- a request has this id
+-- some request has this id
 abbrev pub IsAsked : List Request → ℕ → Type 0
 IsAsked requests id = (q : Request) × Contains requests q × (q.id ≡ id)
 
--- no two requests have one id
+-- no two requests have the same id
 abbrev pub HaveOwnIds : List Request → Type 0
 HaveOwnIds requests = IsDistinct nat_eq (map (λ q. q.id) requests)
 
--- the request of the row at this place, which counts from 1, is the first with the id of an earlier one
+-- The request at this place, counted from 1, is the first that has the id of an earlier request.
 pub record RepeatsId (requests : List Request) (place : ℕ) : Type 0 where
   pub before : List Request
   pub q : Request

@@ -1,4 +1,4 @@
-//! Why an audit ends before it judges replies, and the conversion of the readers' errors.
+//! Why an audit ends before it judges the replies. The readers' errors are converted to these reasons.
 
 ghost use Rattle.std.specs.Prelude.{◌≡◌};
 ghost use Rattle.cspf_rows.specs.declared.read_error.ReadError.{ReadError as IsReadError};
@@ -12,8 +12,8 @@ use std::alloc::{AllocError, AllocFailed};
 use std::io;
 use thiserror::Error;
 
-/// Why streams aren't audited: the first that applies to the journal, its batches, the requests,
-/// their ids and the replies, in this order.
+/// Why streams aren't audited: the first reason that applies. The journal, its batches, the requests,
+/// their ids and the replies are checked in this order.
 #[derive(Clone, Copy, Debug, PartialEq, Eq, Error)]
 pub enum AuditError {
     /// Memory was refused.
@@ -22,30 +22,30 @@ pub enum AuditError {
     /// A read of one of the streams failed.
     #[error("a read failed")]
     Device,
-    /// There is a row or a line past `MOST_ROWS` of one stream.
+    /// One stream has more than `MOST_ROWS` rows or lines.
     #[error("too many rows")]
     TooManyRows,
-    /// Rows are left after the batches of the journal.
+    /// Rows follow the last whole batch of the journal.
     #[error("the journal is torn after batch {after}")]
     Torn {
-        /// The number of its batches.
+        /// The number of the last whole batch, or 0.
         after: u32,
     },
-    /// A batch of the journal doesn't fit the database of those before it.
+    /// A batch of the journal doesn't fit the database of the batches before it.
     #[error("batch {number}: {refusal}")]
     Batch {
-        /// Its number.
+        /// The batch's number.
         number: u32,
-        /// Why it doesn't fit.
+        /// Why the batch doesn't fit.
         refusal: Refusal,
     },
     /// A row of the requests is refused: `Bad` or `NotAsk`.
     #[error("requests: {0}")]
     Requests(RequestsError),
-    /// A row has the id of an earlier one.
+    /// A row of the requests has the id of an earlier row.
     #[error("row {row} of the requests has the id of an earlier row")]
     SameId {
-        /// Which row it is, from 1 on.
+        /// The number of that row, from 1 on.
         row: u32,
     },
 }

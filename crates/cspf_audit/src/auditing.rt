@@ -1,4 +1,4 @@
-//! The audit itself: it reads the three streams in their order, and then has each line judged.
+//! The audit itself: it reads the three streams in their order, and then judges each line.
 
 ghost use Rattle.std.specs.Prelude.{◌≤◌, length, IfOk, IfErr, IfSome};
 ghost use Rattle.cspf_rows.specs.declared.limits.TheConstants.{MOST_ROWS};
@@ -23,10 +23,10 @@ use std::alloc::{AllocError, Global};
 use std::collections::BTreeMap;
 use std::io::Read;
 
-/// Audits replies. Each line has to be the reply to a request of the stream, by `best_by_rounds`,
-/// at the version of the journal that it names. Requests with no line are faults, too. Lines whose
-/// first word is `version`, `applied` or `batch` are passed over. Each stream is read whole, and
-/// refused past `MOST_ROWS` rows or lines.
+/// Audits replies. Each line names a version of the journal, and has to be the reply to its request at
+/// that version. `best_by_rounds` computes that reply. Requests without a line are faults, too. Lines
+/// whose first word is `version`, `applied` or `batch` are skipped. Each stream is read whole, and is
+/// refused if it has more than `MOST_ROWS` rows or lines.
 pub fn audit<R: Read + Drop, Q: Read + Drop, P: Read + Drop>(
     alloc: Global,
     journal: R,
@@ -46,7 +46,7 @@ pub fn audit<R: Read + Drop, Q: Read + Drop, P: Read + Drop>(
     Ok(audit_lines(alloc, &batches, &plans, &requests, &ids, &lines)?)
 }
 
-/// Audits lines.
+/// Audits the lines of the replies.
 fn audit_lines(
     alloc: Global,
     batches: &[Batch],

@@ -1,4 +1,4 @@
-//! Compares each line that claims to be a reply with the reply of the plain search at its version.
+//! Compares each line that claims to be a reply with the reply that the plain search computes.
 
 ghost use Rattle.std.specs.Prelude.{◌≡◌, ◌↔◌, IsTrue, IfOk, OnOk, ◌∷◌, ◌++◌, [], length};
 ghost use Rattle.cspf_audit.specs.Findings.{IsRightReply, AreFindings};
@@ -14,8 +14,8 @@ use cspf_model::{Batch, Request, one_best_answer};
 use cspf_search::best_by_rounds;
 use std::alloc::{AllocError, Global};
 
-/// Compares the lines that claim to be replies with the replies at their versions. A line that
-/// isn't its reply is found to be altered.
+/// Compares the lines that claim to be replies with the replies at their versions. The finding of a
+/// line that differs from its reply is `Altered`.
 pub(crate) fn compare_all(
     alloc: Global,
     batches: &[Batch],
@@ -42,7 +42,7 @@ pub(crate) fn compare_all(
     Ok(())
 }
 
-/// Whether a line is the reply to a request in a table's database at a version.
+/// Whether a line is the reply to a request at a version. The table has the database of that version.
 fn is_reply(
     alloc: Global,
     table: &Table,
@@ -53,7 +53,7 @@ fn is_reply(
     ensures { IfOk result (λ right. IsTrue right
         ↔ IsRightReply table.now request.now version line.now) }
 {
-    // Laws: a request has one best answer, and an answer one line.
+    // Laws: a request has only one best answer, and an answer has only one reply line.
     one_best_answer();
     one_reply_line();
     let outcome = best_by_rounds(alloc, table, request)?;
@@ -61,7 +61,7 @@ fn is_reply(
     Ok(is_line(line, &reply))
 }
 
-/// Whether bytes are a line with its line feed.
+/// Whether the bytes are this line and a line feed after it.
 fn is_line(line: &[u8], bytes: &[u8]) -> bool
     ensures { IsTrue result ↔ (bytes.now ≡ line.now ++ 10 ∷ []) }
 {

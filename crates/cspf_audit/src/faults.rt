@@ -2,35 +2,35 @@
 
 use std::fmt;
 
-/// What is wrong with the replies. Lines count from 1, those that are passed over too.
+/// What is wrong with the replies. Lines are counted from 1, skipped lines included.
 #[derive(Clone, Copy, Debug, PartialEq, Eq)]
 pub enum AuditFault {
-    /// A line that doesn't begin with an id and a version.
+    /// A line doesn't begin with `ask`, an id and a version.
     Unread {
-        /// Which line it is.
+        /// The number of the line.
         line: u32,
     },
-    /// A line with the id of no request.
+    /// No request has the line's id.
     Foreign {
-        /// Which line it is.
+        /// The number of the line.
         line: u32,
     },
-    /// A line with the id of an earlier one.
+    /// An earlier line has the line's id.
     Doubled {
-        /// Which line it is.
+        /// The number of the line.
         line: u32,
     },
-    /// A line with a version above the number of the journal's batches.
+    /// The line's version is above the number of the journal's batches.
     NoVersion {
-        /// Which line it is.
+        /// The number of the line.
         line: u32,
     },
-    /// A line that isn't the reply to its request at its version.
+    /// The line isn't the reply to its request at its version.
     Altered {
-        /// Which line it is.
+        /// The number of the line.
         line: u32,
     },
-    /// A request whose id is in no line.
+    /// No line has the request's id.
     Unanswered {
         /// The id of the request.
         id: u64,
@@ -58,9 +58,9 @@ impl fmt::Display for AuditFault {
 /// What an audit found.
 #[derive(Debug, Drop)]
 pub struct Audit {
-    /// How many of the judged lines have no fault.
+    /// How many of the lines that aren't skipped have no fault.
     pub good: u32,
-    /// The faults of lines, in the order of the lines, and then the requests without one, in their
-    /// order.
+    /// First the faults of lines, in the order of the lines. Then the requests without a line, in the
+    /// order of the requests.
     pub faults: Vec<AuditFault>,
 }

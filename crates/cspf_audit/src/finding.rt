@@ -1,18 +1,18 @@
-/// The finding of a line.
+/// What the audit finds of a line.
 #[derive(Clone, Copy, Debug, PartialEq, Eq)]
 pub(crate) enum Finding {
-    /// It reports a batch or a run, and isn't judged.
+    /// The line reports a batch or a run, so it is skipped.
     PassedOver,
-    /// It is the reply to its request at its version.
+    /// The line is the reply to its request at its version.
     Good,
-    /// It doesn't begin with an id and a version.
+    /// The line doesn't begin with `ask`, an id and a version.
     Unread,
-    /// It has the id of no request.
+    /// No request has the line's id.
     Foreign,
-    /// It has the id of an earlier line.
+    /// An earlier line has the line's id.
     Doubled,
-    /// Its version is above the number of the journal's batches.
+    /// The line's version is above the number of the journal's batches.
     NoVersion,
-    /// It isn't the reply to its request at its version.
+    /// The line isn't the reply to its request at its version.
     Altered,
 }

@@ -8,7 +8,7 @@ use cspf_model::Request;
 use std::alloc::Global;
 use std::collections::BTreeMap;
 
-/// The index of each request by its id. Two requests with one id are refused.
+/// Maps the id of each request to the request's index. Two requests with the same id are refused.
 pub(crate) fn index_ids(
     alloc: Global,
     requests: &[Request],

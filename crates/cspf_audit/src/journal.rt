@@ -1,4 +1,4 @@
-//! Reads a journal whose batches are lawful, with the plan of each.
+//! Reads a journal whose batches are lawful, and plans each batch.
 
 ghost use Rattle.std.specs.Prelude.{◌≡◌, ◌≤◌, [], length, IfOk, IfErr, OnOk, IfSome};
 ghost use Rattle.std.specs.Vec.{vec_capacity};
@@ -17,17 +17,18 @@ use cspf_rows::{Journal, Rest, read_journal};
 use std::alloc::Global;
 use std::io::Read;
 
-/// The batches of a journal, each with what it does to the table of those before it.
+/// The batches of a journal, and the plan of each batch: what it changes in the table of the batches
+/// before it.
 #[derive(Drop)]
 pub(crate) struct LawfulJournal {
     /// The batches.
     pub(crate) batches: Vec<Batch>,
-    /// Beside the batches, the plan of each.
+    /// The plan of each batch, in the order of the batches.
     pub(crate) plans: Vec<Plan>,
 }
 
-/// Reads the batches of a journal. Each has to fit the database of those before it, and no row may
-/// be left after them.
+/// Reads the batches of a journal. Each batch has to fit the database of the batches before it, and no
+/// rows may follow the last batch.
 pub(crate) fn lawful_journal<R: Read + Drop>(
     alloc: Global,
     journal: R,
@@ -49,7 +50,8 @@ pub(crate) fn lawful_journal<R: Read + Drop>(
     Ok(LawfulJournal { batches, plans })
 }
 
-/// Plans each batch, by a table of those before it, or refuses the first that doesn't fit.
+/// Plans each batch for the table of the batches before it. The first batch that doesn't fit is
+/// refused.
 fn plan_all(alloc: Global, batches: &[Batch]) -> Result<Vec<Plan>, AuditError>
     ensures lawful { OnOk result (AreLawful batches.now) }
     ensures planned { IfOk result (λ plans. ArePlansUpTo batches.now plans.items (length batches.now)) }
@@ -61,8 +63,8 @@ fn plan_all(alloc: Global, batches: &[Batch]) -> Result<Vec<Plan>, AuditError>
     Ok(plans)
 }
 
-/// Plans each batch, by a table of those before it, or returns the first that doesn't fit. The plans
-/// join an empty list that has room for them, so the call takes no memory.
+/// Plans each batch for the table of the batches before it, or returns the first batch that doesn't
+/// fit. The plans are added to an empty list that has room for them, so the call takes no memory.
 fn plan_each(table: &mut Table, batches: &[Batch], plans: &mut Vec<Plan>) -> Result<(), UnfitBatch>
     requires empty { table.old ≡ no_links }
     requires none { plans.old.items ≡ [] }
@@ -71,7 +73,8 @@ fn plan_each(table: &mut Table, batches: &[Batch], plans: &mut Vec<Plan>) -> Res
     ensures planned { OnOk result (ArePlansUpTo batches.now plans.new.items (length batches.now)) }
     ensures err { IfErr result (λ unfit. IsFirstUnfit batches.now unfit.number unfit.refusal) }
 {
-    // Laws: one more batch makes its changes, and keeps the batches lawful where it fits.
+    // Laws: the next batch makes its changes in the database of the batches before it. If the next
+    // batch fits, the batches stay lawful.
     absorbing();
     lawful_batches();
     for batch in batches {

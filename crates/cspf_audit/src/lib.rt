@@ -1,8 +1,10 @@
-//! The audit: whether each reply to a request was the right one at the version that it names.
+//! The audit: it finds out whether each reply to a request was right at the version that the reply
+//! names.
 //!
-//! `specs/Lines.antt` defines how replies are cut into lines. `specs/Findings.antt` has the finding
-//! of a line by a journal's batches, the requests and the lines before it. `specs/Audits.antt` has
-//! the audit of whole streams, and `specs/AuditErrors.antt` why streams aren't audited.
+//! `specs/Lines.antt` defines how replies are cut into lines. `specs/Findings.antt` defines the finding
+//! of a line, which depends on a journal's batches, the requests and the lines before it.
+//! `specs/Audits.antt` defines the audit of all lines. `specs/AuditErrors.antt` defines the audit of
+//! whole streams, and why streams aren't audited.
 #![tactic(auto)]
 
 mod audit_error;

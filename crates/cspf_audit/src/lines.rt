@@ -1,4 +1,4 @@
-//! Cuts the stream of replies into lines, at most `MOST_ROWS` of them.
+//! Cuts the stream of replies into at most `MOST_ROWS` lines.
 
 ghost use Rattle.std.specs.Prelude.{◌≡◌, ◌≤◌, [], length, IfOk, IfErr, OnOk, IfSome};
 ghost use Rattle.cspf_rows.specs.declared.limits.TheConstants.{MOST_ROWS};
@@ -12,7 +12,7 @@ use std::alloc::Global;
 use std::io::{BufRead, BufReader, Read};
 use std::marker::Model;
 
-/// The bytes of a line, its line feed aside.
+/// The bytes of a line, without its line feed.
 #[derive(Drop)]
 pub(crate) struct ReplyLine(Vec<u8>);
 
@@ -25,7 +25,7 @@ impl Model for ReplyLine {
 }
 
 impl ReplyLine {
-    /// Its bytes.
+    /// The bytes of the line, without its line feed.
     pub(crate) fn text(&self) -> &[u8]
         ensures { result.now ≡ self.now }
     {
@@ -33,8 +33,8 @@ impl ReplyLine {
     }
 }
 
-/// The lines of a stream, which is read to its end, or to its line after `MOST_ROWS`, which is
-/// refused as `TooManyRows`.
+/// Reads the lines of a stream up to its end. A stream with more than `MOST_ROWS` lines is refused as
+/// `TooManyRows`.
 pub(crate) fn read_lines<P: Read + Drop>(
     alloc: Global,
     replies: P,
@@ -52,7 +52,7 @@ pub(crate) fn read_lines<P: Read + Drop>(
     Ok(lines)
 }
 
-/// Reads the lines that a reader has left.
+/// Reads all further lines of a reader.
 fn read_all<B: BufRead>(
     alloc: Global,
     reader: &mut B,
@@ -78,7 +78,7 @@ fn read_all<B: BufRead>(
     }
 }
 
-/// Reads the next line, if there is one.
+/// Reads the next line. The result is `None` at the end.
 fn next_line<B: BufRead>(alloc: Global, reader: &mut B) -> Result<Option<ReplyLine>, AuditError>
     ensures takes { IfOk result (TakesLine (B.remaining reader.old) (B.remaining reader.new)) }
     ensures error { IfErr result IsReadingFault }
@@ -91,7 +91,7 @@ fn next_line<B: BufRead>(alloc: Global, reader: &mut B) -> Result<Option<ReplyLi
     Ok(Some(ReplyLine(text)))
 }
 
-/// Takes a line feed off the end of a line.
+/// Removes the line feed from the end of a line.
 fn cut_feed(text: &mut Vec<u8>)
     ensures { text.new.items ≡ strip_last 10 text.old.items }
 {

@@ -6,7 +6,7 @@ use cspf_db::{Plan, Table};
 use cspf_model::{Batch, absorbing};
 use std::alloc::{AllocError, Global};
 
-/// The database at a version of a journal.
+/// The database at one version of a journal.
 #[derive(Drop)]
 pub(crate) struct Replay {
     table: Table,
@@ -22,8 +22,9 @@ impl Replay {
         Ok(Replay { table, version: 0 })
     }
 
-    /// Goes to a version of a journal, by the plans of its batches. Where it is above the last one,
-    /// only the batches between them are absorbed.
+    /// Goes to a version of a journal, by the plans of its batches. If the version is above the present
+    /// version, only the batches between the two are absorbed. Otherwise the replay begins at version 0
+    /// again.
     pub(crate) fn go_to(
         &mut self,
         alloc: Global,
@@ -37,7 +38,7 @@ impl Replay {
         ensures here { OnOk result (IsAtVersion batches.now self.new) }
         ensures version { OnOk result (self.new.version ≡ version) }
     {
-        // A law: one more batch makes its changes.
+        // Law: the next batch makes its changes in the database of the batches before it.
         absorbing();
         if version < self.version {
             *self = Replay::new(alloc)?;

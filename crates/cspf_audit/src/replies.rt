@@ -1,4 +1,4 @@
-//! What each line of the replies says by its head alone, before its words are compared.
+//! What is found of each line of the replies by its head alone. The rest of the line is compared later.
 
 ghost use Rattle.std.specs.Prelude.{◌≡◌, ◌++◌, ◌∷◌, [], ◌<◌, ℕ, List, length, Some, OnOk, IfOk};
 ghost use Rattle.std.specs.BTreeMap.{get};
@@ -17,28 +17,28 @@ use cspf_model::Request;
 use std::alloc::{AllocError, Global};
 use std::collections::BTreeMap;
 
-/// The findings and claims of the lines that were read.
+/// The findings and the claims of the lines that were read.
 #[derive(Drop)]
 pub(crate) struct ReplyFindings {
-    /// The finding of each line. Lines that claim to be replies count as good.
+    /// The finding of each line. A line that claims to be a reply counts as good at first.
     pub(crate) findings: Vec<Finding>,
     /// The lines that claim to be replies.
     pub(crate) claims: Vec<Claim>,
-    /// Whether a line has the id of the request at each index.
+    /// For each request, whether a line has its id.
     pub(crate) named: Vec<bool>,
 }
 
-/// The reading of a line before its words are compared.
+/// What is found of a line before it is compared with a reply.
 #[derive(Clone, Copy)]
 enum Reading {
-    /// There is nothing to compare.
+    /// The finding of a line that isn't compared.
     Settled(Finding),
-    /// It claims to be the reply to the request at an index, at a version.
+    /// The line claims to be the reply to the request at this index, at this version.
     Claims(usize, u32),
 }
 
-/// Reads lines that reply to requests, with the index of each request by its id, at versions up to
-/// the last one.
+/// Reads the lines of the replies. `ids` has the index of each request by its id, and `last` is the
+/// highest version.
 pub(crate) fn read_replies(
     alloc: Global,
     lines: &[ReplyLine],
@@ -79,7 +79,7 @@ impl ReplyFindings {
             → ArePlaces ids.now requests → HasReadLines batches requests self.old seen
             → HasReadLines batches requests self.new (seen ++ line.now ∷ [])) }
     {
-        // Law: a line begins with one id and version at most.
+        // Law: a line begins with at most one id and version.
         one_head();
         let at = self.findings.len();
         let finding = match read_reply(line, ids, last, &mut self.named) {
@@ -98,7 +98,7 @@ impl ReplyFindings {
     }
 }
 
-/// Reads a line, and marks the request that it names.
+/// Reads a line, and marks the request whose id it has.
 fn read_reply(line: &[u8], ids: &BTreeMap<u64, usize>, last: usize, named: &mut [bool]) -> Reading
     requires within { (id index : ℕ) → get nat_cmp ids.now id ≡ Some index
         → index < length named.old }

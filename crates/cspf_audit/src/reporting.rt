@@ -1,4 +1,5 @@
-//! Makes the faults of an audit from the findings of the lines and the requests that are named.
+//! Makes the faults of an audit from the findings of the lines, and from the list that says which
+//! requests have a line.
 
 ghost use Rattle.std.specs.Prelude.{◌≡◌, ◌++◌, ◌≤◌, List, ℕ, length, IfOk, OnOk};
 ghost use Rattle.cspf_rows.specs.declared.limits.TheConstants.{MOST_ROWS};
@@ -10,7 +11,7 @@ use crate::finding::Finding;
 use cspf_model::Request;
 use std::alloc::{AllocError, Global};
 
-/// The audit of lines with these findings, and of requests of which a line names these.
+/// The audit of lines with these findings. `named` says for each request whether a line has its id.
 pub(crate) fn report(
     alloc: Global,
     findings: &[Finding],
@@ -29,7 +30,7 @@ pub(crate) fn report(
     Ok(Audit { good, faults })
 }
 
-/// Adds the fault of each line that has one, and counts the good lines.
+/// Adds the fault of each line that has a fault, and counts the good lines.
 fn report_lines(findings: &[Finding], faults: &mut Vec<AuditFault>) -> Result<u32, AllocError>
     requires most { length findings.now ≤ MOST_ROWS }
     ensures good { IfOk result (λ good. good ≡ good_count findings.now) }
@@ -47,7 +48,7 @@ fn report_lines(findings: &[Finding], faults: &mut Vec<AuditFault>) -> Result<u3
     Ok(good)
 }
 
-/// The fault of a line, by its finding.
+/// The fault of a line with this finding, if it is a fault.
 fn fault_of(line: u32, finding: Finding) -> Option<AuditFault>
     ensures { result ≡ fault_at line finding }
 {
@@ -61,7 +62,7 @@ fn fault_of(line: u32, finding: Finding) -> Option<AuditFault>
     }
 }
 
-/// Adds each request that no line names.
+/// Adds a fault for each request whose id no line has.
 fn report_requests(
     requests: &[Request],
     named: &[bool],

@@ -1,7 +1,7 @@
 ghost use Rattle.std.specs.Prelude.{◌≡◌, ◌==◌, ◌↔◌, IsTrue, position};
 ghost use Rattle.cspf_audit.specs.Findings.{first_word, IsPassedOver};
 
-/// Whether the first word of a line is one of those that replies don't begin with.
+/// Whether the audit skips a line: its first word is `version`, `applied` or `batch`.
 pub(crate) fn is_passed_over(line: &[u8]) -> bool
     ensures { IsTrue result ↔ IsPassedOver line.now }
 {
@@ -9,7 +9,7 @@ pub(crate) fn is_passed_over(line: &[u8]) -> bool
     word == b"version".as_slice() || word == b"applied".as_slice() || word == b"batch".as_slice()
 }
 
-/// The bytes of a line before its first space, or all where there is none.
+/// The bytes of a line before its first space, or the whole line if it has no space.
 fn first_word(line: &[u8]) -> &[u8]
     ensures { result.now ≡ first_word line.now }
 {

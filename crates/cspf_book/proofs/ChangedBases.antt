@@ -1,4 +1,4 @@
--- The database that changes make of a base: keys and marks.
+-- The database after changes of a base: its links at keys, and its marks.
 use Rattle.std.proofs.Common.{◌≡◌, ◌↔◌, ℕ, Bool, true, false, not, cond, IsTrue, IfSome, Option, Some, None, List, [], ◌∷◌, reverse, find, refl, sym, ap, ◌∙◌}
 use Rattle.std.specs.Ordering.{nat_cmp, eq_by_cmp}
 use Rattle.std.specs.FinSet as set
@@ -12,11 +12,11 @@ use Rattle.cspf_model.specs.Changes.{ChangeKey, change_key_cmp, link_key, mark_k
 use Rattle.cspf_model.proofs.Databases.Keys.{change_keys_same, link_keys_same, mark_apart}
 use Rattle.cspf_model.proofs.Databases.LastChanges.{link_at-after_changes, tied_alone, after_mark, after_changes-append}
 
--- the change is on the key
+-- The change has this key.
 abbrev pub on_key : ChangeKey → Change → Bool
 on_key k c = eq_by_cmp change_key_cmp k (key_changed c)
 
--- what is found passes the test
+-- The change that is found passes the test.
 find_passes : (p : Change → Bool) (cs : List Change) (c : Change) → find p cs ≡ Some c → p c ≡ true
 find_passes p [] c e = absurd (cc)
 find_passes p (b ∷ cs) c e =
@@ -25,7 +25,7 @@ find_passes p (b ∷ cs) c e =
       | false ↦ λ _ there. find_passes p cs c there
     ] refl e
 
--- the last change on the key of a link puts a link with this key, if it puts one
+-- If the last change of a link's key puts a link, then the link has this key.
 pub last_put : (k : Key) (cs : List Change) (l : Link) → last_on (link_key k) cs ≡ Some (Put l) → key_of l ≡ k
 last_put k cs l e =
     sym (link_keys_same k (key_of l) (change_keys_same (link_key k) (link_key (key_of l)) (find_passes (on_key (link_key k)) (reverse cs) (Put l) e)))
@@ -46,7 +46,7 @@ marked-after_change d (Node router transit) q =
     chosen true = refl
     chosen false = refl
 
--- the same after changes that are listed from the last to the first
+-- Whether a router is marked after changes. The changes are listed here from the last to the first.
 marked-after_reversed : (d : Database) (cs : List Change) (q : ℕ)
     → set.contains (after_changes d (reverse cs)).marks q ≡ mark_after (find (on_key (mark_key q)) cs) (set.contains d.marks q)
 marked-after_reversed d [] q = refl
@@ -56,13 +56,13 @@ marked-after_reversed d (c ∷ cs) q =
     ∙ marked-after_change (after_changes d (reverse cs)) c q
     ∙ elim (on_key (mark_key q) c) as (λ b. mark_after (cond b (Some c) None) (set.contains (after_changes d (reverse cs)).marks q) ≡ mark_after (cond b (Some c) (find (on_key (mark_key q)) cs)) (set.contains d.marks q)) [ true ↦ refl | false ↦ marked-after_reversed d cs q ]
 
--- the last change on a router decides whether it is marked
+-- The last change of a router's mark decides whether the router is marked.
 pub marked-after_changes : (d : Database) (cs : List Change) (q : ℕ)
     → set.contains (after_changes d cs).marks q ≡ mark_after (last_on (mark_key q) cs) (set.contains d.marks q)
 marked-after_changes d cs q =
     ap (λ bs. set.contains (after_changes d bs).marks q) (sym (reverse-reverse cs)) ∙ marked-after_reversed d (reverse cs) q
 
--- what is at a key where it is changed, and where it isn't
+-- If a link's key is changed, the last change of it decides which link is there.
 pub link_by_last : (d : Database) (cs : List Change) (k : Key) (c : Change) → Some c ≡ last_on (link_key k) cs
     → link_left c ≡ link_at (after_changes d cs) k
 link_by_last d cs k c is =
@@ -73,25 +73,25 @@ pub link_by_none : (d : Database) (cs : List Change) (k : Key) → None ≡ last
 link_by_none d cs k is =
     sym (link_at-after_changes d cs k ∙ ap (λ o. link_after o (link_at d k)) (sym is))
 
--- a link that is put there has the key
+-- A link that the last change puts at a key has this key.
 pub keyed_by_last : (cs : List Change) (k : Key) (c : Change) → Some c ≡ last_on (link_key k) cs
     → IfSome (link_left c) (λ l. key_of l ≡ k)
 keyed_by_last cs k (Put l) is = last_put k cs l (sym is)
 keyed_by_last cs k (Remove from local) is = tt
 keyed_by_last cs k (Node router transit) is = tt
 
--- a link that is found in a database has its key
+-- A link that is found at a key of a database has this key.
 pub keyed_by_base : (d : Database) (k : Key) (o : Option Link) → AreAtTheirKeys d → o ≡ link_at d k
     → IfSome o (λ l. key_of l ≡ k)
 keyed_by_base d k None keyed is = tt
 keyed_by_base d k (Some l) keyed is = keyed k l (sym is)
 
--- not marked, by a test that is equal
+-- If two tests are equal, the first fails exactly if the second doesn't hold.
 unmarked : (a b : Bool) → a ≡ b → IsTrue (not b) ↔ (¬ IsTrue a)
 unmarked a true e = (λ t. absurd (false≢true t), λ marked. absurd (marked e))
 unmarked a false e = (λ t marked. false≢true (sym e ∙ marked), λ marked. refl)
 
--- whether a router has transit where its mark is changed, and where it isn't
+-- If a router's mark is changed, the last change decides whether the router has transit.
 pub transit_by_last : (d : Database) (cs : List Change) (q : ℕ) (c : Change) → Some c ≡ last_on (mark_key q) cs
     → IsTrue (not (mark_left c)) ↔ HasTransit (after_changes d cs) q
 transit_by_last d cs q c is =
@@ -105,7 +105,7 @@ transit_by_none d cs q is =
     marked-after_changes d cs q ∙ ap (λ o. mark_after o (set.contains d.marks q)) (sym is) in
     (λ free marked. free (sym same ∙ marked), λ free marked. free (same ∙ marked))
 
--- the reverse of a link is what is found at its key, if that runs back
+-- A link has its reverse if the link at the reverse's key runs back to it.
 pub reverse_found : (d : Database) (l back : Link) → Some back ≡ link_at d (l.to, l.remote) → key_of back ≡ (l.to, l.remote)
     → back.to ≡ l.from → (back.remote ≡ l.local) ↔ HasReverse d l
 reverse_found d l back found keyed to = (

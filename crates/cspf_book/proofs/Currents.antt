@@ -1,4 +1,4 @@
--- Where an effective database is up to date, and how it is brought up to date.
+-- Keys at which an effective database is up to date, and how an effective database is updated.
 use Rattle.std.proofs.Common.{◌≡◌, ℕ, ◌+◌, ◌<◌, ◌||◌, ◌&&◌, Bool, true, false, cond, Option, Some, None, List, [], ◌∷◌, ◌++◌, T, length, map, drop, nat_eq, nat_le, remove, get_or, refl, sym, ap, ◌∙◌, arith}
 use Rattle.std.proofs.Math.Path.{fun_ext}
 use Rattle.std.specs.Ordering.{eq_by_cmp, is_lt}
@@ -22,27 +22,27 @@ use Rattle.cspf_book.specs.Alike.{AreAlike, IsCurrentAt, IsCurrentBut, IsCurrent
 use Rattle.cspf_book.proofs.EffectiveLinks.{effective_at}
 use Rattle.cspf_book.proofs.KeyTests.{same_key_test}
 
--- entries with other links are below what they were below
+-- Whether a key is below the keys of all entries doesn't depend on the links of the entries.
 below_all-mapped : (f : Link → Link) (k : Key) (es : List (Key × Link))
     → below_all key_cmp k (map (λ e. (e.0, f e.1)) es) ≡ below_all key_cmp k es
 below_all-mapped f k [] = refl
 below_all-mapped f k (e ∷ es) = ap (λ b. is_lt (key_cmp k e.0) && b) (below_all-mapped f k es)
 
--- and as sorted as before
+-- Whether entries are sorted by their keys doesn't depend on their links.
 is_sorted-mapped : (f : Link → Link) (es : List (Key × Link))
     → map.is_sorted key_cmp (map (λ e. (e.0, f e.1)) es) ≡ map.is_sorted key_cmp es
 is_sorted-mapped f [] = refl
 is_sorted-mapped f (e ∷ es) =
     λ i. below_all-mapped f e.0 es i && is_sorted-mapped f es i
 
--- the ends of an effective link are those of the link
+-- An effective link has the key of its link and runs to the same router.
 ends_kept : (placements : List Placement) (o : Option Link)
     → option_map ends_of_link (option_map (effective_link placements) o) ≡ option_map ends_of_link o
 unfolding effective_link
 ends_kept placements (Some l) = refl
 ends_kept placements None = refl
 
--- there are as many
+-- The number of entries stays the same if their links are replaced.
 len-mapped : (base : Database) (es : List (Key × Link)) → T (map.is_sorted key_cmp es)
     → length es ≡ length (map.entries base.links) → map.len (map.from_entries {R = key_cmp} es) ≡ map.len base.links
 len-mapped base es sorted many =
@@ -53,7 +53,7 @@ len-mapped base es sorted many =
     ∙ many
     ∙ sym (map.len-entries base.links)
 
--- the effective database is alike to its base
+-- The effective database is alike to its base.
 pub alike_effective : (base : Database) (placements : List Placement) → AreAlike base (effective base placements)
 alike_effective base placements = record {
   marks = refl;
@@ -64,13 +64,13 @@ alike_effective base placements = record {
   ends = λ k. ap (option_map ends_of_link) (effective_at base placements k) ∙ ends_kept placements (link_at base k);
 }
 
--- a database that is up to date everywhere is the effective one
+-- A database that is up to date at each key is the effective database.
 pub current_whole : (base : Database) (placements : List Placement) (d : Database) → AreAlike base d
     → ((k : Key) → IsCurrentAt base placements d k) → d ≡ effective base placements
 current_whole base placements d alike current =
     same_database d (effective base placements) alike.marks (λ k. current k ∙ sym (effective_at base placements k))
 
--- the effective link depends on what is counted on it alone
+-- The effective link depends only on what is counted on it.
 same_held : (before after : List Placement) (k : Key) (l : Link) → key_of l ≡ k
     → ((p : ℕ) → counted before k p ≡ counted after k p) → effective_link before l ≡ effective_link after l
 unfolding effective_link
@@ -78,7 +78,7 @@ same_held before after k l key same =
     ap (λ held. with_free l (figures l.free held) refl)
     (fun_ext (λ p. ap (λ q. counted before q p) key ∙ same p ∙ ap (λ q. counted after q p) (sym key)))
 
--- where as much is counted on a link, it stays up to date
+-- If the sums of a link are the same for two lists of placements, the link stays up to date.
 pub current_along : (base : Database) (before after : List Placement) (d : Database) (k : Key) → AreAtTheirKeys base
     → ((p : ℕ) → counted before k p ≡ counted after k p) → IsCurrentAt base before d k → IsCurrentAt base after d k
 current_along base before after d k keyed same current = current ∙ mapped (link_at base k) refl
@@ -87,18 +87,18 @@ current_along base before after d k keyed same current = current ∙ mapped (lin
     mapped (Some l) is = ap Some (same_held before after k l (keyed k l is) same)
     mapped None is = refl
 
--- nothing is counted where the second test fails
+-- Nothing is counted if the second test fails.
 counted-neither : (b : Bool) (n : ℕ) → cond (b && false) n 0 ≡ 0
 counted-neither true n = refl
 counted-neither false n = refl
 
--- a placement counts nothing on a link that its route doesn't have
+-- A placement counts nothing on a link that its route doesn't use.
 bandwidth_on-none : (k : Key) (priority : ℕ) (p : Placement) → has_key p.route k ≡ false → bandwidth_on k priority p ≡ 0
 bandwidth_on-none k priority p off =
     ap (λ b. cond (nat_le p.hold priority && b) p.request.bandwidth 0) off
     ∙ counted-neither (nat_le p.hold priority) p.request.bandwidth
 
--- without a placement as much is counted on the links that its route doesn't have
+-- Removing a placement doesn't change the sums of links that its route doesn't use.
 pub counted-remove : (placements : List Placement) (at : ℕ) (d : Placement) (k : Key) → at < length placements
     → has_key (get_or placements at d).route k ≡ false → (priority : ℕ)
     → counted placements k priority ≡ counted (remove placements at) k priority
@@ -106,18 +106,18 @@ counted-remove placements at d k within off priority =
     omega
     (arith, sum_by-remove (bandwidth_on k priority) placements at d within, bandwidth_on-none k priority (get_or placements at d) off)
 
--- and with one more
+-- Adding a placement doesn't change the sums of links that its route doesn't use.
 pub counted-push : (placements : List Placement) (p : Placement) (k : Key) → has_key p.route k ≡ false → (priority : ℕ)
     → counted placements k priority ≡ counted (placements ++ p ∷ []) k priority
 counted-push placements p k off priority =
     omega (arith, sum_by_push (bandwidth_on k priority) placements p, bandwidth_on-none k priority p off)
 
--- neither of two tests holds
+-- If two tests fail, neither of them holds.
 neither_holds : (a b : Bool) → a ≡ false → b ≡ false → (a || b) ≡ false
 neither_holds true b first second = first
 neither_holds false b first second = second
 
--- one link is brought up to date, and the others stay
+-- One link is updated, and the other links stay.
 module _ (base : Database) (placements : List Placement) (old new : Database) (key : Key)
     (at : (k : Key) → link_at new k ≡ cond (eq_by_cmp key_cmp k key) (option_map (effective_link placements) (link_at base k)) (link_at old k)) where
   pub current_there : (k : Key) → ((nat_eq key.0 k.0 && nat_eq key.1 k.1) ≡ false → IsCurrentAt base placements old k) → IsCurrentAt base placements new k
@@ -128,13 +128,13 @@ module _ (base : Database) (placements : List Placement) (old new : Database) (k
         | false ↦ λ off. elsewhere (sym (same_key_test k key) ∙ off)
       ] refl)
 
-  -- of some links one was looked at
+  -- In a list of links, one more link was updated.
   pub current_step : (links : List Link) (i : ℕ) (d : Link) → i < length links → key_of (get_or links i d) ≡ key → IsCurrentBut base placements old (drop i links)
       → IsCurrentBut base placements new (drop (i + 1) links)
   current_step links i d within is current k off =
       current_there k (λ apart. current k (at_drop_more (λ ls. has_key ls k) links i d within ∙ neither_holds _ _ (ap (λ (j : Key). nat_eq j.0 k.0 && nat_eq j.1 k.1) is ∙ apart) off))
 
-  -- of some changes one was looked at
+  -- In a list of changes, the link of one more change was updated.
   pub current_put : (changes : List Change) (i : ℕ) (d : Change) (l : Link) → i < length changes → get_or changes i d ≡ Put l → key_of l ≡ key
       → IsCurrentButPut base placements old (drop i changes) → IsCurrentButPut base placements new (drop (i + 1) changes)
   current_put changes i d l within is its current k off =
@@ -143,20 +143,20 @@ module _ (base : Database) (placements : List Placement) (old new : Database) (k
       (at_drop_more (λ cs. list_any (puts_key k) cs) changes i d within
       ∙ neither_holds _ _ (ap (puts_key k) is ∙ neither_holds _ _ (ap (λ (j : Key). nat_eq j.0 k.0 && nat_eq j.1 k.1) its ∙ apart) refl) off))
 
--- a change that is no put puts no link
+-- A change other than `Put` puts no link.
 pub puts_none : (c : Change) → ((l : Link) → c ≡ Put l → ⊥) → (k : Key) → puts_key k c ≡ false
 puts_none (Put l) other k = absurd (other l refl)
 puts_none (Remove from local) other k = refl
 puts_none (Node router transit) other k = refl
 
--- a change that puts no link was looked at
+-- In a list of changes, one more change was passed over, which puts no link.
 pub current_past : (base : Database) (placements : List Placement) (d : Database) (changes : List Change) (i : ℕ) (c : Change) → i < length changes
     → ((k : Key) → puts_key k (get_or changes i c) ≡ false) → IsCurrentButPut base placements d (drop i changes)
     → IsCurrentButPut base placements d (drop (i + 1) changes)
 current_past base placements d changes i c within none current k off =
     current k (at_drop_more (λ cs. list_any (puts_key k) cs) changes i c within ∙ neither_holds _ _ (none k) off)
 
--- a change that doesn't put a link leaves its key up to date
+-- A change that doesn't put a link at a key leaves this key up to date.
 current_change : (base : Database) (placements : List Placement) (d : Database) (c : Change) (k : Key) → puts_key k c ≡ false
     → IsCurrentAt base placements d k → IsCurrentAt (after_change base c) placements (after_change d c) k
 current_change base placements d (Put l) k off current =
@@ -182,17 +182,17 @@ current_change base placements d (Remove from local) k off current =
     turned false o = refl
 current_change base placements d (Node router transit) k off current = current
 
--- the first of two tests that both fail
+-- Two tests both fail, so the first fails.
 first_fails : (a b : Bool) → (a || b) ≡ false → a ≡ false
 first_fails true b e = e
 first_fails false b e = refl
 
--- and the second
+-- Two tests both fail, so the second fails.
 second_fails : (a b : Bool) → (a || b) ≡ false → b ≡ false
 second_fails true b e = absurd (cc)
 second_fails false b e = e
 
--- and so do some changes
+-- Changes that put no link at a key leave this key up to date.
 current_along_changes : (base d : Database) (placements : List Placement) (cs : List Change) (k : Key)
     → list_any (puts_key k) cs ≡ false → IsCurrentAt base placements d k
     → IsCurrentAt (after_changes base cs) placements (after_changes d cs) k
@@ -208,37 +208,37 @@ pub current_changes : (base : Database) (placements : List Placement) (d : Datab
 current_changes base placements d cs current k off =
     current_along_changes base d placements cs k off (current k)
 
--- the effective database is up to date everywhere
+-- The effective database is up to date at each key.
 pub current_at_all : (base : Database) (placements : List Placement) (d : Database) → d ≡ effective base placements
     → (k : Key) → IsCurrentAt base placements d k
 current_at_all base placements d is k = ap (λ (e : Database). link_at e k) is ∙ effective_at base placements k
 
--- and alike to its base
+-- The effective database is alike to its base.
 pub alike_current : (base : Database) (placements : List Placement) (d : Database) → d ≡ effective base placements
     → AreAlike base d
 alike_current base placements d is = rw is (alike_effective base placements)
 
--- without one of the placements it is up to date but on the links of its route
+-- After a placement is removed, the database is up to date except at the links of its route.
 pub current_aside : (base : Database) (placements : List Placement) (at : ℕ) (p : Placement) (d : Database) → AreAtTheirKeys base
     → at < length placements → d ≡ effective base placements
     → IsCurrentBut base (remove placements at) d (get_or placements at p).route
 current_aside base placements at p d keyed within is k off =
     current_along base placements (remove placements at) d k keyed (counted-remove placements at p k within off) (current_at_all base placements d is k)
 
--- and so with it again
+-- After the placement is counted again, the database is up to date except at the links of its route.
 pub current_back : (base : Database) (placements : List Placement) (at : ℕ) (p : Placement) (d : Database) → AreAtTheirKeys base
     → at < length placements → d ≡ effective base (remove placements at)
     → IsCurrentBut base placements d (get_or placements at p).route
 current_back base placements at p d keyed within is k off =
     current_along base (remove placements at) placements d k keyed (λ q. sym (counted-remove placements at p k within off q)) (current_at_all base (remove placements at) d is k)
 
--- and with one more
+-- After a placement is added, the database is up to date except at the links of its route.
 pub current_with : (base : Database) (placements : List Placement) (p : Placement) (d : Database) → AreAtTheirKeys base
     → d ≡ effective base placements → IsCurrentBut base (placements ++ p ∷ []) d p.route
 current_with base placements p d keyed is k off =
     current_along base placements (placements ++ p ∷ []) d k keyed (counted-push placements p k off) (current_at_all base placements d is k)
 
--- with no links there are no effective links
+-- A database without links has no effective links.
 pub effective-no_links : (placements : List Placement) → no_links ≡ effective no_links placements
 effective-no_links placements =
     same_database no_links (effective no_links placements) refl (λ k.

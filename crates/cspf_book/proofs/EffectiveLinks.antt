@@ -9,14 +9,14 @@ use Rattle.cspf_model.proofs.Databases.Keys.{keys_total}
 use Rattle.cspf_book.specs.Effective.{effective_link}
 use Rattle.cspf_book.specs.Laws.{HasEffectiveLinks}
 
--- what is found among entries whose links are replaced
+-- A lookup in entries whose links are replaced.
 find-mapped : (f : Link → Link) (es : List (Key × Link)) (k : Key)
     → find key_cmp k (map (λ e. (e.0, f e.1)) es) ≡ option_map f (find key_cmp k es)
 find-mapped f [] k = refl
 find-mapped f (e ∷ es) k =
     elim (eq_by_cmp key_cmp k e.0) as (λ b. cond b (Some (f e.1)) (find key_cmp k (map (λ e. (e.0, f e.1)) es)) ≡ option_map f (cond b (Some e.1) (find key_cmp k es))) [ true ↦ refl | false ↦ find-mapped f es k ]
 
--- the effective database has the effective links
+-- At each key the effective database has the effective link of the base's link there.
 pub effective_at : HasEffectiveLinks
 effective_at base placements k =
     get-from_entries keys_total (map (λ e. (e.0, effective_link placements e.1)) (entries base.links)) k

@@ -1,4 +1,4 @@
--- Placements by their ids, and lists of placements without one.
+-- Placements by their ids, and lists of placements without the placement of an id.
 use Rattle.std.proofs.Common.{◌≡◌, ℕ, zero, suc, ◌+◌, ◌-◌, ◌<◌, ◌≤◌, ◌||◌, Bool, true, false, cond, not, List, [], ◌∷◌, ◌++◌, length, map, nat_eq, remove, get_or, refl, sym, ap, ◌∙◌, arith}
 use Rattle.std.specs.List.{list_any, IsDistinct, AllByRecursion}
 use Rattle.std.proofs.lemmas.Cmp.{nat_eq_equiv}
@@ -9,16 +9,16 @@ use Rattle.cspf_book.specs.declared.placement.Placement.{Placement}
 use Rattle.cspf_book.specs.Placements.{id_of, has_id, others, index_of_id}
 use Rattle.cspf_book.specs.Inside.{HaveDistinctIds}
 
--- past the last there is nothing to take out
+-- Removing at an index past the last placement changes nothing.
 pub remove-behind : (placements : List Placement) (at : ℕ) → length placements ≤ at → remove placements at ≡ placements
 remove-behind placements at behind =
     rw (take_all at placements behind, drop_all (suc at) placements (omega arith)) (append-nil placements)
 
--- an index is at most the length
+-- The index of an id is at most the number of placements.
 pub index_of-le : (id : ℕ) (placements : List Placement) → index_of_id id placements ≤ length placements
 index_of-le id placements = prefix_len-le-length (λ p. not (nat_eq (id_of p) id)) placements
 
--- where no placement has the id, the placements with other ids are all
+-- If no placement has the id, the placements with other ids are all placements.
 others-none : (id : ℕ) (placements : List Placement) → AllByRecursion (λ y. nat_eq id y ≡ false) (map id_of placements)
     → others id placements ≡ placements
 others-none id [] none = refl
@@ -26,7 +26,7 @@ others-none id (p ∷ ps) none =
     ap (λ b. cond (not b) (p ∷ others id ps) (others id ps)) (nat_eq_equiv.symm (id_of p) id ∙ none.0)
     ∙ ap (λ qs. p ∷ qs) (others-none id ps none.1)
 
--- the placements with other ids are those without the one at the index of the id
+-- Removing the placement at the index of an id leaves the placements with other ids.
 pub remove-index_of : (id : ℕ) (placements : List Placement) → HaveDistinctIds placements
     → remove placements (index_of_id id placements) ≡ others id placements
 remove-index_of id [] own = refl
@@ -43,7 +43,7 @@ remove-index_of id (p ∷ ps) own =
     later : (m n : ℕ) → m ≡ suc n → remove (p ∷ ps) m ≡ p ∷ remove ps n
     later m n e = rw e refl
 
--- an id that differs from all ids differs from those of the others
+-- An id that differs from all ids differs from the ids of the other placements.
 kept : (id m : ℕ) (placements : List Placement) → AllByRecursion (λ y. nat_eq m y ≡ false) (map id_of placements)
     → AllByRecursion (λ y. nat_eq m y ≡ false) (map id_of (others id placements))
 kept id m [] all = all
@@ -53,7 +53,7 @@ kept id m (q ∷ qs) all =
       | false ↦ (all.0, kept id m qs all.1)
     ]
 
--- the others still have ids of their own
+-- The ids of the other placements are distinct, too.
 pub own_ids-others : (id : ℕ) (placements : List Placement) → HaveDistinctIds placements → HaveDistinctIds (others id placements)
 unfolding IsDistinct
 own_ids-others id [] own = own
@@ -63,7 +63,7 @@ own_ids-others id (p ∷ ps) own =
       | false ↦ (kept id (id_of p) ps own.0, own_ids-others id ps own.1)
     ]
 
--- none of the others has the id
+-- None of the other placements has the id.
 none-others : (id : ℕ) (placements : List Placement) → list_any (nat_eq id) (map id_of (others id placements)) ≡ false
 none-others id [] = refl
 none-others id (p ∷ ps) =
@@ -76,14 +76,14 @@ none-others id (p ∷ ps) =
     neither true b first second = first
     neither false b first second = second
 
--- ids stay own where a placement takes the place of the one with its id
+-- The ids stay distinct if a placement replaces the placement with the same id.
 pub own_ids-placed : (placements : List Placement) (p : Placement) → HaveDistinctIds placements
     → HaveDistinctIds (others (id_of p) placements ++ p ∷ [])
 own_ids-placed placements p own =
     rw (map-append id_of (others (id_of p) placements) (p ∷ []))
     (IsDistinct-push nat_eq_equiv (map id_of (others (id_of p) placements)) (id_of p) (own_ids-others (id_of p) placements own) (none-others (id_of p) placements))
 
--- with an index past the last no placement has the id
+-- If the index of an id is past the last placement, no placement has the id.
 pub none-behind : (id : ℕ) (placements : List Placement) → index_of_id id placements ≡ length placements
     → has_id id placements ≡ false
 none-behind id [] behind = refl
@@ -93,7 +93,7 @@ none-behind id (p ∷ ps) behind =
       | false ↦ λ e. none-behind id ps (omega arith)
     ] behind
 
--- the placement at the index of an id has it
+-- The placement at the index of an id has this id.
 pub id_at-index_of : (id : ℕ) (placements : List Placement) → index_of_id id placements < length placements
     → has_id id placements ≡ true
 id_at-index_of id [] within = absurd (omega arith)
@@ -103,7 +103,7 @@ id_at-index_of id (p ∷ ps) within =
       | false ↦ λ e. id_at-index_of id ps (omega arith)
     ] within
 
--- where all placements were looked at
+-- The index of an id, if none of the placements has the id.
 pub index_of-all : (id : ℕ) (placements : List Placement) (at : ℕ) → length placements ≤ at → at ≤ length placements
     → ((k : ℕ) (d : Placement) → k < at → nat_eq (id_of (get_or placements k d)) id ≡ false)
     → at ≡ index_of_id id placements
@@ -111,7 +111,7 @@ index_of-all id [] at behind within before = omega arith
 index_of-all id (p ∷ ps) at behind within before =
     sym (position_or_len_is (λ q. nat_eq (id_of q) id) (p ∷ ps) at p within (λ k h. before k p h) (λ h. absurd (omega arith)))
 
--- and where one has the id
+-- The index of an id, if the placement at this index has the id and no placement before has it.
 pub index_of-found : (id : ℕ) (placements : List Placement) (at : ℕ) (p : Placement) → at ≤ length placements
     → ((k : ℕ) (d : Placement) → k < at → nat_eq (id_of (get_or placements k d)) id ≡ false)
     → p ≡ get_or placements at p → id_of p ≡ id → at ≡ index_of_id id placements
@@ -122,8 +122,8 @@ index_of-found id placements at p within before is same =
     itself : id_of p ≡ id → nat_eq (id_of p) id ≡ true
     itself e = grind arith
 
--- without the placement at an index there are fewer than a number that is at least their count and not that
--- index
+-- Removing the placement at `at` leaves fewer than `most` placements, if there are at most `most` and `at` isn't
+-- `most`.
 pub few_kept : (placements : List Placement) (at most : ℕ) → at ≤ length placements → length placements ≤ most
     → (at ≡ most → ⊥) → length (remove placements at) < most
 few_kept [] zero most within few apart = omega arith

@@ -1,4 +1,4 @@
--- How kept sums change, and that they stay what placements count.
+-- How the kept sums change, and that they stay what the placements count.
 use Rattle.std.proofs.Common.{◌≡◌, ℕ, ◌+◌, ◌<◌, ◌≤◌, ◌*◌, ◌^◌, min, ◌||◌, ◌&&◌, Bool, true, false, cond, Option, Some, None, is_some, unwrap_or, IsSome, List, [], ◌∷◌, ◌++◌, length, take, remove, nat_eq, nat_le, slice_index, get_or, refl, sym, ap, subst, ◌∙◌, arith}
 use Rattle.std.specs.BTreeMap.{get}
 use Rattle.std.specs.Ordering.{eq_by_cmp}
@@ -17,7 +17,7 @@ use Rattle.cspf_book.specs.Kept.{no_sums, sums_at, sum_at, HasKeys, KeepsKeys, I
 use Rattle.cspf_book.proofs.Covered.{counted-others}
 use Rattle.cspf_book.proofs.KeyTests.{same_tests, same_key_test}
 
--- one more link has a key where the others have it or it has it itself
+-- One of the first i + 1 links has a key exactly if one of the first i links has it, or the next link has it.
 has_key-more : (links : List Link) (i : ℕ) (d : Link) (k : Key) → i < length links
     → has_key (take (i + 1) links) k ≡ (has_key (take i links) k || eq_by_cmp key_cmp (key_of (get_or links i d)) k)
 has_key-more links i d k within =
@@ -32,7 +32,7 @@ has_key-more links i d k within =
     turned : (j : Key) → (nat_eq j.0 k.0 && nat_eq j.1 k.1) ≡ eq_by_cmp key_cmp j k
     turned j = sym (same_key_test k j) ∙ (eq_by_cmp_equiv keys_total).symm k j
 
--- a bandwidth at two tests that never hold together
+-- If two tests never hold together, a bandwidth is counted for either of them.
 at_either : (h a b : Bool) (n : ℕ) → (b ≡ true → a ≡ false) → cond (h && (a || b)) n 0 ≡ cond (h && a) n 0 + cond (h && b) n 0
 at_either true true true n apart = absurd (let off = apart refl in cc)
 at_either true true false n apart = omega arith
@@ -40,12 +40,12 @@ at_either true false true n apart = omega arith
 at_either true false false n apart = refl
 at_either false a b n apart = refl
 
--- a link is looked at whose key is this one
+-- The link at index i, whose key is `key`, is counted after the first i links.
 module _ (links : List Link) (i : ℕ) (l : Link) (key : Key) (hold bandwidth : ℕ) (within : i < length links) (its : key_of (get_or links i l) ≡ key) where
   more_at : (k : Key) → has_key (take (i + 1) links) k ≡ (has_key (take i links) k || eq_by_cmp key_cmp key k)
   more_at k = has_key-more links i l k within ∙ ap (λ j. has_key (take i links) k || eq_by_cmp key_cmp j k) its
 
-  -- where the links before haven't the key, it is counted once
+  -- If none of the first i links has this key, the bandwidth is counted there once.
   split : has_key (take i links) key ≡ false → (k : Key) (p : ℕ)
       → cond (nat_le hold p && has_key (take (i + 1) links) k) bandwidth 0
       ≡ cond (nat_le hold p && has_key (take i links) k) bandwidth 0 + cond (nat_le hold p && eq_by_cmp key_cmp key k) bandwidth 0
@@ -53,21 +53,21 @@ module _ (links : List Link) (i : ℕ) (l : Link) (key : Key) (hold bandwidth : 
       ap (λ b. cond (nat_le hold p && b) bandwidth 0) (more_at k)
       ∙ at_either (nat_le hold p) (has_key (take i links) k) (eq_by_cmp key_cmp key k) bandwidth (λ tie. ap (has_key (take i links)) (sym (keys_same key k tie)) ∙ new)
 
-  -- it is more
+  -- the sums after the bandwidth is added on this link, too
   pub more_along : (c d e : Counts) → has_key (take i links) key ≡ false → HasMoreAlong c d (take i links) hold bandwidth
       → HasMoreAt d e key hold bandwidth → HasMoreAlong c e (take (i + 1) links) hold bandwidth
   more_along c d e new along here = record {
     at = λ k p small. omega (arith, along.at k p small, here.at k p small, split new k p);
   }
 
-  -- or less
+  -- the sums after the bandwidth is subtracted on this link, too
   pub less_along : (c d e : Counts) → has_key (take i links) key ≡ false → HasMoreAlong d c (take i links) hold bandwidth
       → HasMoreAt e d key hold bandwidth → HasMoreAlong e c (take (i + 1) links) hold bandwidth
   less_along c d e new along here = record {
     at = λ k p small. omega (arith, along.at k p small, here.at k p small, split new k p);
   }
 
-  -- where the links before have the key, nothing more is counted
+  -- If one of the first i links has this key, nothing more is counted.
   pub more_again : (c d : Counts) → has_key (take i links) key ≡ true → HasMoreAlong c d (take i links) hold bandwidth
       → HasMoreAlong c d (take (i + 1) links) hold bandwidth
   more_again c d had along = record {
@@ -82,15 +82,15 @@ module _ (links : List Link) (i : ℕ) (l : Link) (key : Key) (hold bandwidth : 
       both : (k : Key) → (has_key (take i links) k || eq_by_cmp key_cmp key k) ≡ has_key (take i links) k
       both k = either (has_key (take i links) k) (eq_by_cmp key_cmp key k) (λ tie. ap (has_key (take i links)) (sym (keys_same key k tie)) ∙ had)
 
--- the sums stay the same twice
+-- If two steps each leave the sums the same, both steps together leave them the same.
 pub same_sums_on : (c d e : Counts) → HasSameSums c d → HasSameSums d e → HasSameSums c e
 same_sums_on c d e first second = record { at = λ k p. second.at k p ∙ first.at k p }
 
--- and so do the keys
+-- If two steps each keep the keys, both steps together keep the keys.
 pub keeps_keys_on : (c d e : Counts) → KeepsKeys c d → KeepsKeys d e → KeepsKeys c e
 keeps_keys_on c d e first second = record { at = λ k h. second.at k (first.at k h) }
 
--- with one more link
+-- If the first i links and the next link have entries, the first i + 1 links have entries.
 pub keys_more : (c d : Counts) (links : List Link) (i : ℕ) (l : Link) → i < length links → HasKeys c (take i links) → KeepsKeys c d
     → IsSome (get key_cmp d.sums (key_of (get_or links i l))) → HasKeys d (take (i + 1) links)
 keys_more c d links i l within keys keeps there = record {
@@ -103,7 +103,7 @@ keys_more c d links i l within keys keeps there = record {
     which k false true had tie h = subst (λ j. IsSome (get key_cmp d.sums j)) (keys_same (key_of (get_or links i l)) k tie) there
     which k false false had tie h = absurd (cc)
 
--- zeros at a key without sums change no sum
+-- Entering zeros at a key without an entry changes no sum.
 pub entered_sums : (c d : Counts) (key : Key) → is_some (get key_cmp c.sums key) ≡ false
     → ((k : Key) → get key_cmp d.sums k ≡ cond (eq_by_cmp key_cmp key k) (Some no_sums) (get key_cmp c.sums k)) → HasSameSums c d
 entered_sums c d key none is = record { at = λ k p. ap (λ o. slice_index (unwrap_or o no_sums) p) (is k) ∙ chosen k p (eq_by_cmp key_cmp key k) refl }
@@ -119,7 +119,7 @@ entered_sums c d key none is = record { at = λ k p. ap (λ o. slice_index (unwr
         ap (λ ns. slice_index ns p) (sym (absent (get key_cmp c.sums k) none_here))
     chosen k p false tie = refl
 
--- to take away zeros changes no sum
+-- Dropping an entry of zeros changes no sum.
 pub forgotten_sums : (c d : Counts) (key : Key) → sums_at c key ≡ no_sums
     → ((k : Key) → get key_cmp d.sums k ≡ cond (eq_by_cmp key_cmp key k) None (get key_cmp c.sums k)) → HasSameSums c d
 forgotten_sums c d key none is = record { at = λ k p. ap (λ o. slice_index (unwrap_or o no_sums) p) (is k) ∙ chosen k p (eq_by_cmp key_cmp key k) refl }
@@ -129,7 +129,7 @@ forgotten_sums c d key none is = record { at = λ k p. ap (λ o. slice_index (un
     chosen k p true tie = ap (λ ns. slice_index ns p) (sym none ∙ ap (sums_at c) (keys_same key k tie))
     chosen k p false tie = refl
 
--- zeros take no key away
+-- Entering zeros at a key drops no key.
 pub entered_keys : (c d : Counts) (key : Key)
     → ((k : Key) → get key_cmp d.sums k ≡ cond (eq_by_cmp key_cmp key k) (Some no_sums) (get key_cmp c.sums k)) → KeepsKeys c d
 entered_keys c d key is = record { at = λ k h. subst IsSome (sym (is k)) (stays (eq_by_cmp key_cmp key k) (get key_cmp c.sums k) h) }
@@ -138,7 +138,7 @@ entered_keys c d key is = record { at = λ k h. subst IsSome (sym (is k)) (stays
     stays true o h = refl
     stays false o h = h
 
--- other sums at a key, more than those before
+-- The sums at a key are replaced by greater ones.
 pub put_more : (c d : Counts) (key : Key) (sums : List ℕ) (hold bandwidth : ℕ) → HasSumsAt c d key sums
     → ((p : ℕ) → p < 8 → slice_index sums p ≡ sum_at c key p + cond (nat_le hold p) bandwidth 0) → HasMoreAt c d key hold bandwidth
 put_more c d key sums hold bandwidth is more = record {
@@ -160,7 +160,7 @@ put_more c d key sums hold bandwidth is more = record {
         ∙ (λ i. sum_at c (keys_same key k tie i) p + cond (and_true (nat_le hold p) i) bandwidth 0)
     chosen k p small false tie = without (nat_le hold p) (sum_at c k p)
 
--- the sums without the placement at an index
+-- The sums after the placement at an index is subtracted.
 pub count_without : (c d : Counts) (placements : List Placement) (at : ℕ) (p : Placement) → at < length placements
     → IsCountOf c placements → HasMoreAlong d c (get_or placements at p).route (get_or placements at p).hold (get_or placements at p).request.bandwidth
     → IsCountOf d (remove placements at)
@@ -168,7 +168,7 @@ count_without c d placements at p within is less = record {
   at = λ k q small. omega (arith, is.at k q small, less.at k q small, sum_by-remove (bandwidth_on k q) placements at p within);
 }
 
--- the sums with it again
+-- The sums after this placement is added again.
 pub count_with : (c d : Counts) (placements : List Placement) (at : ℕ) (p : Placement) → at < length placements
     → IsCountOf c (remove placements at) → HasMoreAlong c d (get_or placements at p).route (get_or placements at p).hold (get_or placements at p).request.bandwidth
     → IsCountOf d placements
@@ -176,33 +176,33 @@ count_with c d placements at p within is more = record {
   at = λ k q small. omega (arith, is.at k q small, more.at k q small, sum_by-remove (bandwidth_on k q) placements at p within);
 }
 
--- the sums with one more placement
+-- The sums after one more placement is added.
 pub count_more : (c d : Counts) (placements : List Placement) (p : Placement) → IsCountOf c placements
     → HasMoreAlong c d p.route p.hold p.request.bandwidth → IsCountOf d (placements ++ p ∷ [])
 count_more c d placements p is more = record {
   at = λ k q small. omega (arith, is.at k q small, more.at k q small, sum_by_push (bandwidth_on k q) placements p);
 }
 
--- the same sums are those of the same placements
+-- If the sums don't change, they still are what the same placements count.
 pub count_same : (c d : Counts) (placements : List Placement) → HasSameSums c d → IsCountOf c placements → IsCountOf d placements
 count_same c d placements same is = record { at = λ k q small. same.at k q ∙ is.at k q small }
 
--- each placement is counted
+-- The sums are at least what each placement counts.
 pub is_counted : (c : Counts) (placements : List Placement) (at : ℕ) (p : Placement) → at < length placements → IsCountOf c placements
     → IsWithinSums c (get_or placements at p)
 is_counted c placements at p within is = record {
   at = λ k q small. omega (arith, is.at k q small, sum_by-remove (bandwidth_on k q) placements at p within);
 }
 
--- what is at most a version's share is at most the next version's
+-- A sum within the bound of a version is within the bound of the next version.
 pub small_after : (version n m : ℕ) → n ≤ version * 2 ^ 64 → m ≤ n → m ≤ (version + 1) * 2 ^ 64
 small_after version n m small less = omega arith
 
--- and so is a bandwidth more
+-- A sum plus one bandwidth is within the bound of the next version.
 pub small_with : (version n m bandwidth : ℕ) → n ≤ version * 2 ^ 64 → bandwidth < 2 ^ 64 → m ≤ n + bandwidth → m ≤ (version + 1) * 2 ^ 64
 small_with version n m bandwidth small narrow more = omega arith
 
--- what placements count from priority 7 on is the same
+-- Placements count the same at priority 7 and at each higher number.
 pub counted_least : (placements : List Placement) (k : Key) (p q : ℕ) → q ≡ min p 7 → counted placements k q ≡ counted placements k p
 counted_least [] k p q least = refl
 counted_least (r ∷ rs) k p q least =
@@ -214,7 +214,7 @@ counted_least (r ∷ rs) k p q least =
     same : bandwidth_on k q r ≡ bandwidth_on k p r
     same = ap (λ b. cond (b && has_key r.route k) r.request.bandwidth 0) test
 
--- the sums that placements no more than those of a version count are small
+-- The sums of some placements are small if they count at most as much as all placements of a version.
 pub sums_small : (c d : Counts) (placements rest : List Placement) (version : ℕ) → HasSameSums c d → IsCountOf c rest
     → ((k : Key) (p : ℕ) → counted rest k p ≤ counted placements k p)
     → ((k : Key) (p : ℕ) → counted placements k p ≤ version * 2 ^ 64) → version < 1000000 → AreSmall d
@@ -222,7 +222,7 @@ sums_small c d placements rest version same is less small few = record {
   at = λ k p below. omega (arith, same.at k p, is.at k p below, less k p, small k p);
 }
 
--- one more placement counts at most its bandwidth
+-- Placing one request adds at most its bandwidth to what is counted.
 pub counted-placed : (id : ℕ) (placements : List Placement) (p : Placement) (k : Key) (priority : ℕ)
     → counted (others id placements ++ p ∷ []) k priority ≤ counted placements k priority + p.request.bandwidth
 counted-placed id placements p k priority =

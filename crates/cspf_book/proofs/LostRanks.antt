@@ -19,7 +19,7 @@ use Rattle.cspf_book.specs.LostRoutes.{IsLost, ComesBefore, AreLost}
 use Rattle.cspf_book.specs.Following.{HaveOtherIds, order_rank, AreRanksOfLost}
 use Rattle.cspf_book.specs.Inside.{HaveDistinctIds}
 
--- ids that are distinct differ in pairs
+-- Placements whose ids are distinct have different ids in each pair.
 pub other_ids : (placements : List Placement) → HaveDistinctIds placements → HaveOtherIds placements
 other_ids placements own i j d first within =
     let many = length-map placements id_of in
@@ -27,7 +27,7 @@ other_ids placements own i j d first within =
     let at_j = get_or-map id_of placements j d (id_of d) within in
     λ same. AllPairs-from_IsDistinct Decides-eqb (map id_of placements) own i j (id_of d) first (omega (arith, many, within)) (at_i ∙ same ∙ sym at_j)
 
--- and the other way round
+-- Placements with different ids in each pair have distinct ids.
 distinct_ids : (placements : List Placement) → HaveOtherIds placements → HaveDistinctIds placements
 distinct_ids placements other = IsDistinct-from_AllPairs Decides-eqb (map id_of placements) (pairs placements other)
   where
@@ -39,7 +39,7 @@ distinct_ids placements other = IsDistinct-from_AllPairs Decides-eqb (map id_of 
         let at_j = get_or-map id_of (p ∷ ps) j p d (omega (arith, many, within)) in
         λ same. other i j p first (omega (arith, many, within)) (sym at_i ∙ same ∙ at_j)
 
--- the first placements have other ids, too
+-- The first n placements have different ids in each pair, too.
 pub other_ids-take : (n : ℕ) (placements : List Placement) → HaveOtherIds placements → HaveOtherIds (take n placements)
 other_ids-take n placements other i j d first within =
     let many = length-take n placements in
@@ -48,7 +48,7 @@ other_ids-take n placements other i j d first within =
     λ same. other i j d first (omega (arith, many, within)) (ap id_of (sym at_i) ∙ same ∙ ap id_of at_j)
 
 module _ (before after : Database) where
-  -- none is listed of none
+  -- No ranks are listed for no placements.
   pub ranks_none : AreRanksOfLost before after [] []
   ranks_none = record {
     lost = [];
@@ -60,7 +60,7 @@ module _ (before after : Database) where
       none : (p : Placement) → Contains [] p → ⊥
       none p (k, within, is) = omega arith
 
-  -- one more placement, which is lost
+  -- The next placement is lost, so its rank is listed.
   pub ranks_push : (ps : List Placement) (p : Placement) (ranks : List (ℕ × ℕ)) → HaveOtherIds (ps ++ p ∷ []) → IsLost before after p
       → AreRanksOfLost before after ps ranks → AreRanksOfLost before after (ps ++ p ∷ []) (ranks ++ order_rank p ∷ [])
   ranks_push ps p ranks other lost old = record {
@@ -91,7 +91,7 @@ module _ (before after : Database) where
           let many = length-append ps (p ∷ []) in
           λ same. other at.0 (length ps) r at.1 (omega (arith, many)) (ap id_of (get_or_append_left ps (p ∷ []) r at.0 at.1 ∙ at.2) ∙ same ∙ ap id_of (sym (get_or_at ps p [] r (length ps) refl)))
 
-  -- one more placement, which isn't lost
+  -- The next placement isn't lost, so the ranks stay.
   pub ranks_kept : (ps : List Placement) (p : Placement) (ranks : List (ℕ × ℕ)) → ¬ IsLost before after p
       → AreRanksOfLost before after ps ranks → AreRanksOfLost before after (ps ++ p ∷ []) ranks
   ranks_kept ps p ranks kept old = record {
@@ -107,26 +107,26 @@ module _ (before after : Database) where
     are = old.are;
   }
 
--- one more of the first placements
+-- The placement at index i is looked at after the first i placements.
 module _ (before after : Database) (placements : List Placement) (i : ℕ) (p : Placement) (other : HaveOtherIds placements)
     (within : i < length placements) (is : p ≡ get_or placements i p) where
   whole : take (i + 1) placements ≡ take i placements ++ p ∷ []
   whole = take_more placements i p within ∙ ap (λ (r : Placement). take i placements ++ r ∷ []) (sym is)
 
-  -- is lost, and its rank is listed
+  -- This placement is lost, and its rank is listed.
   pub ranks_more : (ranks new : List (ℕ × ℕ)) → IsLost before after p → new ≡ ranks ++ order_rank p ∷ []
       → AreRanksOfLost before after (take i placements) ranks → AreRanksOfLost before after (take (i + 1) placements) new
   ranks_more ranks new lost are old =
       let first = subst HaveOtherIds whole (other_ids-take (i + 1) placements other) in
       rw (whole, are) (ranks_push before after (take i placements) p ranks first lost old)
 
-  -- or isn't
+  -- This placement isn't lost, and the ranks stay.
   pub ranks_same : (ranks new : List (ℕ × ℕ)) → ¬ IsLost before after p → new ≡ ranks
       → AreRanksOfLost before after (take i placements) ranks → AreRanksOfLost before after (take (i + 1) placements) new
   ranks_same ranks new kept are old =
       rw (whole, are) (ranks_kept before after (take i placements) p ranks kept old)
 
--- elements change places before or after a function
+-- Swapping two elements before or after a function is applied to all elements gives the same list.
 map-swap : {A B : Type 0} (f : A → B) (xs : List A) (i j : ℕ) → i < length xs → j < length xs
     → map f (swap xs i j) ≡ swap (map f xs) i j
 map-swap f [] i j first second = refl
@@ -136,7 +136,7 @@ map-swap f (x ∷ xs) i j first second =
     ∙ ap (λ y. set (set (map f (x ∷ xs)) i y) j (f (get_or (x ∷ xs) i x))) (sym (get_or-map f (x ∷ xs) j x (f x) second))
     ∙ ap (λ y. set (set (map f (x ∷ xs)) i (get_or (map f (x ∷ xs)) j (f x))) j y) (sym (get_or-map f (x ∷ xs) i x (f x) first))
 
--- ranks in another order are those of the placements in another order
+-- If the ranks are permuted, they are the ranks of the permuted placements.
 ranked : (lost : List Placement) (sorted : List (ℕ × ℕ)) → IsPermutation (map order_rank lost) sorted
     → (order : List Placement) × IsPermutation lost order × (sorted ≡ map order_rank order)
 ranked lost sorted moved =
@@ -155,11 +155,12 @@ ranked lost sorted moved =
           ap (λ zs. swap zs i j) are ∙ sym (map-swap order_rank order i j i_within j_within),
         )
 
--- a pair that isn't below another by its first part, then by its second
+-- If a pair isn't below another pair, its first part is greater, or the first parts are equal and its second part
+-- isn't below.
 not_below : (a b m n : ℕ) → is_lt (ordering_then (nat_cmp a b) (nat_cmp m n)) ≡ false → (b < a) ⊎ ((a ≡ b) × (n ≤ m))
 not_below a b m n above = grind (arith, nat_tests)
 
--- placements with other ids whose ranks don't fall come one before the other
+-- If two placements have different ids and their ranks don't fall, the first comes before the second.
 comes_before : (p r : Placement) → id_of p ≢ id_of r → is_lt (key_cmp (order_rank r) (order_rank p)) ≡ false → ComesBefore p r
 comes_before p r apart above =
     elim (not_below (7 - r.hold) (7 - p.hold) (id_of r) (id_of p) above) [
@@ -167,7 +168,7 @@ comes_before p r apart above =
       | inr tied ↦ inr (omega (arith, p.priority, r.priority, tied.0), omega (arith, tied.1))
     ]
 
--- the ids of the sorted ranks
+-- The ids of the sorted ranks are those of the lost placements, the least important first.
 pub lost_by_rank : (before after : Database) (placements : List Placement) (ranks sorted : List (ℕ × ℕ)) (ids : List ℕ)
     → AreRanksOfLost before after placements ranks → IsPermutation ranks sorted → IsSorted key_cmp sorted
     → ids ≡ map (λ (r : ℕ × ℕ). r.1) sorted → AreLost before after placements ids

@@ -1,4 +1,4 @@
--- One effective link, and how it is put in place of another.
+-- One effective link, and how it replaces an earlier one.
 use Rattle.std.proofs.Common.{◌≡◌, ◌≢◌, ℕ, zero, suc, ◌-◌, ◌<◌, min, Bool, true, false, cond, Option, Some, None, is_some, List, [], ◌∷◌, length, slice_index, slice_set, slice_index_or, refl, sym, ap, ◌∙◌, arith}
 use Rattle.std.proofs.Math.Nat.{ℕ_set}
 use mathlib.Core.HLevel.{is_prop→PathP, ¬_prop}
@@ -21,7 +21,7 @@ use Rattle.cspf_book.specs.Effective.{figure, figures, effective_link}
 use Rattle.cspf_book.specs.Alike.{AreAlike, IsWithinLimits}
 use Rattle.cspf_book.proofs.AlikeDatabases.{alike_itself, alike_is_some, alike_put, alike_routers}
 
--- links with the same attributes are one
+-- Links with the same attributes are equal.
 pub same_link : (l m : Link) → fields_of_link l ≡ fields_of_link m → l ≡ m
 same_link l m e = λ i. record {
   from = (e i).from;
@@ -35,7 +35,7 @@ same_link l m e = λ i. record {
   two_ends = is_prop→PathP (λ j. (e j).from ≢ (e j).to) (λ j. ¬_prop) l.two_ends m.two_ends i;
 }
 
--- eight figures, each the lesser of the one before it and of what is left
+-- Eight figures, each the lesser of the figure before and of what is left at its priority.
 pub eight_figures : (free : List ℕ) (held : ℕ → ℕ) (a b c d e f g h : ℕ) → a ≡ slice_index free 0 - held 0
     → b ≡ min a (slice_index free 1 - held 1) → c ≡ min b (slice_index free 2 - held 2)
     → d ≡ min c (slice_index free 3 - held 3) → e ≡ min d (slice_index free 4 - held 4)
@@ -52,7 +52,7 @@ eight_figures free held a b c d e f g h pa pb pc pd pe pf pg ph =
     let eighth : h ≡ figure free held 7 = ph ∙ ap (λ x. min x (slice_index free 7 - held 7)) seventh in
     λ i. first i ∷ second i ∷ third i ∷ fourth i ∷ fifth i ∷ sixth i ∷ seventh i ∷ eighth i ∷ []
 
--- a link with the effective figures is the effective link
+-- The link with the effective bandwidths is the effective link.
 pub effective_from : (placements : List Placement) (l r : Link) (free : List ℕ)
     → HasLinkFields r (record (fields_of_link l) { free = free }) → free ≡ figures l.free (counted placements (key_of l))
     → r ≡ effective_link placements l
@@ -61,13 +61,13 @@ effective_from placements l r free has e =
     same_link r (effective_link placements l) ((links_said r (record (fields_of_link l) { free = free })).0 has
     ∙ ap (λ f. record (fields_of_link l) { free = f }) e)
 
--- to write over the only change
+-- Replacing the only change of a list gives the list of the new change.
 pub one_change : (cs : List Change) (c : Change) → length cs ≡ 1 → slice_set cs 0 c ≡ c ∷ []
 one_change [] c e = absurd (omega arith)
 one_change (x ∷ []) c e = refl
 one_change (x ∷ y ∷ cs) c e = absurd (omega arith)
 
--- a batch of one put over an alike link fits
+-- A batch that only puts a link over an alike link fits.
 pub one_fits : (d : Database) (l : Link) (b : NumberedChanges) → IsWithinLimits d
     → option_map ends_of_link (link_at d (key_of l)) ≡ Some (ends_of_link l) → b.changes ≡ Put l ∷ [] → Fits d b
 unfolding IsDistinct
@@ -86,12 +86,12 @@ one_fits d l b within there is =
     only zero c h = tt
     only (suc k) c h = absurd (omega arith)
 
--- a link with other bandwidths has the ends of the link
+-- A link with other bandwidths has the same key and runs to the same router.
 pub ends_from : (l r : Link) (free : List ℕ) → HasLinkFields r (record (fields_of_link l) { free = free }) → ends_of_link r ≡ ends_of_link l
 ends_from l r free has =
     ap (λ f. ((f.from, f.local), f.to)) ((links_said r (record (fields_of_link l) { free = free })).0 has)
 
--- a link with the ends of the base's link at its key
+-- A link that runs to the same router as the base's link at its key.
 module _ (base old : Database) (k : Key) (keyed : AreAtTheirKeys base) (alike : AreAlike base old) (l m : Link) where
   ends_there : link_at base k ≡ Some l → ends_of_link m ≡ ends_of_link l
       → option_map ends_of_link (link_at base (key_of m)) ≡ Some (ends_of_link m)
@@ -99,7 +99,7 @@ module _ (base old : Database) (k : Key) (keyed : AreAtTheirKeys base) (alike : 
       ap (λ j. option_map ends_of_link (link_at base j)) (ap (λ (e : Key × ℕ). e.0) ends ∙ keyed k l is)
       ∙ ap (option_map ends_of_link) is ∙ ap Some (sym ends)
 
-  -- it takes the place of one that is alike
+  -- The link replaces a link with the same key that runs to the same router.
   pub ends_there_too : link_at base k ≡ Some l → ends_of_link m ≡ ends_of_link l
       → option_map ends_of_link (link_at old (key_of m)) ≡ Some (ends_of_link m)
   ends_there_too is ends = alike.ends (key_of m) ∙ ends_there is ends
@@ -113,9 +113,9 @@ pub key_of-effective_link : (placements : List Placement) (l : Link) → key_of 
 unfolding effective_link
 key_of-effective_link placements l = refl
 
--- the effective link of a link of the base at its key
+-- The effective link of the base's link at a key.
 module _ (base old : Database) (placements : List Placement) (k : Key) (keyed : AreAtTheirKeys base) (alike : AreAlike base old) where
-  -- what is there once it is put
+  -- the link at each key after the effective link is put
   pub at_put : (l : Link) (new : Database) → link_at base k ≡ Some l → new ≡ after_change old (Put (effective_link placements l)) → (q : Key)
       → link_at new q ≡ cond (eq_by_cmp key_cmp q k) (option_map (effective_link placements) (link_at base q)) (link_at old q)
   at_put l new is put q =
@@ -129,7 +129,7 @@ module _ (base old : Database) (placements : List Placement) (k : Key) (keyed : 
       chosen true tie = sym (ap (option_map (effective_link placements)) (ap (link_at base) (keys_same q k tie) ∙ is))
       chosen false off = refl
 
-  -- where the base has no link, nothing is put
+  -- If the base has no link at the key, nothing is put.
   pub at_none : link_at base k ≡ None → (q : Key)
       → link_at old q ≡ cond (eq_by_cmp key_cmp q k) (option_map (effective_link placements) (link_at base q)) (link_at old q)
   at_none none q = chosen (eq_by_cmp key_cmp q k) refl

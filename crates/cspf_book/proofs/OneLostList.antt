@@ -1,4 +1,4 @@
--- Between two databases the ids of the placements that lose their routes are one list.
+-- For two databases there is only one list of the ids of placements that lose their routes.
 use Rattle.std.proofs.Common.{◌≡◌, ◌⊎◌, inl, inr, zero, suc, List, [], ◌∷◌, map, refl, sym, ap, subst, ◌∙◌, arith}
 use Rattle.std.specs.List.{AllPairs, Contains}
 use Rattle.cspf_book.specs.declared.placement.Placement.{Placement}
@@ -6,7 +6,7 @@ use Rattle.cspf_book.specs.Placements.{id_of}
 use Rattle.cspf_book.specs.LostRoutes.{ComesBefore}
 use Rattle.cspf_book.specs.Laws.{HaveOneLostList}
 
--- no two placements come before each other
+-- If one placement comes before another, the other doesn't come before it.
 one_way : (p r : Placement) → ComesBefore p r → ComesBefore r p → ⊥
 one_way p r first back =
     elim first [
@@ -14,17 +14,17 @@ one_way p r first back =
       | inr same ↦ elim back [ inl lower ↦ omega (arith, same.0) | inr tied ↦ omega (arith, same.1, tied.1) ]
     ]
 
--- the rest of a list in order is in order
+-- A list in order stays in order without its first element.
 ordered_rest : (p : Placement) (ps : List Placement) → AllPairs ComesBefore (p ∷ ps) → AllPairs ComesBefore ps
 ordered_rest p ps ordered i j d first within =
     ordered (suc i) (suc j) d (omega arith) (omega arith)
 
--- the first comes before each of the rest
+-- The first element comes before each of the others.
 first_before : (p r : Placement) (ps : List Placement) → AllPairs ComesBefore (p ∷ ps) → Contains ps r → ComesBefore p r
 first_before p r ps ordered (k, within, is) =
     subst (ComesBefore p) is (ordered 0 (suc k) r (omega arith) (omega arith))
 
--- what a list with a first element contains is the first or in the rest
+-- An element of a list is its first element, or one of the rest.
 first_or_rest : (p r : Placement) (ps : List Placement) → Contains (p ∷ ps) r → (p ≡ r) ⊎ Contains ps r
 first_or_rest p r ps (zero, within, is) = inl is
 first_or_rest p r ps (suc k, within, is) = inr (k, omega arith, is)
@@ -32,7 +32,7 @@ first_or_rest p r ps (suc k, within, is) = inr (k, omega arith, is)
 in_rest : (p r : Placement) (ps : List Placement) → Contains ps r → Contains (p ∷ ps) r
 in_rest p r ps (k, within, is) = (suc k, omega arith, is)
 
--- lists in order with the same first element have the same rest
+-- Two lists in order with the same elements and the same first element have the same rest.
 same_rest : (p q : Placement) (ps qs : List Placement) → p ≡ q → AllPairs ComesBefore (p ∷ ps)
     → ((r : Placement) → Contains (p ∷ ps) r → Contains (q ∷ qs) r) → (r : Placement) → Contains ps r → Contains qs r
 same_rest p q ps qs same ordered there r has =
@@ -45,7 +45,7 @@ same_rest p q ps qs same ordered there r has =
       | inr later ↦ later
     ]
 
--- lists in order with the same elements are one list
+-- Two lists in order with the same elements are equal.
 one_list : (ps qs : List Placement) → AllPairs ComesBefore ps → AllPairs ComesBefore qs
     → ((r : Placement) → Contains ps r → Contains qs r) → ((r : Placement) → Contains qs r → Contains ps r) → ps ≡ qs
 one_list [] [] first second there back = refl

@@ -1,4 +1,4 @@
--- The priorities at which links have less than is counted on them.
+-- The priorities at which links have less bandwidth than is counted on them.
 use Rattle.std.proofs.Common.{◌≡◌, ◌⊎◌, inl, inr, ℕ, zero-add, zero, suc, ◌+◌, ◌<◌, ◌≤◌, Bool, true, false, cond, Some, List, [], ◌∷◌, ◌++◌, map, filter, slice_index, sym, ap, ◌∙◌, arith}
 use Rattle.std.specs.Ordering.{eq_by_cmp}
 use Rattle.std.specs.List.{range_with_len, Contains}
@@ -18,11 +18,11 @@ use Rattle.cspf_book.specs.Placements.{counted}
 use Rattle.cspf_book.specs.OverLinks.{priorities, is_over, over_at, over_on, over_by, over}
 use Rattle.cspf_book.specs.Laws.{AbsorbingKeepsCovered}
 
--- those among the first priorities
+-- the priorities below n at which the link is over
 abbrev pub over_up_to : List Placement → Link → ℕ → List Over
 over_up_to placements l n = map (over_at l) (filter (is_over placements l) (range_with_len 0 n))
 
--- the numbers up to one more
+-- The range of the numbers up to n ends with n.
 range_with_len-more : (n : ℕ) → range_with_len 0 (n + 1) ≡ range_with_len 0 n ++ n ∷ []
 range_with_len-more n =
     sym (map-id (range_with_len 0 (n + 1))) ∙ map-range_with_len_more (λ k. k) 0 n n (omega arith)
@@ -35,7 +35,7 @@ over_up_to-more placements l n =
     ∙ ap (map (over_at l)) (filter-append (is_over placements l) (range_with_len 0 n) (n ∷ []))
     ∙ map-append (over_at l) (filter (is_over placements l) (range_with_len 0 n)) (filter (is_over placements l) (n ∷ []))
 
--- one more priority, at which the link has less
+-- At one more priority the link has less bandwidth than is counted.
 pub over_listed : (placements : List Placement) (l : Link) (n : ℕ) (start list : List Over)
     → slice_index l.free n < counted placements (key_of l) n → list ≡ start ++ over_up_to placements l n
     → list ++ over_at l n ∷ [] ≡ start ++ over_up_to placements l (n + 1)
@@ -45,7 +45,7 @@ over_listed placements l n start list less so_far =
     ∙ ap (λ os. start ++ os)
     (sym (over_up_to-more placements l n ∙ ap (λ b. over_up_to placements l n ++ map (over_at l) (cond b (n ∷ []) [])) (lt-ltb (slice_index l.free n) (counted placements (key_of l) n) less)))
 
--- one more priority, at which it hasn't
+-- At one more priority the link has enough bandwidth.
 pub over_passed : (placements : List Placement) (l : Link) (n : ℕ) (start list : List Over)
     → counted placements (key_of l) n ≤ slice_index l.free n → list ≡ start ++ over_up_to placements l n
     → list ≡ start ++ over_up_to placements l (n + 1)
@@ -55,7 +55,7 @@ over_passed placements l n start list enough so_far =
     (sym (over_up_to-more placements l n ∙ ap (λ b. over_up_to placements l n ++ map (over_at l) (cond b (n ∷ []) [])) (le-ltb (slice_index l.free n) (counted placements (key_of l) n) enough)
     ∙ append-nil (over_up_to placements l n)))
 
--- an element that passes is kept
+-- A filtered list contains each element that passes the test.
 Contains-filter : {A : Type 0} (p : A → Bool) (xs : List A) (x : A) → Contains xs x → p x ≡ true → Contains (filter p xs) x
 Contains-filter p [] x (k, within, is) passes = absurd (omega arith)
 Contains-filter p (y ∷ ys) x (zero, within, is) passes =
@@ -66,22 +66,22 @@ Contains-filter p (y ∷ ys) x (suc k, within, is) passes =
       | false ↦ Contains-filter p ys x (k, omega arith, is) passes
     ]
 
--- and stays in the list of what is made of each
+-- A mapped list contains the image of each element.
 Contains-map : {A B : Type 0} (f : A → B) (xs : List A) (x : A) → Contains xs x → Contains (map f xs) (f x)
 Contains-map f xs x (k, within, is) =
     (k, omega (arith, length-map xs f, within), get_or-map f xs k x (f x) within ∙ ap f is)
 
--- each priority is among the priorities
+-- The list of priorities contains each number below 8.
 Contains-priorities : (n : ℕ) → n < 8 → Contains priorities n
 Contains-priorities n small = (n, small, get_or-range_with_len 0 8 n n small ∙ zero-add n)
 
--- a link that is over at a priority is named there
+-- A link that is over at a priority is listed with it.
 named : (placements : List Placement) (l : Link) (priority : ℕ) → priority < 8 → is_over placements l priority ≡ true
     → Contains (over_on placements l) (over_at l priority)
 named placements l priority small passes =
     Contains-map (over_at l) (filter (is_over placements l) priorities) priority (Contains-filter (is_over placements l) priorities priority (Contains-priorities priority small) passes)
 
--- what is at a key after one change was there before it, or the change puts it
+-- A link that is at its key after one change was there before, or the change puts it.
 put_by_one : (d : Database) (c : Change) (l : Link) → link_at (after_change d c) (key_of l) ≡ Some l → (link_at d (key_of l) ≡ Some l) ⊎ (c ≡ Put l)
 put_by_one d c l is =
     elim (eq_by_cmp change_key_cmp (link_key (key_of l)) (key_changed c)) as (λ b. cond b (link_left c) (link_at d (key_of l)) ≡ Some l → (link_at d (key_of l) ≡ Some l) ⊎ (c ≡ Put l)) [
@@ -94,7 +94,7 @@ put_by_one d c l is =
     the_put (Remove from local) e = absurd (cc)
     the_put (Node router transit) e = absurd (cc)
 
--- a link that is over after changes was there before them, or is named
+-- A link that is over after the changes was there before them, or is listed.
 over_or_kept : (d : Database) (placements : List Placement) (changes : List Change) (l : Link) (priority : ℕ) → priority < 8
     → is_over placements l priority ≡ true → link_at (after_changes d changes) (key_of l) ≡ Some l
     → (link_at d (key_of l) ≡ Some l) ⊎ Contains (over placements changes) (over_at l priority)
@@ -109,7 +109,7 @@ over_or_kept d placements (c ∷ cs) l priority small passes is =
       | inr later ↦ inr (Contains-append_right (over_by placements c) (over placements cs) (over_at l priority) later)
     ]
 
--- changes keep covered what is covered, or name it
+-- Changes of the base keep each covered link covered, unless it is listed.
 pub absorbing_covered : AbsorbingKeepsCovered
 absorbing_covered base placements changes l priority is small =
     elim (cases_lt (slice_index l.free priority) (counted placements (key_of l) priority)) [

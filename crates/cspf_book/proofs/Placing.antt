@@ -1,4 +1,4 @@
--- What a placing makes of a book.
+-- How placing a request changes a book.
 use Rattle.std.proofs.Common.{◌≡◌, ℕ, ◌+◌, ◌≤◌, Some, [], ◌∷◌, ◌++◌, length, arith}
 use Rattle.cspf_model.specs.declared.request.Request.{Request}
 use Rattle.cspf_model.specs.Best.{Answer, unknown_from, unknown_to, no_route, route}
@@ -10,7 +10,7 @@ use Rattle.cspf_book.specs.Placements.{others}
 use Rattle.cspf_book.specs.BookState.{BookState, effective_beside, IsAnswerPlaced, IsPlaceError, HasRoomFor, links_placed}
 use Rattle.cspf_book.specs.Offers.{IsOffered, IsOfferRefused}
 
--- an offered placement is of the request, and its route leaves that much room
+-- An offered placement is of this request, and its route has at most `room` links.
 pub offered_of : (q : Request) (hold room : ℕ) (a : Answer) (p : Placement) → IsOffered q hold room a (Some p)
     → (p.request ≡ q) × (length p.route ≤ room)
 offered_of q hold room unknown_from p off = absurd off
@@ -18,7 +18,7 @@ offered_of q hold room unknown_to p off = absurd off
 offered_of q hold room no_route p off = absurd off
 offered_of q hold room (route walk) p (own, its, few) = (its.request, rw its.route few)
 
--- an offered placement is placed
+-- If a placement is offered and entered, the answer is placed.
 pub answer_placed : (old new : BookState) (q : Request) (hold room : ℕ) (a : Answer) (p : Placement) → IsOffered q hold room a (Some p)
     → links_placed (others q.id old.placements) + room ≡ MOST_ROUTES_LINKS
     → new.placements ≡ others q.id old.placements ++ p ∷ [] → new.base ≡ old.base → new.version ≡ old.version + 1
@@ -36,7 +36,7 @@ answer_placed old new q hold room (route walk) p (own, its, few) left placements
   version = version;
 }
 
--- where the request is refused in the effective database, it isn't placed
+-- If nothing is offered to the request in the effective database, the request isn't placed.
 pub place_error : (s : BookState) (q : Request) (room : ℕ) (why : PlaceError)
     → HasRoomFor s q.id → links_placed (others q.id s.placements) + room ≡ MOST_ROUTES_LINKS
     → IsOfferRefused (effective_beside s q.id) q room why → IsPlaceError s q why

@@ -1,4 +1,4 @@
--- A route is followed link by link exactly where the database admits it.
+-- A route can be followed link by link exactly if the database admits it.
 use Rattle.std.proofs.Common.{◌≡◌, ◌≢◌, ◌↔◌, ℕ, ◌+◌, ◌<◌, ◌≤◌, inl, inr, Some, List, [], ◌∷◌, length, map, drop, get_or, refl, sym, ap, subst, ◌∙◌, arith}
 use mathlib.Core.HLevel.{¬_prop}
 use native.Mathlib.Bridge.{le_prop}
@@ -14,18 +14,18 @@ use Rattle.cspf_book.specs.Placements.{ends_of_link}
 use Rattle.cspf_book.specs.LostRoutes.{without_bandwidth, AdmitsRoute}
 use Rattle.cspf_book.specs.Following.{HasItsLink, MayGoOn}
 
--- requests with the same attributes are one
+-- Requests with the same attributes are equal.
 pub same_request : (q : Request) (priority : q.setup < 8) (two_ends : q.from ≢ q.to)
     → record q { bandwidth = 0; priority = priority; two_ends = two_ends } ≡ without_bandwidth q
 same_request q priority two_ends =
     λ i. record q { bandwidth = 0; priority = le_prop priority q.priority i; two_ends = ¬_prop two_ends q.two_ends i }
 
--- links are followed from a router that a walk of this many links has reached
+-- The links can be followed from a router that a walk has reached over this many links.
 abbrev pub IsFollowed : Database → Request → ℕ → ℕ → List Link → Type 0
 IsFollowed d q links router [] = Unit {0}
 IsFollowed d q links router (l ∷ ls) = MayGoOn d q links router l × IsFollowed d q (links + 1) l.to ls
 
--- a walk along links from a router that has transit
+-- a walk along the links of a route from a router that has transit
 record HasWalkOn (d : Database) (q : Request) (router : ℕ) (route : List Link) : Type 0 where
   walk : List Link
   links : AllByRecursion (IsAdmissible d q) walk
@@ -33,24 +33,25 @@ record HasWalkOn (d : Database) (q : Request) (router : ℕ) (route : List Link)
   transit : AllByRecursion (HasTransit d) (map (λ m. m.from) walk)
   along : map ends_of_link walk ≡ map ends_of_link route
 
--- a walk with links leaves routers that have transit alone
+-- A walk with at least one link leaves only routers that have transit.
 left_later : (d : Database) (router links : ℕ) → 0 < links → MayLeave d router links → HasTransit d router
 left_later d router links some (inl transit) = transit
 left_later d router links some (inr none) = absurd (omega arith)
 
--- links with the same ends begin and end at the same routers
+-- Links with the same key run from the same router.
 from_same : (a b : Link) → ends_of_link a ≡ ends_of_link b → a.from ≡ b.from
 from_same a b e = ap (λ (x : Key × ℕ). x.0.0) e
 
 to_same : (a b : Link) → ends_of_link a ≡ ends_of_link b → a.to ≡ b.to
 to_same a b e = ap (λ (x : Key × ℕ). x.1) e
 
--- one more of the same ends
+-- If the first links of two lists have the same keys and run to the same routers, and the other links do so, too,
+-- then all links of the lists do.
 both_ends : (a b : Link) (more rest : List Link) → ends_of_link a ≡ ends_of_link b → map ends_of_link more ≡ map ends_of_link rest
     → map ends_of_link (a ∷ more) ≡ map ends_of_link (b ∷ rest)
 both_ends a b more rest first later = λ i. first i ∷ later i
 
--- what is followed after the first link is a walk
+-- If the links can be followed after the first link, there is a walk along them.
 walk_later : (d : Database) (q : Request) (links router : ℕ) (route : List Link) → 0 < links → IsFollowed d q links router route
     → HasWalkOn d q router route
 walk_later d q links router [] some followed =
@@ -66,7 +67,7 @@ walk_later d q links router (l ∷ ls) some (go, rest) =
       along = both_ends found l later.walk ls go.there.alike later.along;
     }
 
--- a walk is followed after its first link
+-- The rest of a walk after its first link can be followed.
 followed_later : (d : Database) (q : Request) (links router : ℕ) (walk route : List Link) → AllByRecursion (IsAdmissible d q) walk
     → AreJoined router walk → AllByRecursion (HasTransit d) (map (λ m. m.from) walk)
     → map ends_of_link walk ≡ map ends_of_link route → IsFollowed d q links router route
@@ -84,7 +85,7 @@ followed_later d q links router (w ∷ ws) (l ∷ ls) all joined transit along =
       followed_later d q (links + 1) l.to ws ls all.1 (subst (λ r. AreJoined r ws) (to_same w l alike) joined.1) transit.1 rest,
     )
 
--- what is followed from the head-end is a walk
+-- If the links can be followed from the head-end, there is a walk along them.
 walk_from : (d : Database) (q : Request) (route : List Link) → IsFollowed d q 0 q.from route
     → (walk : List Link) × IsWalk d q walk × (map ends_of_link walk ≡ map ends_of_link route)
 walk_from d q [] followed = ([], record { links = tt; joined = tt; transit = tt }, refl)
@@ -100,7 +101,7 @@ walk_from d q (l ∷ ls) (go, rest) =
       both_ends found l later.walk ls go.there.alike later.along,
     )
 
--- and a walk is followed from there
+-- A walk can be followed from the head-end.
 followed_from : (d : Database) (q : Request) (walk route : List Link) → IsWalk d q walk
     → map ends_of_link walk ≡ map ends_of_link route → IsFollowed d q 0 q.from route
 followed_from d q [] [] is_walk along = tt
@@ -117,7 +118,7 @@ followed_from d q (w ∷ ws) (l ∷ ls) is_walk along =
       followed_later d q 1 l.to ws ls is_walk.links.1 (subst (λ r. AreJoined r ws) (to_same w l alike) is_walk.joined.1) is_walk.transit rest,
     )
 
--- the database admits the route of a placement exactly where it is followed by its request with bandwidth 0
+-- The database admits a placement's route exactly if the route can be followed by the request with bandwidth 0.
 pub admits_followed : (d : Database) (p : Placement)
     → IsFollowed d (without_bandwidth p.request) 0 p.request.from p.route ↔ AdmitsRoute d p
 admits_followed d p = (
@@ -125,7 +126,7 @@ admits_followed d p = (
   λ admits. followed_from d (without_bandwidth p.request) admits.walk p.route admits.is_walk admits.along,
 )
 
--- where a database has a link at a link's key that runs to the same router and is admitted, all hangs on its reverse
+-- If an admitted link is found at the link's key and runs to the same router, only its reverse is left to check.
 pub its_link : (d : Database) (q : Request) (l found : Link) → Some found ≡ link_at d (key_of l) → key_of found ≡ key_of l
     → found.to ≡ l.to → IsAdmitted q found → HasReverse d found ↔ HasItsLink d q l
 its_link d q l found is keyed to admitted = (
@@ -141,7 +142,7 @@ its_link d q l found is keyed to admitted = (
       subst (HasReverse d) (sym one) its.admissible.usable.reverse,
 )
 
--- the link at an index of a route that is followed from there
+-- The link at index i of a route that can be followed from this index on.
 module _ (d : Database) (q : Request) (route items : List Link) (i router : ℕ) (l : Link) (whole : items ≡ route) (within : i < length items)
     (is : l ≡ get_or items i l) where
   first_of : IsFollowed d q i router (drop i route) ≡ IsFollowed d q i router (l ∷ drop (i + 1) route)
@@ -160,7 +161,7 @@ module _ (d : Database) (q : Request) (route items : List Link) (i router : ℕ)
     λ every. (coe 0 1 (k. first_of k) (so_far.1 every)).1,
   )
 
--- after the last link nothing is left to follow
+-- After the last link of the route nothing is left to follow.
 pub followed_all : (d : Database) (q : Request) (route items : List Link) (i router : ℕ) → items ≡ route → length items ≤ i
     → IsFollowed d q i router (drop i route)
 followed_all d q route items i router whole behind =

@@ -1,14 +1,14 @@
--- States of a book with the same parts.
+-- States of a book that have the same parts.
 use Rattle.std.proofs.Common.{◌≡◌, ℕ, List}
 use Rattle.cspf_model.specs.Database.{Database}
 use Rattle.cspf_book.specs.declared.placement.Placement.{Placement}
 use Rattle.cspf_book.specs.BookState.{BookState}
 
--- a state of these parts
+-- the state with these parts
 abbrev pub state_of : Database → ℕ → List Placement → BookState
 state_of base version placements = record { base = base; version = version; placements = placements }
 
--- states with the same placements
+-- States with the same placements and otherwise the same parts are equal.
 pub same_state : (base : Database) (version : ℕ) (before after : List Placement) → before ≡ after
     → state_of base version before ≡ state_of base version after
 same_state base version before after e = λ i. record { base = base; version = version; placements = e i }

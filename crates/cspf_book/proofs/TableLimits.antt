@@ -1,4 +1,4 @@
--- What holds of the database of a table.
+-- The limits that hold of each table's database.
 use Rattle.std.proofs.Common.{◌≡◌, ℕ, ◌+◌, ◌≤◌, Bool, true, false, cond, List, [], ◌∷◌, length, ap, arith}
 use Rattle.std.specs.Ordering.{nat_cmp}
 use Rattle.std.specs.Cmp.{nat_cmp_total}
@@ -11,7 +11,7 @@ use Rattle.cspf_model.specs.Database.{Database, Key, router_count, AreAtTheirKey
 use Rattle.cspf_db.specs.Index.{links_of}
 use Rattle.cspf_book.specs.Alike.{IsWithinLimits}
 
--- a set of a list has at most as many items
+-- A set made of a list has at most as many items as the list.
 len-from_list-le : (ns : List ℕ) → set.len (set.from_list {R = nat_cmp} ns) ≤ length ns
 len-from_list-le [] = omega (arith, set.len-empty nat_cmp)
 len-from_list-le (n ∷ ns) =
@@ -21,7 +21,7 @@ len-from_list-le (n ∷ ns) =
     one_more true m = omega arith
     one_more false m = omega arith
 
--- by the lists of a table
+-- The limits follow from the lists of links and of marks that a table returns.
 pub limits_of : (d : Database) (rows : List Link) (marks : List ℕ) → length rows ≤ MOST_LINKS → rows ≡ links_of d
     → router_count d ≤ MOST_ROUTERS → AreAtTheirKeys d → d.marks ≡ set.from_list marks → length marks ≤ MOST_MARKS
     → IsWithinLimits d

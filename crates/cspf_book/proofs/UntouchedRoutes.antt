@@ -1,4 +1,4 @@
--- Changes that are on none of a route's routers leave it admitted.
+-- If no change affects a router on a route, the database still admits the route.
 use Rattle.std.proofs.Common.{◌≡◌, ℕ, false, cond, Some, None, List, [], ◌∷◌, map, nat_eq, refl, sym, ap, ◌∙◌, eq-eqb}
 use Rattle.std.specs.Ordering.{eq_by_cmp}
 use Rattle.std.specs.FinSet as set
@@ -19,12 +19,12 @@ use Rattle.cspf_book.specs.LostRoutes.{without_bandwidth, AdmitsRoute}
 use Rattle.cspf_book.specs.Following.{changes_router, touches}
 use Rattle.cspf_book.proofs.ChangedBases.{marked-after_change}
 
--- a change on another router isn't on the key
+-- A change that affects another router has another key.
 apart : (c : Change) (k : ChangeKey) → nat_eq (key_changed c).0 k.0 ≡ false → eq_by_cmp change_key_cmp k (key_changed c) ≡ false
 apart c k off =
     false_from_ne_true (eq_by_cmp change_key_cmp k (key_changed c)) (λ tie. false≢true (sym off ∙ eq-eqb (key_changed c).0 k.0 (ap (λ (q : ChangeKey). q.0) (sym (change_keys_same k (key_changed c) tie)))))
 
--- a link at a router that no change is on stays
+-- If no change affects a router, each link from it stays.
 unchanged_link : (d : Database) (cs : List Change) (k : Key) → changes_router cs k.0 ≡ false → link_at (after_changes d cs) k ≡ link_at d k
 unchanged_link d [] k off = refl
 unchanged_link d (c ∷ cs) k off =
@@ -33,7 +33,7 @@ unchanged_link d (c ∷ cs) k off =
     ∙ link_at-after_change d c k
     ∙ ap (λ b. cond b (link_left c) (link_at d k)) (apart c (link_key k) parts.0)
 
--- and so does its mark
+-- If no change affects a router, its mark stays.
 unchanged_mark : (d : Database) (cs : List Change) (router : ℕ) → changes_router cs router ≡ false
     → set.contains (after_changes d cs).marks router ≡ set.contains d.marks router
 unchanged_mark d [] router off = refl
@@ -44,7 +44,7 @@ unchanged_mark d (c ∷ cs) router off =
     ∙ ap (λ b. mark_after (cond b (Some c) None) (set.contains d.marks router)) (apart c (mark_key router) parts.0)
 
 module _ (d : Database) (cs : List Change) (q : Request) where
-  -- no change is on the router
+  -- No change affects the router.
   abbrev IsLeft : ℕ → Type 0
   IsLeft router = changes_router cs router ≡ false
 
@@ -61,7 +61,7 @@ module _ (d : Database) (cs : List Change) (q : Request) where
       kept_reverse has =
           (has.0, unchanged_link d cs (key_of has.0) (ap (changes_router cs) has.2.from ∙ to) ∙ has.1, has.2)
 
-  -- the links of a walk between such routers stay, and their routers keep transit
+  -- The links of a walk between such routers stay, and the routers keep their transit.
   kept_links : (router : ℕ) (walk : List Link) → IsLeft router → AllByRecursion (λ l. IsLeft l.to) walk → AreJoined router walk
       → AllByRecursion (IsAdmissible d q) walk → AllByRecursion (IsAdmissible (after_changes d cs) q) walk
   kept_links router [] here left joined all = tt
@@ -79,7 +79,7 @@ module _ (d : Database) (cs : List Change) (q : Request) where
   kept_passed router [] left joined all = tt
   kept_passed router (l ∷ ls) left joined all = kept_routers l.to ls left.0 left.1 joined.1 all
 
-  -- a walk ends each link where the route does
+  -- The links of a walk run to the same routers as the links of the route, so no change affects these routers.
   left_of_route : (walk route : List Link) → map ends_of_link walk ≡ map ends_of_link route → list_any (λ l. changes_router cs l.to) route ≡ false
       → AllByRecursion (λ l. IsLeft l.to) walk
   left_of_route [] route along off = tt
@@ -90,7 +90,7 @@ module _ (d : Database) (cs : List Change) (q : Request) where
       let rest : map ends_of_link ws ≡ map ends_of_link ls = cc in
       (ap (λ (x : Key × ℕ). changes_router cs x.1) alike ∙ parts.0, left_of_route ws ls rest parts.1)
 
--- where no change is on a router of its route, the route stays admitted
+-- If no change affects a router on the placement's route, the database still admits the route.
 pub untouched_admitted : (d : Database) (cs : List Change) (p : Placement) → touches cs p ≡ false → AdmitsRoute d p
     → AdmitsRoute (after_changes d cs) p
 untouched_admitted d cs p off old =

@@ -1,5 +1,5 @@
--- Private: databases that differ in attributes of their links alone, and where an effective database is
--- up to date.
+-- Private: databases that differ only in attributes of their links, and at which keys an effective database is up
+-- to date.
 use Rattle.std.specs.Prelude.{◌≡◌, ◌≤◌, Bool, false, cond, List, [], ◌∷◌}
 use Rattle.std.specs.Ordering.{eq_by_cmp}
 use Rattle.std.specs.List.{list_any}
@@ -13,24 +13,25 @@ use Rattle.cspf_book.specs.declared.placement.Placement.{Placement}
 use Rattle.cspf_book.specs.Placements.{ends_of_link, has_key}
 use Rattle.cspf_book.specs.Effective.{effective_link}
 
--- the second database has links at the same keys that run to the same routers, as many links, and the
--- same marks
+-- Both databases have links at the same keys, as many links, and the same marks. Links at one key run to the same
+-- router.
 pub record AreAlike (d e : Database) : Type 0 where
   pub marks : e.marks ≡ d.marks
   pub count : link_count e ≡ link_count d
   pub ends : (k : Key) → option_map ends_of_link (link_at e k) ≡ option_map ends_of_link (link_at d k)
 
--- the second database has at the key the effective link of what the base has there
+-- `d` is up to date at this key: it has the base's link with its effective bandwidths, or no link if the base has
+-- none.
 abbrev pub IsCurrentAt : Database → List Placement → Database → Key → Type 0
 IsCurrentAt base placements d k = link_at d k ≡ option_map (effective_link placements) (link_at base k)
 
--- at one key the second database becomes so, and elsewhere it stays as it was
+-- `new` is up to date at one key, and has the links of `old` at all other keys.
 abbrev pub IsCurrentNowAt : Database → List Placement → Database → Database → Key → Type 0
 IsCurrentNowAt base placements old new key =
     (k : Key) → link_at new k
     ≡ cond (eq_by_cmp key_cmp k key) (option_map (effective_link placements) (link_at base k)) (link_at old k)
 
--- so it is at all keys but those of these links
+-- `d` is up to date at all keys except the keys of these links.
 abbrev pub IsCurrentBut : Database → List Placement → Database → List Link → Type 0
 IsCurrentBut base placements d links =
     (k : Key) → has_key links k ≡ false → IsCurrentAt base placements d k
@@ -41,12 +42,12 @@ puts_key k (Put l) = has_key (l ∷ []) k
 puts_key k (Remove from local) = false
 puts_key k (Node router transit) = false
 
--- so it is at all keys but those of the links that these changes put
+-- `d` is up to date at all keys except the keys of links that these changes put.
 abbrev pub IsCurrentButPut : Database → List Placement → Database → List Change → Type 0
 IsCurrentButPut base placements d changes =
     (k : Key) → list_any (puts_key k) changes ≡ false → IsCurrentAt base placements d k
 
--- what holds of the database of each table
+-- the limits that hold of each table's database
 pub record IsWithinLimits (d : Database) : Type 0 where
   pub links : link_count d ≤ MOST_LINKS
   pub routers : router_count d ≤ MOST_ROUTERS

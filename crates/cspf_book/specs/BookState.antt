@@ -1,4 +1,4 @@
--- What a book holds, and what a placing makes of it.
+-- The state of a book, and how placing a request changes it.
 use Rattle.std.specs.Prelude.{◌≡◌, ◌+◌, ◌<◌, ◌≤◌, ℕ, List, [], ◌∷◌, ◌++◌, length, sum_by, refl}
 use Rattle.std.specs.Coded.{Coded, code_by, coded×, coded_ℕ, coded_list}
 use Rattle.cspf_model.specs.declared.link.Link.{Link}
@@ -14,39 +14,39 @@ use Rattle.cspf_book.specs.contracts.placement.Placement.{the_row}
 use Rattle.cspf_book.specs.Placements.{others}
 use Rattle.cspf_book.specs.Effective.{effective}
 
--- the base, how many base batches, placements and releases were accepted, and the placements in the
--- order in which they were placed
+-- the base; the version, which counts the accepted base batches, placements and releases; and the placements in
+-- the order in which they were placed
 pub record BookState : Type 0 where
   pub base : Database
   pub version : ℕ
   pub placements : List Placement
 
--- a book's state is stored as its parts
+-- A book's state is stored as a tuple of its parts.
 abbrev pub state_code : Coded BookState
 state_code =
     code_by (Database × (ℕ × List Placement))
     (coded× database_code (coded× coded_ℕ (coded_list the_row.coded)))
     (λ s. (s.base, (s.version, s.placements))) (λ p. record { base = p.0; version = p.1.0; placements = p.1.1 }) (λ _. refl)
 
--- the effective database that a request is placed in: without the earlier placement of its id
+-- the effective database in which a request is placed: it doesn't count the earlier placement of the same id
 abbrev pub effective_beside : BookState → ℕ → Database
 effective_beside s id = effective s.base (others id s.placements)
 
--- the placement is of this request with this holding priority, along this walk
+-- `p` is the placement of this request along this walk, with this holding priority.
 pub record IsPlacementOf (q : Request) (priority : ℕ) (walk : List Link) (p : Placement) : Type 0 where
   pub request : p.request ≡ q
   pub hold : p.hold ≡ priority
   pub route : p.route ≡ walk
 
--- how many links the routes of placements have
+-- how many links the routes of the placements have together
 abbrev pub links_placed : List Placement → ℕ
 links_placed placements = sum_by (λ p. length p.route) placements
 
--- the book has room for one more placement besides those of other ids
+-- Without a placement of this id, the book has fewer than `MOST_PLACEMENTS` placements.
 abbrev pub HasRoomFor : BookState → ℕ → Type 0
 HasRoomFor s id = length (others id s.placements) < MOST_PLACEMENTS
 
--- the request is placed along this walk: its placement takes the place of the one with its id
+-- The request is placed along this walk. Its placement replaces the earlier placement with this id, if any.
 pub record IsPlacedAlong (old : BookState) (q : Request) (hold : ℕ) (walk : List Link) (new : BookState)
     : Type 0 where
   pub own_keys : HaveOwnKeys walk
@@ -57,16 +57,16 @@ pub record IsPlacedAlong (old : BookState) (q : Request) (hold : ℕ) (walk : Li
   pub base : new.base ≡ old.base
   pub version : new.version ≡ old.version + 1
 
--- what an answer makes of the book: a route is placed, and else nothing changes
+-- how an answer changes the book: a route is placed, and any other answer changes nothing
 abbrev pub IsAnswerPlaced : BookState → Request → ℕ → Answer → BookState → Type 0
 IsAnswerPlaced old q hold unknown_from new = new ≡ old
 IsAnswerPlaced old q hold unknown_to new = new ≡ old
 IsAnswerPlaced old q hold no_route new = new ≡ old
 IsAnswerPlaced old q hold (route walk) new = IsPlacedAlong old q hold walk new
 
--- Why a request isn't placed. The book has as many placements of other ids as it may have. Or it has
--- fewer, and memory was refused, or the best answer is a route that uses a link twice, or one that uses each
--- of its links once but is longer than the routes of the others leave room for.
+-- Why a request isn't placed. `Full`: without the placement of this id, the book already has the most placements
+-- that it may have. Otherwise memory is refused, or the best answer is a route that can't be placed. `Twice`: the
+-- route uses a link twice. `TooManyLinks`: it doesn't, but all routes together would be too long.
 abbrev pub IsPlaceError : BookState → Request → PlaceError → Type 0
 IsPlaceError s q Memory = HasRoomFor s q.id
 IsPlaceError s q Full = MOST_PLACEMENTS ≤ length (others q.id s.placements)

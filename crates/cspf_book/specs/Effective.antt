@@ -1,4 +1,4 @@
--- The effective database: the base with what its placements leave of its bandwidths.
+-- The effective database: the base's links with the bandwidth that the placements leave.
 use Rattle.std.specs.Prelude.{◌≡◌, ℕ, zero, suc, ◌-◌, min, List, [], ◌∷◌, length, map, slice_index, refl}
 use Rattle.std.specs.FinMap as map
 use Rattle.cspf_model.specs.declared.link.Link.{Link}
@@ -6,9 +6,9 @@ use Rattle.cspf_model.specs.Database.{Database, key_of, key_cmp}
 use Rattle.cspf_book.specs.declared.placement.Placement.{Placement}
 use Rattle.cspf_book.specs.Placements.{counted}
 
--- The figure at a priority, where the base has these bandwidths and this much is counted at each
--- priority: the least, over that and all more important priorities, of what the base has there less
--- what is counted there, never below 0.
+-- The effective bandwidth at a priority. `free` has the link's bandwidths in the base, and `held` is how much is
+-- counted at each priority. What is left at a priority is the difference, or 0. The figure is the least of what is
+-- left at this priority and at all more important priorities.
 abbrev pub figure : List ℕ → (ℕ → ℕ) → ℕ → ℕ
 figure free held zero = slice_index free zero - held zero
 figure free held (suc p) = min (figure free held p) (slice_index free (suc p) - held (suc p))
@@ -17,7 +17,7 @@ figure free held (suc p) = min (figure free held p) (slice_index free (suc p) - 
 abbrev pub figures : List ℕ → (ℕ → ℕ) → List ℕ
 figures free held = map (figure free held) (0 ∷ 1 ∷ 2 ∷ 3 ∷ 4 ∷ 5 ∷ 6 ∷ 7 ∷ [])
 
--- a link with other bandwidths
+-- the same link with these unreserved bandwidths
 abbrev pub with_free : Link → (free : List ℕ) → length free ≡ 8 → Link
 with_free l free eight = record {
   from = l.from;
@@ -31,12 +31,12 @@ with_free l free eight = record {
   two_ends = l.two_ends;
 }
 
--- a link of the base with its effective figures: what the placements leave of its bandwidths
+-- a link of the base with its effective bandwidths: those that the placements leave
 unfoldable pub effective_link : List Placement → Link → Link
 effective_link placements l =
     with_free l (figures l.free (counted placements (key_of l))) refl
 
--- the effective database has the base's keys with the effective links, and the base's marks
+-- The effective database has the base's keys, with effective links, and the base's marks.
 abbrev pub effective : Database → List Placement → Database
 effective base placements = record {
   links = map.from_entries {R = key_cmp} (map (λ e. (e.0, effective_link placements e.1)) (map.entries base.links));

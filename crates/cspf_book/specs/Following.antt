@@ -1,5 +1,5 @@
--- Private: how a route is followed link by link in a database, and how the placements that lose theirs
--- are listed.
+-- Private: how a route is followed link by link in a database, and how the placements that lose their routes are
+-- listed.
 use Rattle.std.specs.Prelude.{◌≡◌, ◌≢◌, ◌-◌, ◌↔◌, ◌||◌, ℕ, Bool, List, AllPairs, Contains, map, nat_eq}
 use Rattle.std.specs.List.{list_any}
 use Rattle.cspf_model.specs.declared.link.Link.{Link}
@@ -12,22 +12,22 @@ use Rattle.cspf_book.specs.declared.placement.Placement.{Placement}
 use Rattle.cspf_book.specs.Placements.{ends_of_link, id_of}
 use Rattle.cspf_book.specs.LostRoutes.{IsLost}
 
--- one of the changes is on the router: on a link from it, or on its mark
+-- One of the changes affects the router: a link from it, or its mark.
 abbrev pub changes_router : List Change → ℕ → Bool
 changes_router changes router = list_any (λ c. nat_eq (key_changed c).0 router) changes
 
--- one of the changes is on a router of the placement's route
+-- One of the changes affects a router on the placement's route.
 abbrev pub touches : List Change → Placement → Bool
 touches changes p =
     changes_router changes p.request.from || list_any (λ l. changes_router changes l.to) p.route
 
--- the database has an admissible link with the key of this one that runs to the same router
+-- The database has an admissible link with the key of this link, which runs to the same router.
 pub record HasItsLink (d : Database) (q : Request) (l : Link) : Type 0 where
   pub found : Link
   pub admissible : IsAdmissible d q found
   pub alike : ends_of_link found ≡ ends_of_link l
 
--- a walk of this many links, which has reached the router, may go on along that link
+-- A walk may continue along link `l`, once it has reached the router over this many links.
 pub record MayGoOn (d : Database) (q : Request) (links router : ℕ) (l : Link) : Type 0 where
   pub from : l.from ≡ router
   pub leaves : MayLeave d router links
@@ -37,7 +37,7 @@ pub record MayGoOn (d : Database) (q : Request) (links router : ℕ) (l : Link) 
 abbrev pub HaveOtherIds : List Placement → Type 0
 HaveOtherIds placements = AllPairs (λ p r. id_of p ≢ id_of r) placements
 
--- by which placements are put in order
+-- the rank by which placements are sorted: 7 minus the holding priority, then the id
 abbrev pub order_rank : Placement → ℕ × ℕ
 order_rank p = (7 - p.hold, id_of p)
 

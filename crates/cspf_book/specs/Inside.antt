@@ -10,12 +10,13 @@ use Rattle.cspf_model.specs.Database.{Key}
 use Rattle.cspf_book.specs.Effective.{effective}
 use Rattle.cspf_book.specs.BookState.{links_placed}
 
--- no two placements have one id
+-- No two placements have the same id.
 abbrev pub HaveDistinctIds : List Placement → Type 0
 HaveDistinctIds placements = IsDistinct nat_eq (map id_of placements)
 
--- The effective table and the sums are up to date. No version adds more than 2 ^ 64 to a sum. No two
--- placements share an id, and neither they nor their links are too many. There is room for one change.
+-- What holds of each book. The effective table and the sums are up to date. No version adds more than 2 ^ 64 to a
+-- sum. No two placements share an id. The placements and their links are within the limits. The batch `one` has
+-- one change.
 pub record IsBook (a : Inside) : Type 0 where
   pub current : a.effective ≡ effective a.base a.placements.items
   pub sums : IsCountOf a.counts a.placements.items

@@ -1,4 +1,4 @@
--- Private: the sums that are kept at keys of links, and how they change.
+-- Private: the sums that are kept by the keys of links, and how they change.
 use Rattle.std.specs.Prelude.{◌≡◌, ◌+◌, ◌^◌, ◌<◌, ◌≤◌, ◌&&◌, ℕ, true, cond, Some, List, [], ◌∷◌, length, nat_le, slice_index, slice_index_or, unwrap_or, IsSome}
 use Rattle.std.specs.BTreeMap.{get}
 use Rattle.std.specs.Ordering.{eq_by_cmp}
@@ -8,7 +8,7 @@ use Rattle.cspf_book.specs.declared.counts.Counts.{Counts}
 use Rattle.cspf_book.specs.declared.placement.Placement.{Placement}
 use Rattle.cspf_book.specs.Placements.{has_key, bandwidth_on, counted}
 
--- the sums where nothing is counted
+-- the sums of a key at which nothing is counted
 abbrev pub no_sums : List ℕ
 no_sums = 0 ∷ 0 ∷ 0 ∷ 0 ∷ 0 ∷ 0 ∷ 0 ∷ 0 ∷ []
 
@@ -20,27 +20,27 @@ sums_at c k = unwrap_or (get key_cmp c.sums k) no_sums
 abbrev pub sum_at : Counts → Key → ℕ → ℕ
 sum_at c k priority = slice_index (sums_at c k) priority
 
--- the sums are what the placements count, at each key and priority
+-- At each key and priority the kept sum is the bandwidth that the placements count.
 pub record IsCountOf (c : Counts) (placements : List Placement) : Type 0 where
   pub at : (k : Key) (priority : ℕ) → priority < 8 → sum_at c k priority ≡ counted placements k priority
 
--- the sums at all keys and priorities are small
+-- The sums at all keys and priorities are below 2 ^ 127.
 pub record AreSmall (c : Counts) : Type 0 where
   pub at : (k : Key) (priority : ℕ) → priority < 8 → sum_at c k priority < 2 ^ 127
 
--- the sums are at least what a placement counts
+-- At each key and priority the sum is at least what this placement counts.
 pub record IsWithinSums (c : Counts) (p : Placement) : Type 0 where
   pub at : (k : Key) (priority : ℕ) → priority < 8 → bandwidth_on k priority p ≤ sum_at c k priority
 
--- there are sums at the keys of these links
+-- There is an entry at the key of each of these links.
 pub record HasKeys (c : Counts) (links : List Link) : Type 0 where
   pub at : (k : Key) → has_key links k ≡ true → IsSome (get key_cmp c.sums k)
 
--- and at those of the route of the placement at an index, if there is one
+-- There is an entry for each link of the route of the placement at an index, if there is such a placement.
 abbrev pub HasKeysAt : Counts → List Placement → ℕ → Type 0
 HasKeysAt c placements at = (d : Placement) → at < length placements → HasKeys c (slice_index_or placements at d).route
 
--- where there were sums, there are some
+-- Each key with an entry in `old` has an entry in `new`.
 pub record KeepsKeys (old new : Counts) : Type 0 where
   pub at : (k : Key) → IsSome (get key_cmp old.sums k) → IsSome (get key_cmp new.sums k)
 
@@ -48,16 +48,16 @@ pub record KeepsKeys (old new : Counts) : Type 0 where
 pub record HasSameSums (old new : Counts) : Type 0 where
   pub at : (k : Key) (priority : ℕ) → sum_at new k priority ≡ sum_at old k priority
 
--- the sums at one key are these, and at all others as before
+-- The entry at one key has these sums, and all other entries stay.
 pub record HasSumsAt (old new : Counts) (key : Key) (sums : List ℕ) : Type 0 where
   pub at : (k : Key) → get key_cmp new.sums k ≡ cond (eq_by_cmp key_cmp key k) (Some sums) (get key_cmp old.sums k)
 
--- at one key the second sums are more by a bandwidth, at each priority from one on
+-- `d` has more than `c` at one key, by this bandwidth at each priority from `hold` to 7.
 pub record HasMoreAt (c d : Counts) (key : Key) (hold bandwidth : ℕ) : Type 0 where
   pub at : (k : Key) (priority : ℕ) → priority < 8
       → sum_at d k priority ≡ sum_at c k priority + cond (nat_le hold priority && eq_by_cmp key_cmp key k) bandwidth 0
 
--- and so at the keys of these links
+-- `d` has more than `c` at the keys of these links, by this bandwidth at each priority from `hold` to 7.
 pub record HasMoreAlong (c d : Counts) (links : List Link) (hold bandwidth : ℕ) : Type 0 where
   pub at : (k : Key) (priority : ℕ) → priority < 8
       → sum_at d k priority ≡ sum_at c k priority + cond (nat_le hold priority && has_key links k) bandwidth 0

@@ -1,4 +1,4 @@
--- Laws of what is counted and of effective databases.
+-- Laws of the counted bandwidths and of effective databases.
 use Rattle.std.specs.Prelude.{◌≡◌, ◌⊎◌, ℕ, zero, suc, ◌<◌, ◌≤◌, min, List, [], ◌∷◌, ◌++◌, Contains, slice_index}
 use Rattle.std.specs.Option.{option_map}
 use Rattle.cspf_model.specs.declared.link.Link.{Link}
@@ -12,37 +12,36 @@ use Rattle.cspf_book.specs.Effective.{effective_link, effective}
 use Rattle.cspf_book.specs.OverLinks.{over_at, over}
 use Rattle.cspf_book.specs.LostRoutes.{AreLost}
 
--- the effective figures never rise with the priority's number
+-- The bandwidths of an effective link never rise with the priority's number.
 abbrev pub FiguresNeverRise : Type 0
 FiguresNeverRise =
     (placements : List Placement) (l : Link) (p q : ℕ) → p ≤ q → q < 8
     → slice_index (effective_link placements l).free q ≤ slice_index (effective_link placements l).free p
 
--- the effective database has at each key the effective link of what the base has there
+-- At each key the effective database has the effective link of the base's link there.
 abbrev pub HasEffectiveLinks : Type 0
 HasEffectiveLinks =
     (base : Database) (placements : List Placement) (k : Key)
     → link_at (effective base placements) k ≡ option_map (effective_link placements) (link_at base k)
 
--- the least of the bandwidths at a priority and at all more important ones
+-- the least bandwidth at this priority and at all more important priorities
 abbrev pub least_up_to : List ℕ → ℕ → ℕ
 least_up_to free zero = slice_index free zero
 least_up_to free (suc p) = min (least_up_to free p) (slice_index free (suc p))
 
--- With no placements, whatever was placed before, the effective figure at a priority is the least of
--- what the base has at it and at all more important ones. So where the base's own figures don't rise,
--- they are the effective ones.
+-- Without placements, the effective bandwidth at a priority is the least that the base has at this priority and at
+-- all more important priorities. So if the base's own bandwidths don't rise, they are the effective bandwidths.
 abbrev pub NothingHeldIsBase : Type 0
 NothingHeldIsBase =
     (l : Link) (p : ℕ) → p < 8
     → slice_index (effective_link [] l).free p ≡ least_up_to l.free p
 
--- what is counted on the link at a priority is at most what it has there
+-- A link is covered at a priority: the placements count at most the link's unreserved bandwidth at this priority.
 abbrev pub IsCovered : List Placement → Link → ℕ → Type 0
 IsCovered placements l priority = counted placements (key_of l) priority ≤ slice_index l.free priority
 
--- A placement keeps covered what is covered. Where its route is a walk of its request in the effective
--- database of the others, what is counted stays at most what the base has, on each link at each priority.
+-- A placement keeps each covered link covered, at each priority. Its route is a walk of its request in the
+-- effective database of the other placements.
 abbrev pub PlacingKeepsCovered : Type 0
 PlacingKeepsCovered =
     (base : Database) (placements : List Placement) (p : Placement) → p.request.setup ≡ 7
@@ -50,21 +49,22 @@ PlacingKeepsCovered =
     → (l : Link) (priority : ℕ) → IsLinkOf base l → priority < 8
     → IsCovered placements l priority → IsCovered (others (id_of p) placements ++ p ∷ []) l priority
 
--- a release keeps covered what is covered
+-- A release keeps each covered link covered, at each priority.
 abbrev pub ReleasingKeepsCovered : Type 0
 ReleasingKeepsCovered =
     (placements : List Placement) (id : ℕ) (l : Link) (priority : ℕ)
     → IsCovered placements l priority → IsCovered (others id placements) l priority
 
--- Changes of the base keep covered what is covered, or `over` names it. Each link that the base has after
--- them was one of its links before, or it is covered at a priority, or `over` names its key there.
+-- Changes of the base keep each covered link covered, unless `over` lists the link. Each link that the base has
+-- after the changes was already a link of the base, or is covered at the priority, or `over` lists it at the
+-- priority.
 abbrev pub AbsorbingKeepsCovered : Type 0
 AbsorbingKeepsCovered =
     (base : Database) (placements : List Placement) (changes : List Change) (l : Link) (priority : ℕ)
     → IsLinkOf (after_changes base changes) l → priority < 8
     → IsLinkOf base l ⊎ (IsCovered placements l priority ⊎ Contains (over placements changes) (over_at l priority))
 
--- between two databases placements have one list of lost ids
+-- For two databases there is only one list of the ids of placements that lose their routes.
 abbrev pub HaveOneLostList : Type 0
 HaveOneLostList =
     (before after : Database) (placements : List Placement) (a b : List ℕ)

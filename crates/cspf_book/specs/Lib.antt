@@ -1,4 +1,4 @@
--- What placements count, the effective database, the book, and their laws.
+-- Definitions of counted bandwidth, the effective database and the book, and their laws.
 pub mod Placements
 pub mod Effective
 pub mod Alike

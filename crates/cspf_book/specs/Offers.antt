@@ -1,4 +1,4 @@
--- Private: what a request is offered in a database, and why its route isn't placed.
+-- Private: which placement is offered to a request in a database, and why a route isn't placed.
 use Rattle.std.specs.Prelude.{◌≤◌, ◌<◌, ℕ, Option, Some, None, List, length}
 use Rattle.cspf_model.specs.declared.link.Link.{Link}
 use Rattle.cspf_model.specs.declared.request.Request.{Request}
@@ -9,8 +9,8 @@ use Rattle.cspf_book.specs.declared.error.PlaceError.TheVariants.{Memory, Full, 
 use Rattle.cspf_book.specs.declared.placement.Placement.{Placement}
 use Rattle.cspf_book.specs.BookState.{IsPlacementOf}
 
--- the placement that an answer offers: a route that uses no link twice and leaves that much room, and
--- else none
+-- The placement that an answer offers: its route uses no link twice and has at most `room` links. Any other answer
+-- offers no placement.
 abbrev pub IsOffered : Request → ℕ → ℕ → Answer → Option Placement → Type 0
 IsOffered q hold room unknown_from (Some p) = ⊥
 IsOffered q hold room unknown_from None = Unit {0}
@@ -22,22 +22,22 @@ IsOffered q hold room (route walk) None = ⊥
 IsOffered q hold room (route walk) (Some p) =
     HaveOwnKeys walk × IsPlacementOf q hold walk p × (length walk ≤ room)
 
--- Why a walk isn't placed where there is room for that many links. Memory is refused only to a walk that
--- would be placed.
+-- Why a walk isn't placed, if there is room for this many links. Memory is refused only for a walk that would
+-- otherwise be placed.
 abbrev pub IsWalkRefused : ℕ → List Link → PlaceError → Type 0
 IsWalkRefused room walk Memory = HaveOwnKeys walk × (length walk ≤ room)
 IsWalkRefused room walk Full = ⊥
 IsWalkRefused room walk Twice = ¬ HaveOwnKeys walk
 IsWalkRefused room walk TooManyLinks = HaveOwnKeys walk × (room < length walk)
 
--- why no placement is made of an answer: it is a walk that isn't placed
+-- why an answer gives no placement: it is a walk that can't be placed
 abbrev pub IsAnswerRefused : ℕ → Answer → PlaceError → Type 0
 IsAnswerRefused room unknown_from why = ⊥
 IsAnswerRefused room unknown_to why = ⊥
 IsAnswerRefused room no_route why = ⊥
 IsAnswerRefused room (route walk) why = IsWalkRefused room walk why
 
--- why a request is offered nothing: memory, or the best answer is a walk that isn't placed
+-- why nothing is offered to a request: memory is refused, or the best answer is a walk that can't be placed
 abbrev pub IsOfferRefused : Database → Request → ℕ → PlaceError → Type 0
 IsOfferRefused d q room Memory = Unit {0}
 IsOfferRefused d q room Full = ⊥

@@ -1,4 +1,4 @@
--- Where changes of the base leave a link with less bandwidth than placements hold there.
+-- Which links have less bandwidth after changes of the base than placements hold on them.
 use Rattle.std.specs.Prelude.{ℕ, Bool, List, [], ◌∷◌, filter, map, nat_lt, slice_index}
 use Rattle.std.specs.List.{flat_map}
 use Rattle.cspf_model.specs.declared.link.Link.{Link}
@@ -22,16 +22,16 @@ is_over placements l priority =
 abbrev pub over_at : Link → ℕ → Over
 over_at l priority = record { from = l.from; local = l.local; priority = priority }
 
--- the link's key with each such priority, in order
+-- the link's key with each priority at which `is_over` holds, in order
 abbrev pub over_on : List Placement → Link → List Over
 over_on placements l = map (over_at l) (filter (is_over placements l) priorities)
 
--- the same of the link that a change puts
+-- the same list for the link that a change puts
 abbrev pub over_by : List Placement → Change → List Over
 over_by placements (Put l) = over_on placements l
 over_by placements (Remove from local) = []
 over_by placements (Node router transit) = []
 
--- the same of all links that changes put, in the order of the changes
+-- the same list for all links that the changes put, in the order of the changes
 abbrev pub over : List Placement → List Change → List Over
 over placements changes = flat_map (over_by placements) changes

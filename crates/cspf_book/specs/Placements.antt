@@ -9,26 +9,26 @@ use Rattle.cspf_book.specs.declared.placement.Placement.{Placement}
 abbrev pub ends_of_link : Link → Key × ℕ
 ends_of_link l = (key_of l, l.to)
 
--- one of the links has this key
+-- One of the links has this key.
 abbrev pub has_key : List Link → Key → Bool
 has_key links k = list_any (λ l. nat_eq l.from k.0 && nat_eq l.local k.1) links
 
--- What a placement counts on the link with this key at a priority: its bandwidth where its route has
--- the link and its holding priority is at most that priority, and else nothing. So with the holding
--- priority h it counts at h to 7.
+-- The bandwidth that a placement counts at a priority on the link with this key. It is the placement's bandwidth
+-- if its route has the link and its holding priority is at most this priority. Otherwise it is 0. So a placement
+-- with the holding priority h counts at the priorities h to 7.
 abbrev pub bandwidth_on : Key → ℕ → Placement → ℕ
 bandwidth_on k priority p =
     cond (nat_le p.hold priority && has_key p.route k) p.request.bandwidth 0
 
--- what is counted on the link with this key at a priority: the sum over the placements
+-- the bandwidth counted on the link with this key at a priority: the sum over all placements
 abbrev pub counted : List Placement → Key → ℕ → ℕ
 counted placements k priority = sum_by (bandwidth_on k priority) placements
 
--- the id of a placement is that of its request
+-- the id of a placement, which is the id of its request
 abbrev pub id_of : Placement → ℕ
 id_of p = p.request.id
 
--- one of the placements has this id
+-- One of the placements has this id.
 abbrev pub has_id : ℕ → List Placement → Bool
 has_id id placements = list_any (λ p. nat_eq (id_of p) id) placements
 
@@ -36,6 +36,6 @@ has_id id placements = list_any (λ p. nat_eq (id_of p) id) placements
 abbrev pub others : ℕ → List Placement → List Placement
 others id placements = filter (λ p. not (nat_eq (id_of p) id)) placements
 
--- the index of the first placement with this id, or how many there are where none has it
+-- the index of the first placement with this id, or the number of placements if no placement has the id
 abbrev pub index_of_id : ℕ → List Placement → ℕ
 index_of_id id placements = position_or_len (λ p. nat_eq (id_of p) id) placements

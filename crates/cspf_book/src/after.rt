@@ -1,4 +1,4 @@
-//! The database that changes make of the base, read without making it.
+//! Lookups in the database that changes would make of the base. The changes aren't made.
 
 ghost use Rattle.std.specs.Prelude.{◌≡◌, ◌↔◌, IsTrue, IfSome};
 ghost use Rattle.std.specs.Ordering.{eq_by_cmp};
@@ -11,7 +11,8 @@ use cspf_addr::Addr;
 use cspf_db::Table;
 use cspf_model::{Change, Link};
 
-/// Whether the change is on this key.
+/// Whether the change has this key. A change of a link has the link's key, and a change of a mark
+/// has the router and `None`.
 fn is_on(change: &Change, key: (Addr, Option<Addr>)) -> bool
     ensures { result ≡ eq_by_cmp change_key_cmp key (key_changed change.now) }
 {
@@ -19,14 +20,14 @@ fn is_on(change: &Change, key: (Addr, Option<Addr>)) -> bool
     key.0 == other.0 && key.1 == other.1
 }
 
-/// The last change on this key, if there is one.
+/// The last change with this key, if there is one.
 fn last_on(changes: &[Change], key: (Addr, Option<Addr>)) -> Option<&Change>
     ensures { option_copied result ≡ last_on key changes.now }
 {
     changes.iter().rev().find(|change| is_on(change, key))
 }
 
-/// What the change leaves at the key of a link.
+/// The link that the change leaves at its key. A removal leaves no link.
 fn link_left(change: &Change) -> Option<Link>
     ensures { result ≡ link_left change.now }
 {
@@ -58,7 +59,7 @@ pub(crate) fn find_after(base: &Table, changes: &[Change], from: Addr, local: Ad
     }
 }
 
-/// Whether the reverse of the link is there after the changes.
+/// Whether the database has the reverse of the link after the changes.
 pub(crate) fn has_reverse_after(base: &Table, changes: &[Change], link: &Link) -> bool
     ensures { IsTrue result ↔ HasReverse (after_changes base.now changes.now) link.now }
 {

@@ -1,4 +1,4 @@
-//! A book: a base database, the placements over it, and the effective database that they leave.
+//! A book: a base database, the placements over it, and the effective database that results.
 
 ghost use Rattle.std.specs.Prelude.{◌≡◌, ◌+◌, ◌<◌, [], IsTrue, IfOk, IfErr, OnOk, OnErr};
 ghost use Rattle.cspf_model.specs.Best.{IsBestAnswer};
@@ -31,7 +31,8 @@ use std::alloc::{AllocError, Global};
 use std::marker::Model;
 
 /// A base database and the placements over it. A request is placed along the best route in the
-/// effective database, and holds its bandwidth there from then on. Nothing is preempted.
+/// effective database. From then on it holds its bandwidth on the links of that route. Nothing is
+/// preempted.
 #[derive(Drop)]
 pub struct Book {
     base: Table,
@@ -58,7 +59,7 @@ impl Model for Book {
 }
 
 impl Book {
-    /// Version 0, with the empty database and no placements.
+    /// The first book, of version 0: the base is empty, and there are no placements.
     pub fn new(alloc: Global) -> Result<Book, AllocError>
         ensures { IfOk result (λ book. book ≡ record { base = no_links; version = 0; placements = [] }) }
     {
@@ -78,21 +79,21 @@ impl Book {
         })
     }
 
-    /// How many base batches, placements and releases were accepted.
+    /// The version: how many base batches, placements and releases were accepted together.
     pub fn version(&self) -> u32
         ensures { result ≡ self.now.version }
     {
         self.version
     }
 
-    /// The base: the database that the base's batches make.
+    /// The base: the database that results from the base's batches.
     pub fn base(&self) -> &Table
         ensures { result.now ≡ self.now.base }
     {
         &self.base
     }
 
-    /// The effective database: the base with what the placements leave of its bandwidths.
+    /// The effective database: the base's links, each with the bandwidth that the placements leave.
     pub fn effective(&self) -> &Table
         ensures { result.now ≡ effective self.now.base self.now.placements }
     {
@@ -106,7 +107,7 @@ impl Book {
         self.placements.as_slice()
     }
 
-    /// What is counted on the link with this key at a priority.
+    /// How much bandwidth the placements count at a priority on the link with this key.
     pub fn counted(&self, from: Addr, local: Addr, priority: u8) -> u128
         ensures { result ≡ counted self.now.placements (from, local) priority }
     {
@@ -121,18 +122,19 @@ impl Book {
         best(alloc, &self.effective, request)
     }
 
-    /// The links that the batch puts with less unreserved bandwidth than is counted on their keys:
-    /// each in the batch's order, with each priority at which it has less, from 0 to 7. Whether the
-    /// batch fits isn't looked at.
+    /// Lists the links that the batch puts with less unreserved bandwidth than the placements count
+    /// on their keys. There is one entry for each such link and priority, in the batch's order and
+    /// from priority 0 to 7. It isn't checked whether the batch fits.
     pub fn over(&self, alloc: Global, batch: &Batch) -> Result<Vec<Over>, AllocError>
         ensures { IfOk result (λ list. list.items ≡ over self.now.placements batch.now.changes) }
     {
         find_over(alloc, &self.counts, &batch.changes)
     }
 
-    /// The ids of the placements whose routes the base admits now, and doesn't after the changes of
-    /// the batch: least important first, by holding priority from 7 down to 0, then by id.
-    /// Bandwidth doesn't matter. Whether the batch fits isn't looked at.
+    /// The ids of the placements that lose their routes by the batch: the base admits the route
+    /// now, and wouldn't after the changes. The least important comes first: by holding priority
+    /// from 7 down to 0, then by id. Bandwidth doesn't matter. It isn't checked whether the batch
+    /// fits.
     pub fn lost(&self, alloc: Global, batch: &Batch) -> Result<Vec<u64>, AllocError>
         ensures { IfOk result (λ ids. AreLost self.now.base
             (after_changes self.now.base batch.now.changes) self.now.placements ids.items) }
@@ -140,8 +142,9 @@ impl Book {
         lost(alloc, &self.base, &self.placements, &batch.changes)
     }
 
-    /// Makes all changes of a batch in the base where it fits, and else changes nothing. The
-    /// placements stay, also where the base now has less than they hold. It takes no memory.
+    /// Makes all changes of a batch in the base if the batch fits, and otherwise changes nothing.
+    /// All placements stay, even if the base then has less bandwidth than they hold. It takes no
+    /// memory.
     pub fn try_absorb(&mut self, batch: &Batch) -> Result<(), Refusal>
         requires { self.old.version < MOST_VERSIONS }
         ensures ok { OnOk result (Fits self.old.base batch.now) }
@@ -167,9 +170,10 @@ impl Book {
         Ok(())
     }
 
-    /// Places a request: finds the best answer at setup priority 7 in the effective database
-    /// without the placement of its id. A route becomes its placement, in place of that one.
-    /// Where there is no route, or after an error, nothing changes.
+    /// Places a request. It finds the best answer at setup priority 7 in the effective database
+    /// without the request's earlier placement. If the answer is a route, it becomes the placement
+    /// of this id, in place of the earlier placement. Without a route, or after an error, nothing
+    /// changes.
     pub fn place(
         &mut self,
         alloc: Global,
@@ -252,8 +256,8 @@ impl Book {
         }
     }
 
-    /// Releases the placement with this id. Where there is none, nothing changes. It takes no
-    /// memory.
+    /// Releases the placement with this id. If no placement has the id, nothing changes. It takes
+    /// no memory.
     pub fn release(&mut self, id: u64) -> Result<(), Absent>
         requires { self.old.version < MOST_VERSIONS }
         ensures ok { OnOk result (IsTrue (has_id id self.old.placements)) }

@@ -1,4 +1,4 @@
-//! Links by their keys.
+//! A test of links by their keys.
 
 ghost use Rattle.std.specs.Prelude.{◌≡◌};
 ghost use Rattle.cspf_book.specs.Placements.{has_key};

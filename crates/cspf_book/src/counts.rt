@@ -1,4 +1,4 @@
-//! What placements count on links, kept as sums at the links' keys.
+//! How much bandwidth the placements count on each link. The sums are kept by the links' keys.
 
 ghost use Rattle.std.specs.Prelude.{◌≡◌, ◌+◌, ◌^◌, ◌<◌, ◌≤◌, ℕ, cond, [], is_some, nat_le, slice_index, IsSome, OnOk};
 ghost use Rattle.std.specs.BTreeMap.{get};
@@ -12,14 +12,14 @@ use cspf_model::Link;
 use std::alloc::{AllocError, Global};
 use std::collections::BTreeMap;
 
-/// At keys of links, the sum of the bandwidths that are counted there at each priority. At other
-/// keys nothing is.
+/// For the key of a link, the sum of the bandwidths counted on the link at each priority. At a key
+/// without an entry nothing is counted.
 #[derive(Drop)]
 pub(crate) struct Counts {
     sums: BTreeMap<(u32, u32), [u128; 8]>,
 }
 
-/// The sums, with the bandwidth added at each priority from `hold` on.
+/// The sums after the bandwidth is added at each priority from `hold` to 7.
 fn raised(mut sums: [u128; 8], hold: u8, bandwidth: u64) -> [u128; 8]
     requires { (p : ℕ) → p < 8 → slice_index sums p < 2 ^ 127 }
     ensures { (p : ℕ) → p < 8
@@ -31,7 +31,7 @@ fn raised(mut sums: [u128; 8], hold: u8, bandwidth: u64) -> [u128; 8]
     sums
 }
 
-/// The sums, with the bandwidth taken from each priority from `hold` on.
+/// The sums after the bandwidth is subtracted at each priority from `hold` to 7.
 fn lowered(mut sums: [u128; 8], hold: u8, bandwidth: u64) -> [u128; 8]
     requires { (p : ℕ) → p < 8 → cond (nat_le hold p) bandwidth 0 ≤ slice_index sums p }
     ensures { (p : ℕ) → p < 8
@@ -44,7 +44,7 @@ fn lowered(mut sums: [u128; 8], hold: u8, bandwidth: u64) -> [u128; 8]
 }
 
 impl Counts {
-    /// Nothing is counted. It takes no memory.
+    /// Has no sums yet, so nothing is counted. It takes no memory.
     pub(crate) fn new(alloc: Global) -> Counts
         ensures { IsCountOf result [] }
     {
@@ -53,7 +53,7 @@ impl Counts {
         }
     }
 
-    /// What is counted on the link with this key at each priority.
+    /// The bandwidth that is counted on the link with this key, for each priority from 0 to 7.
     pub(crate) fn sums(&self, from: Addr, local: Addr) -> [u128; 8]
         ensures { result ≡ sums_at self.now (from, local) }
     {
@@ -63,7 +63,7 @@ impl Counts {
         }
     }
 
-    /// What is counted on the link with this key at a priority.
+    /// The bandwidth that is counted on the link with this key at one priority.
     pub(crate) fn sum(&self, from: Addr, local: Addr, priority: u8) -> u128
         requires { priority < 8 }
         ensures { result ≡ sum_at self.now (from, local) priority }
@@ -79,7 +79,7 @@ impl Counts {
         self.sums.contains_key(&(from.number(), local.number()))
     }
 
-    /// Puts other sums in place of those at this key. It takes no memory.
+    /// Replaces the sums at this key, which has some. It takes no memory.
     fn put(&mut self, from: Addr, local: Addr, sums: [u128; 8])
         requires { IsSome (get key_cmp self.old.sums (from, local)) }
         ensures { HasSumsAt self.old self.new (from, local) sums }
@@ -87,8 +87,8 @@ impl Counts {
         let _ = self.sums.insert((from.number(), local.number()), sums);
     }
 
-    /// Has places for the sums of these links. Where there were none, they are 0. After an error
-    /// some may be there.
+    /// Makes an entry for the key of each of these links. A new entry has the sums 0. After an
+    /// error some of the new entries may be there.
     pub(crate) fn enter(&mut self, links: &[Link]) -> Result<(), AllocError>
         ensures sums { HasSameSums self.old self.new }
         ensures kept { KeepsKeys self.old self.new }
@@ -100,7 +100,7 @@ impl Counts {
         Ok(())
     }
 
-    /// Has a place for the sums at this key. Where there was none, they are 0.
+    /// Makes an entry for this key if there is none. A new entry has the sums 0.
     fn enter_one(&mut self, from: Addr, local: Addr) -> Result<(), AllocError>
         ensures sums { HasSameSums self.old self.new }
         ensures kept { KeepsKeys self.old self.new }
@@ -112,7 +112,7 @@ impl Counts {
         Ok(())
     }
 
-    /// Takes away the sums of these links where nothing is counted at any priority.
+    /// Drops the entries of these links at which nothing is counted at any priority.
     pub(crate) fn forget(&mut self, links: &[Link])
         ensures { HasSameSums self.old self.new }
     {
@@ -121,7 +121,7 @@ impl Counts {
         }
     }
 
-    /// Takes away the sums at this key if nothing is counted at any priority.
+    /// Drops the entry of this key if nothing is counted there at any priority.
     fn forget_one(&mut self, from: Addr, local: Addr)
         ensures { HasSameSums self.old self.new }
     {
@@ -131,8 +131,8 @@ impl Counts {
         }
     }
 
-    /// Counts a bandwidth on the link with this key, at each priority from `hold` on. It takes no
-    /// memory.
+    /// Adds a bandwidth to what is counted on the link with this key, at each priority from `hold`
+    /// to 7. It takes no memory.
     fn raise(&mut self, from: Addr, local: Addr, hold: u8, bandwidth: u64)
         requires there { IsSome (get key_cmp self.old.sums (from, local)) }
         requires small { (p : ℕ) → p < 8 → sum_at self.old (from, local) p < 2 ^ 127 }
@@ -143,7 +143,8 @@ impl Counts {
         self.put(from, local, raised(sums, hold, bandwidth));
     }
 
-    /// Counts a bandwidth no more on the link with this key.
+    /// Subtracts a bandwidth from what is counted on the link with this key, at each priority from
+    /// `hold` to 7.
     fn lower(&mut self, from: Addr, local: Addr, hold: u8, bandwidth: u64)
         requires { (p : ℕ) → p < 8
             → cond (nat_le hold p) bandwidth 0 ≤ sum_at self.old (from, local) p }
@@ -156,7 +157,7 @@ impl Counts {
         }
     }
 
-    /// Counts a placement: on each link of its route, once, its bandwidth. It takes no memory.
+    /// Counts a placement: adds its bandwidth once on each link of its route. It takes no memory.
     pub(crate) fn add(&mut self, placement: &Placement)
         requires keys { HasKeys self.old placement.now.route }
         requires small { AreSmall self.old }
@@ -174,7 +175,8 @@ impl Counts {
         }
     }
 
-    /// Counts a placement no more. It takes no memory.
+    /// Undoes `add`: subtracts the placement's bandwidth on each link of its route. It takes no
+    /// memory.
     pub(crate) fn take(&mut self, placement: &Placement)
         requires { IsWithinSums self.old placement.now }
         ensures sums { HasMoreAlong self.new self.old placement.now.route placement.now.hold

@@ -1,4 +1,4 @@
-//! The effective links, and the table of them, which is kept up to date link by link.
+//! The effective links and their table, which is updated link by link.
 
 ghost use Rattle.std.specs.Prelude.{◌≡◌, ◌-◌, ◌<◌, min, List, length, slice_index};
 ghost use Rattle.std.specs.Option.{option_map};
@@ -17,7 +17,8 @@ use cspf_addr::Addr;
 use cspf_db::Table;
 use cspf_model::{Batch, Change, Link};
 
-/// What is left of a link's bandwidth at a priority where this much is counted at each.
+/// The bandwidth that is left on a link at a priority. `sums` is what is counted on the link at
+/// each priority.
 fn left(link: &Link, sums: [u128; 8], priority: u8) -> u64
     requires { priority < 8 }
     ensures { result ≡ slice_index link.now.free priority - slice_index sums priority }
@@ -27,7 +28,8 @@ fn left(link: &Link, sums: [u128; 8], priority: u8) -> u64
     u128::from(free).saturating_sub(held) as u64
 }
 
-/// The lesser of what is left at a priority and the figure before it.
+/// The figure at a priority: what is left at it, but at most `least`, the figure at the priority
+/// before.
 fn lesser(link: &Link, sums: [u128; 8], priority: u8, least: u64) -> u64
     requires { priority < 8 }
     ensures { result ≡ min least (slice_index link.now.free priority - slice_index sums priority) }
@@ -36,7 +38,7 @@ fn lesser(link: &Link, sums: [u128; 8], priority: u8, least: u64) -> u64
     if figure < least { figure } else { least }
 }
 
-/// The link with what is left of its bandwidths by what is counted.
+/// The effective link: the link with the bandwidths that the counted placements leave.
 fn effective_link(counts: &Counts, link: &Link) -> Link
     ensures effective { (placements : List Placed) → IsCountOf counts.now placements
         → result ≡ effective_link placements link.now }
@@ -57,7 +59,7 @@ fn effective_link(counts: &Counts, link: &Link) -> Link
     )
 }
 
-/// The link with other bandwidths.
+/// The same link with these unreserved bandwidths.
 fn with_free(link: &Link, free: [u64; 8]) -> Link
     ensures { HasLinkFields result (record (fields_of_link link.now) { free = free }) }
 {
@@ -72,7 +74,7 @@ fn with_free(link: &Link, free: [u64; 8]) -> Link
     }
 }
 
-/// What holds of the database of a table.
+/// The limits that hold of each table's database: how many links, routers and marks it has.
 pub(crate) fn within_limits(table: &Table)
     ensures { IsWithinLimits table.now }
 {
@@ -80,7 +82,7 @@ pub(crate) fn within_limits(table: &Table)
     let _ = table.marks();
 }
 
-/// Puts a link in place of one with its key that runs to the same router. It takes no memory.
+/// Replaces the link with the same key, which runs to the same router. It takes no memory.
 fn put_over(table: &mut Table, one: &mut Batch, link: Link)
     requires one { length one.old.changes ≡ 1 }
     requires there { option_map ends_of_link (link_at table.old (key_of link)) ≡ Some (ends_of_link link) }
@@ -92,7 +94,7 @@ fn put_over(table: &mut Table, one: &mut Batch, link: Link)
     table.absorb(one);
 }
 
-/// Brings the effective link with this key up to date.
+/// Updates the effective link with this key.
 fn refresh(
     table: &mut Table,
     one: &mut Batch,
@@ -114,8 +116,8 @@ fn refresh(
     }
 }
 
-/// Brings the effective links with the keys of these links up to date, and so the whole table,
-/// where all others are.
+/// Updates the effective links at the keys of these links. If all other links were up to date, the
+/// whole table is then up to date.
 pub(crate) fn refresh_links(
     table: &mut Table,
     one: &mut Batch,
@@ -135,8 +137,8 @@ pub(crate) fn refresh_links(
     }
 }
 
-/// Brings the effective links up to date that changes put, and so the whole table, where all others
-/// are.
+/// Updates the effective links at the keys that the changes put. If all other links were up to
+/// date, the whole table is then up to date.
 pub(crate) fn refresh_puts(
     table: &mut Table,
     one: &mut Batch,

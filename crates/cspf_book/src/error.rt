@@ -12,13 +12,14 @@ pub enum PlaceError {
     /// Memory was refused.
     #[error("out of memory")]
     Memory,
-    /// The book has `MOST_PLACEMENTS` placements of other ids.
+    /// The book already has `MOST_PLACEMENTS` placements with other ids.
     #[error("more than {most} placements", most = MOST_PLACEMENTS)]
     Full,
     /// The routes of all placements would have more than `MOST_ROUTES_LINKS` links.
     #[error("more than {most} links of routes", most = MOST_ROUTES_LINKS)]
     TooManyLinks,
-    /// The best route uses a link twice. The search looks at its bandwidth once.
+    /// The best route uses a link twice. The search compares the link's bandwidth with the request
+    /// only once.
     #[error("a route that uses a link twice")]
     Twice,
 }
@@ -31,7 +32,7 @@ impl From<AllocError> for PlaceError {
     }
 }
 
-/// No placement has the id.
+/// No placement has this id.
 #[derive(Clone, Copy, Debug, PartialEq, Eq, Error)]
 #[error("no placement has this id")]
 pub struct Absent;

@@ -1,10 +1,11 @@
-//! A book of placements over a traffic engineering database, by one thread. A placement holds its
-//! bandwidth on each link of its route.
+//! A book of placements over a traffic engineering database, used by one thread. A placement holds
+//! its bandwidth on each link of its route.
 //!
-//! `specs/Placements.antt` defines what is counted on a link, `specs/Effective.antt` the database
-//! that is left, and `specs/BookState.antt` what a placing makes of a book. `specs/OverLinks.antt`
-//! and `specs/LostRoutes.antt` define what changes of the base do to placements. `specs/Laws.antt`
-//! says what follows from these.
+//! `specs/Placements.antt` defines how much bandwidth is counted on a link. `specs/Effective.antt`
+//! defines the database with the bandwidth that is left. `specs/BookState.antt` defines how placing
+//! a request changes a book. `specs/OverLinks.antt` and `specs/LostRoutes.antt` define how changes
+//! of the base affect placements. `specs/Laws.antt` has the laws that follow from these
+//! definitions.
 #![tactic(auto)]
 
 mod after;

@@ -1,4 +1,4 @@
-//! Which placements lose their routes by changes of the base.
+//! Which placements lose their routes when the base changes.
 
 ghost use Rattle.std.specs.Prelude.{◌≡◌, ◌↔◌, map, IsTrue, IfOk};
 ghost use Rattle.std.specs.List.{list_any};
@@ -14,7 +14,7 @@ use cspf_graph::accepts;
 use cspf_model::{Change, Link, Request};
 use std::alloc::{AllocError, Global};
 
-/// Whether the base has, after the changes, an admissible link with the key of this one that runs
+/// Whether the base has an admissible link after the changes with the key of this link, which runs
 /// to the same router.
 fn has_its_link(base: &Table, changes: &[Change], request: &Request, link: &Link) -> bool
     ensures { IsTrue result
@@ -30,7 +30,8 @@ fn has_its_link(base: &Table, changes: &[Change], request: &Request, link: &Link
     }
 }
 
-/// Whether a walk of this many links, which has reached the router, may go on along the link's key.
+/// Whether a walk may continue along the link's key, once it has reached the router over this many
+/// links.
 fn may_go_on(
     base: &Table,
     changes: &[Change],
@@ -47,7 +48,7 @@ fn may_go_on(
         && has_its_link(base, changes, request, link)
 }
 
-/// The request with bandwidth 0.
+/// The same request with bandwidth 0.
 fn without_bandwidth(request: &Request) -> Request
     ensures { result ≡ without_bandwidth request.now }
 {
@@ -71,29 +72,29 @@ fn admits(base: &Table, changes: &[Change], placement: &Placement) -> bool
     true
 }
 
-/// Whether one of the changes is on the router: on a link from it, or on its mark.
+/// Whether one of the changes affects the router: a link from it, or its mark.
 fn changes_router(changes: &[Change], router: Addr) -> bool
     ensures { result ≡ changes_router changes.now router }
 {
     changes.iter().any(|change| change.key().0 == router)
 }
 
-/// Whether one of the changes is on a router at which one of the links ends.
+/// Whether one of the changes affects a router to which one of the links runs.
 fn changes_end(changes: &[Change], links: &[Link]) -> bool
     ensures { result ≡ list_any (λ l. changes_router changes.now l.to) links.now }
 {
     links.iter().any(|link| changes_router(changes, link.to))
 }
 
-/// Whether one of the changes is on a router of the placement's route. Where none is, the route
-/// stays admitted.
+/// Whether one of the changes affects a router on the placement's route. If not, the base still
+/// admits a route that it admits now.
 fn touches(changes: &[Change], placement: &Placement) -> bool
     ensures { result ≡ touches changes.now placement.now }
 {
     changes_router(changes, placement.request.from) || changes_end(changes, placement.route.links())
 }
 
-/// Whether the base admits the placement's route now, and doesn't after the changes.
+/// Whether the base admits the placement's route now, but not after the changes.
 fn is_lost(base: &Table, changes: &[Change], placement: &Placement) -> bool
     ensures { IsTrue result
         ↔ IsLost base.now (after_changes base.now changes.now) placement.now }
@@ -101,7 +102,7 @@ fn is_lost(base: &Table, changes: &[Change], placement: &Placement) -> bool
     touches(changes, placement) && !admits(base, changes, placement) && admits(base, &[], placement)
 }
 
-/// Lists 7 less the holding priority, and the id, of each placement that loses its route.
+/// Lists a rank for each placement that loses its route: 7 minus the holding priority, and the id.
 fn list_ranks(
     alloc: Global,
     base: &Table,
@@ -121,14 +122,15 @@ fn list_ranks(
     Ok(ranks)
 }
 
-/// The ids beside ranks.
+/// The ids in the ranks.
 fn ids_of(alloc: Global, ranks: &[(u8, u64)]) -> Result<Vec<u64>, AllocError>
     ensures { IfOk result (λ ids. ids.items ≡ map (λ rank. rank.1) ranks.now) }
 {
     ranks.iter().map(|rank| rank.1).collect(alloc)
 }
 
-/// The ids of the placements that lose their routes by the changes, least important first.
+/// The ids of the placements that lose their routes by the changes. The least important comes
+/// first.
 pub(crate) fn lost(
     alloc: Global,
     base: &Table,

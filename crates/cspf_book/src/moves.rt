@@ -1,5 +1,5 @@
-//! How placements are taken out of a book and put into it, with the sums and the effective table
-//! kept up to date.
+//! How placements are added to a book and taken out of it. The sums and the effective table are
+//! updated with each.
 
 ghost use Rattle.std.specs.Prelude.{◌≡◌, ◌+◌, ◌^◌, ◌<◌, [], ◌∷◌, ◌++◌, length, vec_len, remove, OnOk};
 ghost use Rattle.std.specs.Vec.{vec_capacity};
@@ -15,7 +15,8 @@ use cspf_db::Table;
 use cspf_model::Batch;
 use std::alloc::AllocError;
 
-/// The index of the first placement with this id, or how many there are where none has it.
+/// The index of the first placement with this id. If no placement has the id, the result is the
+/// number of placements.
 pub(crate) fn index_of(placements: &[Placement], id: u64) -> usize
     ensures { result ≡ index_of_id id placements.now }
 {
@@ -26,7 +27,8 @@ pub(crate) fn index_of(placements: &[Placement], id: u64) -> usize
     at
 }
 
-/// How many links the route at an index has, or none past the last.
+/// How many links the route of the placement at an index has. It is 0 for an index past the last
+/// placement.
 pub(crate) fn links_at(placements: &[Placement], at: usize) -> usize
     ensures { links_placed placements.now ≡ links_placed (remove placements.now at) + result }
 {
@@ -37,8 +39,8 @@ pub(crate) fn links_at(placements: &[Placement], at: usize) -> usize
     }
 }
 
-/// Has places for the sums of the links of the placement at an index, if there is one. In a book
-/// they are there. After an error some may be.
+/// Makes entries of `counts` for the links of the placement at an index, if there is one. In a book
+/// these entries exist already. After an error some of them may be missing.
 pub(crate) fn enter_at(
     counts: &mut Counts,
     placements: &[Placement],
@@ -53,8 +55,8 @@ pub(crate) fn enter_at(
     Ok(())
 }
 
-/// Brings the sums and the effective table from all placements to those but the one at an index, if
-/// there is one.
+/// Takes the placement at an index, if there is one, out of the sums and the effective table. The
+/// list of placements stays.
 pub(crate) fn set_aside(
     table: &mut Table,
     one: &mut Batch,
@@ -79,7 +81,7 @@ pub(crate) fn set_aside(
     }
 }
 
-/// Brings them back from those to all.
+/// Undoes `set_aside`: counts the placement at an index again in the sums and the effective table.
 pub(crate) fn set_back(
     table: &mut Table,
     one: &mut Batch,
@@ -105,8 +107,8 @@ pub(crate) fn set_back(
     }
 }
 
-/// Takes away the sums of the links of the placement at an index, if there is one, where nothing is
-/// counted any more.
+/// Drops the entries of `counts` for the links of the placement at an index, if there is one. An
+/// entry at which something is still counted stays.
 pub(crate) fn forget_at(counts: &mut Counts, placements: &[Placement], at: usize)
     ensures { HasSameSums counts.old counts.new }
 {
@@ -115,7 +117,7 @@ pub(crate) fn forget_at(counts: &mut Counts, placements: &[Placement], at: usize
     }
 }
 
-/// Takes out the placement at an index, if there is one.
+/// Takes the placement at an index, if there is one, out of the list.
 pub(crate) fn take_out(placements: &mut Vec<Placement>, at: usize)
     ensures items { placements.new.items ≡ remove placements.old.items at }
     ensures room { vec_capacity placements.new ≡ vec_capacity placements.old }
@@ -125,7 +127,7 @@ pub(crate) fn take_out(placements: &mut Vec<Placement>, at: usize)
     }
 }
 
-/// Puts in a placement after the others. It takes no memory.
+/// Adds a placement after the others. It takes no memory.
 pub(crate) fn put_in(
     table: &mut Table,
     one: &mut Batch,

@@ -1,5 +1,5 @@
-//! What a request is offered: the best answer and, where it is a route that may be placed, the
-//! placement.
+//! The answer to a request that is to be placed, with the placement if the answer is a route that
+//! may be placed.
 
 ghost use Rattle.std.specs.Prelude.{◌≡◌, ◌↔◌, ◌<◌, ◌≤◌, IfOk, IfErr, IfSome, IsTrue, length};
 ghost use Rattle.cspf_model.specs.Best.{IsBestAnswer, route};
@@ -18,7 +18,7 @@ use cspf_model::{Link, Outcome, Request, Route};
 use cspf_search::best;
 use std::alloc::{AllocError, Global};
 
-/// Whether no two of the links have one key.
+/// Whether no two of the links have the same key.
 pub(crate) fn has_own_keys(links: &[Link]) -> bool
     ensures { IsTrue result ↔ HaveOwnKeys links.now }
 {
@@ -30,7 +30,7 @@ pub(crate) fn has_own_keys(links: &[Link]) -> bool
     true
 }
 
-/// A route along the same links.
+/// A copy of the route.
 fn copy_of(alloc: Global, route: &Route) -> Result<Route, AllocError>
     ensures { IfOk result (λ copy. copy ≡ route.now) }
 {
@@ -38,7 +38,7 @@ fn copy_of(alloc: Global, route: &Route) -> Result<Route, AllocError>
     Ok(Route::new(links, route.cost()))
 }
 
-/// The placement of a request along a route, where there is room for that many links.
+/// The placement of a request along a route. Its route may have at most `room` links.
 fn placement_on(
     alloc: Global,
     route: &Route,
@@ -65,8 +65,8 @@ fn placement_on(
     })
 }
 
-/// An answer to a request and, where it is a route that may be placed, its placement, where there is room
-/// for that many links.
+/// An answer to a request, with its placement if the answer is a route that may be placed. Its
+/// route may have at most `room` links.
 fn offer_of(
     alloc: Global,
     outcome: Outcome,
@@ -78,7 +78,8 @@ fn offer_of(
     ensures same { IfOk result (λ offered. offered.0 ≡ outcome) }
     ensures placement { IfOk result (λ offered.
         IsOffered request.now hold room (answer_of outcome) offered.1) }
-    // Each error keeps its name: memory is refused only to a route that would be placed.
+    // Each error keeps its cause. Memory is refused only for a route that would otherwise be
+    // placed.
     ensures refused { IfErr result (IsAnswerRefused room (answer_of outcome)) }
 {
     match outcome {
@@ -90,8 +91,8 @@ fn offer_of(
     }
 }
 
-/// The best answer to a request in the table's database and, where it is a route that may be
-/// placed, its placement, where there is room for that many links.
+/// The best answer to a request in the table's database, with its placement if the answer is a
+/// route that may be placed. Its route may have at most `room` links.
 fn offer(
     alloc: Global,
     table: &Table,
@@ -109,7 +110,8 @@ fn offer(
     offer_of(alloc, outcome, request, hold, room)
 }
 
-/// What `offer` answers, with places for the sums of the offered placement's links. The sums stay.
+/// Does the same as `offer`, and makes entries of `counts` for the links of the offered placement.
+/// No sum changes.
 pub(crate) fn offer_counted(
     alloc: Global,
     table: &Table,

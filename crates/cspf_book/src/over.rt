@@ -1,4 +1,4 @@
-//! Where changes of the base leave a link with less bandwidth than placements hold there.
+//! Which links have less bandwidth after changes of the base than placements hold on them.
 
 ghost use Rattle.std.specs.Prelude.{◌≡◌, ◌++◌, List, IfOk, OnOk};
 ghost use Rattle.cspf_book.specs.OverLinks.{over_on, over};
@@ -10,18 +10,19 @@ use cspf_addr::Addr;
 use cspf_model::{Change, Link};
 use std::alloc::{AllocError, Global};
 
-/// A link and a priority at which its unreserved bandwidth is less than what is counted on its key.
+/// A link and a priority. The link has less unreserved bandwidth at this priority than is counted
+/// on its key.
 #[derive(Clone, Copy, Debug, PartialEq, Eq)]
 pub struct Over {
-    /// The router that the link runs from.
+    /// The router from which the link runs.
     pub from: Addr,
-    /// The address of its interface there.
+    /// The address of the link's interface at that router.
     pub local: Addr,
     /// The priority, 0 (the highest) to 7.
     pub priority: u8,
 }
 
-/// Lists the priorities at which the link has less than is counted on its key.
+/// Lists the priorities at which the link has less unreserved bandwidth than is counted on its key.
 fn list_over(list: &mut Vec<Over>, counts: &Counts, link: &Link) -> Result<(), AllocError>
     ensures { OnOk result ((placements : List Placed) → IsCountOf counts.now placements
         → list.new.items ≡ list.old.items ++ over_on placements link.now) }
@@ -39,7 +40,7 @@ fn list_over(list: &mut Vec<Over>, counts: &Counts, link: &Link) -> Result<(), A
     Ok(())
 }
 
-/// Lists these priorities of each link that the changes put.
+/// Lists these priorities for each link that the changes put.
 pub(crate) fn find_over(
     alloc: Global,
     counts: &Counts,

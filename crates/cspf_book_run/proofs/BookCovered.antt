@@ -1,4 +1,4 @@
--- What is counted stays covered until the next base batch, and later wherever no `over` line was written.
+-- Links stay covered until the next base batch, and afterwards, too, unless their `over` line was written.
 use Rattle.std.proofs.Common.{◌≡◌, ◌⊎◌, ℕ, zero, suc, ◌+◌, ◌<◌, ◌≤◌, List, [], ◌∷◌, ◌++◌, Result, Ok, Err, IfOk, inl, inr, sym, ap, subst, ◌∙◌, append_assoc, arith}
 use Rattle.std.specs.List.{Contains, flat_map}
 use Rattle.cspf_model.specs.Best.{Answer, unknown_from, unknown_to, no_route, route, IsBestAnswer}
@@ -27,23 +27,23 @@ use Rattle.cspf_book_run.specs.BookScriptLaws.{IsBookCovered, IsSaidOver, RowsKe
 use Rattle.cspf_book_run.specs.BookStates.{IsReadable}
 use Rattle.cspf_book_run.proofs.BookRowLemmas.{readable_row}
 
--- the laws of what is covered that this rests on
+-- the laws of covered links on which these proofs rest
 pub record KeepCovered : Type 0 where
   pub placing : PlacingKeepsCovered
   pub releasing : ReleasingKeepsCovered
   pub absorbing : AbsorbingKeepsCovered
 
--- at the start nothing is counted
+-- At the start nothing is counted, so each link is covered.
 pub covered_at_first : IsBookCovered book_start.book
 covered_at_first l priority there below = omega arith
 
--- the link is covered where the base has it, or this holds
+-- If the base has the link, then the link is covered or X holds.
 abbrev CoveredOr : Type 0 → BookState → Link → ℕ → Type 0
 CoveredOr X b l priority = IsLinkOf b.base l → IsCovered b.placements l priority ⊎ X
 
--- ---- where a line is among others
+-- ---- a line among other lines
 
--- a part after others is a part of all
+-- A text that is part of the second of two texts is part of the joined text.
 later_part : (first before m after : List ℕ) → first ++ (before ++ m ++ after) ≡ first ++ before ++ m ++ after
 later_part first before m after = sym (append_assoc first (before ++ m) after) ∙ ap (λ (z : List ℕ). z ++ after) (sym (append_assoc first before m))
 
@@ -59,7 +59,7 @@ module _ (l : Link) (priority : ℕ) where
   abbrev text : List ℕ
   text = over_line (over_at l priority)
 
-  -- a line that is among some is so before others
+  -- A line among the first lines is among all lines.
   said_first : (lines first second : List ℕ) → lines ≡ first ++ second → IsSaidOver first l priority → IsSaidOver lines l priority
   said_first lines first second split (before, after, is) = (
     before,
@@ -67,7 +67,7 @@ module _ (l : Link) (priority : ℕ) where
     split ∙ ap (λ (z : List ℕ). z ++ second) is ∙ append_assoc (before ++ text) after second,
   )
 
-  -- and after others
+  -- A line among the second lines is among all lines.
   said_second : (lines first second : List ℕ) → lines ≡ first ++ second → IsSaidOver second l priority → IsSaidOver lines l priority
   said_second lines first second split (before, after, is) = (
     first ++ before,
@@ -75,15 +75,16 @@ module _ (l : Link) (priority : ℕ) where
     split ∙ ap (λ (z : List ℕ). first ++ z) is ∙ later_part first before text after,
   )
 
-  -- ---- what rows do to the link
+  -- ---- how rows change what is counted on the link
 
-  -- What rows do: a link that isn't covered afterwards wasn't before, or they accept a base batch and say so.
+  -- If the link isn't covered after the rows, it wasn't before, or the rows accept a base batch and have its
+  -- `over` line.
   pub record KeepsCover (s t : BookRunState) (lines : List ℕ) : Type 1 where
     pub batches : s.batches ≤ t.batches
     pub cover : (X : Type 0) → CoveredOr X s.book l priority
         → CoveredOr (X ⊎ ((s.batches < t.batches) × IsSaidOver lines l priority)) t.book l priority
 
-  -- where no base batch is accepted
+  -- No base batch is accepted.
   kept : (s t : BookRunState) (lines : List ℕ) → t.batches ≡ s.batches
       → ((X : Type 0) → CoveredOr X s.book l priority → CoveredOr X t.book l priority) → KeepsCover s t lines
   kept s t lines batches keeps = record {
@@ -91,12 +92,12 @@ module _ (l : Link) (priority : ℕ) where
     cover = λ X covered there. elim (keeps X covered there) [ inl c ↦ inl c | inr x ↦ inr (inl x) ];
   }
 
-  -- the book stays
+  -- The book stays.
   stays : (s t : BookRunState) (lines : List ℕ) → t.batches ≡ s.batches → t.book ≡ s.book → KeepsCover s t lines
   stays s t lines batches book = kept s t lines batches (λ X covered. subst (λ (b : BookState). CoveredOr X b l priority) (sym book) covered)
 
   module _ (laws : KeepCovered) (below : priority < 8) where
-    -- a placing keeps covered what is covered
+    -- A placement keeps each covered link covered.
     placing_covers : (old new : BookState) (q : Request) (hold : ℕ) (answer : Answer) → q.setup ≡ 7
         → IsBestAnswer (effective_beside old q.id) q answer → IsAnswerPlaced old q hold answer new
         → (X : Type 0) → CoveredOr X old l priority → CoveredOr X new l priority
@@ -119,7 +120,7 @@ module _ (l : Link) (priority : ℕ) where
           | inr x ↦ inr x
         ]
 
-    -- changes of the base keep covered what is covered, or say so
+    -- Changes of the base keep the link covered, or its `over` line is among the lines.
     absorbing_covers : (s t : BookRunState) (number : ℕ) (line : List ℕ) → AreBaseLines s number line → t ≡ after_base_batch s → KeepsCover s t line
     absorbing_covers s t number line (ids, lost, is) after = rw after (record {
       batches = omega arith;

@@ -1,4 +1,4 @@
--- Rows to a book are answered in one way.
+-- Each row of a book has only one answer.
 use Rattle.std.proofs.Common.{◌≡◌, ℕ, suc, ◌<◌, ◌++◌, List, [], ◌∷◌, take, drop, IsTrue, Result, Ok, Err, inl, inr, refl, sym, ap, subst, ◌∙◌, codes, arith}
 use Rattle.std.proofs.Math.Bridge.{le_prop}
 use Rattle.cspf_model.specs.Best.{Answer, unknown_from, unknown_to, no_route, route, IsBestAnswer}
@@ -74,9 +74,9 @@ ask_once best reply s q l m t u a b =
     let same : a.0 ≡ b.0 = best _ q a.0 b.0 a.1 b.1 in
     (reply q.id _ b.0 l m (rw same at a.2) b.2, a.3 ∙ sym b.3)
 
--- ---- placings
+-- ---- `place` rows
 
--- placements of the same parts
+-- the placement with these parts
 abbrev made : (q : Request) (hold : ℕ) (walk : List Link) → hold < 8 → Placement
 made q hold walk below = record { request = q; hold = hold; route = walk; priority = below }
 
@@ -107,9 +107,9 @@ place_reply_once reply id version answer l m (rest, is, line) (rest2, is2, line2
     let rests : rest ≡ rest2 = ap (drop 3) same in
     line ∙ rw rests (sym line2)
 
--- an answered request isn't refused
+-- A request that is answered isn't refused.
 module _ (best : OneBestAnswer) (s : BookRunState) (q : Request) (hold : ℕ) where
-  -- the answer is another one than this route, or it is placed
+  -- If the best answer is a route, this route is placed.
   other_answer : (l : List ℕ) (book : BookState) (a : IsPlaceAnswered s q hold l book) (walk : List Link) → IsBestAnswer (effective_beside s.book q.id) q (route walk) → IsPlacedAlong s.book q hold walk book
   other_answer l book a walk is = subst (λ (x : Answer). IsAnswerPlaced s.book q hold x book) (best _ q a.answer (route walk) a.best is) a.placed
 
@@ -157,7 +157,7 @@ module _ (best : OneBestAnswer) (s : BookRunState) (q : Request) (hold : ℕ) wh
   place_once reply l m t u (inr (why, r, line, after)) (inr (why2, r2, line2, after2)) =
       (line ∙ rw (place_refusal_once why why2 r r2) (sym line2), after ∙ sym after2)
 
--- ---- releases
+-- ---- `release` rows
 
 release_refusal_once : (s : BookRunState) (id : ℕ) (why other : ReleaseRefusal) → IsReleaseRefusal s id why → IsReleaseRefusal s id other → why ≡ other
 release_refusal_once s id unreleased.Exhausted unreleased.Exhausted a b = refl
@@ -176,7 +176,7 @@ release_once s id l m t u (inr (why, r, line2, after2)) (inl (room, has, line, a
 release_once s id l m t u (inr (why, r, line, after)) (inr (why2, r2, line2, after2)) =
     (line ∙ rw (release_refusal_once s id why why2 r r2) (sym line2), after ∙ sym after2)
 
--- ---- rows
+-- ---- all rows
 
 step_once : OneBestAnswer → HasOneReplyLine → OneRefusal → (s : BookRunState) (row : Step) (l m : List ℕ) (t u : BookRunState)
     → IsBookStepAnswered s row l t → IsBookStepAnswered s row m u → SameBookReply l t m u

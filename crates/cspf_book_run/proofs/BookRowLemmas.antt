@@ -1,4 +1,4 @@
--- Rows that place.
+-- The `place` rows.
 use Rattle.std.proofs.Common.{◌≡◌, ◌==◌, ℕ, Bool, true, false, cond, List, length, codes, refl, sym, ◌∙◌, Result, Ok, Err, IfOk}
 use Rattle.std.specs.Result.{result_map_both}
 use Rattle.cspf_model.specs.Fields.{AreFieldsOfRequests, HasRequestFields, request_fields}
@@ -15,7 +15,7 @@ use Rattle.cspf_book_run.specs.declared.book_row.BookRow.TheVariants as book_row
 use Rattle.cspf_book_run.specs.BookRows.{at_lowest_setup, placed_as_asked, place_row_of, release_row_of, book_row_of}
 use Rattle.cspf_book_run.specs.BookStates.{IsReadable}
 
--- a request with the fields of another at setup priority 7 is that one
+-- A request with the same fields at setup priority 7 is `at_lowest_setup` of the other request.
 pub lowest_setup : AreFieldsOfRequests → (q r : Request)
     → HasRequestFields r (request_fields q.id q.from q.to 7 q.bandwidth q.exclude_any q.include_any q.include_all q.hops) → r ≡ at_lowest_setup q
 lowest_setup requests q r h =
@@ -24,7 +24,7 @@ lowest_setup requests q r h =
     let other = ask-request requests (at_lowest_setup q) fields ((requests (at_lowest_setup q) fields).1 refl) in
     cc (sym one ∙ other)
 
--- a request that is placed has setup priority 7
+-- The request of a `place` row has setup priority 7.
 pub readable_place : (r : Result Row RowError) → IfOk (placed_as_asked r) IsReadable
 readable_place (Err e) = tt
 readable_place (Ok (row.Ask q)) = (refl, q.priority)
@@ -50,7 +50,7 @@ readable_release : (r : Result ℕ RowError) → IfOk (result_map_both book_row.
 readable_release (Ok id) = tt
 readable_release (Err e) = tt
 
--- a row that is read says what a row of a book says
+-- A row that is read is readable: a request to place has setup priority 7, and its holding priority is at most 7.
 pub readable_row : (fields : List (List ℕ)) → IfOk (book_row_of fields) IsReadable
 unfolding book_row_of
 readable_row fields =

@@ -1,4 +1,4 @@
--- A run to a book: from the answers of the code to the lines and the summary, and where it stops.
+-- A run of a book: from the answers of the code to the lines and the summary, and how a run stops.
 use Rattle.std.proofs.Common.{◌≡◌, ◌≢◌, ℕ, suc, ◌+◌, ◌<◌, ◌≤◌, Bool, true, false, List, [], ◌∷◌, ◌++◌, take, length, length-append, Option, Some, None, IfSome, Result, Ok, Err, IfOk, IfErr, OnOk, inl, inr, refl, sym, ap, subst, ◌∙◌, append-nil, arith}
 use Rattle.std.proofs.KnownBytes.{Appends-nil, Appends-trans, Appends-kept}
 use Rattle.std.proofs.lemmas.Bool.{false≢true}
@@ -29,8 +29,7 @@ use Rattle.cspf_book_run.specs.KeptStates.{IsRowKept, IsRowUnkept, IsRowNotKept}
 abbrev Rows : Type 0
 Rows = List (List (List ℕ))
 
--- rows that the code answers one after the other, from the state that is kept before to one that is kept
--- afterwards
+-- The code answers these rows one after the other, and goes from the state before to the state after.
 pub record IsCarried {K : Type 0} (contents : K → Option (List ℕ)) (place : ℕ) (k k' : KeptRows K) (s : BookRunState) (rows : List (List (List ℕ))) (lines : List ℕ) : Type 0 where
   pub after : BookRunState
   pub kept : KeepsBook k'.rows after
@@ -148,11 +147,11 @@ module _ {K : Type 0} (contents : K → Option (List ℕ)) (all left : Option (L
 abbrev pub IsBookWritten : Option (List (List (List ℕ))) → Option (List ℕ) → Option (List ℕ) → Summary → Type 0
 IsBookWritten all old new summary = IfSome all (λ rows. (lines : List ℕ) × IsBookRun rows lines summary × Appends old new lines)
 
--- what is kept of all rows
+-- the text that is kept of all rows
 abbrev pub IsBookKept : Option (List (List (List ℕ))) → Option (List ℕ) → Option (List ℕ) → Type 0
 IsBookKept all old new = IfSome all (λ rows. (text : List ℕ) × IsKeptText rows text × Appends old new text)
 
--- the last line was written
+-- The last line was written.
 abbrev pub IsBookEnded : BookRows → Bool → Option (List ℕ) → Option (List ℕ) → Summary → Type 0
 IsBookEnded k too_many old new summary =
     (s : BookRunState) → KeepsBook k s → Appends old new (last_line too_many s.changes) × (summary ≡ book_summary_of k.read s too_many)
@@ -181,9 +180,9 @@ keeps (Some all) w k bytes too_many run =
     let read = rows_read too_many (length run.done) all run.done run.rest run.split refl run.past in
     (run.keeps, (run.state, rw read.0 run.are_kept), run.keep)
 
--- ---- where the run stops
+-- ---- how the run stops
 
--- a prefix of the rows is answered, with these lines, and this is kept of them
+-- A prefix of the rows is answered with these lines, and this text is kept of them.
 record IsBegun (all : Option (List (List (List ℕ)))) (w : Written) (done rest : List (List (List ℕ))) (s : BookRunState) (out kept : List ℕ) : Type 0 where
   split : IfSome all (λ rows. rows ≡ done ++ rest)
   few : length done ≤ 1000000
@@ -209,7 +208,7 @@ cut_text : (out line : List ℕ) (size written n : ℕ) → length out ≡ writt
 cut_text out line size written n is_out part is_n =
     length-append out (take size line) ∙ rw (length-take-le size line (omega (arith, part)), is_out, is_n) refl
 
--- the writer of the lines stops in a text, before which this is kept of the row
+-- The writer of the lines stops within a text. `more` is the text that was kept before.
 cut_off : (all : Option Rows) (w : Written) (new keep_new : Option (List ℕ)) (done rest : Rows) (s : BookRunState) (out kept text more : List ℕ) (size written n : ℕ)
     → IsBegun all w done rest s out kept → IsNextBookText done s rest text more → size < length text
     → Appends w.after new (take size text) → Appends w.keep_after keep_new more → length out ≡ written → n ≡ written + size
@@ -246,7 +245,7 @@ in_row_split : (all left : Option Rows) (done rest : Rows) (fields : List (List 
 in_row_split None left done rest fields is = tt
 in_row_split (Some all) left done rest fields is = is.0
 
--- the writer of what is kept stops in that of a row
+-- The writer of the kept texts stops within the text of a row.
 keep_off : (all : Option Rows) (w : Written) (keep_new : Option (List ℕ)) (done rest : Rows) (fields : List (List ℕ)) (s next : BookRunState) (out kept line text : List ℕ) (written : ℕ)
     → IsBegun all w done (fields ∷ rest) s out kept → length done < 1000000 → book_answers (suc (length done)) s fields line next → text ≡ kept_of s fields next
     → written < length text → Appends w.keep_after keep_new (take written text)
@@ -278,13 +277,13 @@ module _ {K : Type 0} (contents : K → Option (List ℕ)) (all left : Option (L
   abbrev ends_with : Bool → Result Bool BookError → Type 0
   ends_with failed r = IsBookRowsEnd all (record { before = old; after = new; keep_before = contents k.keep; keep_after = contents k'.keep }) k'.rows bytes failed r
 
-  -- rows that are answered before a stop
+  -- the rows that were answered before the stop
   before_stop : (mid : KeptRows K) (done rest : Rows) (lines : List ℕ) (at : Option (List ℕ)) → IfSome all (λ rows. rows ≡ done ++ rest) → length done ≤ 1000000
       → Appends old at lines → (c : IsCarried contents 1 k mid book_start done lines)
       → IsBegun all (record { before = old; after = at; keep_before = contents k.keep; keep_after = contents mid.keep }) done rest c.after lines c.text
   before_stop mid done rest lines at split few text c = record { split = split; few = few; answered = c.answered; keeps = c.texts; text = text; keep = c.written }
 
-  -- no write of what is kept failed
+  -- No write of a kept text failed.
   at_none : (failed : Bool) (ended : Result (Unit {0}) StreamError) (fault : Option ℕ) → k'.fault ≡ fault → k'.fault ≡ None → ends_with failed (book_end bytes ended None)
       → ends_with failed (book_end bytes ended fault)
   at_none failed ended fault is none h = subst (λ (f : Option ℕ). ends_with failed (book_end bytes ended f)) (sym none ∙ is) h
@@ -340,7 +339,7 @@ module _ {K : Type 0} (contents : K → Option (List ℕ)) (all left : Option (L
         row.going,
       )
 
-  -- nothing is flushed
+  -- A run doesn't flush, so no flush fails.
   no_flush : StopsInRowAfter (IsRowKept contents) (IsRowNotKept contents) 1000000 false bytes stream_error.Flush all left k k' old new → ⊥
   no_flush a = false≢true a.stops.1.2
 
@@ -381,11 +380,11 @@ most_done : (done rest : Rows) (too_many : Bool) → IsPast too_many (length don
 most_done done rest false past = past.1
 most_done done rest true past = omega (arith, past.1)
 
--- the bytes of the lines at the end
+-- the bytes of the two writers at the end of the run
 abbrev pub at_end : Written → Option (List ℕ) → Written
 at_end w new = record { before = w.before; after = new; keep_before = w.keep_before; keep_after = w.keep_after }
 
--- all rows are answered, and the writer of their lines has these bytes
+-- All rows are answered, and the writer has the bytes of their lines.
 all_begun : (all : Option Rows) (w : Written) (at : Option (List ℕ)) (k : BookRows) (bytes : ℕ) (too_many : Bool) (run : HasRunBook all w k bytes too_many) → Appends w.before at run.out
     → IsBegun all (at_end w at) run.done run.rest run.state run.out run.keeps
 all_begun all w at k bytes too_many run text = record {
@@ -397,7 +396,7 @@ all_begun all w at k bytes too_many run text = record {
   keep = run.keep;
 }
 
--- the last line stopped
+-- Writing the last line stops.
 stops_at_end : (all : Option Rows) (w : Written) (new : Option (List ℕ)) (k : BookRows) (bytes : ℕ) (too_many : Bool) (error : BookError)
     → HasRunBook all w k bytes too_many → ((s : BookRunState) → KeepsBook k s → IsBookEndCut (last_line too_many s.changes) w.after new bytes error) → IsBookHalted all (at_end w new) error
 stops_at_end all w new k bytes too_many (book_error.Keep written) run cut = absurd (cut run.state run.kept)
@@ -410,14 +409,14 @@ stops_at_end all w new k bytes too_many (book_error.Run (run_error.Write n)) run
     cut_off all w new w.keep_after run.done run.rest run.state run.out run.keeps (last_line too_many run.state.changes) [] c.0 bytes n
     (all_begun all w w.after k bytes too_many run run.text) (end_next run.done run.rest run.state too_many run.past) c.1 c.2 (Appends-nil w.keep_after) run.size c.3
 
--- a last line that stops isn't a read that fails
+-- An error of the last line isn't `Read`.
 end_not_read : (line : List ℕ) (old new : Option (List ℕ)) (written : ℕ) (error : BookError) → IsBookEndCut line old new written error → error ≢ book_error.Run run_error.Read
 end_not_read line old new written (book_error.Keep n) cut = absurd cut
 end_not_read line old new written (book_error.Run run_error.Memory) cut = λ e. cc e
 end_not_read line old new written (book_error.Run run_error.Read) cut = absurd cut
 end_not_read line old new written (book_error.Run (run_error.Write n)) cut = λ e. cc e
 
--- where the last line was written, or stopped
+-- The last line was written, or writing it stops.
 module _ (all : Option (List (List (List ℕ)))) (w : Written) (new : Option (List ℕ)) (k : BookRows) (bytes : ℕ) (too_many : Bool) (run : HasRunBook all w k bytes too_many) where
   pub run_ends : (r : Result Summary BookError) → IfOk r (λ summary. IsBookEnded k too_many w.after new summary) → IfOk r (λ summary. IsBookWritten all w.before new summary)
   run_ends (Err error) ended = tt
@@ -437,7 +436,7 @@ module _ (all : Option (List (List (List ℕ)))) (w : Written) (new : Option (Li
   not_read (Ok summary) P cut = tt
   not_read (Err error) P cut = λ e. absurd (end_not_read (last_line too_many run.state.changes) w.after new bytes error (cut run.state run.kept) e)
 
--- nothing was read yet
+-- No row was read yet.
 pub halted_at_start : (bytes old keep : Option (List ℕ))
     → IfSome bytes (λ text. (out : List ℕ) × (kept : List ℕ) × IsBookBegun (rows_of text) out kept × Appends old old out × Appends keep keep kept)
 halted_at_start None old keep = tt

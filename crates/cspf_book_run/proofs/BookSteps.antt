@@ -21,11 +21,11 @@ use Rattle.cspf_book_run.specs.BookScript.{BookRunState, IsBaseAccepted, IsBaseR
 use Rattle.cspf_book_run.specs.BookEnds.{IsRightBookEnd, IsWrongBookEnd, IsBatchApplied}
 use Rattle.cspf_book_run.specs.BookStates.{BookLeads}
 
--- the batch isn't accepted, for this reason
+-- The batch isn't accepted, for this reason.
 abbrev pub IsNotApplied : BookRunState → ℕ → ℕ → BatchRefusal → Type 0
 IsNotApplied s number count why = (¬ IsBaseAccepted s number count) × IsBaseRefusal s number count why
 
--- an end row that isn't right
+-- An end row that is wrong accepts no batch.
 pub wrong_base_end : (s : BookRunState) (version batches number count changes : ℕ) (why : BatchRefusal) → version ≡ s.book.version → batches ≡ s.batches → changes ≡ length s.changes
     → IsWrongBookEnd version batches number count changes why → IsNotApplied s number count why
 wrong_base_end s version batches number count changes refusal.Stopped is_version is_batches is_count wrong = absurd wrong
@@ -42,7 +42,7 @@ wrong_base_end s version batches number count changes (refusal.Unfit why) is_ver
 wrong_base_end s version batches number count changes refusal.Memory is_version is_batches is_count wrong = absurd wrong
 wrong_base_end s version batches number count changes (refusal.Journal written) is_version is_batches is_count wrong = absurd wrong
 
--- an end row that isn't right is refused
+-- An end row that is wrong is refused.
 pub end_refused : (k k' : BookRows) (number count : ℕ) (why : BatchRefusal) (line : List ℕ)
     → IsWrongBookEnd k.book.version k.batches number count k.changes.count why
     → BookLeads k k' (λ s t. (line ≡ refused_batch_line number why) × (t ≡ after_refused_base_batch s))
@@ -73,14 +73,14 @@ applied_answer unfit s t version batches number count changes line is_version is
   after,
 )
 
--- an end row that is right is answered as its batch is applied
+-- An end row that is right is answered, and its batch is applied or dropped.
 pub end_applied : RefusedIsUnfit → (k k' : BookRows) (number count : ℕ) (line : List ℕ) → IsRightBookEnd k.book.version k.batches number count k.changes.count
     → BookLeads k k' (λ s t. IsBatchApplied s number line t) → BookLeads k k' (λ s t. IsBaseEndAnswered s number count line t)
 end_applied unfit k k' number count line right lead s kept =
     let l = lead s kept in
     (l.0, l.1, applied_answer unfit s l.0 k.book.version k.batches number count k.changes.count line (ap (λ (b : BookState). b.version) kept.book) kept.batches kept.changes.count right l.2)
 
--- a batch is made of the changes that are kept
+-- The batch has the changes that the code keeps.
 module _ (k k' : BookRows) (number : ℕ) where
   pub batch_applied : (overs : List Over) (ids lines : List ℕ) (version : ℕ)
       → Fits k.book.base (record { number = number; changes = k.changes.batch.changes })
@@ -130,7 +130,7 @@ module _ (k k' : BookRows) (number : ℕ) where
       let whole = refusal_whole k.book.base number k.changes.batch.changes s.changes why kept.changes.changes is in
       (l.0, l.1, inr (why, subst (λ (b : BookState). IsRefusal b.base (open_base_batch s number) why) kept.book whole, l.2.0, l.2.1))
 
-  -- the open changes are dropped
+  -- The open changes are dropped.
   pub batch_refused : (why : BatchRefusal) (lines : List ℕ) → lines ≡ refused_batch_line number why
       → k'.book ≡ k.book → k'.batches ≡ k.batches → AreOpen k'.changes [] → k'.answers ≡ k.answers → k'.refused ≡ k.refused + 1
       → BookLeads k k' (λ s t. (lines ≡ refused_batch_line number why) × (t ≡ after_refused_base_batch s))
@@ -146,7 +146,7 @@ module _ (k k' : BookRows) (number : ℕ) where
     (line_is, refl),
   )
 
--- one more change is open
+-- A change is added to the open changes.
 pub change_opened : (k k' : BookRows) (c : Change) (lines : List ℕ) → lines ≡ []
     → ((all : List Change) → AreOpen k.changes all → AreOpen k'.changes (all ++ c ∷ []))
     → k'.book ≡ k.book → k'.batches ≡ k.batches → k'.answers ≡ k.answers → k'.refused ≡ k.refused

@@ -1,4 +1,4 @@
--- What is kept of rows makes their book again.
+-- The kept text of rows restores their book.
 use Rattle.std.proofs.Common.{◌≡◌, ◌==◌, ℕ, zero, suc, ◌+◌, ◌≤◌, ◌<◌, ◌^◌, ◌⊎◌, Bool, true, false, cond, List, [], ◌∷◌, ◌++◌, map, length, codes, slice_index, Result, Ok, Err, inl, inr, refl, sym, ap, subst, ◌∙◌, append_assoc, append-nil, eq-eqb, arith}
 use Rattle.std.proofs.lemmas.Bool.{cases_Bool, eqb-true}
 use Rattle.std.proofs.lemmas.Grind.{flat_map-append}
@@ -40,7 +40,7 @@ use Rattle.cspf_book_run.specs.Kept.{kept_answers, kept_of, text_of_row, text_of
 use Rattle.cspf_book_run.specs.KeptLaws.{KeptIsTheBook}
 use Rattle.cspf_book_run.proofs.KeptTexts.{StartsPlain, IsPlainRecord, kept_cut, change_plain, end_plain, lines_rows, rows_start}
 
--- the laws of rows that this rests on
+-- the laws of rows on which these proofs rest
 pub record ReadsRows : Type 0 where
   pub read : AreRowsRead
   pub puts : ArePutsReadBack
@@ -50,9 +50,9 @@ pub record ReadsRows : Type 0 where
   pub masks : AreMasksRead
   pub back : AreMasksReadBack
 
--- ---- the range of what a row says
+-- ---- the ranges of the numbers in a row
 
--- the numbers of what a row asks for are those of its types
+-- The numbers of a step are in the ranges of their types.
 abbrev IsStepInRange : Step → Type 0
 IsStepInRange (step.Change c) = IsChangeInRange c
 IsStepInRange (step.End number count) = (number < 2 ^ 32) × (count < 2 ^ 32)
@@ -91,7 +91,7 @@ row_in_range fields (row.Ask q) s = tt
 
 -- ---- the kinds of rows
 
--- what a record says to a book is what it says by its first field
+-- The first field of a record decides how the book reads it.
 abbrev IsOfKind : List (List ℕ) → Type 0
 IsOfKind fields =
     ((field fields 1 ≡ codes "place") × (book_row_of fields ≡ place_row_of fields))
@@ -111,7 +111,7 @@ counted : (b : Bool) (x : Result BookRow RowError) (r : BookRow) → cond b x (E
 counted true x r is = (refl, is)
 counted false x r is = absurd (cc)
 
--- the rows that are made of one that asks, of an id, and of one of the base
+-- the result of a record that is read as this row of a book
 abbrev read_as : BookRow → Result BookRow RowError
 read_as r = Ok r
 
@@ -134,7 +134,7 @@ of_base : (x : Result Row RowError) (r : BookRow) → result_map_both book_row.B
 of_base (Ok b) r is = (b, sym (ok_same (book_row.Base b) r is), refl)
 of_base (Err e) r is = absurd (cc)
 
--- a row that places, that releases, and of the base
+-- the records from which a `place` row, a `release` row and a row of the base are read
 from_place : (fields : List (List ℕ)) (r : BookRow) → place_row_of fields ≡ Ok r → (q : Request) × (hold : ℕ) × (r ≡ book_row.Place q hold) × (length fields ≡ 10)
 from_place fields r is =
     let n = counted (length fields == 10) (placed_as_asked (ask_row_of fields)) r is in
@@ -147,7 +147,7 @@ from_release fields r is =
     let made = of_id (number_at fields 2) r n.1 in
     (made.0, made.1, eqb-true (length fields) 2 n.0)
 
--- a row of the base is one that is read of the record
+-- A row of the base is the row of a database that the record spells.
 base_of : (fields : List (List ℕ)) (b : Row) → IsOfKind fields → book_row_of fields ≡ Ok (book_row.Base b) → row_of fields ≡ Ok b
 base_of fields b (inl place) is =
     let made = from_place fields (book_row.Base b) (sym place.1 ∙ is) in absurd (let e : book_row.Base b ≡ book_row.Place made.0 made.1 = made.2 in cc)
@@ -159,7 +159,7 @@ base_of fields b (inr (inr base)) is =
     let one : b ≡ made.0 = cc in
     made.2 ∙ ap Ok (sym one)
 
--- a record of two fields or more that begins with a word
+-- A record with at least two fields whose first field is this word.
 word_first : (fields : List (List ℕ)) (word : List ℕ) → 2 ≤ length fields → field fields 1 ≡ word → (second : List ℕ) × (others : List (List ℕ)) × (fields ≡ word ∷ second ∷ others)
 unfolding field_at
 word_first [] word two is = absurd (omega arith)
@@ -204,7 +204,7 @@ none_answered : (p : ℕ) (s t : BookRunState) → t ≡ s → AreAnswered book_
 unfolding AreAnswered
 none_answered p s t same = (refl, same)
 
--- a state with these changes open
+-- the state with these open changes
 abbrev opened : BookRunState → List Change → BookRunState
 opened s cs = record s { changes = cs }
 
@@ -212,7 +212,7 @@ module _ (laws : ReadsRows) where
   spelled : (bits : ℕ) → bits < 2 ^ 32 → SpellsMask (mask_text bits) bits
   spelled bits small = (laws.masks (mask_text bits) bits).0 (laws.back bits small)
 
-  -- the record of a change opens the change
+  -- The record of a change adds it to the open changes.
   change_taken : (p : ℕ) (s : BookRunState) (c : Change) → IsChangeInRange c → book_answers p s (change_fields c) [] (after_open_change s c)
   unfolding book_row_of field_at
   change_taken p s (change.Put link) range = rw (laws.puts link (mask_text link.group) range.0 (spelled link.group range.1)) (refl, refl)
@@ -232,7 +232,7 @@ module _ (laws : ReadsRows) where
         (changes_taken cs (suc p) (after_open_change s c) range.1),
   )
 
-  -- the end row of a batch that is accepted
+  -- The end row of an accepted batch is answered.
   end_taken : (p : ℕ) (s : BookRunState) (number count : ℕ) (line : List ℕ) → number < 2 ^ 32 → length s.changes < 2 ^ 32 → IsBaseAccepted s number count → AreBaseLines s number line
       → (answers : ℕ) → let from : BookRunState = record { book = s.book; batches = s.batches; changes = s.changes; answers = answers; refused = 0 } in
       book_answers p from (end_fields number (length s.changes)) line (after_base_batch from)
@@ -246,14 +246,14 @@ module _ (laws : ReadsRows) where
   records_plain [] number count range small few = (end_plain number count small few, tt)
   records_plain (c ∷ cs) number count range small few = (change_plain c spelled range.0, records_plain cs number count range.1 small few)
 
--- ---- what is kept of rows
+-- ---- the kept texts of rows
 
--- the state of a run over what is kept, between what is kept of two rows
+-- the state of a run over the kept texts, after the text of one row and before the next
 abbrev bare : BookState → ℕ → ℕ → BookRunState
 bare book batches answers = record { book = book; batches = batches; changes = []; answers = answers; refused = 0 }
 
--- What is kept of a number of rows are records, and a run over them goes on to the same book. With the open
--- changes they are no more than the rows.
+-- The text that is kept of n rows is a list of records, and a run over these records ends with the same book. The
+-- records and the open changes are together at most as many as the rows.
 record Remakes (n : ℕ) (s t : BookRunState) (text : List ℕ) : Type 0 where
   records : List (List (List ℕ))
   is : text ≡ flat_map (row_text default_writer) records
@@ -277,7 +277,7 @@ nothing_kept s t text book batches few = record {
 another_version : (old new : ℕ) → new ≡ old + 1 → (new == old) ≡ false
 another_version old new rises = elim (cases_Bool (new == old)) [ inl same ↦ absurd (omega (arith, eqb-true new old same, rises)) | inr other ↦ other ]
 
--- the row itself is kept
+-- The row itself is kept.
 row_kept : (s t : BookRunState) (fields : List (List ℕ)) (line : List ℕ) (more : ℕ → ℕ) → t.book.version ≡ s.book.version + 1 → length t.changes ≤ length s.changes → StartsPlain fields
     → ((p a : ℕ) → book_answers p (bare s.book s.batches a) fields line (bare t.book t.batches (more a)))
     → Remakes 1 s t (cond (t.book.version == s.book.version) [] (row_text default_writer fields))
@@ -289,7 +289,7 @@ row_kept s t fields line more rises few starts answered = record {
   runs = λ a. (more a, line, λ p. one_answered p (bare s.book s.batches a) (bare t.book t.batches (more a)) fields line (answered p a));
 }
 
--- the open changes are in range
+-- The numbers of the open changes are in range.
 abbrev AreOpenInRange : BookRunState → Type 0
 AreOpenInRange s = AllByRecursion IsChangeInRange s.changes
 
@@ -348,7 +348,7 @@ module _ (laws : ReadsRows) where
         subst (AllByRecursion IsChangeInRange) (sym opens) tt,
       )
 
-  -- a row that places, by its answer
+  -- A `place` row and its answer.
   placed_remakes : (s t : BookRunState) (fields : List (List ℕ)) (q : Request) (hold : ℕ) (line : List ℕ) (x : IsPlaceAnswered s q hold line t.book) (answer : Answer) → IsAnswerPlaced s.book q hold answer t.book
       → t ≡ after_answer s t.book → book_row_of fields ≡ Ok (book_row.Place q hold) → Remakes 1 s t (cond (t.book.version == s.book.version) [] (row_text default_writer fields))
   placed_remakes s t fields q hold line x unknown_from placed after is =

@@ -1,4 +1,4 @@
--- What is kept of a row, by the version before it and after it.
+-- The kept text of a row, from the versions before and after the row.
 use Rattle.std.proofs.Common.{◌≡◌, ◌==◌, ℕ, ◌+◌, ◌≤◌, Bool, true, false, cond, List, [], length, Result, Ok, Err, inl, inr, refl, sym, ap, subst, ◌∙◌, eq-eqb, arith}
 use Rattle.std.proofs.lemmas.Bool.{cases_Bool, false≢true}
 use Rattle.std.proofs.lemmas.List.{take_all}
@@ -18,11 +18,11 @@ use Rattle.cspf_book_run.specs.BookStates.{KeepsBook, IsAnsweredByBook}
 use Rattle.cspf_book_run.specs.Kept.{text_of_step, text_of_row, kept_of}
 use Rattle.cspf_book_run.specs.KeptStates.{IsTextOfStep, IsTextOfRow, IsRenumbered, IsAnsweredAndKept}
 
--- the book stays, so the version does
+-- If the book stays, so does its version.
 stays : (s t : BookRunState) (P : Type 0) → t.book ≡ s.book → (t.book.version == s.book.version) ≡ false → P
 stays s t P book other = absurd (false≢true (sym other ∙ eq-eqb t.book.version s.book.version (ap (λ (b : BookState). b.version) book)))
 
--- the text of a row that makes a version is that of all open changes
+-- If a row makes a version, its text is the text of all open changes.
 step_text : (s t : BookRunState) (row : Step) (line text : List ℕ) → IsBookStepAnswered s row line t → (t.book.version == s.book.version) ≡ false → IsTextOfStep s row text
     → text ≡ text_of_step s row
 step_text s t (step.Change c) line text a other is = is
@@ -55,7 +55,7 @@ renumbered_keeps old new s same kept = record {
   refused = same.refused ∙ kept.refused;
 }
 
--- a row is answered after its text is made, and this is kept of it
+-- The text of a row is made first, then the row is answered, and the text is kept if the version has changed.
 pub answered_and_kept : (place : ℕ) (old numbered new : BookRows) (fields : List (List ℕ)) (line raw text : List ℕ) (version after : ℕ)
     → IsRenumbered old numbered → ((s : BookRunState) → KeepsBook old s → IsTextOfRow s fields (book_row_of fields) raw)
     → IsAnsweredByBook place numbered (book_row_of fields) line new → version ≡ numbered.book.version → after ≡ new.book.version → text ≡ cond (after == version) [] raw
@@ -77,7 +77,8 @@ answered_and_kept place old numbered new fields line raw text version after same
   };
 }
 
--- the text of the open changes that are kept is that of them all, where they are as many as a batch may have
+-- If at most as many changes are open as a batch may have, the text of the kept changes is the text of all open
+-- changes.
 pub batch_kept : (k : BookRows) (s : BookRunState) (number : ℕ) (text : List ℕ) → KeepsBook k s → length s.changes ≤ 4096
     → text ≡ batch_text (record { number = number; changes = k.changes.batch.changes }) → text ≡ batch_text (open_base_batch s number)
 batch_kept k s number text kept few is =

@@ -1,4 +1,4 @@
--- The texts that are kept are cut into their records.
+-- A kept text is read as the records that were kept.
 use Rattle.std.proofs.Common.{◌≡◌, ℕ, zero, suc, ◌≤◌, ◌<◌, ◌^◌, Bool, true, false, List, [], ◌∷◌, ◌++◌, length, refl, sym, ap, subst, ◌∙◌, append_assoc, arith}
 use Rattle.std.proofs.lemmas.List.{length-append}
 use Rattle.std.specs.Fmt.{decimal}
@@ -19,8 +19,8 @@ use Rattle.cspf_rows.specs.Written.{end_fields}
 use Rattle.cspf_rows.proofs.Lines.{line_text-cons}
 use Rattle.cspf_rows.proofs.PlainFields.{IsUnquoted, AreUnquoted, decimal_unquoted, decimals_unquoted, address_unquoted, mask_unquoted}
 
--- Two fields or more, the first of which begins with three letters that are no byte order mark, and needs no
--- quotes.
+-- A record of at least two fields. The first field begins with three letters that are no byte order mark, and it
+-- needs no quotes.
 pub record StartsPlain (fields : List (List ℕ)) : Type 0 where
   pub a : ℕ
   pub b : ℕ
@@ -32,7 +32,7 @@ pub record StartsPlain (fields : List (List ℕ)) : Type 0 where
   pub no_mark : is_bom a b c ≡ false
   pub plain : field_text default_writer (a ∷ b ∷ c ∷ word) ≡ a ∷ b ∷ c ∷ word
 
--- no bytes are no records
+-- No bytes have no records.
 none_left : (n : ℕ) → records_from default_config n st.StartRecord [] ≡ []
 unfolding records_from next_record
 none_left zero = refl
@@ -54,7 +54,7 @@ cut_rows n [] few h = none_left n
 cut_rows zero (r ∷ rs) few h = absurd (omega arith)
 cut_rows (suc n) (r ∷ rs) few h = next_plain n r (flat_map (row_text default_writer) rs) h.0 ∙ ap (λ more. r ∷ more) (cut_rows n rs (omega arith) h.1)
 
--- a row's text has at least one byte
+-- The text of a row has at least one byte.
 some_bytes : (r : List (List ℕ)) (tail : List ℕ) → suc (length tail) ≤ length (row_text default_writer r ++ tail)
 some_bytes r tail = simp length-append (omega arith)
 
@@ -62,7 +62,7 @@ enough_bytes : (rs : List (List (List ℕ))) → length rs ≤ length (flat_map 
 enough_bytes [] = omega arith
 enough_bytes (r ∷ rs) = omega (arith, some_bytes r (flat_map (row_text default_writer) rs), enough_bytes rs)
 
--- no byte order mark is in front
+-- The text doesn't begin with a byte order mark.
 no_mark_text : (a b c : ℕ) (word second : List ℕ) (others : List (List ℕ)) (tail : List ℕ) → is_bom a b c ≡ false
     → field_text default_writer (a ∷ b ∷ c ∷ word) ≡ a ∷ b ∷ c ∷ word
     → strip_bom (row_text default_writer ((a ∷ b ∷ c ∷ word) ∷ second ∷ others) ++ tail) ≡ row_text default_writer ((a ∷ b ∷ c ∷ word) ∷ second ∷ others) ++ tail
@@ -79,7 +79,7 @@ unfolding strip_bom
 no_mark_rows [] h = refl
 no_mark_rows (r ∷ rs) h = no_mark_row r (flat_map (row_text default_writer) rs) h.0
 
--- what is kept is cut into its records
+-- The kept texts are read as their records.
 pub kept_cut : (rs : List (List (List ℕ))) → AllByRecursion StartsPlain rs → rows_of (flat_map (row_text default_writer) rs) ≡ rs
 unfolding rows_of
 kept_cut rs h = rw (no_mark_rows rs h) (cut_rows _ rs (omega (arith, enough_bytes rs)) h)
@@ -91,14 +91,14 @@ unfolding fields_text
 fields_text-unquoted [] h = refl
 fields_text-unquoted (x ∷ xs) h = rw h.0 (ap (λ rest. 44 ∷ (x ++ rest)) (fields_text-unquoted xs h.1))
 
--- the line of a record is what csv writes for its fields
+-- The line of a record is what `csv` writes for its fields.
 line_row : (x y : List ℕ) (ys : List (List ℕ)) → AreUnquoted (x ∷ y ∷ ys) → record_line (x ∷ y ∷ ys) ≡ row_text default_writer (x ∷ y ∷ ys)
 unfolding is_blank
 line_row x y ys h =
     line_text-cons x (y ∷ ys)
     ∙ rw (h.0, fields_text-unquoted (y ∷ ys) h.1) (sym (append_assoc x (fields_after (y ∷ ys)) (10 ∷ [])))
 
--- a record whose line is what csv writes for it
+-- A record whose line is what `csv` writes for it.
 pub record IsPlainRecord (fields : List (List ℕ)) : Type 0 where
   pub starts : StartsPlain fields
   pub line : record_line fields ≡ row_text default_writer fields

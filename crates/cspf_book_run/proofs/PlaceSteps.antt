@@ -1,4 +1,4 @@
--- The state of a run after a placing or a release.
+-- The state of a run after a `place` or `release` row.
 use Rattle.std.proofs.Common.{◌≡◌, ℕ, ◌+◌, ◌<◌, ◌≤◌, IsTrue, List, Result, Some, inl, inr, refl, ap, subst, ◌∙◌, arith}
 use Rattle.cspf_model.specs.Best.{Answer, unknown_from, unknown_to, no_route, route, IsBestAnswer}
 use Rattle.cspf_model.specs.declared.request.Request.{Request}
@@ -19,7 +19,7 @@ use Rattle.cspf_book_run.specs.BookStates.{BookLeads, CountsAnswer, IsAnsweredBy
 use Rattle.cspf_book_run.specs.PlaceErrors.{place_refusal_of}
 use Rattle.cspf_book_run.specs.declared.refusals.PlaceRefusal.TheVariants as unplaced
 
--- an error of the book that has a line is why the request isn't placed
+-- If an error of the book has a refusal, this is why the request isn't placed.
 pub refused_by : (s : BookRunState) (q : Request) (why : PlaceError) (refusal : PlaceRefusal) → place_refusal_of why ≡ Some refusal
     → s.book.version < 1000000 → IsPlaceError s.book q why → IsPlaceRefusal s q refusal
 refused_by s q Memory refusal is room error = absurd (cc is)
@@ -27,7 +27,7 @@ refused_by s q Full refusal is room error = subst (IsPlaceRefusal s q) (let same
 refused_by s q TooManyLinks refusal is room error = subst (IsPlaceRefusal s q) (let same : unplaced.Links ≡ refusal = cc is in same) (room, error)
 refused_by s q Twice refusal is room error = subst (IsPlaceRefusal s q) (let same : unplaced.Twice ≡ refusal = cc is in same) (room, error)
 
--- a placing never makes the version less
+-- Placing a request never lowers the version.
 pub placed_version : (old new : BookState) (q : Request) (hold : ℕ) (answer : Answer) → IsAnswerPlaced old q hold answer new → old.version ≤ new.version
 placed_version old new q hold unknown_from is = omega (arith, ap (λ (b : BookState). b.version) is)
 placed_version old new q hold unknown_to is = omega (arith, ap (λ (b : BookState). b.version) is)
@@ -35,7 +35,7 @@ placed_version old new q hold no_route is = omega (arith, ap (λ (b : BookState)
 placed_version old new q hold (route walk) is = omega (arith, is.version)
 
 module _ (k k' : BookRows) where
-  -- a request is answered at the version
+  -- A request is answered at this version.
   pub ask_answered : (q : Request) (answer : Answer) (version : ℕ) (line : List ℕ)
       → IsBestAnswer (effective k.book.base k.book.placements) q answer → version ≡ k.book.version → IsReply q.id version answer line
       → k'.book ≡ k.book → k'.batches ≡ k.batches → k'.changes ≡ k.changes → k'.answers ≡ k.answers + 1 → k'.refused ≡ k.refused
@@ -57,7 +57,7 @@ module _ (k k' : BookRows) where
     ),
   )
 
-  -- a request to place is answered
+  -- A `place` row is answered.
   pub place_answered : (q : Request) (hold : ℕ) (answer : Answer) (version : ℕ) (line : List ℕ)
       → k.book.version < 1000000 → HasRoomFor k.book q.id → IsBestAnswer (effective_beside k.book q.id) q answer → IsAnswerPlaced k.book q hold answer k'.book
       → version ≡ k'.book.version → IsPlaceReply q.id version answer line
@@ -85,7 +85,7 @@ module _ (k k' : BookRows) where
     ),
   )
 
-  -- a placement is released
+  -- A placement is released.
   pub release_done : (id : ℕ) (line : List ℕ) → k.book.version < 1000000 → IsTrue (has_id id k.book.placements)
       → line ≡ released_line id (k.book.version + 1)
       → k'.book ≡ record { base = k.book.base; version = k.book.version + 1; placements = others id k.book.placements }
@@ -108,7 +108,7 @@ module _ (k k' : BookRows) where
     ),
   )
 
-  -- something is refused
+  -- A row is refused and counted.
   pub refusal_counted : (line text : List ℕ) → line ≡ text
       → k'.book ≡ k.book → k'.batches ≡ k.batches → k'.changes ≡ k.changes → k'.answers ≡ k.answers → k'.refused ≡ k.refused + 1
       → BookLeads k k' (λ s t. (line ≡ text) × (t ≡ after_refusal s))
@@ -124,7 +124,7 @@ module _ (k k' : BookRows) where
     (line_is, refl),
   )
 
-  -- a placing is refused, where the book is as it was
+  -- A `place` row is refused, and the book stays.
   pub place_refused : (mid : BookRows) (q : Request) (hold : ℕ) (why : PlaceRefusal) (line : List ℕ)
       → ((s : BookRunState) → k.book ≡ s.book → IsPlaceRefusal s q why)
       → mid.book ≡ k.book → mid.batches ≡ k.batches → mid.changes ≡ k.changes → mid.answers ≡ k.answers → mid.refused ≡ k.refused
@@ -140,7 +140,7 @@ module _ (k k' : BookRows) where
       }) in
       (l.0, l.1, inr (why, is s kept.book, l.2.0, l.2.1))
 
-  -- a release is refused, where the book is as it was
+  -- A `release` row is refused, and the book stays.
   pub release_refused : (mid : BookRows) (id : ℕ) (why : ReleaseRefusal) (line : List ℕ)
       → ((s : BookRunState) → k.book ≡ s.book → IsReleaseRefusal s id why)
       → mid.book ≡ k.book → mid.batches ≡ k.batches → mid.changes ≡ k.changes → mid.answers ≡ k.answers → mid.refused ≡ k.refused
@@ -156,7 +156,7 @@ module _ (k k' : BookRows) where
       }) in
       (l.0, l.1, inr (why, is s kept.book, l.2.0, l.2.1))
 
--- an answered row is counted
+-- An answered row is counted.
 pub row_counted : (place : ℕ) (old mid new : BookRows) (row r : Result BookRow RowError) (line : List ℕ) → r ≡ row
     → BookLeads old mid (λ s t. IsBookRowAnswered place s r line t) → CountsAnswer old mid
     → new.book ≡ mid.book → new.batches ≡ mid.batches → new.changes ≡ mid.changes → new.answers ≡ mid.answers → new.refused ≡ mid.refused → new.read ≡ mid.read + 1

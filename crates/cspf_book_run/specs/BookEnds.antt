@@ -1,4 +1,4 @@
--- Private: when an end row of a book is right, and else why it is refused before its batch is looked at.
+-- Private: when an end row of a book is right, and why a wrong end row is refused before its batch is checked.
 use Rattle.std.specs.Prelude.{◌≡◌, ◌≢◌, ℕ, ◌+◌, ◌<◌, ◌≤◌, ◌⊎◌, List}
 use Rattle.cspf_model.specs.Changes.{Fits}
 use Rattle.cspf_model.specs.Refusals.{IsRefusal}
@@ -9,14 +9,14 @@ use Rattle.cspf_stream.specs.declared.batch_refusal.BatchRefusal.TheVariants as 
 use Rattle.cspf_stream.specs.Lines.{refused_batch_line}
 use Rattle.cspf_book_run.specs.BookScript.{BookRunState, open_base_batch, AreBaseLines, after_base_batch, after_refused_base_batch}
 
--- the version is below 1,000,000, the number is that of the next base batch, and the count is that of the
--- open changes
+-- The end row is right: the version is below 1,000,000, the number is that of the next base batch, and the count
+-- is the number of open changes.
 pub record IsRightBookEnd (version batches number count changes : ℕ) : Type 0 where
   pub room : version < MOST_VERSIONS
   pub next : number ≡ batches + 1
   pub counted : count ≡ changes
 
--- why an end row isn't right: the first of these that applies
+-- why an end row is wrong: the first of these reasons that applies
 abbrev pub IsWrongBookEnd : ℕ → ℕ → ℕ → ℕ → ℕ → BatchRefusal → Type 0
 IsWrongBookEnd version batches number count changes refusal.Stopped = ⊥
 IsWrongBookEnd version batches number count changes refusal.Exhausted = MOST_VERSIONS ≤ version
@@ -28,7 +28,7 @@ IsWrongBookEnd version batches number count changes (refusal.Unfit why) = ⊥
 IsWrongBookEnd version batches number count changes refusal.Memory = ⊥
 IsWrongBookEnd version batches number count changes (refusal.Journal written) = ⊥
 
--- The open changes are made in the base as the batch with this number, or they don't fit and are dropped.
+-- The open changes are applied to the base as the batch with this number, or they don't fit and are dropped.
 abbrev pub IsBatchApplied : BookRunState → ℕ → List ℕ → BookRunState → Type 0
 IsBatchApplied s number line after =
     (Fits s.book.base (open_base_batch s number) × AreBaseLines s number line × (after ≡ after_base_batch s))

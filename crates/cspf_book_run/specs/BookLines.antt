@@ -1,4 +1,4 @@
--- The lines of a book that aren't those of every stream of rows. Each ends with one line feed.
+-- The lines of a book that other streams of rows don't have. Each ends with one line feed.
 use Rattle.std.specs.Prelude.{◌≡◌, ℕ, List, ◌++◌, codes}
 use Rattle.std.specs.Fmt.{decimal}
 use Rattle.cspf_addr.specs.AddressText.{address_text}
@@ -10,43 +10,42 @@ use Rattle.cspf_book_run.specs.declared.refusals.PlaceRefusal.TheVariants as pla
 use Rattle.cspf_book_run.specs.declared.refusals.ReleaseRefusal.{ReleaseRefusal}
 use Rattle.cspf_book_run.specs.declared.refusals.ReleaseRefusal.TheVariants as release
 
--- more is counted on a link at a priority than it has there
+-- the line of a link and a priority at which more is counted than the link has
 abbrev pub over_line : Over → List ℕ
 over_line o = codes "over " ++ address_text o.from ++ codes "," ++ address_text o.local ++ codes " " ++ decimal o.priority ++ codes "\n"
 
--- the base admits the route of the placement with this id no more
+-- the line of a placement whose route the base no longer admits
 abbrev pub lost_line : ℕ → List ℕ
 lost_line id = codes "lost " ++ decimal id ++ codes "\n"
 
--- a base batch is accepted: its number, and the version that it makes
+-- the line of an accepted base batch: its number, and the version that it makes
 abbrev pub base_line : ℕ → ℕ → List ℕ
 base_line number version = codes "base " ++ decimal number ++ codes " v" ++ decimal version ++ codes "\n"
 
--- The line of a request that is answered where it was to be placed: the reply line with the word `place`
--- in the place of `ask`.
+-- The line that answers a `place` row: the reply line of the request, but with the word `place` instead of `ask`.
 abbrev pub IsPlaceReply : ℕ → ℕ → Answer → List ℕ → Type 0
 IsPlaceReply id version answer line = (rest : List ℕ) × IsReply id version answer (codes "ask" ++ rest) × (line ≡ codes "place" ++ rest)
 
--- the placement with this id is released, which makes this version
+-- the line of a released placement: its id, and the version that the release makes
 abbrev pub released_line : ℕ → ℕ → List ℕ
 released_line id version = codes "released " ++ decimal id ++ codes " v" ++ decimal version ++ codes "\n"
 
--- the words of why a request isn't placed
+-- the words for why a request isn't placed
 abbrev pub place_words : PlaceRefusal → List ℕ
 place_words place.Exhausted = codes "exhausted"
 place_words place.Full = codes "full"
 place_words place.Links = codes "links"
 place_words place.Twice = codes "twice"
 
--- the line of the request with this id, which isn't placed
+-- the line of a request with this id that isn't placed
 abbrev pub refused_place_line : ℕ → PlaceRefusal → List ℕ
 refused_place_line id why = codes "place " ++ decimal id ++ codes " refused: " ++ place_words why ++ codes "\n"
 
--- the words of why nothing is released
+-- the words for why no placement is released
 abbrev pub release_words : ReleaseRefusal → List ℕ
 release_words release.Exhausted = codes "exhausted"
 release_words release.Absent = codes "absent"
 
--- the line where nothing with this id is released
+-- the line of a `release` row for this id that is refused
 abbrev pub refused_release_line : ℕ → ReleaseRefusal → List ℕ
 refused_release_line id why = codes "release " ++ decimal id ++ codes " refused: " ++ release_words why ++ codes "\n"

@@ -1,4 +1,4 @@
--- The output of a run to a book that stops before its end, and what is kept then.
+-- The output and the kept text of a run of a book that stops before its end.
 use Rattle.std.specs.Prelude.{◌≡◌, ℕ, suc, ◌<◌, ◌≤◌, ◌⊎◌, List, ◌∷◌, ◌++◌, [], take, length}
 use Rattle.cspf_rows.specs.declared.limits.TheConstants.{MOST_ROWS}
 use Rattle.cspf_stream.specs.Lines.{too_many_line, end_line}
@@ -8,13 +8,13 @@ use Rattle.cspf_book_run.specs.Kept.{AreBookRowsKept, kept_of}
 use Rattle.cspf_book_run.specs.declared.error.BookError.{BookError}
 use Rattle.cspf_book_run.specs.declared.error.BookError.TheVariants as error
 
--- a prefix of the rows of a stream, at most 1,000,000, is answered
+-- A prefix of the rows, at most 1,000,000, is answered.
 pub record AreFirstBookRows (rows done rest : List (List (List ℕ))) (lines : List ℕ) (after : BookRunState) : Type 0 where
   pub split : rows ≡ done ++ rest
   pub few : length done ≤ MOST_ROWS
   pub answered : AreBookRowsAnswered done lines after
 
--- the output is the whole lines of a prefix of the rows, and what is kept is that of these rows
+-- The output is the whole lines of a prefix of the rows, and the kept text is the text of these rows.
 pub record IsBookBegun (rows : List (List (List ℕ))) (out kept : List ℕ) : Type 0 where
   pub done : List (List (List ℕ))
   pub rest : List (List (List ℕ))
@@ -22,16 +22,16 @@ pub record IsBookBegun (rows : List (List (List ℕ))) (out kept : List ℕ) : T
   pub first : AreFirstBookRows rows done rest out after
   pub keeps : AreBookRowsKept done kept after
 
--- the text that is written next, and what was kept before: the lines of the next row, or the last line of
--- the run
+-- The text that is written next: the lines of the next row, or the last line of the run. `kept` is the text that
+-- is kept before these lines.
 abbrev pub IsNextBookText : List (List (List ℕ)) → BookRunState → List (List (List ℕ)) → List ℕ → List ℕ → Type 0
 IsNextBookText done s [] text kept = (text ≡ end_line s.changes) × (kept ≡ [])
 IsNextBookText done s (fields ∷ rest) text kept =
     ((length done < MOST_ROWS) × (after : BookRunState) × book_answers (suc (length done)) s fields text after × (kept ≡ kept_of s fields after))
     ⊎ ((length done ≡ MOST_ROWS) × (text ≡ too_many_line) × (kept ≡ []))
 
--- The output is the lines of a prefix of the rows, and then a part of the next text, but not all of
--- it. What is kept is that of these rows, and of the row whose lines are cut off.
+-- The output is the lines of a prefix of the rows and a part of the next text, but not all of it. The kept text is
+-- the text of these rows and of the row whose lines are cut off.
 pub record IsBookCutOff (rows : List (List (List ℕ))) (out kept : List ℕ) : Type 0 where
   pub done : List (List (List ℕ))
   pub rest : List (List (List ℕ))
@@ -48,8 +48,8 @@ pub record IsBookCutOff (rows : List (List (List ℕ))) (out kept : List ℕ) : 
   pub whole : out ≡ lines ++ take size text
   pub whole_kept : kept ≡ before ++ text_kept
 
--- The output is the whole lines of a prefix of the rows. What is kept is that of these rows, and then this
--- many bytes of what is kept of the next row, but not all of it.
+-- The output is the whole lines of a prefix of the rows. The kept text is the text of these rows and `written`
+-- bytes of the next row's text, but not all of it.
 pub record IsKeepCutOff (written : ℕ) (rows : List (List (List ℕ))) (out kept : List ℕ) : Type 0 where
   pub done : List (List (List ℕ))
   pub fields : List (List ℕ)
@@ -65,8 +65,9 @@ pub record IsKeepCutOff (written : ℕ) (rows : List (List (List ℕ))) (out kep
   pub part : written < length (kept_of after fields next)
   pub whole_kept : kept ≡ before ++ take written (kept_of after fields next)
 
--- Memory that was refused and a failed read leave whole lines. A failed write leaves the output,
--- with its number of bytes. Where a write of what is kept fails, the row has no line.
+-- After refused memory or a failed read the output has whole lines. After a failed write the output may end in a
+-- part of a text, and the error has how many bytes were written. After a failed write of a kept text, its row has
+-- no line.
 abbrev pub IsBookOutputAtError : BookError → List (List (List ℕ)) → List ℕ → List ℕ → Type 0
 IsBookOutputAtError (error.Run run_error.Memory) rows out kept = IsBookBegun rows out kept
 IsBookOutputAtError (error.Run run_error.Read) rows out kept = IsBookBegun rows out kept

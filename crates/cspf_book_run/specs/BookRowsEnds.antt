@@ -1,4 +1,4 @@
--- Private: how the rows of a run to a book end.
+-- Private: how the rows of a run of a book end.
 use Rattle.std.specs.Prelude.{◌≡◌, ℕ, Bool, true, false, List, ◌++◌, length, Option, Some, None, IfSome, Result, Ok, Err, MatchResult}
 use Rattle.std.specs.Io.KnownBytes.{Appends}
 use Rattle.cspf_stream.specs.declared.error.StreamError.{StreamError}
@@ -13,14 +13,15 @@ use Rattle.cspf_book_run.specs.BookOutput.{IsBookOutputAtError}
 use Rattle.cspf_book_run.specs.BookStates.{KeepsBook, AreBookCounts}
 use Rattle.cspf_book_run.specs.Kept.{AreBookRowsKept}
 
--- the known bytes of two writers before and after: of the lines, and of what is kept
+-- The bytes of the two writers, if known, before and after the rows. One writer gets the lines, the other the kept
+-- texts.
 pub record Written : Type 0 where
   pub before : Option (List ℕ)
   pub after : Option (List ℕ)
   pub keep_before : Option (List ℕ)
   pub keep_after : Option (List ℕ)
 
--- all rows that are read are answered, and there are more of them or not
+-- All rows that are read are answered. `too_many` says whether more rows follow.
 pub record HasRunBook (all : Option (List (List (List ℕ)))) (w : Written) (k : BookRows) (bytes : ℕ) (too_many : Bool) : Type 0 where
   pub done : List (List (List ℕ))
   pub rest : List (List (List ℕ))
@@ -38,19 +39,20 @@ pub record HasRunBook (all : Option (List (List (List ℕ)))) (w : Written) (k :
   pub split : IfSome all (λ rows. rows ≡ done ++ rest)
   pub past : IsPast too_many (length done) rest
 
--- the output and what is kept where the run stops
+-- the output and the kept text when an error stops the run
 abbrev pub IsBookHalted : Option (List (List (List ℕ))) → Written → BookError → Type 0
 IsBookHalted all w error =
     IfSome all (λ rows. (out : List ℕ) × (kept : List ℕ) × IsBookOutputAtError error rows out kept
     × Appends w.before w.after out × Appends w.keep_before w.keep_after kept)
 
--- All rows that are read are answered, or the run stops. Only the reader's own fault is `Read`.
+-- All rows that are read are answered, or an error stops the run. `Read` is the error only if the reader itself
+-- failed.
 abbrev pub IsBookRowsEnd : Option (List (List (List ℕ))) → Written → BookRows → ℕ → Bool → Result Bool BookError → Type 0
 IsBookRowsEnd all w k bytes failed ended =
     MatchResult ended (HasRunBook all w k bytes) (λ e. IsBookHalted all w e × (e ≡ error.Run run_error.Read → failed ≡ true))
 
--- How the rows end, after these bytes: whether there are more than are read, or the error that stops the run
--- there. A write of what is kept that failed comes before all else.
+-- How the rows end, after these bytes: whether more rows follow, or the error that stops the run. A failed write
+-- of a kept text is reported before anything else.
 abbrev pub book_end : ℕ → Result (Unit {0}) StreamError → Option ℕ → Result Bool BookError
 book_end bytes ended (Some written) = Err (error.Keep written)
 book_end bytes (Ok done) None = Ok false
@@ -60,7 +62,7 @@ book_end bytes (Err stream_error.Read) None = Err (error.Run run_error.Read)
 book_end bytes (Err stream_error.Write) None = Err (error.Run (run_error.Write bytes))
 book_end bytes (Err stream_error.Flush) None = Err (error.Run (run_error.Write bytes))
 
--- where the last line stops; before it these bytes were written, and all that is kept
+-- How writing the last line stops. `before` bytes of lines and all kept texts were written earlier.
 abbrev pub IsBookEndCut : List ℕ → Option (List ℕ) → Option (List ℕ) → ℕ → BookError → Type 0
 IsBookEndCut line old new before (error.Run e) = IsEndCut line old new before e
 IsBookEndCut line old new before (error.Keep written) = ⊥

@@ -1,4 +1,4 @@
--- The lines of a stream of rows to a book, from its bytes to bytes, and the summary of its run.
+-- The lines of a book for a stream of rows, from bytes to bytes, and the summary of its run.
 use Rattle.std.specs.Prelude.{◌≡◌, ◌≢◌, ℕ, ◌+◌, ◌<◌, ◌≤◌, ◌⊎◌, Bool, IsTrue, List, [], ◌∷◌, ◌++◌, take, length, Result, Ok, Err}
 use Rattle.std.specs.List.{flat_map}
 use Rattle.cspf_model.specs.declared.batch.Change.{Change}
@@ -43,14 +43,14 @@ pub record BookRunState : Type 0 where
   pub book : BookState
   -- how many base batches were accepted
   pub batches : ℕ
-  -- the open changes, which no end row has taken yet
+  -- the open changes: those after the last end row
   pub changes : List Change
-  -- how many requests were answered, of those that are asked and of those that are placed
+  -- how many requests were answered, from `ask` and `place` rows together
   pub answers : ℕ
-  -- how many rows, batches, placings and releases were refused
+  -- how many rows, batches, `place` rows and `release` rows were refused
   pub refused : ℕ
 
--- before the first row: version 0, the empty base, no placements and no open changes
+-- the state before the first row: version 0, the empty base, no placements and no open changes
 abbrev pub book_start : BookRunState
 book_start = record {
   book = record { base = no_links; version = 0; placements = [] };
@@ -64,15 +64,16 @@ book_start = record {
 abbrev pub open_base_batch : BookRunState → ℕ → NumberedChanges
 open_base_batch s number = record { number = number; changes = s.changes }
 
--- something is refused: the book and the open changes stay
+-- after a refusal: the book and the open changes stay
 abbrev pub after_refusal : BookRunState → BookRunState
 after_refusal s = record s { refused = s.refused + 1 }
 
--- one more open change
+-- after a change: it is the last of the open changes
 abbrev pub after_open_change : BookRunState → Change → BookRunState
 after_open_change s c = record s { changes = s.changes ++ c ∷ [] }
 
--- the open changes are made in the base, and none are open; the placements stay
+-- after an accepted base batch: the open changes are applied to the base, no changes are open, and the placements
+-- stay
 abbrev pub after_base_batch : BookRunState → BookRunState
 after_base_batch s = record s {
   book = record {
@@ -84,15 +85,15 @@ after_base_batch s = record s {
   changes = [];
 }
 
--- the open changes are dropped: the book stays
+-- after a refused base batch: the open changes are dropped, and the book stays
 abbrev pub after_refused_base_batch : BookRunState → BookRunState
 after_refused_base_batch s = record s { changes = []; refused = s.refused + 1 }
 
--- a request is answered
+-- after the answer to a request
 abbrev pub after_answer : BookRunState → BookState → BookRunState
 after_answer s book = record s { book = book; answers = s.answers + 1 }
 
--- a placement is released
+-- after the release of a placement
 abbrev pub after_release : BookRunState → ℕ → BookRunState
 after_release s id = record s {
   book = record {
@@ -102,17 +103,16 @@ after_release s id = record s {
   };
 }
 
--- The open changes are accepted as the base batch with this number and this count where all is right.
--- The version is below 1,000,000, the number is the next of a base batch, the count is right, and the
--- batch fits the base.
+-- The open changes are accepted as the base batch with this number and count. This requires that the version is
+-- below 1,000,000, the number is that of the next base batch, the count is right, and the batch fits the base.
 pub record IsBaseAccepted (s : BookRunState) (number count : ℕ) : Type 0 where
   pub room : s.book.version < MOST_VERSIONS
   pub next : number ≡ s.batches + 1
   pub counted : count ≡ length s.changes
   pub fits : Fits s.book.base (open_base_batch s number)
 
--- Why the open changes are refused as the base batch with this number and this count: the first of
--- these that applies. A run has no journal, and it ends where memory is refused.
+-- Why the open changes are refused as the base batch with this number and count: the first of these reasons that
+-- applies. `Stopped` never applies, as a run has no journal and ends if memory is refused.
 abbrev pub IsBaseRefusal : BookRunState → ℕ → ℕ → BatchRefusal → Type 0
 IsBaseRefusal s number count refusal.Stopped = ⊥
 IsBaseRefusal s number count refusal.Exhausted = MOST_VERSIONS ≤ s.book.version
@@ -126,35 +126,37 @@ IsBaseRefusal s number count (refusal.Unfit why) =
 IsBaseRefusal s number count refusal.Memory = ⊥
 IsBaseRefusal s number count (refusal.Journal written) = ⊥
 
--- The lines of a base batch that is accepted: the links on which more is counted than they have, the
--- placements whose routes are lost, and the batch.
+-- The lines of an accepted base batch. First comes an `over` line for each link and priority at which more is
+-- counted than the link has. Then comes a `lost` line for each placement that loses its route, and last the line
+-- of the batch.
 abbrev pub AreBaseLines : BookRunState → ℕ → List ℕ → Type 0
 AreBaseLines s number lines =
     (ids : List ℕ) × AreLost s.book.base (after_changes s.book.base s.changes) s.book.placements ids
     × (lines ≡ flat_map over_line (over s.book.placements s.changes) ++ flat_map lost_line ids ++ base_line number (s.book.version + 1))
 
--- an end row is answered by the lines of its batch, or by the refusal of the batch
+-- An end row is answered by the lines of its batch, or by the line that refuses the batch.
 abbrev pub IsBaseEndAnswered : BookRunState → ℕ → ℕ → List ℕ → BookRunState → Type 0
 IsBaseEndAnswered s number count line after =
     (IsBaseAccepted s number count × AreBaseLines s number line × (after ≡ after_base_batch s))
     ⊎ ((why : BatchRefusal) × (¬ IsBaseAccepted s number count) × IsBaseRefusal s number count why
     × (line ≡ refused_batch_line number why) × (after ≡ after_refused_base_batch s))
 
--- a request is asked of the effective database
+-- The answer to an `ask` row: the best answer in the effective database.
 abbrev pub IsAskAnswered : BookRunState → Request → List ℕ → BookRunState → Type 0
 IsAskAnswered s q line after =
     (answer : Answer) × IsBestAnswer (effective s.book.base s.book.placements) q answer
     × IsReply q.id s.book.version answer line × (after ≡ after_answer s s.book)
 
--- why a request isn't placed: the first of these that applies
+-- why a request isn't placed: the first of these reasons that applies
 abbrev pub IsPlaceRefusal : BookRunState → Request → PlaceRefusal → Type 0
 IsPlaceRefusal s q unplaced.Exhausted = MOST_VERSIONS ≤ s.book.version
 IsPlaceRefusal s q unplaced.Full = (s.book.version < MOST_VERSIONS) × IsPlaceError s.book q Full
 IsPlaceRefusal s q unplaced.Links = (s.book.version < MOST_VERSIONS) × IsPlaceError s.book q TooManyLinks
 IsPlaceRefusal s q unplaced.Twice = (s.book.version < MOST_VERSIONS) × IsPlaceError s.book q Twice
 
--- The request is answered in the effective database without the placement of its id, and a route is
--- placed. This is the book afterwards, and its version is that of the line. Before there was room.
+-- The answer to a `place` row. It is the best answer in the effective database without the request's earlier
+-- placement, and a route is placed. The line has the version of the book afterwards. Before the row the book has
+-- room for one more placement and one more version.
 pub record IsPlaceAnswered (s : BookRunState) (q : Request) (hold : ℕ) (line : List ℕ) (book : BookState) : Type 0 where
   pub room : s.book.version < MOST_VERSIONS
   pub few : HasRoomFor s.book q.id
@@ -163,37 +165,37 @@ pub record IsPlaceAnswered (s : BookRunState) (q : Request) (hold : ℕ) (line :
   pub placed : IsAnswerPlaced s.book q hold answer book
   pub reply : IsPlaceReply q.id book.version answer line
 
--- a request to place is answered, or it is refused and the book stays
+-- A `place` row is answered, or it is refused and the book stays.
 abbrev pub IsPlaceTaken : BookRunState → Request → ℕ → List ℕ → BookRunState → Type 0
 IsPlaceTaken s q hold line after =
     (IsPlaceAnswered s q hold line after.book × (after ≡ after_answer s after.book))
     ⊎ ((why : PlaceRefusal) × IsPlaceRefusal s q why × (line ≡ refused_place_line q.id why) × (after ≡ after_refusal s))
 
--- why no placement with this id is released: the first of these that applies
+-- why no placement with this id is released: the first of these reasons that applies
 abbrev pub IsReleaseRefusal : BookRunState → ℕ → ReleaseRefusal → Type 0
 IsReleaseRefusal s id unreleased.Exhausted = MOST_VERSIONS ≤ s.book.version
 IsReleaseRefusal s id unreleased.Absent = (s.book.version < MOST_VERSIONS) × (¬ IsTrue (has_id id s.book.placements))
 
--- a placement is released, or it is refused and the book stays
+-- A `release` row releases a placement, or it is refused and the book stays.
 abbrev pub IsReleaseTaken : BookRunState → ℕ → List ℕ → BookRunState → Type 0
 IsReleaseTaken s id line after =
     ((s.book.version < MOST_VERSIONS) × IsTrue (has_id id s.book.placements)
     × (line ≡ released_line id (s.book.version + 1)) × (after ≡ after_release s id))
     ⊎ ((why : ReleaseRefusal) × IsReleaseRefusal s id why × (line ≡ refused_release_line id why) × (after ≡ after_refusal s))
 
--- a row of the base, or one that asks, is answered, by what it asks for
+-- The answer to a row of the base: a change, an end row or a request.
 abbrev pub IsBookStepAnswered : BookRunState → Step → List ℕ → BookRunState → Type 0
 IsBookStepAnswered s (step.Change c) line after = (line ≡ []) × (after ≡ after_open_change s c)
 IsBookStepAnswered s (step.End number count) line after = IsBaseEndAnswered s number count line after
 IsBookStepAnswered s (step.Ask q) line after = IsAskAnswered s q line after
 
--- a row that is read is answered these lines
+-- The answer to a row whose fields could be read.
 abbrev pub IsBookRowTaken : BookRunState → BookRow → List ℕ → BookRunState → Type 0
 IsBookRowTaken s (book_row.Base row) line after = IsBookStepAnswered s (step_of row) line after
 IsBookRowTaken s (book_row.Place q hold) line after = IsPlaceTaken s q hold line after
 IsBookRowTaken s (book_row.Release id) line after = IsReleaseTaken s id line after
 
--- the lines that the row at a place, from 1, is answered, and the state after it
+-- the lines that answer the row with this number, counted from 1, and the state afterwards
 abbrev pub IsBookRowAnswered : ℕ → BookRunState → Result BookRow RowError → List ℕ → BookRunState → Type 0
 IsBookRowAnswered place s (Err error) line after = (line ≡ refused_row_line place error) × (after ≡ after_refusal s)
 IsBookRowAnswered place s (Ok row) line after = IsBookRowTaken s row line after
@@ -202,7 +204,7 @@ IsBookRowAnswered place s (Ok row) line after = IsBookRowTaken s row line after
 abbrev pub book_answers : AnswersOf BookRunState
 book_answers place s fields line after = IsBookRowAnswered place s (book_row_of fields) line after
 
--- rows are answered one after the other, from the first state to this one
+-- The rows are answered one after the other, from the first state to the state `after`.
 abbrev pub AreBookRowsAnswered : List (List (List ℕ)) → List ℕ → BookRunState → Type 0
 AreBookRowsAnswered rows lines after = AreAnswered book_answers 1 book_start rows lines after
 
@@ -216,8 +218,7 @@ book_summary_of rows s too_many = record {
   too_many = too_many;
 }
 
--- A run over rows: the first 1,000,000 of them are answered one after the other, and then comes the
--- last line.
+-- A run over rows: the first 1,000,000 rows are answered one after the other, and then the last line is written.
 pub record IsBookRun (rows : List (List (List ℕ))) (lines : List ℕ) (summary : Summary) : Type 0 where
   pub replies : List ℕ
   pub after : BookRunState
@@ -225,6 +226,6 @@ pub record IsBookRun (rows : List (List (List ℕ))) (lines : List ℕ) (summary
   pub whole : lines ≡ replies ++ last_line (is_too_many rows) after.changes
   pub counts : summary ≡ book_summary_of (length (take MOST_ROWS rows)) after (is_too_many rows)
 
--- a run over the rows of a stream of bytes
+-- a run over the rows that a stream of bytes has
 abbrev pub IsBookScript : List ℕ → List ℕ → Summary → Type 0
 IsBookScript bytes lines summary = IsBookRun (rows_of bytes) lines summary

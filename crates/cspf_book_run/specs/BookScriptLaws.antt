@@ -1,4 +1,4 @@
--- What holds of every run to a book.
+-- What holds of every run of a book.
 use Rattle.std.specs.Prelude.{◌≡◌, ◌<◌, ◌⊎◌, ℕ, List, ◌++◌}
 use Rattle.cspf_model.specs.declared.link.Link.{Link}
 use Rattle.cspf_model.specs.Database.{IsLinkOf}
@@ -10,31 +10,31 @@ use Rattle.cspf_book.specs.Laws.{IsCovered}
 use Rattle.cspf_book_run.specs.BookLines.{over_line}
 use Rattle.cspf_book_run.specs.BookScript.{BookRunState, IsBookRun, book_answers}
 
--- rows have one reply: two runs over the same rows have the same lines and the same summary
+-- Rows have one reply: two runs over the same rows have the same lines and the same summary.
 abbrev pub BooksHaveOneReply : Type 0
 BooksHaveOneReply =
     (rows : List (List (List ℕ))) (first second : List ℕ) (a b : Summary) → IsBookRun rows first a → IsBookRun rows second b
     → (first ≡ second) × (a ≡ b)
 
--- on each link of the base at each priority at most as much is counted as the link has there
+-- Each link of the base is covered at each priority: the placements count at most the link's unreserved bandwidth
+-- on it.
 abbrev pub IsBookCovered : BookState → Type 0
 IsBookCovered s = (l : Link) (priority : ℕ) → IsLinkOf s.base l → priority < 8 → IsCovered s.placements l priority
 
--- Where the base covers what is counted, it does so until the next base batch is accepted, whatever is
--- asked, placed and released.
+-- If each link of the base is covered, it stays covered until the next base batch is accepted. It doesn't matter
+-- what is asked, placed and released.
 abbrev pub RowsKeepCovered : Type 0
 RowsKeepCovered =
     (place : ℕ) (s t : BookRunState) (rows : List (List (List ℕ))) (lines : List ℕ)
     → AreAnswered book_answers place s rows lines t → t.batches ≡ s.batches → IsBookCovered s.book → IsBookCovered t.book
 
--- the `over` line of a link and a priority is among these lines
+-- The `over` line of a link and a priority is one of these lines.
 abbrev pub IsSaidOver : List ℕ → Link → ℕ → Type 0
 IsSaidOver lines l priority =
     (before : List ℕ) × (after : List ℕ) × (lines ≡ before ++ over_line (over_at l priority) ++ after)
 
--- No link is promised more than it has without a word. From a state in which none is, as at the start, any
--- rows lead to one in which at most as much is counted on each link of the base at each priority as the
--- link has there, or else the lines of these rows have its `over` line.
+-- From a state in which each link is covered, as at the start, any rows lead to a state of which this holds. Each
+-- link of the base is covered at each priority, or the lines of these rows have the link's `over` line.
 abbrev pub RowsCoverOrSay : Type 0
 RowsCoverOrSay =
     (place : ℕ) (s t : BookRunState) (rows : List (List (List ℕ))) (lines : List ℕ)

@@ -1,4 +1,4 @@
--- Private: the state of a run that the code keeps, and the effect of the answer to one row.
+-- Private: how the code represents the state of a run, and what the answer to one row does to it.
 use Rattle.std.specs.Prelude.{◌≡◌, ℕ, ◌+◌, ◌^◌, ◌<◌, ◌≤◌, List, Result}
 use Rattle.cspf_rows.specs.declared.limits.TheConstants.{MOST_ROWS}
 use Rattle.cspf_rows.specs.declared.row_error.RowError.{RowError}
@@ -8,13 +8,14 @@ use Rattle.cspf_book_run.specs.declared.book_row.BookRow.TheVariants as book_row
 use Rattle.cspf_book_run.specs.declared.book_rows.BookRows.{BookRows}
 use Rattle.cspf_book_run.specs.BookScript.{BookRunState, IsBookRowAnswered}
 
--- what a row that is read says: a request to place has setup priority 7
+-- What holds of each row that is read: a request to place has setup priority 7, and its holding priority is at
+-- most 7.
 abbrev pub IsReadable : BookRow → Type 0
 IsReadable (book_row.Base row) = Unit {0}
 IsReadable (book_row.Place q hold) = (q.setup ≡ 7) × (hold < 8)
 IsReadable (book_row.Release id) = Unit {0}
 
--- the code keeps this state
+-- `k` is the state of the code for the state `s` of the run.
 pub record KeepsBook (k : BookRows) (s : BookRunState) : Type 0 where
   pub book : k.book ≡ s.book
   pub batches : k.batches ≡ s.batches
@@ -22,7 +23,7 @@ pub record KeepsBook (k : BookRows) (s : BookRunState) : Type 0 where
   pub answers : k.answers ≡ s.answers
   pub refused : k.refused ≡ s.refused
 
--- if the code keeps a state before, it keeps a state after that this relation relates to it
+-- From a state before, the code goes to a state after, and the relation `Step` holds between these two.
 abbrev pub BookLeads : BookRows → BookRows → (BookRunState → BookRunState → Type 0) → Type 0
 BookLeads old new Step = (s : BookRunState) → KeepsBook old s → (t : BookRunState) × KeepsBook new t × Step s t
 
@@ -33,33 +34,33 @@ pub record CanCountBookRow (k : BookRows) : Type 0 where
   pub answers : k.answers + 1 < 2 ^ 64
   pub refused : k.refused + 1 < 2 ^ 64
 
--- the row is counted, and no other count grows by more than one
+-- The row is counted as read, and each other count grows by at most one.
 pub record CountsBookRow (old new : BookRows) : Type 0 where
   pub rows : new.read ≡ old.read + 1
   pub count : new.changes.count ≤ old.changes.count + 1
   pub answers : new.answers ≤ old.answers + 1
   pub refused : new.refused ≤ old.refused + 1
 
--- the rows that were read stay, and no other count grows by more than one
+-- The count of rows stays, and each other count grows by at most one.
 pub record CountsAnswer (old new : BookRows) : Type 0 where
   pub rows : new.read ≡ old.read
   pub count : new.changes.count ≤ old.changes.count + 1
   pub answers : new.answers ≤ old.answers + 1
   pub refused : new.refused ≤ old.refused + 1
 
--- all rows before the one at this place were read, and no count is as high as the place
+-- All rows before this row number were read, and each count is below the number.
 pub record IsBookBefore (place : ℕ) (k : BookRows) : Type 0 where
   pub rows : k.read + 1 ≡ place
   pub count : k.changes.count < place
   pub answers : k.answers < place
   pub refused : k.refused < place
 
--- a row is answered, from the state that is kept before to one that is kept afterwards, and counted
+-- The row is answered and counted, and the code goes from the state before to the state after.
 pub record IsAnsweredByBook (place : ℕ) (old : BookRows) (row : Result BookRow RowError) (line : List ℕ) (new : BookRows) : Type 0 where
   pub lead : BookLeads old new (λ s t. IsBookRowAnswered place s row line t)
   pub counts : CountsBookRow old new
 
--- counts of a run at its end, none of them above 1,000,000
+-- At the end of a run none of the counts is above 1,000,000.
 pub record AreBookCounts (k : BookRows) : Type 0 where
   pub rows : k.read ≤ MOST_ROWS
   pub answers : k.answers ≤ MOST_ROWS

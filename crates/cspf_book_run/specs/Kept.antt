@@ -1,4 +1,4 @@
--- What is kept of the rows that a run accepts: from it the book can be made again.
+-- The text that is kept of the rows that a run accepts. The book can be restored from it.
 use Rattle.std.specs.Prelude.{◌≡◌, ◌==◌, if◌then◌else◌, ℕ, List, [], take, Result, Ok, Err}
 use Rattle.csv.specs.Writing.{default_writer, row_text}
 use Rattle.cspf_rows.specs.declared.limits.TheConstants.{MOST_ROWS}
@@ -13,33 +13,34 @@ use Rattle.cspf_book_run.specs.BookScript.{BookRunState, book_answers, book_star
 use Rattle.cspf_book_run.specs.declared.book_row.BookRow.{BookRow}
 use Rattle.cspf_book_run.specs.declared.book_row.BookRow.TheVariants as book_row
 
--- what is kept of a row of the base, where it makes a version: of an end row the text of its batch
+-- The text of a row of the base, if it makes a version. The text of an end row is the text of its whole batch.
 abbrev pub text_of_step : BookRunState → Step → List ℕ
 text_of_step s (step.Change c) = []
 text_of_step s (step.End number count) = batch_text (open_base_batch s number)
 text_of_step s (step.Ask q) = []
 
--- what is kept of a row, where it makes a version: of one that places or releases its own text
+-- The text of a row, if it makes a version. The text of a `place` or `release` row is the row itself.
 abbrev pub text_of_row : BookRunState → List (List ℕ) → Result BookRow RowError → List ℕ
 text_of_row s fields (Err e) = []
 text_of_row s fields (Ok (book_row.Base row)) = text_of_step s (step_of row)
 text_of_row s fields (Ok (book_row.Place q hold)) = row_text default_writer fields
 text_of_row s fields (Ok (book_row.Release id)) = row_text default_writer fields
 
--- What is kept of the row with these fields, by the states before and after it. A row is accepted where it
--- makes a version: an end row whose batch is accepted, a row that places a route, and one that releases.
--- Nothing is kept of others.
+-- The text that is kept of the row with these fields, if `s` is the state before and `t` the state after. A row is
+-- accepted if it makes a version: an end row whose batch is accepted, a `place` row that places a route, or a
+-- `release` row that releases a placement. Nothing is kept of other rows.
 abbrev pub kept_of : BookRunState → List (List ℕ) → BookRunState → List ℕ
 kept_of s fields t = if t.book.version == s.book.version then [] else text_of_row s fields (book_row_of fields)
 
--- the row at a place, from 1, is answered, and this is kept of it
+-- The row with this number, counted from 1, is answered, and `text` is kept of it.
 abbrev pub kept_answers : AnswersOf BookRunState
 kept_answers place s fields text t = (line : List ℕ) × book_answers place s fields line t × (text ≡ kept_of s fields t)
 
--- rows are answered one after the other, from the first state to this one, and this is kept of them
+-- The rows are answered one after the other, from the first state to the state `after`, and `text` is kept of
+-- them.
 abbrev pub AreBookRowsKept : List (List (List ℕ)) → List ℕ → BookRunState → Type 0
 AreBookRowsKept rows text after = AreAnswered kept_answers 1 book_start rows text after
 
--- this is kept of the rows of a run, of which the first 1,000,000 are answered
+-- `text` is kept of the rows of a run. The first 1,000,000 rows are answered.
 abbrev pub IsKeptText : List (List (List ℕ)) → List ℕ → Type 0
 IsKeptText rows text = (after : BookRunState) × AreBookRowsKept (take MOST_ROWS rows) text after

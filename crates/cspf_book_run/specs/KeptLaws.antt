@@ -1,11 +1,11 @@
--- What is kept of rows makes their book again.
+-- The kept text of rows restores their book.
 use Rattle.std.specs.Prelude.{◌≡◌, ◌≤◌, ℕ, List, [], length}
 use Rattle.cspf_rows.specs.Records.{rows_of}
 use Rattle.cspf_book_run.specs.BookScript.{BookRunState, AreBookRowsAnswered}
 use Rattle.cspf_book_run.specs.Kept.{AreBookRowsKept}
 
--- The rows of a text, no more than this many, make the book of a state: the base, the version and the
--- placements. Nothing is refused, and no changes are open afterwards.
+-- The rows of a text, at most `most`, restore the book of the state `t`: its base, version and placements. Nothing
+-- is refused, and no changes are open afterwards.
 pub record RemakesBook (text : List ℕ) (most : ℕ) (t : BookRunState) : Type 0 where
   pub few : length (rows_of text) ≤ most
   pub lines : List ℕ
@@ -16,7 +16,7 @@ pub record RemakesBook (text : List ℕ) (most : ℕ) (t : BookRunState) : Type 
   pub changes : after.changes ≡ []
   pub refused : after.refused ≡ 0
 
--- what is kept of rows makes their book again, by no more rows
+-- The kept text of rows restores their book, and has at most as many rows.
 abbrev pub KeptIsTheBook : Type 0
 KeptIsTheBook =
     (rows : List (List (List ℕ))) (text : List ℕ) (t : BookRunState) → AreBookRowsKept rows text t → RemakesBook text (length rows) t

@@ -1,11 +1,11 @@
--- The refusal of a book's row by the error of the book.
+-- The refusal of a `place` row for each error of the book.
 use Rattle.std.specs.Prelude.{Option, Some, None}
 use Rattle.cspf_book.specs.declared.error.PlaceError.{PlaceError}
 use Rattle.cspf_book.specs.declared.error.PlaceError.TheVariants as place_error
 use Rattle.cspf_book_run.specs.declared.refusals.PlaceRefusal.{PlaceRefusal}
 use Rattle.cspf_book_run.specs.declared.refusals.PlaceRefusal.TheVariants as unplaced
 
--- Each error but refused memory is a refusal, which has a line. Refused memory alone ends the run.
+-- Each error except refused memory is a refusal, which has a line. Refused memory ends the run.
 abbrev pub place_refusal_of : PlaceError → Option PlaceRefusal
 place_refusal_of place_error.Memory = None
 place_refusal_of place_error.Full = Some unplaced.Full

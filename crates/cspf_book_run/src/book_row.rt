@@ -1,4 +1,4 @@
-//! The rows of a book: those of a database, and those that place and release.
+//! The rows that a book takes: the rows of a database, and the rows `place` and `release`.
 
 ghost use Rattle.std.specs.Prelude.{◌≡◌, ◌≤◌};
 ghost use Rattle.csv.specs.Records.{fields_of};
@@ -9,10 +9,10 @@ use cspf_model::{Request, fields_of_links_and_requests};
 use cspf_rows::{Row, RowError};
 use csv::ByteRecord;
 
-/// What a record says to a book.
+/// What a record asks of a book.
 #[derive(Clone, Copy, Debug, PartialEq, Eq)]
 pub enum BookRow {
-    /// A row of the base, or one that asks.
+    /// A row of the base: a change, an end row, or a request that is only asked.
     Base(Row),
     /// A request to place.
     Place {
@@ -31,8 +31,9 @@ pub enum BookRow {
 impl BookRow {
     ghost use Rattle.cspf_book_run.specs.BookRows.{book_row_of, place_row_of, release_row_of};
 
-    /// The row that the fields of a record say, or the first refusal. The kind is looked at first, and
-    /// then the fields as `Row::read` does. The fields of a row that places are those of one that asks.
+    /// The row that a record spells, or the first refusal. The kind is checked first. The fields
+    /// are checked as in `Row::read`. A `place` row has the same fields after its kind as an `ask`
+    /// row.
     #[tactic(auto, unfolding(crate::specs::BookRows::book_row_of))]
     pub fn read(fields: &ByteRecord) -> Result<BookRow, RowError>
         ensures { result ≡ book_row_of (fields_of fields.now) }
@@ -47,26 +48,26 @@ impl BookRow {
         }
     }
 
-    /// The row of 10 fields that places.
+    /// The `place` row, which has 10 fields.
     fn place(fields: &ByteRecord) -> Result<BookRow, RowError>
         ensures { result ≡ place_row_of (fields_of fields.now) }
     {
         if fields.len() != 10 {
             return Err(RowError::Fields);
         }
-        // Law: a request says what is read off it, and nothing else.
+        // Law: a request is determined by its fields.
         fields_of_links_and_requests();
         match Row::ask(fields)? {
             Row::Ask(request) => Ok(BookRow::Place {
                 request: at_lowest_setup(&request),
                 hold: request.setup,
             }),
-            // These fields say no other row.
+            // An `ask` row spells a request, and no other row.
             _ => Err(RowError::Kind),
         }
     }
 
-    /// The row of 2 fields that releases.
+    /// The `release` row, which has 2 fields.
     #[tactic(auto, unfolding(cspf_rows::specs::FieldValues::number_at))]
     fn release(fields: &ByteRecord) -> Result<BookRow, RowError>
         ensures { result ≡ release_row_of (fields_of fields.now) }
@@ -79,7 +80,8 @@ impl BookRow {
     }
 }
 
-/// The bytes of the field with this number, from 1 on; none past the last field.
+/// The bytes of the field with this number. The first field is 1. Past the last field the bytes are
+/// empty.
 fn text(fields: &ByteRecord, place: usize) -> &[u8]
     requires { 1 ≤ place }
     ensures { result.now ≡ field (fields_of fields.now) place }
@@ -87,7 +89,7 @@ fn text(fields: &ByteRecord, place: usize) -> &[u8]
     fields.get(place - 1).unwrap_or(&[])
 }
 
-/// The request at setup priority 7.
+/// The same request at setup priority 7.
 fn at_lowest_setup(q: &Request) -> Request
     ensures { HasRequestFields result (request_fields q.now.id q.now.from q.now.to 7 q.now.bandwidth
         q.now.exclude_any q.now.include_any q.now.include_all q.now.hops) }

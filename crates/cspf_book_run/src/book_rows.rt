@@ -1,4 +1,5 @@
-//! The rows of a book, each answered over the book, with the open changes and the counts of a run.
+//! The state of a run of a book. It answers each row from the book, and has the open changes and
+//! the counts of the run.
 
 ghost use Rattle.std.specs.Prelude.{◌≡◌, ◌+◌, ◌<◌, ◌≤◌, [], length, IfOk, OnOk};
 ghost use Rattle.csv.specs.Records.{fields_of};
@@ -17,28 +18,28 @@ use cspf_stream::{BatchRefusal, OpenChanges, Step, StreamLine, refused_row};
 use csv::ByteRecord;
 use std::alloc::{AllocError, Global};
 
-/// The state between two rows. Besides the book it takes no more memory with the rows.
+/// The state between two rows. Only the book takes more memory as rows are read.
 #[derive(Drop)]
 pub struct BookRows {
     book: Book,
     /// How many base batches were accepted.
     batches: u32,
     changes: OpenChanges,
-    /// The rows that were read.
+    /// How many rows were read.
     read: u64,
-    /// The requests that were answered, of those that are asked and of those that are placed.
+    /// How many requests were answered, from `ask` and `place` rows together.
     answers: u64,
-    /// The rows, batches, placings and releases that were refused.
+    /// How many rows, batches, `place` rows and `release` rows were refused.
     refused: u64,
     ghost fewer: { batches ≤ book.version },
 }
 
-/// The lines that answer a row, and what is kept of the row.
+/// The lines that answer a row, and the text that is kept of the row.
 #[derive(Drop)]
 pub(crate) struct KeptLine {
-    /// The lines, of which a change has none.
+    /// The lines. A change has no lines.
     pub line: Vec<u8>,
-    /// Empty where the row isn't accepted.
+    /// The kept text. It is empty if the row isn't accepted.
     pub text: Vec<u8>,
 }
 
@@ -53,7 +54,8 @@ impl BookRows {
     ghost use Rattle.cspf_book_run.specs.BookStates.{IsReadable, KeepsBook, BookLeads, IsBookBefore, CanCountBookRow, CountsAnswer, AreBookCounts};
     ghost use Rattle.cspf_book_run.specs.KeptStates.{IsTextOfRow, IsTextOfStep, IsRenumbered, IsAnsweredAndKept};
 
-    /// Version 0, with the empty base, no placements and no open changes.
+    /// The state before the first row: version 0, the empty base, no placements and no open
+    /// changes.
     pub(crate) fn new(alloc: Global) -> Result<BookRows, AllocError>
         ensures start { IfOk result (λ rows. KeepsBook rows book_start) }
         ensures none { IfOk result (λ rows. rows.read ≡ 0) }
@@ -68,7 +70,8 @@ impl BookRows {
         })
     }
 
-    /// Answers the row at this place, from 1, by its fields, and returns what is kept of it, too.
+    /// Answers the row with this number, counted from 1, from its fields. Also returns the text
+    /// that is kept of the row.
     pub(crate) fn answer(
         &mut self,
         alloc: Global,
@@ -89,7 +92,7 @@ impl BookRows {
         Ok(KeptLine { line, text })
     }
 
-    /// The text of a row, which is kept if the row is accepted.
+    /// The text of a row. It is kept only if the row is accepted.
     fn text_of(
         &mut self,
         alloc: Global,
@@ -106,7 +109,7 @@ impl BookRows {
         }
     }
 
-    /// The text of a row that is read, which is kept if the row is accepted.
+    /// The text of a row whose fields could be read. It is kept only if the row is accepted.
     fn text_of_read(
         &mut self,
         alloc: Global,
@@ -124,7 +127,7 @@ impl BookRows {
         }
     }
 
-    /// The text of a row of the base, which is kept if the row is accepted.
+    /// The text of a row of the base. It is kept only if the row is accepted.
     fn text_of_step(&mut self, alloc: Global, step: Step) -> Result<Vec<u8>, AllocError>
         ensures text { IfOk result (λ text. (s : BookRunState) → KeepsBook self.old s
             → IsTextOfStep s step text.items) }
@@ -137,7 +140,8 @@ impl BookRows {
         }
     }
 
-    /// The text of the open changes that are kept, as the batch with this number.
+    /// The text of the open changes as the batch with this number. It has only those open changes
+    /// that are kept.
     fn text_of_batch(&mut self, alloc: Global, number: u32) -> Result<Vec<u8>, AllocError>
         ensures text { IfOk result (λ text. (s : BookRunState) → KeepsBook self.old s
             → length s.changes ≤ MOST_CHANGES → text.items ≡ batch_text (open_base_batch s number)) }
@@ -147,7 +151,8 @@ impl BookRows {
         batch_text(alloc, &self.changes.batch)
     }
 
-    /// Takes the row at this place, from 1, and returns its lines, of which a change has none.
+    /// Answers the row with this number, counted from 1, and returns its lines. A change has no
+    /// lines.
     fn line_of(
         &mut self,
         alloc: Global,
@@ -170,7 +175,7 @@ impl BookRows {
         }
     }
 
-    /// Takes a row that is read, and returns its lines.
+    /// Answers a row whose fields could be read, and returns its lines.
     fn take_row(&mut self, alloc: Global, row: &BookRow) -> Result<Vec<u8>, AllocError>
         requires few { CanCountBookRow self.old }
         requires row { IsReadable row.now }
@@ -185,7 +190,7 @@ impl BookRows {
         }
     }
 
-    /// Takes a row of the base, or one that asks, by what it asks for.
+    /// Answers a row of the base: a change, an end row or a request.
     fn take(&mut self, alloc: Global, step: Step) -> Result<Vec<u8>, AllocError>
         requires few { CanCountBookRow self.old }
         ensures answered { IfOk result (λ line. BookLeads self.old self.new
@@ -199,7 +204,7 @@ impl BookRows {
         }
     }
 
-    /// Keeps a change open.
+    /// Adds a change to the open changes.
     fn change(&mut self, alloc: Global, change: Change) -> Result<Vec<u8>, AllocError>
         requires few { CanCountBookRow self.old }
         ensures answered { IfOk result (λ line. BookLeads self.old self.new
@@ -223,15 +228,15 @@ impl BookRows {
         Ok(line)
     }
 
-    /// Makes the open changes in the base as the batch with this number and this count, or refuses them.
-    /// None are open afterwards.
+    /// Applies the open changes to the base as the batch with this number and count, or refuses the
+    /// batch. Afterwards no changes are open.
     fn end(&mut self, alloc: Global, number: u32, count: u32) -> Result<Vec<u8>, AllocError>
         requires few { CanCountBookRow self.old }
         ensures answered { IfOk result (λ line. BookLeads self.old self.new
             (λ s t. IsBaseEndAnswered s number count line.items t)) }
         ensures counts { CountsAnswer self.old self.new }
     {
-        // Law: a batch that is refused doesn't fit.
+        // Law: if the table refuses a batch, the batch doesn't fit.
         one_refusal();
         let (version, changes) = (self.book.version(), self.changes.count);
         if let Some(refusal) = wrong_end(version, self.batches, number, count, changes) {
@@ -240,8 +245,8 @@ impl BookRows {
         self.apply(alloc, number)
     }
 
-    /// Makes the open changes in the base as the batch with this number where they fit, or refuses them.
-    /// The lines are made before the batch is applied.
+    /// Applies the open changes to the base as the batch with this number, if they fit, or refuses
+    /// the batch. The lines are made before the batch is applied.
     fn apply(&mut self, alloc: Global, number: u32) -> Result<Vec<u8>, AllocError>
         requires few { CanCountBookRow self.old }
         requires room { self.old.book.version < MOST_VERSIONS }
@@ -264,7 +269,7 @@ impl BookRows {
         }
     }
 
-    /// Drops the open changes, which are refused as the batch with this number.
+    /// Drops the open changes and refuses them as the batch with this number.
     fn refuse_batch(
         &mut self,
         alloc: Global,
@@ -283,7 +288,7 @@ impl BookRows {
         Ok(line)
     }
 
-    /// Places a request with a holding priority, or refuses it.
+    /// Places a request with a holding priority, or refuses the `place` row.
     fn place(&mut self, alloc: Global, request: &Request, hold: u8) -> Result<Vec<u8>, AllocError>
         requires few { CanCountBookRow self.old }
         requires setup { request.now.setup ≡ 7 }
@@ -309,7 +314,7 @@ impl BookRows {
         }
     }
 
-    /// Refuses to place the request with this id.
+    /// Refuses the `place` row of the request with this id.
     fn refuse_place(
         &mut self,
         alloc: Global,
@@ -326,7 +331,8 @@ impl BookRows {
         Ok(line)
     }
 
-    /// Releases the placement with this id, or refuses to. The line is made before the release.
+    /// Releases the placement with this id, or refuses the `release` row. The line is made before
+    /// the release.
     fn release(&mut self, alloc: Global, id: u64) -> Result<Vec<u8>, AllocError>
         requires few { CanCountBookRow self.old }
         ensures answered { IfOk result (λ line. BookLeads self.old self.new
@@ -343,7 +349,7 @@ impl BookRows {
         }
     }
 
-    /// Refuses to release the placement with this id.
+    /// Refuses the `release` row of this id.
     fn refuse_release(
         &mut self,
         alloc: Global,
@@ -360,7 +366,7 @@ impl BookRows {
         Ok(line)
     }
 
-    /// The last line: rows that aren't read come before changes that are still open.
+    /// The last line. If there are too many rows, it says so, and not that changes are still open.
     pub(crate) fn last_line(&self, alloc: Global, too_many: bool) -> Result<Vec<u8>, AllocError>
         ensures { IfOk result (λ line. (s : BookRunState) → KeepsBook self.now s
             → line.items ≡ last_line too_many s.changes) }
@@ -372,7 +378,7 @@ impl BookRows {
         }
     }
 
-    /// The summary, where the run ends here.
+    /// The summary of the run, if it ends here.
     pub(crate) fn summary(&self, too_many: bool) -> Summary
         requires { AreBookCounts self.now }
         ensures { (s : BookRunState) → KeepsBook self.now s

@@ -4,8 +4,9 @@ ghost use Rattle.cspf_book_run.specs.BookEnds.{IsRightBookEnd, IsWrongBookEnd};
 use cspf_model::MOST_VERSIONS;
 use cspf_stream::BatchRefusal;
 
-/// Why an end row is refused before its batch is looked at, if it is: at this version, after this many
-/// base batches, with this many open changes.
+/// Why an end row is refused before it is checked whether its batch fits. `None` if it isn't.
+/// `version` is the book's version, `batches` how many base batches were accepted, and `changes`
+/// how many changes are open.
 pub(crate) fn wrong_end(
     version: u32,
     batches: u32,

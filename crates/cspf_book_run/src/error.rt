@@ -2,16 +2,16 @@ use cspf_solve::SolveError;
 use std::alloc::AllocError;
 use thiserror::Error;
 
-/// Why a run to a book stops before the end of its rows.
+/// Why a run of a book stops before the end of its rows.
 #[derive(Clone, Copy, Debug, PartialEq, Eq, Error)]
 pub enum BookError {
     /// Memory was refused, or a read or a write of the rows or lines failed.
     #[error("{0}")]
     Run(SolveError),
-    /// What is kept of an accepted row wasn't written whole.
+    /// The kept text of an accepted row wasn't written whole.
     #[error("a write of an accepted row failed after {written} bytes")]
     Keep {
-        /// How many bytes of what is kept of the row were written.
+        /// How many bytes of the row's kept text were written.
         written: usize,
     },
 }

@@ -1,4 +1,5 @@
-//! The rows of a book, and a writer that gets what is kept of each row before its line is returned.
+//! The rows of a book, with a writer for the kept texts. The text of a row is written before its
+//! line is returned.
 
 use crate::book_rows::{BookRows, KeptLine};
 use cspf_rows::put_all;
@@ -7,11 +8,11 @@ use csv::ByteRecord;
 use std::alloc::{AllocError, Global};
 use std::io::Write;
 
-/// The state between two rows, and the writer of what is kept.
+/// The state between two rows, and the writer of the kept texts.
 pub struct KeptRows<K> {
     rows: BookRows,
     keep: K,
-    /// Where the writer failed: how many bytes of a row's text were written before.
+    /// The failed write, if there was one: how many bytes of the row's text were written.
     fault: Option<usize>,
 }
 
@@ -24,7 +25,7 @@ impl<K: Write> Answering<()> for KeptRows<K> {
 
     ghost fails = { IsRowNotKept K.contents };
 
-    // Each row adds one at most, and none is answered after a write that failed.
+    // Each row adds at most one to a count. After a failed write no row is answered.
     ghost may_stand = { λ place k. IsBookBefore place k.rows × (k.fault ≡ None) };
 
     fn answer(
@@ -48,7 +49,7 @@ impl<K: Write> Answering<()> for KeptRows<K> {
 impl<K> KeptRows<K> {
     ghost use Rattle.std.specs.Prelude.{◌≡◌, None};
 
-    /// Before the first row.
+    /// The state before the first row.
     pub(crate) fn new(rows: BookRows, keep: K) -> KeptRows<K>
         ensures { result ≡ record { rows = rows; keep = keep; fault = None } }
     {
@@ -59,21 +60,21 @@ impl<K> KeptRows<K> {
         }
     }
 
-    /// The rows of the book.
+    /// The state of the run without the writer.
     pub(crate) fn rows(&self) -> &BookRows
         ensures { result.now ≡ self.now.rows }
     {
         &self.rows
     }
 
-    /// Where the writer failed: how many bytes of a row's text were written before.
+    /// The failed write, if there was one: how many bytes of the row's text were written.
     pub(crate) fn fault(&self) -> Option<usize>
         ensures { result ≡ self.now.fault }
     {
         self.fault
     }
 
-    /// The writer, as the last call left it.
+    /// The writer, in the state after its last call.
     pub(crate) fn into_keep(self) -> K
         ensures { result ≡ self.keep }
     {

@@ -1,9 +1,10 @@
-//! The run of a book: one stream of rows in, the lines of each out, by one thread.
+//! The run of a book: a stream of rows is read, and the lines of each row are written, by one
+//! thread.
 //!
-//! `specs/BookRows.antt` defines the row that a record says to a book, `specs/BookScript.antt` the lines
-//! of a run, from bytes to bytes, and its summary. `specs/Kept.antt` defines what is kept of the rows that
-//! are accepted. `specs/BookOutput.antt` defines the output where a run ends by an error, and
-//! `specs/BookScriptLaws.antt` and `specs/KeptLaws.antt` what holds of every run.
+//! `specs/BookRows.antt` defines which row a record spells. `specs/BookScript.antt` defines the
+//! lines of a run and its summary, from the bytes of the stream. `specs/Kept.antt` defines the text
+//! that is kept of accepted rows. `specs/BookOutput.antt` defines the output of a run that ends by
+//! an error. `specs/BookScriptLaws.antt` and `specs/KeptLaws.antt` say what holds of every run.
 #![tactic(auto)]
 
 mod book_row;

@@ -1,4 +1,4 @@
-//! The lines of a book, the line feed of each included.
+//! The lines of a book. Each ends with a line feed.
 
 ghost use Rattle.std.specs.Prelude.{◌≡◌, ◌≤◌, ◌++◌, drop, length, IfOk, OnOk};
 ghost use Rattle.std.specs.List.{flat_map};
@@ -11,8 +11,9 @@ use cspf_ero::reply_line;
 use cspf_model::Outcome;
 use std::alloc::{AllocError, Global};
 
-/// The lines of a base batch that is accepted: of the links with less than is counted on them, of the
-/// placements whose routes are lost, and of the batch.
+/// The lines of an accepted base batch. First comes an `over` line for each link and priority at
+/// which the link has less bandwidth than is counted on it. Then comes a `lost` line for each
+/// placement that loses its route, and last the line of the batch.
 pub(crate) fn base_lines(
     alloc: Global,
     over: &[Over],
@@ -31,7 +32,8 @@ pub(crate) fn base_lines(
     Ok(lines)
 }
 
-/// Writes the line of each link with less than is counted on it.
+/// Writes an `over` line for each link and priority at which the link has less bandwidth than is
+/// counted on it.
 fn write_over(alloc: Global, lines: &mut Vec<u8>, over: &[Over]) -> Result<(), AllocError>
     ensures { OnOk result (lines.new.items ≡ lines.old.items ++ flat_map over_line over.now) }
 {
@@ -42,7 +44,7 @@ fn write_over(alloc: Global, lines: &mut Vec<u8>, over: &[Over]) -> Result<(), A
     Ok(())
 }
 
-/// The line of a link with less than is counted on it.
+/// The `over` line of a link and a priority.
 fn line_of_over(alloc: Global, over: &Over) -> Result<Vec<u8>, AllocError>
     ensures { IfOk result (λ line. line.items ≡ over_line over.now) }
 {
@@ -50,7 +52,7 @@ fn line_of_over(alloc: Global, over: &Over) -> Result<Vec<u8>, AllocError>
     Ok(format!(in alloc; "over {from},{local} {priority}\n")?.into_bytes())
 }
 
-/// Writes the line of each placement whose route is lost.
+/// Writes a `lost` line for each placement that loses its route.
 fn write_lost(alloc: Global, lines: &mut Vec<u8>, lost: &[u64]) -> Result<(), AllocError>
     ensures { OnOk result (lines.new.items ≡ lines.old.items ++ flat_map lost_line lost.now) }
 {
@@ -61,14 +63,14 @@ fn write_lost(alloc: Global, lines: &mut Vec<u8>, lost: &[u64]) -> Result<(), Al
     Ok(())
 }
 
-/// The line of a placement whose route is lost.
+/// The `lost` line of a placement that loses its route.
 fn line_of_lost(alloc: Global, id: u64) -> Result<Vec<u8>, AllocError>
     ensures { IfOk result (λ line. line.items ≡ lost_line id) }
 {
     Ok(format!(in alloc; "lost {id}\n")?.into_bytes())
 }
 
-/// The line of a request that was to be placed, which is answered at a version.
+/// The line that answers a `place` row, with the version of the answer.
 pub(crate) fn place_line(
     alloc: Global,
     id: u64,
@@ -83,7 +85,7 @@ pub(crate) fn place_line(
     Ok(line)
 }
 
-/// What follows the word `ask`.
+/// The line without its first word `ask`.
 fn after_word(line: &[u8]) -> &[u8]
     requires { 3 ≤ length line.now }
     ensures { result.now ≡ drop 3 line.now }
@@ -91,7 +93,7 @@ fn after_word(line: &[u8]) -> &[u8]
     &line[3..]
 }
 
-/// The line of a request that isn't placed.
+/// The line of a `place` row that is refused.
 pub(crate) fn refused_place(
     alloc: Global,
     id: u64,
@@ -102,14 +104,14 @@ pub(crate) fn refused_place(
     Ok(format!(in alloc; "place {id} refused: {why}\n")?.into_bytes())
 }
 
-/// The line of a placement that is released, which makes this version.
+/// The line of a released placement, with the version that the release makes.
 pub(crate) fn released(alloc: Global, id: u64, version: u32) -> Result<Vec<u8>, AllocError>
     ensures { IfOk result (λ line. line.items ≡ released_line id version) }
 {
     Ok(format!(in alloc; "released {id} v{version}\n")?.into_bytes())
 }
 
-/// The line of a placement that isn't released.
+/// The line of a `release` row that is refused.
 pub(crate) fn refused_release(
     alloc: Global,
     id: u64,

@@ -1,4 +1,4 @@
-//! Why a book refuses to place or to release.
+//! Why a book refuses a `place` or `release` row.
 ghost use Rattle.std.specs.Prelude.{◌≡◌};
 ghost use Rattle.cspf_book_run.specs.PlaceErrors.{place_refusal_of};
 
@@ -11,9 +11,9 @@ use std::fmt;
 pub enum PlaceRefusal {
     /// The version is 1,000,000.
     Exhausted,
-    /// The book has as many placements of other ids as it may have.
+    /// The book already has `MOST_PLACEMENTS` placements with other ids.
     Full,
-    /// The routes of all placements would have more links than they may have.
+    /// The routes of all placements would have more than `MOST_ROUTES_LINKS` links.
     Links,
     /// The best route uses a link twice.
     Twice,
@@ -38,7 +38,7 @@ impl fmt::Display for PlaceRefusal {
 impl Error for PlaceRefusal {}
 
 impl PlaceRefusal {
-    /// The refusal that an error of the book is, if it isn't refused memory.
+    /// The refusal for an error of the book. Refused memory is no refusal.
     pub(crate) fn of(why: PlaceError) -> Option<PlaceRefusal>
         ensures { result ≡ place_refusal_of why }
     {
@@ -51,12 +51,12 @@ impl PlaceRefusal {
     }
 }
 
-/// Why nothing is released.
+/// Why no placement is released.
 #[derive(Clone, Copy, Debug, PartialEq, Eq)]
 pub enum ReleaseRefusal {
     /// The version is 1,000,000.
     Exhausted,
-    /// No placement has the id.
+    /// No placement has this id.
     Absent,
 }
 

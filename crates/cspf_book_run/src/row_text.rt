@@ -1,4 +1,4 @@
-//! The text of a row, as it is kept.
+//! The text that is kept of a row.
 
 ghost use Rattle.std.specs.Prelude.{◌≡◌, ◌==◌, ◌++◌, [], if◌then◌else◌, IfOk};
 ghost use Rattle.csv.specs.Records.{fields_of};
@@ -7,8 +7,8 @@ ghost use Rattle.csv.specs.Writing.{default_writer, row_text, writer_under, writ
 use csv::{ByteRecord, Writer};
 use std::alloc::{AllocError, Global};
 
-/// The fields of a row as `csv` writes them: with a comma between each two, and a line feed. A field is in
-/// quotes only where it has a comma, a quotation mark or the end of a line.
+/// The fields of a row as `csv` writes them: separated by commas, with a line feed at the end. A
+/// field is quoted only if it has a comma, a quotation mark or a line break.
 pub(crate) fn row_text(alloc: Global, fields: &ByteRecord) -> Result<Vec<u8>, AllocError>
     ensures { IfOk result (λ text. text.items ≡ row_text default_writer (fields_of fields.now)) }
 {
@@ -19,7 +19,7 @@ pub(crate) fn row_text(alloc: Global, fields: &ByteRecord) -> Result<Vec<u8>, Al
     }
 }
 
-/// All that was written to a writer.
+/// All bytes that were written, including the bytes in the buffer.
 fn written(rows: Writer<Vec<u8>>) -> Result<Vec<u8>, AllocError>
     ensures { IfOk result (λ text. text.items ≡ (writer_under rows).items ++ writer_pending rows) }
 {
@@ -29,7 +29,7 @@ fn written(rows: Writer<Vec<u8>>) -> Result<Vec<u8>, AllocError>
     }
 }
 
-/// The text where the version is another one than before, and else nothing.
+/// The text if the version has changed, and otherwise the empty text.
 pub(crate) fn text_if_new(mut text: Vec<u8>, before: u32, after: u32) -> Vec<u8>
     ensures { result.items ≡ (if after == before then [] else text.items) }
 {

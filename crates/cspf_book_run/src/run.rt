@@ -1,4 +1,5 @@
-//! The run of `book`: one stream of rows in, the lines of each out, and what is kept of them.
+//! The run of `book`: it reads a stream of rows, writes the lines of each row, and keeps the text
+//! of accepted rows.
 
 ghost use Rattle.std.specs.Prelude.{◌≡◌, ℕ, ◌+◌, ◌*◌, ◌^◌, ◌≤◌, List, true, None, IfOk, IfErr, IfSome};
 ghost use Rattle.std.specs.Io.KnownBytes.{Appends};
@@ -23,15 +24,15 @@ use csv::Reader;
 use std::alloc::Global;
 use std::io::{Read, Write};
 
-/// Reads a stream of rows to a book and writes the lines of each when they are known, in one write where
-/// the writer takes them whole. `IsBookScript` defines the lines, and when something is refused. At most
-/// 1,000,000 rows are read. Before the lines of a row that is accepted, what is kept of it goes to `keep`,
-/// as `IsKeptText` defines it. Returns `keep`, too.
+/// Reads a stream of rows for a book. Writes the lines of each row as soon as they are known, in
+/// one write if the writer takes them whole. `IsBookScript` defines the lines, and when something
+/// is refused. At most 1,000,000 rows are read. The text of an accepted row goes to `keep` before
+/// the row's lines are written. `IsKeptText` defines this text. Returns `keep`, too.
 ///
-/// After an error the writer has the lines of a prefix of the rows. After a failed write it may
-/// also have a part of the next text, but not all of it. `Read` comes from a read that failed and
-/// `Write` from a write that failed or took no bytes. `Keep` comes from such a write to `keep`, which may
-/// then have a part of what is kept of the next row; that row has no line. Nothing is flushed.
+/// After an error the lines of a prefix of the rows are written. After a failed write a part of the
+/// next text may be written, too, but not all of it. `Read` means that a read failed. `Write` means
+/// that a write failed or took no bytes. `Keep` means the same of a write to `keep`, which may then
+/// have a part of the text of the next row. That row has no line. Nothing is flushed.
 pub fn run_book<R: Read + Drop, W: Write, K: Write>(
     alloc: Global,
     reader: R,
@@ -60,7 +61,7 @@ pub fn run_book<R: Read + Drop, W: Write, K: Write>(
     }
 }
 
-/// Answers the rows that a reader has left.
+/// Answers all rows that the reader hasn't read yet.
 fn answer_all<R: Read, W: Write, K: Write>(
     alloc: Global,
     rows: &mut Reader<R>,
@@ -81,15 +82,15 @@ fn answer_all<R: Read, W: Write, K: Write>(
         (out : List ℕ) × (text : List ℕ) × IsBookOutputAtError error all out text
         × Appends (W.contents writer.old) (W.contents writer.new) out
         × Appends (K.contents book.old.keep) (K.contents book.new.keep) text)) }
-    // Only the reader's own fault is answered `Read`.
+    // `Read` is returned only if the reader itself failed.
     ensures read { IfErr result (λ error. error ≡ IsOfRun IsRead → has_failed rows.new ≡ true) }
 {
     let (written, ended) = answer_most(alloc, rows, book, writer);
     finish(alloc, book.rows(), writer, written, ended?)
 }
 
-/// Answers the first 1,000,000 rows that a reader has left. Returns how many bytes of lines were written,
-/// and whether there are more rows, or why the run stops in them.
+/// Answers the next 1,000,000 rows of the reader at most. Returns how many bytes of lines were
+/// written, and whether more rows follow or which error stopped the run.
 fn answer_most<R: Read, W: Write, K: Write>(
     alloc: Global,
     rows: &mut Reader<R>,
@@ -113,8 +114,8 @@ fn answer_most<R: Read, W: Write, K: Write>(
     (written, end_after_rows(written, ended, book.fault()))
 }
 
-/// How the rows end, after `written` bytes of lines: whether there are more than are read, or why the run
-/// stops there. The fault is that of a write of what is kept.
+/// How the rows end, after `written` bytes of lines: whether more rows follow, or which error
+/// stopped the run. `fault` is the failed write to `keep`, if there was one.
 fn end_after_rows(
     written: u128,
     ended: Result<(), StreamError>,
@@ -136,7 +137,7 @@ fn end_after_rows(
     }
 }
 
-/// Writes the last line, after `written` bytes, and returns the summary.
+/// Writes the last line after `written` bytes of lines, and returns the summary.
 fn finish<W: Write>(
     alloc: Global,
     book: &BookRows,

@@ -1,5 +1,5 @@
--- The arguments of a generic function of a box for a session and for the allocator. Assumes
--- `Logic`.
+-- How a call passes its arguments to a generic function that has a box for a session and the allocator.
+-- Assumes `Logic`.
 use Rattle.std.proofs.Common.{[], ◌∷◌, refl}
 use seplogic.Ra.Ura.{Ura}
 use types.Logic.{Logic}
@@ -31,7 +31,7 @@ use Rattle.cspf_c.proofs.cspf_c++opened++Opened+Destruct.drop.Met.{met}
 use Rattle.cspf_c.proofs.opened.Opened.TheLaws as opened_facts
 use Rattle.cspf_c.proofs.Pointers.{Opened, Memory}
 
--- a type as a call passes it
+-- a type as a call passes a value of it
 abbrev pub passed : RattleType → RattleType
 passed R = arg (bare (layout R)) no R
 
@@ -47,12 +47,12 @@ memory_drop = impl ("cspf_c::Destruct++none::drop" ∷ []) (tcons (layout (passe
 abbrev pub opened_drop : Dict
 opened_drop = impl ("cspf_c::cspf_c++opened++Opened+Destruct::drop" ∷ []) tnil dnil
 
--- no drop of the allocator is run
+-- dropping the allocator runs no code
 pub memory_glue : {M : Type 1} (𝓤 : Ura M) (𝓛 : Logic 𝓤) (𝓜 : Model 𝓤 𝓛.H) (𝓡 : Running 𝓤 𝓛.H 𝓜) → Wired 𝓡.env none_drop.code → glue.Met 𝓛 𝓜 𝓡 𝓡.env (passed Memory) memory_drop
 unfolding none_drop.code
 memory_glue 𝓤 𝓛 𝓜 𝓡 wired = glues "cspf_c::Destruct++none::drop" 𝓡.env wired (passed Memory) memory_laws _ 𝓤 𝓛 𝓜 𝓡
 
--- the drop of a session releases it, with any lifetime
+-- dropping a session releases it, for any lifetime
 pub opened_glue : {M : Type 1} (𝓤 : Ura M) (𝓛 : Logic 𝓤) (𝓜 : Model 𝓤 𝓛.H) (𝓡 : Running 𝓤 𝓛.H 𝓜) → Wired 𝓡.env code → glue.Met 𝓛 𝓜 𝓡 𝓡.env (passed Opened) opened_drop
 opened_glue 𝓤 𝓛 𝓜 𝓡 wired =
     let k : Callee = method opened_drop 0 no_args in let run = 𝓡.run (𝓡.env k) in let framed = run_framed 𝓤 𝓛.H 𝓜 𝓡 (𝓡.env k) in

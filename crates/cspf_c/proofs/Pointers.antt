@@ -43,7 +43,7 @@ Handle = handle.the_row
 abbrev pub Opened : RattleType
 Opened = opened.the_row
 
--- the allocator of the C library's memory
+-- the allocator that takes memory from the C library
 abbrev pub Memory : RattleType
 Memory = global.the_row
 
@@ -63,7 +63,7 @@ memory_field = record {
 abbrev box_laws : Laws (boxed.the_type Opened Memory ghosts)
 box_laws = (RawPtr-laws, (memory_field, tt))
 
--- how a box is stored
+-- the machine values of a box in memory
 abbrev pub box_words : Boxed.Denot → List Val
 box_words = vals (boxed.the_type Opened Memory ghosts) box_laws
 
@@ -78,7 +78,7 @@ pub box_typed : (p : Ptr) → T (has_ty ty_ptr (ptr_val p) && true) × (WT (ptr_
 box_typed (block_ptr b o) = (tt, (tt, (((tt, tt), tt), tt)))
 box_typed null_ptr = (tt, (record { fits = lit< tt }, (((tt, tt), tt), tt)))
 
--- how a handle at a pointer is stored
+-- the machine value of a handle with this pointer
 abbrev pub handle_word : Ptr → Val
 handle_word p = vstruct (vcons (ptr_val p) vnil)
 
@@ -98,12 +98,13 @@ memory_words m = global_laws.the_told.val m ∷ []
 pub memory_tells : Tells Memory (Is Memory) memory_words
 memory_tells = global_laws.the_told.tells
 
--- the block of a session, as the right to free it says
+-- the memory block of a session, as the right to free it describes the block
 abbrev room : Ty
 room = bare (lone Opened.mir)
 
 module _ {M : Type 1} {𝓤 : Ura M} {𝓛 : Logic 𝓤} {K : Type 0} {Γ : List (Item 𝓤)} {G : Goal 𝓤 𝓛.H} where
-  -- nothing is held at null, and a session at the first byte of a block, as the right to free it says
+  -- Either the pointer is null and holds no session, or it is the first byte of a block that holds the
+  -- session.
   pub what_is_held : K → (p : Ptr) (value : Option Opened.Denot) → (value ≡ None → p ≡ null_ptr → Seq K 𝓛 Γ G)
       → ((x : Opened.Denot) (b : ℕ) → value ≡ Some x → p ≡ block_ptr b 0 → Seq K 𝓛 (‵ (box_owns may_free Opened (block_ptr b 0) x) ∷ Γ) G) → Seq K 𝓛 (‵ (holds Opened p value) ∷ Γ) G
   what_is_held t p None none some = feq_l t (λ e. none refl e)
@@ -115,7 +116,7 @@ module _ {M : Type 1} {𝓤 : Ura M} {𝓛 : Logic 𝓤} {K : Type 0} {Γ : List
       fjoin t $ some x b refl at))
 
 module _ {M : Type 1} {𝓤 : Ura M} {𝓛 : Logic 𝓤} {K : Type 0} {Γ : List (Item 𝓤)} {G : Goal 𝓤 𝓛.H} where
-  -- a pointer with the session that is held at it is a handle
+  -- a pointer and the session held at it make a handle
   pub handle_of : K → (p : Ptr) (value : Option Opened.Denot)
       → Step K 𝓛 (‵ (Handle.own_val (record { at = p; value = value }) (handle_word p ∷ [])) ∷ Γ) G (‵ (holds Opened p value) ∷ Γ) G
   handle_of t p value = step (λ s.

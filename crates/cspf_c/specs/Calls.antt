@@ -1,4 +1,4 @@
--- The results of the calls from C.
+-- What the calls from C return, and what they do to a session.
 use Rattle.std.specs.Prelude.{◌≡◌, ℕ, List, [], ◌++◌, length, take, drop, min, Option, Result, Ok, Err}
 use Rattle.std.specs.declared.alloc.AllocError.{AllocError}
 use Rattle.std.specs.declared.option.Option.TheVariants.{None, Some}
@@ -9,44 +9,44 @@ use Rattle.cspf_c.specs.History.{HasAnswered}
 use Rattle.cspf_c.specs.declared.codes.TheConstants.{ANSWERED, MEMORY, CLOSED}
 use Rattle.cspf_c.specs.declared.opened.Opened.{Opened}
 
--- a session is opened, to which no row was given and which holds no lines, or memory was refused
+-- a session is opened that was given no row and holds no lines, or memory was refused
 abbrev pub IsOpened : ℕ → Option Opened → Type 0
 IsOpened code (Some new) = (code ≡ ANSWERED) × (HasAnswered new.session.taken [] [] × (new.lines.items ≡ []))
 IsOpened code None = code ≡ MEMORY
 
--- the rows of some bytes are given to a session, and it holds their lines, which have this size
+-- the rows of these bytes are given to a session, and it then holds their lines, which have this many bytes
 abbrev pub AreGiven : List ℕ → ℕ → Opened → Opened → Type 0
 AreGiven bytes size old new =
     (size ≡ length new.lines.items)
     × ((rows : List (List (List ℕ))) (lines : List ℕ) → HasAnswered old.session.taken rows lines
     → HasAnswered new.session.taken (rows ++ rows_of bytes) (lines ++ new.lines.items))
 
--- a session holds the last line of a run over the rows that it was given, which has this size
+-- the session holds the last line of a run over the rows that it was given, which has this many bytes
 abbrev pub IsEnded : ℕ → Opened → Opened → Type 0
 IsEnded size old new =
     (size ≡ length new.lines.items) × (new.session.taken ≡ old.session.taken)
     × ((rows : List (List (List ℕ))) (lines : List ℕ) → HasAnswered old.session.taken rows lines
     → (summary : Summary) × IsSolveRun rows (lines ++ new.lines.items) summary)
 
--- A call does this to the session of a handle, by its code. Where memory is refused the session is
+-- A call returns this code and does this to the session of its handle. If memory is refused, the session is
 -- closed.
 abbrev pub IsCalled : (Opened → Opened → Type 0) → ℕ → Option Opened → Option Opened → Type 0
 IsCalled does code None new = (code ≡ CLOSED) × (new ≡ None)
 IsCalled does code (Some old) None = code ≡ MEMORY
 IsCalled does code (Some old) (Some new) = (code ≡ ANSWERED) × does old new
 
--- the lines of the call before are copied to the start of a buffer, as many bytes as it takes
+-- the lines that the session holds are copied to the start of a buffer, as many bytes as fit
 abbrev pub AreCopied : Option Opened → List ℕ → List ℕ → ℕ → Type 0
 AreCopied None old new size = (size ≡ 0) × (new ≡ old)
 AreCopied (Some opened) old new size =
     (size ≡ min (length opened.lines.items) (length old)) × (new ≡ take size opened.lines.items ++ drop size old)
 
--- Private: a handle holds the session that was made, or memory was refused and it holds none.
+-- Private: the handle holds the session that was made. Or memory was refused, and it holds no session.
 abbrev pub IsHeld : ℕ → Result Opened AllocError → Option Opened → Type 0
 IsHeld code made None = code ≡ MEMORY
 IsHeld code made (Some new) = (code ≡ ANSWERED) × (made ≡ Ok new)
 
--- Private: how many bytes of lines a session that was made holds.
+-- Private: how many bytes the lines of the session have, or 0 if memory was refused.
 abbrev pub size_of_lines : Result Opened AllocError → ℕ
 size_of_lines (Ok opened) = length opened.lines.items
 size_of_lines (Err refused) = 0

@@ -1,4 +1,4 @@
--- Private: what a handle owns.
+-- Private: the memory that a handle owns.
 use base.Fml.{Fml, feq}
 use mir.Syntax.{Ty}
 use denote.RattleType.{RattleType}
@@ -13,11 +13,11 @@ use Rattle.std.specs.Box.Ownership.{box_owns}
 abbrev pub heap : Global
 heap = record { memory = record { seal = tt } }
 
--- the right to free a block of that heap
+-- the right to free a block of this heap
 abbrev pub may_free : Ty → Ptr → Fml
 may_free = ghosts.dealloc_token heap
 
--- no session is at null, and a session is in a box of the heap
+-- the null pointer holds no session, and any other pointer is that of a box in this heap with the session
 abbrev pub holds : (R : RattleType) → Ptr → Option R.Denot → Fml
 holds R p None = feq Ptr p null_ptr
 holds R p (Some x) = box_owns may_free R p x

@@ -1,5 +1,4 @@
-//! The functions that C calls. Each takes the session out of its handle, uses it once, and puts
-//! it back.
+//! The functions that C calls. Each takes the session out of its handle, uses it once, and puts it back.
 
 ghost use Rattle.std.specs.Prelude.{◌≡◌, ◌≢◌, MatchOption};
 ghost use Rattle.std.specs.declared.option.Option.TheVariants.{None, Some};
@@ -11,7 +10,7 @@ use crate::opened::Opened;
 use std::alloc::{AllocError, Global};
 use std::mem::replace;
 
-/// Takes the session out of a handle, which holds none then.
+/// Takes the session out of the handle, which then holds no session.
 fn take_session(alloc: Global, handle: &mut Handle) -> Option<Box<Opened>>
     ensures closed { handle.new.value ≡ None }
     ensures held { MatchOption result (handle.old.value ≡ None)
@@ -20,15 +19,15 @@ fn take_session(alloc: Global, handle: &mut Handle) -> Option<Box<Opened>>
     replace(handle, Handle::none()).into_session(alloc)
 }
 
-/// Puts a session into a handle. One that it held is closed.
+/// Puts a session into the handle, and closes the session that it held, if any.
 fn hold_session(alloc: Global, handle: &mut Handle, session: Box<Opened>)
     ensures { handle.new.value ≡ Some session.value }
 {
     drop(replace(handle, Handle::of(session)).into_session(alloc));
 }
 
-/// Puts a session into a handle, if it was made and its memory is granted. Returns the code of the
-/// call.
+/// Puts the session into the handle if it was made and there is memory for its box. Returns the code of the
+/// call. The session that the handle held is closed.
 fn keep_session(alloc: Global, handle: &mut Handle, made: Result<Opened, AllocError>) -> u32
     ensures { IsHeld result made handle.new.value }
 {
@@ -43,7 +42,7 @@ fn keep_session(alloc: Global, handle: &mut Handle, made: Result<Opened, AllocEr
     ANSWERED
 }
 
-/// How many bytes of lines a handle holds.
+/// How many bytes the lines of a session have, or 0 if memory was refused.
 fn lines_size(made: &Result<Opened, AllocError>) -> usize
     ensures { result ≡ size_of_lines made.now }
 {
@@ -53,9 +52,9 @@ fn lines_size(made: &Result<Opened, AllocError>) -> usize
     }
 }
 
-/// Opens a session, with the empty database and no open changes. The new session is made before one
-/// that the handle held is closed, so there is memory for both until then. Where memory is refused
-/// that one is closed too.
+/// Opens a session with the empty database and no open changes. The new session is made before the old one
+/// of the handle is closed, so for a moment both take memory. If memory is refused, the old session is closed
+/// as well. Returns `ANSWERED` or `MEMORY`.
 #[unsafe(no_mangle)]
 pub extern "C" fn routed_open(alloc: Global, handle: &mut Handle) -> u32
     ensures { IsOpened result handle.new.value }
@@ -63,8 +62,8 @@ pub extern "C" fn routed_open(alloc: Global, handle: &mut Handle) -> u32
     keep_session(alloc, handle, Opened::new(alloc))
 }
 
-/// Gives rows to the session, and returns how many bytes their lines have. The size stays as it was
-/// where they aren't answered.
+/// Gives rows to the session, which then holds their lines. Sets `size` to the number of bytes of the lines.
+/// `size` is unchanged if the call doesn't return `ANSWERED`.
 #[unsafe(no_mangle)]
 pub extern "C" fn routed_rows(
     alloc: Global,
@@ -87,8 +86,8 @@ pub extern "C" fn routed_rows(
     code
 }
 
-/// Ends the rows that were given, and returns how many bytes the last line has. The size stays as it
-/// was where there is no answer.
+/// Has the session hold the last line of a run over all rows that it was given. Sets `size` to the number of
+/// bytes of this line. `size` is unchanged if the call doesn't return `ANSWERED`.
 #[unsafe(no_mangle)]
 pub extern "C" fn routed_end(alloc: Global, handle: &mut Handle, size: &mut usize) -> u32
     ensures called { IsCalled (IsEnded size.new) result handle.old.value handle.new.value }
@@ -106,8 +105,8 @@ pub extern "C" fn routed_end(alloc: Global, handle: &mut Handle, size: &mut usiz
     code
 }
 
-/// Copies the lines of the call before to the start of a buffer, as many bytes as it takes. Returns
-/// how many bytes these are.
+/// Copies the lines that the session holds to the start of the buffer, as many bytes as fit. Returns how
+/// many bytes it copied, 0 if no session is open.
 #[unsafe(no_mangle)]
 pub extern "C" fn routed_lines(alloc: Global, handle: &mut Handle, buffer: &mut [u8]) -> usize
     ensures same { handle.new.value ≡ handle.old.value }

@@ -1,6 +1,6 @@
-//! The codes that a call from C returns.
+//! The codes that the calls from C return.
 
-/// The call did what it says.
+/// The call has done its work.
 pub const ANSWERED: u32 = 0;
 
 /// Memory was refused. The session is closed.

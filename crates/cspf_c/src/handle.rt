@@ -10,8 +10,8 @@ use std::alloc::Global;
 use std::marker::Model;
 use std::ptr::null_mut;
 
-/// A pointer that C keeps: null, or that of the box of a session. It points to bytes, since no export
-/// may take a type that leads to a `Vec`.
+/// A pointer that C keeps: null, or the pointer of a session's box. Its type is that of a pointer to bytes,
+/// since an exported function may not take a type that contains a `Vec`.
 #[repr(C)]
 pub struct Handle {
     at: *mut u8,
@@ -23,14 +23,14 @@ impl Model for Handle {
 }
 
 impl Handle {
-    /// Null, which holds no session.
+    /// A handle of the null pointer, which holds no session.
     pub(crate) fn none() -> Handle
         ensures { result.value ≡ None }
     {
         Handle { at: null_mut() }
     }
 
-    /// Holds a session.
+    /// A handle that holds this session.
     pub(crate) fn of(session: Box<Opened>) -> Handle
         ensures { result.value ≡ Some session.value }
     {
@@ -39,7 +39,7 @@ impl Handle {
         }
     }
 
-    /// The session that is held, if any.
+    /// The session that the handle holds, if any.
     pub(crate) fn into_session(self, alloc: Global) -> Option<Box<Opened>>
         ensures { MatchOption result (self.value ≡ None) (λ held. self.value ≡ Some held.value) }
     {

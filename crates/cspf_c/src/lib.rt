@@ -1,14 +1,14 @@
-//! The solver as a static library for C: rows in, the lines of `solve` out.
+//! The solver as a static library for C: it takes rows and returns the lines of `solve`.
 //!
-//! A handle is a pointer that C keeps. `routed_open` puts a session into it, `routed_rows` gives
-//! rows to the session, `routed_end` ends them, `routed_lines` copies the lines of the call before,
-//! and `routed_close` frees all. `include/routed.h` says in words what each call does.
+//! A handle is a pointer that C keeps. `routed_open` puts a session into it. `routed_rows` gives rows to the
+//! session, and `routed_end` asks for the last line. `routed_lines` copies the lines of the last call, and
+//! `routed_close` frees all memory. `include/routed.h` describes each call.
 //!
-//! `specs/Calls.antt` defines the results of the calls, by `specs/History.antt`, which defines the
-//! answers of a session: from its first row to its last line, the lines of `solve`.
+//! `specs/Calls.antt` defines what the calls return. `specs/History.antt` defines the answers of a session
+//! from its first row to its last line, which are the lines of `solve`.
 //!
-//! Only `handle` has raw pointers, and its proofs are by hand. A session takes no lock and starts no
-//! thread.
+//! Only `handle` uses raw pointers, and its proofs are written by hand. A session takes no lock and starts
+//! no thread.
 #![tactic(auto)]
 
 mod calls;

@@ -5,7 +5,7 @@ ghost use Rattle.cspf_c.specs.History.{HasAnswered};
 use crate::session::SolveSession;
 use std::alloc::{AllocError, Global};
 
-/// What a handle holds: a session, and the lines of the call before.
+/// What a handle holds: a session, and the lines of the last call.
 #[derive(Drop)]
 pub struct Opened {
     pub(crate) session: SolveSession,
@@ -13,7 +13,7 @@ pub struct Opened {
 }
 
 impl Opened {
-    /// A session to which no row was given, and no lines.
+    /// A session that was given no row, without lines.
     pub(crate) fn new(alloc: Global) -> Result<Opened, AllocError>
         ensures { IfOk result (λ opened. HasAnswered opened.session.taken [] [] × (opened.lines.items ≡ [])) }
     {
@@ -23,7 +23,7 @@ impl Opened {
         })
     }
 
-    /// Gives rows to the session.
+    /// Gives the rows of these bytes to the session. The result holds their lines.
     pub(crate) fn answer(self, alloc: Global, bytes: &[u8]) -> Result<Opened, AllocError>
         ensures { IfOk result (λ opened. AreGiven bytes.now (length opened.lines.items) self opened) }
     {
@@ -32,7 +32,7 @@ impl Opened {
         Ok(Opened { session, lines })
     }
 
-    /// Ends the rows of the session, which stays open.
+    /// The session with the last line of a run over its rows. It may be given more rows.
     pub(crate) fn end(self, alloc: Global) -> Result<Opened, AllocError>
         ensures { IfOk result (λ opened. IsEnded (length opened.lines.items) self opened) }
     {

@@ -1,5 +1,4 @@
-//! The session that a handle holds, without a pointer: a solver, and how many rows it was
-//! given.
+//! The session that a handle holds, as a value: a solver, and how many rows it was given.
 
 ghost use Rattle.std.specs.Prelude.{◌≡◌, ◌++◌, ℕ, List, [], IfOk};
 ghost use Rattle.cspf_rows.specs.Records.{rows_of};
@@ -13,18 +12,18 @@ use cspf_stream::{Answering, answer_rows};
 use csv::ByteRecord;
 use std::alloc::{AllocError, Global};
 
-/// The rows that a session was given.
+/// What a session keeps of the rows that it was given.
 #[derive(Drop)]
 pub struct TakenRows {
-    /// The solver of the first 1,000,000 of them.
+    /// The solver, which answers the first 1,000,000 rows.
     solver: Solver,
-    /// How many rows the solver was given.
+    /// How many rows the solver has answered.
     answered: u32,
-    /// There are more rows than these.
+    /// Whether more than 1,000,000 rows were given.
     too_many: bool,
 }
 
-/// No row needs its context.
+/// The context of a row isn't used.
 impl<C> Answering<C> for TakenRows {
     ghost answers = { IsOneMore };
 
@@ -39,7 +38,7 @@ impl<C> Answering<C> for TakenRows {
         _place: u64,
         fields: &ByteRecord,
     ) -> Result<Vec<u8>, AllocError> {
-        // Law: with one more row a run goes on, and no count grows by more than one.
+        // Law: a run goes on with one more row, and each row adds at most one to each count.
         runs_go_on_row_by_row();
         if self.answered >= MOST_ROWS {
             self.too_many = true;
@@ -51,7 +50,7 @@ impl<C> Answering<C> for TakenRows {
     }
 }
 
-/// A database, its open changes, and the rows that led to it.
+/// A solver with its database and open changes, after the rows that it was given.
 #[derive(Drop)]
 pub struct SolveSession {
     taken: TakenRows,
@@ -59,7 +58,7 @@ pub struct SolveSession {
 }
 
 impl SolveSession {
-    /// Version 0, with the empty database and no open changes. No row was given.
+    /// A session that was given no row: version 0, the empty database and no open changes.
     pub(crate) fn new(alloc: Global) -> Result<SolveSession, AllocError>
         ensures { IfOk result (λ session. HasAnswered session.taken [] []) }
     {
@@ -71,8 +70,8 @@ impl SolveSession {
         Ok(SolveSession { taken })
     }
 
-    /// Reads the rows of some bytes as a separate stream, and returns their lines. Where memory is
-    /// refused the session is over.
+    /// Reads the bytes as a stream of rows and answers them. Returns the session and the lines. If memory is
+    /// refused, the session is lost.
     pub(crate) fn answer(
         self,
         alloc: Global,
@@ -87,7 +86,7 @@ impl SolveSession {
         let mut rows = open_records(alloc, bytes);
         match answer_rows(&(), alloc, &mut rows, &mut lines, &mut taken) {
             Ok(()) => Ok((SolveSession { taken }, lines)),
-            // No slice fails, and none has 2^64 rows.
+            // Reading a slice can't fail, and no slice has 2^64 rows.
             Err(_) => Err(AllocError),
         }
     }

@@ -16,7 +16,7 @@ use Rattle.cspf_client.specs.ClientRuns.{ClientsGoForward, IsStreamStopped}
 use Rattle.cspf_client.specs.SessionStates.{SessionState, AreFirstSteps, HasGoneForward}
 use Rattle.cspf_client.proofs.Prefixes.{HasGoneForward-self, HasGoneForward-trans, HasGoneForward-count}
 
--- a state of which the batches and the steps are the same
+-- if batches and steps stay the same, the client has gone forward
 forward_same : (s t : SessionState) → t.known ≡ s.known → t.steps ≡ s.steps → HasGoneForward s t
 forward_same s t known steps =
     let self = HasGoneForward-self s in record {
@@ -56,7 +56,7 @@ forward place s t (fields ∷ rows) lines a =
 abbrev Rows : Type 0
 Rows = List (List (List ℕ))
 
--- after a row that stops the stream
+-- at a row that stops the stream the client has gone forward
 pub forward_row_stopped : (why : StreamError) (place : ℕ) (fields : List (List ℕ)) (s t : SessionState) (old new : Option (List ℕ))
     → IsRowStopped IsClientAnswered IsClientUnanswered why place fields s t old new → HasGoneForward s t
 forward_row_stopped stream_error.Memory place fields s t old new a = forward_unanswered place s t (row_of fields) a.0
@@ -82,7 +82,7 @@ module _ (all left : Option Rows) (failed : Bool) (s t : SessionState) (old new 
   forward_stopped stream_error.Flush a = in_row stream_error.Flush a
   forward_stopped stream_error.TooManyRows a = forward 1 s t a.done a.lines a.answered
 
--- what a client knows after its stream
+-- a client that has run over its stream has gone forward, whether the stream ended or stopped
 pub forward_stream : (all : Option Rows) (s t : SessionState) (old new : Option (List ℕ)) (ended : Result (Unit {0}) StreamError)
     → OnOk ended (AreAllAnswered IsClientAnswered all s t old new) → IfErr ended (λ why. IsStreamStopped why all s t old new) → HasGoneForward s t
 forward_stream all s t old new (Ok done) whole stopped = forward 1 s t whole.done whole.lines whole.answered

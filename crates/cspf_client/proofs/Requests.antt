@@ -1,4 +1,4 @@
--- The effect of a request, after the count was read.
+-- What a request does to a client's state, once the client has read the count of published batches.
 use Rattle.std.proofs.Common.{◌≡◌, ℕ, Bool, List, refl, sym}
 use Rattle.cspf_model.specs.declared.request.Request.{Request}
 use Rattle.cspf_ero.specs.ReplyLine.{IsReply}
@@ -15,7 +15,7 @@ use Rattle.cspf_client.specs.ErrorNames.{entry_noted}
 use Rattle.cspf_client.specs.ClientRows.{ReadsCount, IsRequestAnswered, IsRequestUnanswered}
 use Rattle.cspf_client.specs.SessionStates.{SessionState}
 
--- the value of the session in clauses
+-- a session as clauses see it
 abbrev pub session : ℕ → KnownBatches → KnownSteps → ℕ → Bool → SessionState
 session client asker steps refused no_entry = record { client = client; known = asker; steps = steps; refused = refused; no_entry = no_entry }
 
@@ -41,12 +41,12 @@ module _ (client place : ℕ) (a b c : KnownBatches) (old new : KnownSteps) (cou
     reply = rw (is.id, is.version) at reply;
   }
 
-  -- memory is refused for the line of an answer
+  -- the request isn't answered, since memory is refused for its line
   pub memory_refused : (no_entry : Bool) (why : AskError) → why ≡ ask_error.Memory
       → IsRequestUnanswered place why (session client a old refused no_entry) (session client c new refused no_entry)
   memory_refused no_entry why is = record { reads = reads no_entry no_entry; entry = rw is refl }
 
-  -- a request isn't answered, and the cause is noted
+  -- the request isn't answered, and the state notes whether the client couldn't enter the published replica
   pub unanswered : (no_entry : Bool) (why : AskError)
       → IsRequestUnanswered place why (session client a old refused no_entry) (session client c new refused (entry_noted no_entry why))
   unanswered no_entry why = record { reads = reads no_entry (entry_noted no_entry why); entry = refl }

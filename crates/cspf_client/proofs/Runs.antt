@@ -1,4 +1,4 @@
--- The answers to a client, by how its stream ended.
+-- What a client's run has answered, if its stream ended and if it stopped.
 use Rattle.std.proofs.Common.{◌≡◌, ℕ, Bool, true, false, List, Option, Some, Result, Ok, Err, OnOk, IfErr, MatchResult, refl, sym, subst}
 use Rattle.std.specs.Option.{option_map}
 use Rattle.cspf_rows.specs.Records.{rows_of}

@@ -17,9 +17,9 @@ use Rattle.cspf_stream.specs.RefusedRows.{refused_row_line}
 use Rattle.cspf_client.specs.ErrorNames.{entry_noted}
 use Rattle.cspf_client.specs.SessionStates.{SessionState}
 
--- The client reads the count of published batches for the row at this place, by a step after all that it
--- has seen. The step names the client and the place. Its asker then knows at least as many, and after its
--- entry perhaps more.
+-- For the row at this place the client reads the count of published batches. The journal records this as a
+-- step that names the client and the place, after all steps that the client has seen. The asker then knows
+-- at least that many batches. After it has entered the published replica it may know more.
 pub record ReadsCount (place : ℕ) (s t : SessionState) : Type 0 where
   pub mid : KnownBatches
   pub count : ℕ
@@ -28,14 +28,14 @@ pub record ReadsCount (place : ℕ) (s t : SessionState) : Type 0 where
   pub client : t.client ≡ s.client
   pub refused : t.refused ≡ s.refused
 
--- The row is refused by these words, and nothing else changes.
+-- The row is refused with the words of `why`, and only the count of refused rows changes.
 pub record IsRefusedRow (place : ℕ) (why : RowError) (s : SessionState) (line : List ℕ) (t : SessionState) : Type 0 where
   pub written : line ≡ refused_row_line place why
   pub after : t ≡ record s { refused = s.refused + 1 }
 
--- The request at this place is answered by the best answer in the database of the batches that the asker knows
--- afterwards, at their number as the version. The batches that it knew before are a prefix of them, and
--- so are those that were published when it read their count for this row.
+-- The request at this place is answered with the best answer in the database of the batches that the asker then
+-- knows. Their count is the reply's version. Among these batches are all that the asker knew before, and all that
+-- were published when it read the count for this row.
 pub record IsRequestAnswered (place : ℕ) (q : Request) (s : SessionState) (line : List ℕ) (t : SessionState) : Type 0 where
   pub reads : ReadsCount place s t
   pub entry : t.no_entry ≡ s.no_entry
@@ -43,14 +43,14 @@ pub record IsRequestAnswered (place : ℕ) (q : Request) (s : SessionState) (lin
   pub best : IsBestAnswer (database_after t.known.batches) q answer
   pub reply : IsReply q.id (length t.known.batches) answer line
 
--- The version of a reply is no less than the count that its client read. The count is no less than what was
--- counted by the steps that the client had seen.
+-- The version of a reply is at least the count that its client read for it. That count is at least the count of
+-- the published batches in the steps that the client had seen before.
 abbrev pub RepliesAreFresh : Type 0
 RepliesAreFresh =
     (place : ℕ) (q : Request) (s t : SessionState) (line : List ℕ) (a : IsRequestAnswered place q s line t)
     → (count_of s.steps.steps ≤ a.reads.count) × (a.reads.count ≤ length t.known.batches)
 
--- the line that answers a row, read or not, at this place, from 1, and the states before and after
+-- the line that answers the row at this place (counted from 1), and the states before and after
 abbrev pub IsClientRowAnswered : ℕ → SessionState → Result Row RowError → List ℕ → SessionState → Type 0
 IsClientRowAnswered place s (Err why) line t = IsRefusedRow place why s line t
 IsClientRowAnswered place s (Ok (row.Put link)) line t = IsRefusedRow place error.Kind s line t
@@ -63,13 +63,13 @@ IsClientRowAnswered place s (Ok (row.Ask q)) line t = IsRequestAnswered place q 
 abbrev pub IsClientAnswered : ℕ → SessionState → List (List ℕ) → List ℕ → SessionState → Type 0
 IsClientAnswered place s fields line t = IsClientRowAnswered place s (row_of fields) line t
 
--- The request at this place isn't answered by this error of its ask. A refused entry is noted, and refused memory
--- is not.
+-- The request at this place isn't answered, because of this error. The state notes whether the client couldn't
+-- enter the published replica.
 pub record IsRequestUnanswered (place : ℕ) (why : AskError) (s t : SessionState) : Type 0 where
   pub reads : ReadsCount place s t
   pub entry : t.no_entry ≡ entry_noted s.no_entry why
 
--- the state where the row at this place isn't answered: only a request changes anything
+-- the state after the row at this place isn't answered: only a request changes it
 abbrev pub IsClientRowUnanswered : ℕ → SessionState → Result Row RowError → SessionState → Type 0
 IsClientRowUnanswered place s (Err why) t = t ≡ s
 IsClientRowUnanswered place s (Ok (row.Put link)) t = t ≡ s
@@ -78,6 +78,6 @@ IsClientRowUnanswered place s (Ok (row.Node router transit)) t = t ≡ s
 IsClientRowUnanswered place s (Ok (row.End number count)) t = t ≡ s
 IsClientRowUnanswered place s (Ok (row.Ask q)) t = (why : AskError) × IsRequestUnanswered place why s t
 
--- the state where the record with these fields isn't answered
+-- the state after the record with these fields isn't answered
 abbrev pub IsClientUnanswered : ℕ → SessionState → List (List ℕ) → SessionState → Type 0
 IsClientUnanswered place s fields t = IsClientRowUnanswered place s (row_of fields) t

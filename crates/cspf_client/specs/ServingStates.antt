@@ -1,4 +1,4 @@
--- The value of a client in clauses.
+-- A client as clauses see it.
 use Rattle.std.specs.Prelude.{◌≡◌, ℕ, ◌<◌, ◌⊎◌, false, List, length, Option, None, Some, Result, Ok, Err}
 use Rattle.std.specs.Option.{option_map}
 use Rattle.cspf_rows.specs.Records.{rows_of}
@@ -7,15 +7,15 @@ use Rattle.cspf_client.specs.SessionStates.{SessionState}
 use Rattle.cspf_client.specs.declared.error.ClientError.{ClientError}
 use Rattle.cspf_client.specs.declared.error.ClientError.TheVariants as error
 
--- The state between two rows, its requests until their stream is read, the writer of its replies, and
--- how its stream ended.
+-- The state between two rows, the requests as long as their stream isn't read, the writer of the replies, and how
+-- the stream ended.
 pub record ServingState (Q V : Type 0) : Type 0 where
   pub state : SessionState
   pub requests : Option Q
   pub replies : V
   pub end : Result (Unit {0}) ClientError
 
--- nothing was read yet
+-- no row was read yet
 pub record IsReady {Q V : Type 0} (c : ServingState Q V) : Type 0 where
   pub unread : Q
   pub held : c.requests ≡ Some unread
@@ -23,13 +23,13 @@ pub record IsReady {Q V : Type 0} (c : ServingState Q V) : Type 0 where
   pub entry : c.state.no_entry ≡ false
   pub end : c.end ≡ Ok tt
 
--- the rows of requests that aren't read yet, none that is known where they were taken
+-- the rows of the requests that aren't read yet, or `None` if the stream is taken or its bytes aren't known
 abbrev pub unread_rows : {Q : Type 0} → (Q → Option (List ℕ)) → Option Q → Option (List (List (List ℕ)))
 unread_rows bytes None = None
 unread_rows bytes (Some requests) = option_map rows_of (bytes requests)
 
--- A client has learnt all published batches, and knows no more. Or it knew more than these, learnt
--- nothing, and ends as `Ahead`.
+-- A client has learnt all published batches and knows no others. Or it knew more than are published, learnt
+-- nothing, and ends with the error `Ahead`.
 abbrev pub HasMet : {Q V : Type 0} → KnownBatches → ServingState Q V → ServingState Q V → Type 0
 HasMet told old new =
     ((new.state.known ≡ told) × (new.end ≡ old.end))

@@ -1,4 +1,4 @@
-//! A client of a server: its streams, how all its rows are answered, and its result.
+//! A client of a server: its streams, the run over its rows, and its result.
 
 ghost use Rattle.std.specs.Prelude.{◌≡◌, ◌<◌, None, Some, OnOk, IfErr};
 ghost use Rattle.cspf_publish.specs.AskerStates.{known_of};
@@ -24,19 +24,19 @@ use std::marker::Model;
 /// The streams of a client.
 #[derive(Drop)]
 pub struct Client<Q, V> {
-    /// A row for each request.
+    /// Yields the rows of requests.
     pub requests: Q,
-    /// A line for each row.
+    /// Takes the line of each row.
     pub replies: V,
 }
 
-/// A client, and an asker that answers it. One thread runs it.
+/// A client with the asker that answers it. One thread runs it.
 #[derive(Drop)]
 pub struct ServingClient<Q, V> {
     session: Session,
-    /// Not read before it runs, since a reader has a buffer that would be moved with each client.
-    /// Dropped once its stream has ended, so that the writer of the requests doesn't wait for a
-    /// reader.
+    /// The stream of requests. It isn't opened as rows before the client runs, since the reader's buffer would be
+    /// moved with each client. It is dropped once the stream has ended, so that the program that writes the
+    /// requests doesn't wait for a reader.
     requests: Option<Q>,
     replies: V,
     end: Result<(), ClientError>,
@@ -58,19 +58,19 @@ impl<Q, V> Model for ServingClient<Q, V> {
 /// The result of a client.
 #[derive(Drop)]
 pub struct ServedClient<V> {
-    /// The writer of its replies.
+    /// The writer of the client's replies.
     pub replies: V,
-    /// How its stream ended.
+    /// How the client's stream ended.
     pub end: Result<(), ClientError>,
     /// How many rows were refused.
     pub refused: u64,
-    /// The steps of the journal that it saw, up to its last reading of the count.
+    /// The steps of the journal that the client has seen, up to its last reading of the count.
     pub steps: SeenSteps,
-    /// The batches that it knew after its last row.
+    /// The batches that the client knew after its last row.
     pub known: Known,
 }
 
-/// Answers all rows that a reader has left.
+/// Answers all rows that the reader still has.
 fn answer_all<Q: Read + Drop, V: Replies>(
     alloc: Global,
     requests: &mut Reader<Q>,
@@ -87,7 +87,7 @@ fn answer_all<Q: Read + Drop, V: Replies>(
     answer_rows(&(), alloc, requests, replies, session)
 }
 
-/// The result of a client, by the result of its stream and whether an entry was refused.
+/// The result of a client, from that of its stream and whether the client couldn't enter the published replica.
 fn end_of(ended: Result<(), StreamError>, no_entry: bool) -> Result<(), ClientError>
     ensures { result ≡ client_end_of no_entry ended }
 {
@@ -98,7 +98,7 @@ fn end_of(ended: Result<(), StreamError>, no_entry: bool) -> Result<(), ClientEr
 }
 
 impl<Q: Read + Drop, V: Replies> ServingClient<Q, V> {
-    /// The client of this number, whose requests aren't read yet.
+    /// A client with this number that has read no row yet.
     pub fn new(asker: Asker, number: u64, client: Client<Q, V>) -> ServingClient<Q, V>
         ensures ready { IsReady result }
         ensures number { result.state.client ≡ number }
@@ -116,20 +116,20 @@ impl<Q: Read + Drop, V: Replies> ServingClient<Q, V> {
         }
     }
 
-    /// Answers all rows of its requests, one by one. At an `ask` row it reads the count of published
-    /// batches, and then answers at a version of at least that count. Any other row is answered by its
-    /// refusal. Each line is flushed before the next row is read. It waits only for its streams. At
-    /// the end it drops the reader of the requests, and then ends the replies.
+    /// Answers all rows of the requests, one by one. For an `ask` row the client reads the count of published
+    /// batches, and then answers at a version that is at least this count. The line of any other row is its
+    /// refusal. Each line is flushed before the next row is read. The client waits only for its streams. At the
+    /// end it drops the reader of the requests, and then calls `end` of the replies.
     pub fn run(&mut self, alloc: Global)
         requires { IsReady self.old }
         ensures run { IsClientRun Q.remaining V.contents self.old self.new }
         ensures forward { HasGoneForward self.old.state self.new.state }
         ensures closed { self.new.requests ≡ None }
-        // The end is called for after the last line.
+        // `end` is called after the last line.
         ensures ended { V.has_ended self.new.replies }
     {
         let Some(requests) = self.requests.take() else {
-            // Never: nothing was read yet.
+            // Never: the requests weren't taken yet.
             return;
         };
         let mut rows = open_records(alloc, requests);
@@ -138,22 +138,22 @@ impl<Q: Read + Drop, V: Replies> ServingClient<Q, V> {
         self.replies.end(EndOfRequests::drop_reader(rows));
     }
 
-    /// The steps of the journal that it has seen, up to its last reading of the count.
+    /// The steps of the journal that the client has seen, up to its last reading of the count.
     pub fn steps(&self) -> &SeenSteps
         ensures { result.now ≡ self.now.state.steps }
     {
         self.session.steps()
     }
 
-    /// The batches that it knows.
+    /// The batches that the client knows.
     pub fn known(&self) -> &Known
         ensures { result.now ≡ self.now.state.known }
     {
         self.session.known()
     }
 
-    /// Learns the last token, which has all published batches. A client that knows more ends as
-    /// `Ahead`.
+    /// Learns the last token, which has all published batches. A client that knows more batches ends with the
+    /// error `Ahead`.
     pub fn meet(&mut self, told: Told)
         requires { told.source ≡ self.old.state.known.source }
         ensures others { self.new ≡ record self.old {
@@ -168,7 +168,7 @@ impl<Q: Read + Drop, V: Replies> ServingClient<Q, V> {
         }
     }
 
-    /// Its result, with the batches that it knew after its last row.
+    /// The client's result. `known` are the batches that it knew after its last row.
     pub fn close(self, known: Known) -> ServedClient<V>
         ensures { result ≡ record {
           replies = self.replies;

@@ -4,22 +4,22 @@ ghost use Rattle.cspf_client.specs.ErrorNames.{client_error_of};
 use cspf_stream::StreamError;
 use thiserror::Error;
 
-/// Why a client isn't answered to the end of its requests.
+/// Why not all requests of a client are answered.
 #[derive(Clone, Copy, Debug, PartialEq, Eq, Error)]
 pub enum ClientError {
-    /// Its stream stopped.
+    /// The client's stream stopped.
     #[error("{0}")]
     Stream(StreamError),
-    /// Its asker couldn't enter the published replica, which no run shows.
+    /// The client's asker couldn't enter the published replica. No run has shown this.
     #[error("no entry")]
     NoEntry,
-    /// It knows more batches than are published, which no run shows.
+    /// The client knows more batches than are published. No run has shown this.
     #[error("ahead of what is published")]
     Ahead,
 }
 
 impl ClientError {
-    /// The fault of a client whose stream stopped, by whether an entry was refused.
+    /// The error of a client whose stream stopped. `no_entry`: the client couldn't enter the published replica.
     pub(crate) fn of(why: StreamError, no_entry: bool) -> ClientError
         ensures { result ≡ client_error_of no_entry why }
     {

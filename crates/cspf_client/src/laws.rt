@@ -7,8 +7,8 @@ pub fn clients_go_forward()
     ensures { ClientsGoForward }
 {}
 
-/// Law: replies are fresh. The version of a reply is no less than the count of published batches that
-/// its client read before it asked, and that is no less than any count that the client had seen.
+/// Law: replies are fresh. The version of a reply is at least the count of published batches that its
+/// client read for it. That count is at least any count that the client had seen before.
 pub fn replies_are_fresh()
     ensures { RepliesAreFresh }
 {}

@@ -1,11 +1,11 @@
-//! Clients of a publisher. Each is a stream of requests, which an asker answers one by one in the
+//! Clients of a publisher. Each client has a stream of requests, which an asker answers one by one in the
 //! client's thread, without waiting for other clients.
 //!
-//! Before an ask a client reads how many batches are published, by a step of the journal. So its
-//! reply is of no older version. `specs/ClientRows.antt` defines how the row of a client is answered,
-//! at which version, and which batches the client knows then. `specs/ClientRuns.antt` defines the
-//! answers to a client whose stream has ended or stopped, and `specs/ErrorNames.antt` its errors.
-//! `cspf_stream` reads rows and writes lines.
+//! Before it asks, a client reads how many batches are published, which is a step of the journal. So the
+//! version of its reply isn't older. `specs/ClientRows.antt` defines how the row of a client is answered,
+//! at which version, and which batches the client then knows. `specs/ClientRuns.antt` defines the answers to
+//! a client whose stream has ended or stopped, and `specs/ErrorNames.antt` its errors. `cspf_stream` reads
+//! rows and writes lines.
 #![tactic(auto)]
 
 mod client;

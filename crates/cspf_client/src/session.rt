@@ -1,4 +1,4 @@
-//! How one row of a client is answered, by its asker.
+//! How a client's asker answers one row.
 
 ghost use Rattle.std.specs.Prelude.{◌≡◌, ◌+◌, ◌<◌, ◌≤◌, Ok, IfOk, IfErr, OnOk, OnErr, IsTrue, IsFalse, length};
 ghost use Rattle.cspf_ero.specs.ReplyLine.{IsReply};
@@ -17,7 +17,7 @@ use csv::ByteRecord;
 use std::alloc::{AllocError, Global};
 use std::marker::Model;
 
-/// A client's state between two rows.
+/// The state of a client between two rows.
 #[derive(Drop)]
 pub struct Session {
     /// The number of the client.
@@ -25,9 +25,9 @@ pub struct Session {
     asker: Asker,
     /// The steps of the journal up to the client's last reading of the count.
     steps: SeenSteps,
-    /// The rows that were refused.
+    /// How many rows were refused.
     refused: u64,
-    /// An entry was refused.
+    /// Whether the client couldn't enter the published replica.
     no_entry: bool,
 }
 
@@ -62,7 +62,7 @@ fn line_of(alloc: Global, answer: Answer) -> Result<Vec<u8>, AskError>
 impl Session {
     ghost use Rattle.std.specs.Prelude.{false};
 
-    /// The state before the first row.
+    /// The state of the client with this number before its first row.
     pub(crate) fn new(asker: Asker, client: u64) -> Session
         ensures state { result ≡ record {
           client = client;
@@ -83,14 +83,14 @@ impl Session {
         }
     }
 
-    /// The steps of the journal that it has seen.
+    /// The steps of the journal that the client has seen.
     pub(crate) fn steps(&self) -> &SeenSteps
         ensures { result.now ≡ self.now.steps }
     {
         &self.steps
     }
 
-    /// The batches that it knows.
+    /// The batches that the client knows.
     pub(crate) fn known(&self) -> &Known
         ensures { result.now ≡ self.now.known }
     {
@@ -104,14 +104,14 @@ impl Session {
         self.refused
     }
 
-    /// Whether an entry was refused.
+    /// Whether the client couldn't enter the published replica.
     pub(crate) fn has_no_entry(&self) -> bool
         ensures { result ≡ self.now.no_entry }
     {
         self.no_entry
     }
 
-    /// Learns the batches of the token, and returns whether it knows no more than these.
+    /// Learns the batches of the token, and returns whether the client knew no others.
     pub(crate) fn meet(&mut self, told: Told) -> bool
         requires { told.source ≡ self.old.known.source }
         ensures others { self.new ≡ record self.old { known = self.new.known } }
@@ -124,7 +124,7 @@ impl Session {
         self.asker.meet(told) == published
     }
 
-    /// Reads the count of published batches for the row at this place, asks, and returns the reply line.
+    /// Reads the count of published batches for the row at this place, and returns the reply to the request.
     fn ask(&mut self, alloc: Global, place: u64, request: &Request) -> Result<Vec<u8>, AskError>
         ensures answered { IfOk result (λ line.
             IsRequestAnswered place request.now self.old line.items self.new) }
@@ -145,7 +145,7 @@ impl Session {
         }
     }
 
-    /// Notes why a request isn't answered.
+    /// Notes whether the request isn't answered because the client couldn't enter the published replica.
     fn note(&mut self, why: AskError)
         ensures { self.new ≡ record self.old { no_entry = entry_noted self.old.no_entry why } }
     {
@@ -155,7 +155,7 @@ impl Session {
         }
     }
 
-    /// Refuses the row at this place.
+    /// Refuses the row at this place, and returns the line of the refusal.
     fn refuse(&mut self, alloc: Global, place: u64, why: RowError) -> Result<Vec<u8>, AllocError>
         requires { self.old.refused < place }
         ensures answered { IfOk result (λ line.
@@ -168,7 +168,7 @@ impl Session {
         Ok(line)
     }
 
-    /// Answers the row at this place, which is read.
+    /// Answers the row at this place, whose fields were read as `row`.
     fn answer_read(&mut self, alloc: Global, place: u64, row: &Row) -> Result<Vec<u8>, AllocError>
         requires { self.old.refused < place }
         ensures answered { IfOk result (λ line.

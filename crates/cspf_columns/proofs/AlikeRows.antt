@@ -1,5 +1,5 @@
--- Rows that run, one by one, between the interfaces that others ran between: each column beside them
--- says what it said.
+-- Rows that run between the same interfaces as other rows, one by one. Each column is right for
+-- both lists of rows.
 use Rattle.std.proofs.Common.{◌≡◌, ◌≢◌, ℕ, ◌+◌, ◌<◌, ◌≤◌, Bool, true, false, List, [], ◌∷◌, ◌++◌, All, Contains, cond, drop, length, map, nat_eq, slice_index, slice_index_or, slice_set, take, refl, sym, ap, subst, ◌∙◌, inl, inr, arith}
 use Rattle.std.specs.List.{HoldsAt, filter, between}
 use Rattle.std.specs.Ordering.{nat_cmp}
@@ -42,11 +42,11 @@ pub contains_alike : (rows : List Link) (at : ℕ) → at < length rows → (l :
 contains_alike rows at within l alike =
     (at, omega (arith, within, length-map rows interfaces_of), get_or-map interfaces_of rows at l (interfaces_of l) within ∙ λ t. (((alike l).from t, (alike l).local t), ((alike l).to t, (alike l).remote t)))
 
--- so its key is there
+-- so a row has the link's key
 pub key_alike : (rows : List Link) (l : Link) → Contains (map interfaces_of rows) (interfaces_of l) → All (λ m. key_of m ≢ key_of l) rows → ⊥
 key_alike rows l some none = let row = row_alike rows l some l in none row.0 l row.1 (ap (λ p. p.0) row.2)
 
--- and the row with its key is that row
+-- and the row with the link's key runs between the link's interfaces
 pub found_alike : (rows : List Link) → AreByKey rows → (l : Link) → Contains (map interfaces_of rows) (interfaces_of l) → (at : ℕ) → at < length rows → HoldsAt (λ m. key_of m ≡ key_of l) rows at → HoldsAt (λ m. HasSameEnds m l) rows at
 found_alike rows by_key l some at within key d =
     let row = row_alike rows l some d in
@@ -59,14 +59,15 @@ still_alike rows new same (Put l) alike = subst (λ ks. Contains ks (interfaces_
 still_alike rows new same (Remove from local) alike = alike
 still_alike rows new same (Node router transit) alike = alike
 
--- changes that put links in place of ones between the same interfaces mark no router
+-- changes that only replace links between the same interfaces mark no router
 pub unmarked : (rows : List Link) (cs : List Change) (marks : set.FinSet nat_cmp) → All (IsAlike rows) cs → marks ≡ all_marked marks cs
 unmarked rows [] marks all = refl
 unmarked rows (Put l ∷ cs) marks all = unmarked rows cs marks (All-tail (IsAlike rows) (Put l) cs all)
 unmarked rows (Remove from local ∷ cs) marks all = absurd (All-head (IsAlike rows) (Remove from local) cs all)
 unmarked rows (Node router transit ∷ cs) marks all = absurd (All-head (IsAlike rows) (Node router transit) cs all)
 
--- what one of two links is the reverse of, and what is its reverse, is so of the other
+-- if `l` and `m` run between the same interfaces, and `r` and `s` do too, then `s` is the reverse
+-- of `m` if `r` is that of `l`
 reverse_alike : (l m r s : Link) → HasSameEnds l m → HasSameEnds r s → IsReverse l r → IsReverse m s
 reverse_alike l m r s same also is = record {
   from = sym also.from ∙ is.from ∙ same.to;
@@ -78,7 +79,7 @@ reverse_alike l m r s same also is = record {
 turned_about : (l m : Link) → HasSameEnds l m → HasSameEnds m l
 turned_about l m same = record { from = sym same.from; local = sym same.local; to = sym same.to; remote = sym same.remote }
 
--- as many rows are from a router
+-- both lists have equally many rows from the router
 count_alike : (router : ℕ) (rows new : List Link) → map (λ (l : Link). l.from) new ≡ map (λ (l : Link). l.from) rows
     → length (filter (λ l. nat_eq l.from router) new) ≡ length (filter (λ l. nat_eq l.from router) rows)
 count_alike router [] [] same = refl
@@ -99,7 +100,7 @@ module _ (rows new : List Link) (same : RunAlike rows new) where
   pub as_many : length new ≡ length rows
   as_many = sym (length-map new interfaces_of) ∙ ap length same ∙ length-map rows interfaces_of
 
-  -- each row runs between the interfaces that it ran between
+  -- each new row runs between the interfaces of the old row at its index
   alike_each : (i : ℕ) (d : Link) → i < length rows → HasSameEnds (slice_index_or rows i d) (slice_index_or new i d)
   alike_each i d h =
       let k : Key × Key = interfaces_of d in
@@ -114,14 +115,14 @@ module _ (rows new : List Link) (same : RunAlike rows new) where
   column_alike : (f : Key × Key → ℕ) → map (λ l. f (interfaces_of l)) new ≡ map (λ l. f (interfaces_of l)) rows
   column_alike f = sym (read_map f new) ∙ ap (map f) same ∙ read_map f rows
 
-  -- the column of ends
+  -- the column of ends is right for the new rows too
   pub ends_alike : (routers ends : List ℕ) → IsEndColumn rows routers ends → IsEndColumn new routers ends
   ends_alike routers ends are = record {
     froms = λ i d h. let within : i < length rows = omega (arith, h, as_many) in subst (Contains routers) (alike_each i d within).from (are.froms i d within);
     ends = record { within = are.ends.within; each = are.ends.each ∙ sym (column_alike (λ p. p.1.0)) };
   }
 
-  -- the column of reverses
+  -- the column of reverses is right for the new rows too
   pub reverses_alike : (column : List ℕ) → AreReversesBut no_key rows column → AreReversesBut no_key new column
   reverses_alike column are = column_of no_key new column (are.many ∙ sym as_many) (λ i d h.
       let n = slice_index_or column i 0 in
@@ -136,7 +137,7 @@ module _ (rows new : List Link) (same : RunAlike rows new) where
             is.none z j there (reverse_alike _ _ _ _ (turned_about _ _ (alike_each i d here)) (turned_about _ _ (alike_each j d there)) back);
       })
 
-  -- the routers
+  -- a router that is an end of an old row is an end of a new row
   still_ends : (q : ℕ) → AnyEndsAt rows q → AnyEndsAt new q
   still_ends q (at, within, holds) =
       (at, omega (arith, within, as_many), λ d. elim (holds d) [ inl from ↦ inl (sym (alike_each at d within).from ∙ from) | inr to ↦ inr (sym (alike_each at d within).to ∙ to) ])
@@ -146,7 +147,7 @@ module _ (rows new : List Link) (same : RunAlike rows new) where
       router_list-column new routers ends (ends_alike routers ends (column_table rows routers ends by_key all are))
       (λ i d h. still_ends _ (listed_end rows routers _ by_key all (Contains-get_or routers i d h))) still (subst AreRising (sym all) (rising-router_list (database_of rows)))
 
-  -- what holds of the addresses of some interfaces
+  -- what holds of the local addresses of a range of old rows holds of those of the new rows
   locals_alike : (first end : ℕ) → first ≤ end → end ≤ length rows → (P : ℕ → Type 0) → All (λ l. P l.local) (between first end rows) → All (λ l. P l.local) (between first end new)
   locals_alike first end order bound P all k d h =
       let within : first + k < end = omega (arith, h, length-between new first end (omega (arith, order, bound, as_many)), order) in
@@ -154,7 +155,7 @@ module _ (rows new : List Link) (same : RunAlike rows new) where
       ap (λ (l : Link). l.local) (get_or-between rows first end k d within) ∙ (alike_each (first + k) d (omega (arith, within, bound))).local ∙ sym (ap (λ (l : Link). l.local) (get_or-between new first end k d within)) in
       subst P here (all k d (omega (arith, within, length-between rows first end bound, order)))
 
-  -- where the rows from a router begin and end
+  -- a span of the old rows is a span of the new rows
   span_alike : (router : ℕ) (span : Span) → IsSpanOf rows router span → IsSpanOf new router span
   span_alike router span is =
       let p : Link → Bool = λ l. nat_eq l.from router in

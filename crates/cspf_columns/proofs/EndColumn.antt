@@ -1,4 +1,4 @@
--- The column of ends, and what it is after a row has changed.
+-- The column of ends, before and after one row changes.
 use Rattle.std.proofs.Common.{◌≡◌, ℕ, suc, ◌-◌, ◌<◌, List, [], ◌∷◌, ◌++◌, All, Contains, length, map, take, drop, slice_index, slice_set, sym, ap, ◌∙◌}
 use Rattle.std.specs.List.{between, insert, remove as without}
 use Rattle.std.proofs.lemmas.List.{length-map, map-append, map-set, take-map, drop-map}
@@ -11,29 +11,29 @@ pub length-ends : (rows : List Link) (routers ends : List ℕ) → AreEndsOf row
 length-ends rows routers ends are =
     sym (length-map ends (λ e. slice_index routers e)) ∙ ap length are.each ∙ length-map rows (λ (l : Link). l.to)
 
--- what a function makes of a list with one more
+-- if an item is inserted in a list, its image is inserted in the mapped list
 map-insert : {A B : Type 0} (f : A → B) (xs : List A) (i : ℕ) (x : A) → map f (insert xs i x) ≡ insert (map f xs) i (f x)
 map-insert f xs i x =
     map-append f (take i xs) (x ∷ drop i xs) ∙ (λ t. sym (take-map f i xs) t ++ f x ∷ sym (drop-map f i xs) t)
 
--- and with one less
+-- if an item is removed from a list, its image is removed from the mapped list
 map-without : {A B : Type 0} (f : A → B) (xs : List A) (i : ℕ) → map f (without xs i) ≡ without (map f xs) i
 map-without f xs i =
     map-append f (take i xs) (drop (suc i) xs) ∙ (λ t. sym (take-map f i xs) t ++ sym (drop-map f (suc i) xs) t)
 
--- what holds of all holds with one more
+-- what holds of all items, and of one more, holds of all after this one is inserted
 all_insert : {A : Type 0} (P : A → Type 0) (xs : List A) (i : ℕ) (x : A) → P x → All P xs → All P (insert xs i x)
 all_insert P xs i x p all = All-append P (take i xs) (x ∷ drop i xs) (All-take P i xs all) (All-cons P x (drop i xs) p (All-drop P i xs all))
 
--- and with one less
+-- what holds of all items holds after one is removed
 all_without : {A : Type 0} (P : A → Type 0) (xs : List A) (i : ℕ) → All P xs → All P (without xs i)
 all_without P xs i all = All-append P (take i xs) (drop (suc i) xs) (All-take P i xs all) (All-drop P (suc i) xs all)
 
--- rows and ends that change together
+-- rows whose column of ends changes along with them
 module _ (rows : List Link) (routers ends : List ℕ) (are : IsEndColumn rows routers ends) where
-  -- a row that is put
+  -- a link, and the index `end` of the router that it runs to
   module _ (l : Link) (end : ℕ) (from : Contains routers l.from) (within : end < length routers) (found : slice_index routers end ≡ l.to) where
-    -- over another
+    -- the row is put over another
     pub put_over : (at : ℕ) → IsEndColumn (slice_set rows at l) routers (slice_set ends at end)
     put_over at = record {
       froms = All-set (λ (m : Link). Contains routers m.from) rows at l from are.froms;
@@ -44,7 +44,7 @@ module _ (rows : List Link) (routers ends : List ℕ) (are : IsEndColumn rows ro
       };
     }
 
-    -- between others
+    -- the row is put between others
     pub put_between : (at : ℕ) → IsEndColumn (insert rows at l) routers (insert ends at end)
     put_between at = record {
       froms = all_insert (λ (m : Link). Contains routers m.from) rows at l from are.froms;
@@ -55,7 +55,7 @@ module _ (rows : List Link) (routers ends : List ℕ) (are : IsEndColumn rows ro
       };
     }
 
-  -- a row that is taken out
+  -- a row is removed
   pub taken_out : (at : ℕ) → IsEndColumn (without rows at) routers (without ends at)
   taken_out at = record {
     froms = all_without (λ (m : Link). Contains routers m.from) rows at are.froms;
@@ -66,7 +66,7 @@ module _ (rows : List Link) (routers ends : List ℕ) (are : IsEndColumn rows ro
     };
   }
 
--- the ends of rows that follow each other
+-- if two lists of rows are joined, so are their columns of ends
 pub ends_joined : (rows more : List Link) (routers ends more_ends : List ℕ) → AreEndsOf rows routers ends → AreEndsOf more routers more_ends → AreEndsOf (rows ++ more) routers (ends ++ more_ends)
 ends_joined rows more routers ends more_ends are also = record {
   within = All-append (λ e. e < length routers) ends more_ends are.within also.within;
@@ -74,14 +74,14 @@ ends_joined rows more routers ends more_ends are also = record {
       map-append (λ e. slice_index routers e) ends more_ends ∙ (λ t. are.each t ++ also.each t) ∙ sym (map-append (λ (l : Link). l.to) rows more);
 }
 
--- of the rows from an index on
+-- the rows from an index on have the column of ends from this index on
 pub ends_behind : (rows : List Link) (routers ends : List ℕ) (at : ℕ) → AreEndsOf rows routers ends → AreEndsOf (drop at rows) routers (drop at ends)
 ends_behind rows routers ends at are = record {
   within = All-drop (λ e. e < length routers) at ends are.within;
   each = sym (drop-map (λ e. slice_index routers e) at ends) ∙ ap (drop at) are.each ∙ drop-map (λ (l : Link). l.to) at rows;
 }
 
--- of those up to another
+-- the rows between two indices have the column of ends between these indices
 pub ends_between : (rows : List Link) (routers ends : List ℕ) (at next : ℕ) → AreEndsOf rows routers ends → AreEndsOf (between at next rows) routers (between at next ends)
 ends_between rows routers ends at next are =
     let behind = ends_behind rows routers ends at are in
@@ -91,7 +91,7 @@ ends_between rows routers ends at next are =
           sym (take-map (λ e. slice_index routers e) (next - at) (drop at ends)) ∙ ap (take (next - at)) behind.each ∙ take-map (λ (l : Link). l.to) (next - at) (drop at rows);
     }
 
--- of one more
+-- if one more row is appended, the index of the router that it runs to is appended to the column
 pub ends_pushed : (rows : List Link) (routers ends : List ℕ) (l : Link) (end : ℕ) → AreEndsOf rows routers ends → IsPlaceOf routers l.to end → AreEndsOf (rows ++ l ∷ []) routers (ends ++ end ∷ [])
 ends_pushed rows routers ends l end are place =
     ends_joined rows (l ∷ []) routers ends (end ∷ []) are (record {

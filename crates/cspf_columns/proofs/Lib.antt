@@ -1,4 +1,4 @@
--- The lemmas of this crate, and of those above: rows, routers, ends, reverses and spans.
+-- Lemmas about rows, routers, ends, reverses and spans, for this crate and the crates that use it.
 pub mod SortedEntries
 pub mod RowOrder
 pub mod SortedChanges

@@ -1,4 +1,4 @@
--- One step of a merge of rows and changes.
+-- One step of merging rows and changes, both in order of the key.
 use Rattle.std.proofs.Common.{◌≡◌, ℕ, suc, ◌+◌, ◌-◌, ◌<◌, ◌≤◌, nat_lt, true, false, List, [], ◌∷◌, ◌++◌, length, map, drop, get_or, slice_set, refl, sym, ap, subst, ◌∙◌, append_assoc, add-one, append-nil, length-append, length-drop, ◌≢◌, All, arith}
 use Rattle.std.specs.Ordering.{is_lt, is_eq}
 use Rattle.std.specs.declared.cmp.Ordering.{Ordering}
@@ -23,7 +23,7 @@ use Rattle.cspf_columns.proofs.SortedEntries.{turned_greater, turned_less, test_
 use Rattle.cspf_model.proofs.Databases.OneChange.{database-without, relinked-absent}
 use Rattle.cspf_columns.proofs.RowOrder.{own_keys, entries-hit, entries-gap, by_key-entries, database_of-entries, by_key-without, untied}
 
--- rows that are copied stand before the others still
+-- rows that are copied to the merged list are followed by the rows that are left, as before
 copied : (old rows : List Link) (at next : ℕ) → at ≤ next → (old ++ between at next rows) ++ drop next rows ≡ old ++ drop at rows
 copied old rows at next le =
     let e : next ≡ at + (next - at) = omega arith in
@@ -31,22 +31,22 @@ copied old rows at next le =
     ∙ ap (λ xs. old ++ (between at next rows ++ xs)) (ap (λ n. drop n rows) e ∙ sym (drop-drop (next - at) at rows))
     ∙ ap (λ xs. old ++ xs) (take-append-drop (next - at) (drop at rows))
 
--- a row that is left comes after those that were merged
+-- the first row that is left comes right after the merged rows
 at_next : (out rows : List Link) (next : ℕ) (d : Link) → next < length rows → get_or (out ++ drop next rows) (length out) d ≡ get_or rows next d
 at_next out rows next d h = ap (λ xs. get_or (out ++ xs) (length out) d) (drop_more rows next d h) ∙ get_or_at out (get_or rows next d) (drop (next + 1) rows) d (length out) refl
 
--- a link that is put over the next row
+-- if a link replaces the next row, it is added to the merged rows, and that row isn't left any more
 set-next : (out rows : List Link) (next : ℕ) (l : Link) → next < length rows → slice_set (out ++ drop next rows) (length out) l ≡ (out ++ l ∷ []) ++ drop (next + 1) rows
 set-next out rows next l h =
     ap (λ xs. slice_set (out ++ xs) (length out) l) (drop_more rows next l h) ∙ set_at out (get_or rows next l) (drop (next + 1) rows) l (length out) refl ∙ sym (append_assoc out (l ∷ []) (drop (next + 1) rows))
 
--- a link that is put before it
+-- if a link is inserted before the next row, it is added to the merged rows
 insert-next : (out rows : List Link) (next : ℕ) (l : Link) → insert (out ++ drop next rows) (length out) l ≡ (out ++ l ∷ []) ++ drop next rows
 insert-next out rows next l =
     ap (λ xs. xs ++ l ∷ drop (length out) (out ++ drop next rows)) (take_at out (drop next rows) (length out) refl) ∙ ap (λ xs. out ++ l ∷ xs) (drop_at out (drop next rows) (length out) refl)
     ∙ sym (append_assoc out (l ∷ []) (drop next rows))
 
--- the next row taken out
+-- if the next row is removed, the merged rows stay as they are, and that row isn't left any more
 without-next : (out rows : List Link) (next : ℕ) (d : Link) → next < length rows → without (out ++ drop next rows) (length out) ≡ out ++ drop (next + 1) rows
 without-next out rows next d h =
     ap (λ xs. without (out ++ xs) (length out)) (drop_more rows next d h)
@@ -55,12 +55,12 @@ without-next out rows next d h =
     (ap (drop (suc (length out))) (sym (append_assoc out (get_or rows next d ∷ []) (drop (next + 1) rows)))
     ∙ drop_at (out ++ get_or rows next d ∷ []) (drop (next + 1) rows) (suc (length out)) (length_push out (get_or rows next d) ∙ add-one (length out)))
 
--- there is a row
+-- if an index is within the rows, there is a row
 some_row : (rows : List Link) (next : ℕ) → next < length rows → Link
 some_row [] next h = absurd (omega arith)
 some_row (l ∷ rows) next h = l
 
--- where the next row has its key, a link is put over it
+-- if the next row has the link's key, the link replaces it
 entries-over : (old rows : List Link) (at next : ℕ) (l : Link) → AreByKey (old ++ drop at rows) → at ≤ next → next < length rows → HoldsAt (λ m. key_of m ≡ key_of l) rows next
     → entries (relinked (database_of (old ++ drop at rows)) (Put l)).links ≡ map entry_of (((old ++ between at next rows) ++ l ∷ []) ++ drop (next + 1) rows)
 entries-over old rows at next l by_key le h has =
@@ -71,7 +71,7 @@ entries-over old rows at next l by_key le h has =
     ∙ entries-hit (out ++ drop next rows) (length out) l (subst AreByKey (sym same) by_key) within (λ d. ap key_of (at_next out rows next d h) ∙ has d)
     ∙ ap (map entry_of) (set-next out rows next l h)
 
--- the rows that were merged are below a key where the last of them is
+-- if the last merged row is below a key, all merged rows are below it
 below_key : (out rest : List Link) (k : Key) → AreByKey (out ++ rest) → ((d : Link) → 0 < length out → key_cmp (key_of (get_or out (length out - 1) d)) k ≡ Less)
     → AllWithin (λ m. key_cmp (key_of m) k ≡ Less) (out ++ rest) 0 (length out)
 below_key out rest k by_key last i d lo h =
@@ -87,7 +87,8 @@ below_key out rest k by_key last i d lo h =
           subst (λ n. key_cmp (key_of (get_or (out ++ rest) n d)) k ≡ Less) (sym same) at_end
     ] refl
 
--- the rows that are left are above a key where they are in their own list
+-- if the rows that are left are above a key, they are above it also in the list that begins with
+-- the merged rows
 above_copied : (out rows : List Link) (next : ℕ) (k : Key) → AllWithin (λ m. key_cmp (key_of m) k ≡ Greater) rows next (length rows)
     → AllWithin (λ m. key_cmp (key_of m) k ≡ Greater) (out ++ drop next rows) (length out) (length (out ++ drop next rows))
 above_copied out rows next k gap i d lo h =
@@ -95,7 +96,7 @@ above_copied out rows next k gap i d lo h =
     (sym (get_or-append_right out (drop next rows) (length out) i d refl lo ∙ get_or-drop next rows (i - length out) d))
     (gap (next + (i - length out)) d (omega arith) (omega (arith, h, lo, length-append out (drop next rows), length-drop next rows)))
 
--- where the next row's key is higher, a link is put before it
+-- if the next row's key is higher than the link's, the link is inserted before it
 entries-between : (old rows : List Link) (at next : ℕ) (l : Link) → AreByKey (old ++ drop at rows) → at ≤ next
     → AllWithin (λ m. key_cmp (key_of m) (key_of l) ≡ Greater) rows next (length rows)
     → ((d : Link) → 0 < length (old ++ between at next rows) → key_cmp (key_of (get_or (old ++ between at next rows) (length (old ++ between at next rows) - 1) d)) (key_of l) ≡ Less)
@@ -109,7 +110,7 @@ entries-between old rows at next l by_key le gap last =
     ∙ entries-gap (out ++ drop next rows) (length out) l sorted upto (below_key out (drop next rows) (key_of l) sorted last, above_copied out rows next (key_of l) gap)
     ∙ ap (map entry_of) (insert-next out rows next l)
 
--- where the next row has the key of a removal, it is left out
+-- if the next row has the key of a removal, it is left out
 merged_removal : (old rows : List Link) (at next : ℕ) (k : Key) → AreByKey (old ++ drop at rows) → at ≤ next → next < length rows → HoldsAt (λ m. key_of m ≡ k) rows next
     → (database_of ((old ++ between at next rows) ++ drop (next + 1) rows) ≡ relinked (database_of (old ++ drop at rows)) (Remove k.0 k.1)) × AreByKey ((old ++ between at next rows) ++ drop (next + 1) rows)
 merged_removal old rows at next k by_key le h has =
@@ -125,7 +126,8 @@ merged_removal old rows at next k by_key le h has =
       subst AreByKey left (by_key-without (out ++ drop next rows) (length out) sorted),
     )
 
--- where the next row's key is neither lower than a key nor the same, it is higher, and so are those after it
+-- if the next row's key is neither lower than a key nor equal to it, it is higher, and so are the
+-- keys of all later rows
 higher : (o : Ordering) → is_lt o ≡ false → is_eq o ≡ false → o ≡ Greater
 higher Less no_less no_tie = absurd (cc)
 higher Equal no_less no_tie = absurd (cc)
@@ -146,7 +148,7 @@ above_next rows next k by_key no_less no_tie i d lo h =
           subst (λ n. key_cmp (key_of (get_or rows n d)) k ≡ Greater) (sym same) first
     ] refl
 
--- a change is merged where the next row has its key
+-- a change is merged if the next row has its key
 pub merged_over : (old rows : List Link) (at next : ℕ) (c : Change) → AreByKey (old ++ drop at rows) → at ≤ next → next < length rows → HoldsAt (λ m. link_key (key_of m) ≡ key_changed c) rows next
     → (database_of (((old ++ between at next rows) ++ links_put (c ∷ [])) ++ drop (next + 1) rows) ≡ relinked (database_of (old ++ drop at rows)) c)
     × AreByKey (((old ++ between at next rows) ++ links_put (c ∷ [])) ++ drop (next + 1) rows)
@@ -158,7 +160,7 @@ merged_over old rows at next (Remove from local) by_key le h has =
     (sym (append-nil (old ++ between at next rows))) (merged_removal old rows at next (from, local) by_key le h (λ d. link_keys_same _ (from, local) (has d)))
 merged_over old rows at next (Node router transit) by_key le h has = absurd (link_not_mark _ router (has (some_row rows next h)))
 
--- where the next row's key is higher, a removal takes out nothing
+-- if the next row's key is higher than that of a removal, the removal changes nothing
 removed_none : (old rows : List Link) (at next : ℕ) (k : Key) → AreByKey (old ++ drop at rows) → at ≤ next → AllWithin (λ m. key_cmp (key_of m) k ≡ Greater) rows next (length rows) → EndsBelow (old ++ between at next rows) (link_key k)
     → (database_of ((old ++ between at next rows) ++ drop next rows) ≡ relinked (database_of (old ++ drop at rows)) (Remove k.0 k.1)) × AreByKey ((old ++ between at next rows) ++ drop next rows)
 removed_none old rows at next k by_key le gap last =
@@ -179,7 +181,7 @@ removed_none old rows at next k by_key le gap last =
               untied _ k (ap is_eq (above_copied out rows next k gap i d behind h))
         ] refl
 
--- a change is merged where the next row's key is higher
+-- a change is merged if the next row's key is higher
 pub merged_before : (old rows : List Link) (at next : ℕ) (c : Change) → AreByKey (old ++ drop at rows) → at ≤ next → AllWithin (λ m. change_key_cmp (link_key (key_of m)) (key_changed c) ≡ Greater) rows next (length rows)
     → EndsBelow (old ++ between at next rows) (key_changed c)
     → (database_of (((old ++ between at next rows) ++ links_put (c ∷ [])) ++ drop next rows) ≡ relinked (database_of (old ++ drop at rows)) c)
@@ -194,7 +196,7 @@ merged_before old rows at next (Node router transit) by_key le gap last =
     let same : old ++ drop at rows ≡ ((old ++ between at next rows) ++ []) ++ drop next rows = sym (ap (λ out. out ++ drop next rows) (append-nil (old ++ between at next rows)) ∙ copied old rows at next le) in
     (ap database_of (sym same), subst AreByKey same by_key)
 
--- rows below a key that are copied after others below it end below it
+-- if rows below a key are added to rows that end below it, the result ends below it
 pub copied_below : (old rows : List Link) (at next : ℕ) (k : ChangeKey) → at ≤ next → next ≤ length rows → EndsBelow old k → AllWithin (λ m. change_key_cmp (link_key (key_of m)) k ≡ Less) rows at next
     → EndsBelow (old ++ between at next rows) k
 copied_below old rows at next k le within last below d h =
@@ -214,7 +216,7 @@ copied_below old rows at next k le within last below d h =
           (ap (λ (m : Link). change_key_cmp (link_key (key_of m)) k) (get_or_append_left old part d (length old - 1) end) ∙ last d (omega (arith, same, h)))
     ] refl
 
--- what a change puts after rows below its key is below each higher key, and so are they
+-- rows below a change's key, followed by the link that it puts, are below each higher key
 pub put_below : (out : List Link) (c : Change) (k : ChangeKey) → EndsBelow out (key_changed c) → change_key_cmp (key_changed c) k ≡ Less → EndsBelow (out ++ links_put (c ∷ [])) k
 put_below out (Put l) k last less =
     let behind : length out ≡ length (out ++ l ∷ []) - 1 = omega (arith, length_push out l) in

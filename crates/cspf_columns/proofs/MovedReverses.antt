@@ -1,4 +1,5 @@
--- The column of reverses as a row that is left out is put over another, put between others or taken out.
+-- The column of reverses leaves out one key. A row with this key replaces another row, is inserted,
+-- or is removed.
 use Rattle.std.proofs.Common.{◌≡◌, ◌≢◌, ℕ, ◌+◌, ◌-◌, ◌<◌, ◌≤◌, ◌⊎◌, List, length, map, cond, eqb, leb, slice_index_or, slice_set, sym, ap, subst, ◌∙◌, inl, inr, arith}
 use Rattle.std.specs.List.{HoldsAt, insert, remove as without}
 use Rattle.std.proofs.lemmas.Bool.{cases_eq, cases_lt, eq-eqb, ne_eqb, le-leb, lt-leb}
@@ -11,11 +12,12 @@ use Rattle.cspf_model.specs.Lemmas.LinkRows.{AreByKey}
 use Rattle.cspf_columns.specs.Reverses.{AreReversesBut, no_key, same_key, index_behind, index_before}
 use Rattle.cspf_columns.proofs.PairedRows.{IsPair, here, paired, column_of, open_pair, taken_in_unmet}
 
--- rows after a change, of which each is one from before or has a key that is left out
+-- a row after a change is a row from before, or its key is left out
 abbrev IsFrom : (out : Key → Type 0) (rows new : List Link) (d : Link) (j : ℕ) → Type 0
 IsFrom out rows new d j = out (key_of (slice_index_or new j d)) ⊎ ((k : ℕ) × (k < length rows) × (slice_index_or new j d ≡ slice_index_or rows k d))
 
--- what becomes of an index: of none, of one from a place on, and of one below it
+-- how an index changes: `NO_LINK` stays, an index from a place on is moved, and an index below it
+-- stays
 still_none : (at n m : ℕ) → n ≡ NO_LINK → cond (eqb n NO_LINK) n (cond (leb at n) m n) ≡ NO_LINK
 still_none at n m z = ap (λ b. cond b n (cond (leb at n) m n)) (eq-eqb n NO_LINK z) ∙ z
 
@@ -25,9 +27,9 @@ moved_from at n m some h = ap (λ b. cond b n (cond (leb at n) m n)) (ne_eqb n N
 kept_below : (at n m : ℕ) → n ≢ NO_LINK → n < at → cond (eqb n NO_LINK) n (cond (leb at n) m n) ≡ n
 kept_below at n m some h = ap (λ b. cond b n (cond (leb at n) m n)) (ne_eqb n NO_LINK some) ∙ ap (λ b. cond b m n) (lt-leb at n h)
 
--- rows with a column that leaves a key out
+-- rows and a column of reverses that leaves a key out
 module _ (rows : List Link) (column : List ℕ) (k : Key) (few : length rows ≤ ROOM_FOR_LINKS) (are : AreReversesBut (same_key k) rows column) where
-  -- what a row's own pair becomes where indices move
+  -- if indices are moved, a row and its moved index are still a pair
   pair_moved : (new : List Link) (move : ℕ → ℕ) (d : Link) (i j : ℕ) → i < length rows → slice_index_or new j d ≡ slice_index_or rows i d
       → ((n : ℕ) → n < length rows → n ≢ NO_LINK → (¬ same_key k (key_of (slice_index_or rows n d))) → (move n ≢ NO_LINK) × (move n < length new) × (slice_index_or new (move n) d ≡ slice_index_or rows n d))
       → ((n : ℕ) → n ≡ NO_LINK → move n ≡ NO_LINK) → ((x : ℕ) → x < length new → IsFrom (same_key k) rows new d x)
@@ -50,9 +52,9 @@ module _ (rows : List Link) (column : List ℕ) (k : Key) (few : length rows ≤
             }
       ]
 
-  -- a link with that key
+  -- a link with the key that is left out
   module _ (l : Link) (has_key : key_of l ≡ k) (at : ℕ) where
-    -- is put over the row with it
+    -- the link replaces the row with its key
     module _ (within : at < length rows) (has : HoldsAt (λ m. key_of m ≡ k) rows at) where
       abbrev over : List Link
       over = slice_set rows at l
@@ -82,7 +84,7 @@ module _ (rows : List Link) (column : List ℕ) (k : Key) (few : length rows ≤
                 (λ n z. z) (over_from d)
           ])
 
-    -- is put between others
+    -- the link is inserted between rows
     module _ (upto : at ≤ length rows) where
       abbrev wider : List Link
       wider = insert rows at l
@@ -113,7 +115,7 @@ module _ (rows : List Link) (column : List ℕ) (k : Key) (few : length rows ≤
         ]
       ]
 
-      -- what a row's own pair becomes
+      -- after the insertion, a row and its moved index are a pair
       pair_behind : (d : Link) (i j : ℕ) → i < length rows → slice_index_or wider j d ≡ slice_index_or rows i d → IsPair (same_key k) wider d j (index_behind at (slice_index_or column i 0))
       pair_behind d i j old same =
           pair_moved wider (index_behind at) d i j old same (λ n inside some _. elim (cases_lt n at) [
@@ -144,7 +146,7 @@ module _ (rows : List Link) (column : List ℕ) (k : Key) (few : length rows ≤
         ]
       ])
 
-  -- the row with that key is taken out
+  -- the row with that key is removed
   module _ (by_key : AreByKey rows) (at : ℕ) (within : at < length rows) (has : HoldsAt (λ m. key_of m ≡ k) rows at) where
     abbrev fewer : List Link
     fewer = without rows at

@@ -1,4 +1,5 @@
--- The column of reverses as rows change: a row is parted from its reverse, changed, and paired again.
+-- The column of reverses while a row changes: the row is separated from its reverse, changed, and
+-- paired again.
 use Rattle.std.proofs.Common.{◌≡◌, ◌≢◌, ℕ, ◌<◌, ◌⊎◌, List, [], ◌∷◌, All, length, slice_index_or, slice_set, refl, sym, ap, subst, ◌∙◌, inl, inr, arith}
 use Rattle.std.specs.List.{HoldsAt}
 use Rattle.std.proofs.lemmas.Bool.{cases_eq}
@@ -15,12 +16,12 @@ use Rattle.cspf_columns.proofs.ReverseColumn.{neither}
 pub turned : (l r : Link) → IsReverse l r → IsReverse r l
 turned l r is = record { from = sym is.to; local = sym is.remote; to = sym is.from; remote = sym is.local }
 
--- the reverses of one link have one key
+-- all reverses of a link have the same key
 pub one_key : (l r s : Link) → IsReverse l r → IsReverse l s → key_of r ≡ key_of s
 one_key l r s is also = λ t. ((is.from ∙ sym also.from) t, (is.local ∙ sym also.local) t)
 
--- the row at one index is the reverse of that at another, if the second is one, and neither has a key
--- that is left out
+-- The number `n` is the index of the reverse of the row at index `i`, or `NO_LINK`. A row whose key
+-- is left out has no reverse, and is no row's reverse.
 pub record IsPair (out : Key → Type 0) (rows : List Link) (d : Link) (i n : ℕ) : Type 0 where
   pub within : n ≢ NO_LINK → n < length rows
   pub found : n ≢ NO_LINK → IsReverse (slice_index_or rows i d) (slice_index_or rows n d)
@@ -52,7 +53,7 @@ index_of_pair out rows d i n is =
           subst (λ r. out (key_of l) ⊎ out (key_of r)) (sym same) (is.none z j inside (subst (IsReverse l) same back));
     }
 
--- a column in pairs
+-- each row and the index that the column has for it are a pair
 abbrev pub ArePaired : (out : Key → Type 0) (rows : List Link) (column : List ℕ) → Type 0
 ArePaired out rows column = (i : ℕ) (d : Link) → i < length rows → IsPair out rows d i (slice_index_or column i 0)
 
@@ -62,13 +63,13 @@ paired out rows column are i d h = pair_of out rows d i (slice_index_or column i
 pub column_of : (out : Key → Type 0) (rows : List Link) (column : List ℕ) → length column ≡ length rows → ArePaired out rows column → AreReversesBut out rows column
 column_of out rows column many are = record { many = many; each = λ i d h. index_of_pair out rows d i (slice_index_or column i 0) (are i d h) }
 
--- no reverse of a row that is left out, or whose only reverse is
+-- a row has no reverse if its key is left out, or if the key of each possible reverse is left out
 pub open_pair : (out : Key → Type 0) (rows : List Link) (d : Link) (i : ℕ)
     → ((j : ℕ) → j < length rows → IsReverse (slice_index_or rows i d) (slice_index_or rows j d) → out (key_of (slice_index_or rows i d)) ⊎ out (key_of (slice_index_or rows j d)))
     → IsPair out rows d i NO_LINK
 open_pair out rows d i none = record { within = λ some. absurd (some refl); found = λ some. absurd (some refl); kept = λ some. absurd (some refl); none = λ _. none }
 
--- where no row has a key, it may be left out, and may be taken in
+-- a key that no row has may be left out of the column, or taken in again
 pub left_out_unmet : (k : Key) (rows : List Link) (column : List ℕ) → All (λ l. key_of l ≢ k) rows → AreReversesBut no_key rows column → AreReversesBut (same_key k) rows column
 left_out_unmet k rows column unmet are = column_of (same_key k) rows column are.many (λ i d h. let is = paired no_key rows column are i d h in record {
   within = is.within;
@@ -85,22 +86,22 @@ taken_in_unmet k rows column unmet are = column_of no_key rows column are.many (
   none = λ z j inside back. elim (is.none z j inside back) [ inl same ↦ absurd (unmet i d h same) | inr same ↦ absurd (unmet j d inside same) ];
 })
 
--- an index in the column is one within it
+-- an item of the column that isn't `NO_LINK` is the index of a row
 pub within_column : (rows : List Link) (column : List ℕ) (at : ℕ) → at < length rows → AreReversesBut no_key rows column → slice_index_or column at 0 ≢ NO_LINK → slice_index_or column at 0 < length column
 within_column [] column at h are some = absurd (omega arith)
 within_column (l ∷ rows) column at h are some = subst (λ n. slice_index_or column at 0 < n) (sym are.many) ((are.each at l h).within some)
 
--- rows in order, with the row at an index
+-- rows in order of the key, and the index of the row with the key `k`
 module _ (rows : List Link) (by_key : AreByKey rows) (at : ℕ) (within : at < length rows) (k : Key) (has : HoldsAt (λ l. key_of l ≡ k) rows at) where
-  -- a row with its key is at that index
+  -- the row with that key is at that index
   pub here : (i : ℕ) (d : Link) → i < length rows → key_of (slice_index_or rows i d) ≡ k → i ≡ at
   here i d h same = one_index rows by_key i at d d h within (same ∙ sym (has d))
 
-  -- the rows that it and another row are the reverses of are one
+  -- a row that has the same reverse as that row is the same row
   partner : (i n : ℕ) (d : Link) → i < length rows → n < length rows → IsReverse (slice_index_or rows at d) (slice_index_or rows n d) → IsReverse (slice_index_or rows i d) (slice_index_or rows at d) → i ≡ n
   partner i n d h inside is back = one_index rows by_key i n d d h inside (one_key (slice_index_or rows at d) _ _ (turned _ _ back) is)
 
-  -- it has no reverse: it may be left out
+  -- if that row has no reverse, its key may be left out
   pub left_out_open : (column : List ℕ) → slice_index_or column at 0 ≡ NO_LINK → AreReversesBut no_key rows column → AreReversesBut (same_key k) rows column
   left_out_open column unpaired are = column_of (same_key k) rows column are.many (λ i d h.
       let is = paired no_key rows column are i d h in
@@ -117,7 +118,7 @@ module _ (rows : List Link) (by_key : AreByKey rows) (at : ℕ) (within : at < l
         none = λ z j inside back. absurd (neither (is.none z j inside back));
       })
 
-  -- it and its reverse are parted: it may be left out
+  -- if that row and its reverse are separated, its key may be left out
   pub left_out_parted : (column : List ℕ) (other : ℕ) → slice_index_or column at 0 ≡ other → other ≢ NO_LINK → AreReversesBut no_key rows column
       → AreReversesBut (same_key k) rows (slice_set (slice_set column other NO_LINK) at NO_LINK)
   left_out_parted column other is_other there are = column_of (same_key k) rows parted
@@ -165,13 +166,13 @@ module _ (rows : List Link) (by_key : AreByKey rows) (at : ℕ) (within : at < l
             none = λ z j inside back. absurd (neither (is.none z j inside back));
           })
 
-  -- a row that is left out is taken in
+  -- the key that was left out is taken in again
   module _ (column : List ℕ) (are : AreReversesBut (same_key k) rows column) (other : ℕ) (e : Link) (is : IsIndexOfReverse no_key rows (slice_index_or rows at e) other) where
-    -- where its reverse is
+    -- the row's reverse is at the index `other`
     mine_now : (d : Link) → IsPair no_key rows d at other
     mine_now d = pair_of no_key rows d at other (subst (λ l. IsIndexOfReverse no_key rows l other) (get_or_default rows at e d within) is)
 
-    -- it has none
+    -- the row has no reverse
     pub taken_in_open : other ≡ NO_LINK → AreReversesBut no_key rows column
     taken_in_open unpaired = column_of no_key rows column are.many (λ i d h.
         let is = paired (same_key k) rows column are i d h in
@@ -185,7 +186,7 @@ module _ (rows : List Link) (by_key : AreByKey rows) (at : ℕ) (within : at < l
           ];
         })
 
-    -- it is paired with it
+    -- the row is paired with its reverse
     pub taken_in_paired : other ≢ NO_LINK → at ≢ NO_LINK → AreReversesBut no_key rows (slice_set (slice_set column other at) at other)
     taken_in_paired there below = column_of no_key rows together (length-set (slice_set column other at) at other ∙ length-set column other at ∙ are.many)
         (λ i d h. elim (cases_eq i at) [ inl same ↦ at_it i d h same | inr apart ↦ elim (cases_eq i other) [ inl same ↦ at_other i d h apart same | inr also ↦ elsewhere i d h apart also ] ])

@@ -1,4 +1,4 @@
--- Lists of routers that rise, and the rows from a router of the list.
+-- Rising lists of routers, and the rows from a router in the list.
 use Rattle.std.proofs.Common.{◌≡◌, ℕ, ◌+◌, ◌<◌, ◌≤◌, ◌↔◌, Bool, true, false, cond, T, IsTrue, Option, List, [], ◌∷◌, ◌-◌, All, Contains, length, map, take, drop, get_or, slice_index, Result, Ok, Err, IfOk, IfErr, IfNone, is_some, is_ok, nat_lt, nat_eq, nat_eq, refl, sym, ap, subst, ◌∙◌, arith}
 use Rattle.std.specs.Ordering.{nat_cmp, eq_by_cmp, is_eq}
 use Rattle.std.specs.declared.cmp.Ordering.TheVariants.{Less, Equal, Greater}
@@ -27,52 +27,52 @@ use Rattle.cspf_model.proofs.Databases.LinksOfRows.{rows_listed, rows_keyed}
 use Rattle.cspf_model.proofs.Databases.CountedRouters.{routers_counted}
 use Rattle.cspf_model.proofs.Databases.EndCounts.{any-ends_of, known_end}
 
--- where a search for a router finds none
+-- a search that finds no router returns the index at which it would be inserted
 pub router_gap : (routers : List ℕ) (router : ℕ) (r : Result ℕ ℕ) → AreRising routers → IsBinarySearchResult (λ y. nat_cmp y router) routers r
     → IfErr r (IsPartitionPoint (λ y. nat_cmp y router ≡ Less) (λ y. nat_cmp y router ≡ Greater) routers)
 router_gap routers router r rising found = gap_from (λ y. nat_cmp y router) routers r found (searchable nat_cmp_total with_nothing routers router (test_from_true _ rising))
 
--- a new router
+-- a new router is inserted at that index
 pub put-new : (routers : List ℕ) (router at : ℕ) → at ≤ length routers → IsPartitionPoint (λ y. nat_cmp y router ≡ Less) (λ y. nat_cmp y router ≡ Greater) routers at
     → map with_nothing (insert routers at router) ≡ put nat_cmp router tt (map with_nothing routers)
 put-new routers router at h gap = sym (put-gap nat_cmp_total with_nothing routers at router h gap.0 gap.1)
 
--- routers with one more still rise
+-- the list is still rising after a router is inserted
 pub rising-put : (routers more : List ℕ) (router : ℕ) → AreRising routers → map with_nothing more ≡ put nat_cmp router tt (map with_nothing routers) → AreRising more
 rising-put routers more router rising e = true_from_test _ (subst (λ es. T (is_sorted nat_cmp es)) (sym e) (is_sorted-put nat_cmp nat_cmp_total router tt (map with_nothing routers) (test_from_true _ rising)))
 
--- the numbers of entries alone
+-- entries that are made of numbers give these numbers back
 numbers_alone : (ns : List ℕ) → map (λ (e : ℕ × Unit {0}). e.0) (map with_nothing ns) ≡ ns
 numbers_alone [] = refl
 numbers_alone (n ∷ ns) = ap (λ ms. n ∷ ms) (numbers_alone ns)
 
--- the entries of numbers alone
+-- numbers that are taken from entries of `Unit` make these entries again
 entries_alone : (es : List (ℕ × Unit {0})) → map with_nothing (map (λ e. e.0) es) ≡ es
 entries_alone [] = refl
 entries_alone (e ∷ es) = ap (λ fs. e ∷ fs) (entries_alone es)
 
--- routers that are the entries of all ends are the list of routers
+-- a list with the entries of all ends is the list of routers
 pub router_list-entries : (rows : List Link) (routers : List ℕ) → AreByKey rows → map with_nothing routers ≡ entries (numbers_in (ends_of rows)) → routers ≡ router_list (database_of rows)
 unfolding router_list
 router_list-entries rows routers by_key is =
     sym (numbers_alone routers) ∙ ap (map (λ (e : ℕ × Unit {0}). e.0)) is ∙ ap (λ ls. finite.keys (numbers_in (ends_of ls))) (sym (links_of-database_of rows by_key))
 
--- the list of routers rises
+-- the list of routers is rising
 pub rising-router_list : (d : Database) → AreRising (router_list d)
 unfolding router_list
 rising-router_list d = true_from_test _ (subst (λ es. T (is_sorted nat_cmp es)) (sym (entries_alone (entries (numbers_in (ends_of (links_of d)))))) (entries_sorted (numbers_in (ends_of (links_of d)))))
 
--- what rises by the order of numbers
+-- a rising list is strictly increasing in the order of numbers
 pub increasing : (ns : List ℕ) → AreRising ns → IsStrictlyIncreasing ns
 increasing ns rising k h = ranked (get_or ns k 0) (get_or ns (k + 1) 0) Less (sym (rises nat_cmp_total with_nothing ns (test_from_true _ rising) k (k + 1) 0 (omega arith) h))
 
--- a number is in a list's map where it is in its set
+-- a number is a key of a list's map exactly if it is in the list's set
 pub contains_key-numbers_in : (ns : List ℕ) (n : ℕ) → finite.contains_key (numbers_in ns) n ≡ set.contains (set.from_list {R = nat_cmp} ns) n
 contains_key-numbers_in ns n =
     ap is_some (finite.get-from_entries nat_cmp_total (map with_nothing ns) n) ∙ is_some-find nat_cmp n (map with_nothing ns)
     ∙ ap (list_any (eq_by_cmp nat_cmp n)) (numbers_alone ns) ∙ sym (set.contains-from_list nat_cmp_total ns n)
 
--- and they are as many
+-- the map has as many keys as the set has numbers
 len-numbers_in : (ns : List ℕ) → finite.len (numbers_in ns) ≡ set.len (set.from_list {R = nat_cmp} ns)
 len-numbers_in [] = finite.len-empty nat_cmp (Unit {0}) ∙ sym (set.len-empty nat_cmp)
 len-numbers_in (n ∷ ns) =
@@ -80,25 +80,25 @@ len-numbers_in (n ∷ ns) =
     ∙ (λ i. cond (contains_key-numbers_in ns n i) (len-numbers_in ns i) (len-numbers_in ns i + 1))
     ∙ sym (set.len-insert nat_cmp_total (set.from_list ns) n)
 
--- the list of routers is as long as the database has routers
+-- the list of routers has as many items as the database has routers
 pub length-router_list : (d : Database) → length (router_list d) ≡ router_count d
 unfolding router_list
 length-router_list d =
     length-map (entries (numbers_in (ends_of (links_of d)))) (λ e. e.0) ∙ sym (finite.len-entries (numbers_in (ends_of (links_of d)))) ∙ len-numbers_in (ends_of (links_of d))
 
--- a router is in the list where it is counted
+-- a router is in the list exactly if it is in the set of all routers
 any-router_list : (d : Database) (router : ℕ) → list_any (eq_by_cmp nat_cmp router) (router_list d) ≡ set.contains (all_routers d) router
 unfolding router_list
 any-router_list d router = sym (finite.contains_key-keys (numbers_in (ends_of (links_of d))) router) ∙ contains_key-numbers_in (ends_of (links_of d)) router
 
--- a router is in the list where it is one of the database
+-- a router is in the list exactly if it is a router of the database
 pub Contains-router_list : (d : Database) → AreAtTheirKeys d → (router : ℕ) → Contains (router_list d) router ↔ IsRouterOf d router
 Contains-router_list d keyed router = (
   λ among. (routers_counted d keyed router).0 (sym (any-router_list d router) ∙ list_any-from_Contains (eq_by_cmp_equiv nat_cmp_total) router (router_list d) among),
   λ is. Contains-from_any (λ x y e. nat_cmp-IsAntisymmetric x y ((Equal-is (nat_cmp x y)).0 e)) router (router_list d) (any-router_list d router ∙ (routers_counted d keyed router).1 is),
 )
 
--- a router that would stand in a gap isn't there
+-- a router that would be inserted between two others isn't in the list
 pub apart_from_gap : (routers : List ℕ) (router at : ℕ) → IsPartitionPoint (λ y. nat_cmp y router ≡ Less) (λ y. nat_cmp y router ≡ Greater) routers at → Contains routers router → ⊥
 apart_from_gap routers router at gap (k, h, is) =
     let tie : nat_cmp (get_or routers k router) router ≡ Equal = ap (λ y. nat_cmp y router) is ∙ tied_itself nat_cmp_total router in
@@ -107,17 +107,17 @@ apart_from_gap routers router at gap (k, h, is) =
       | false ↦ λ e. let high : nat_cmp (get_or routers k router) router ≡ Greater = gap.1 k router (grind (arith, nat_tests)) h in cc
     ] refl
 
--- what a search that finds nothing says of the routers of a database
+-- a search that finds no router shows that the database doesn't have the router
 pub none_from_search : (d : Database) (router : ℕ) (r : Result ℕ ℕ) (place : Option ℕ) → AreAtTheirKeys d → place ≡ result_ok r
     → IfErr r (IsPartitionPoint (λ y. nat_cmp y router ≡ Less) (λ y. nat_cmp y router ≡ Greater) (router_list d)) → IfNone place (¬ IsRouterOf d router)
 none_from_search d router (Ok at) place keyed e gap = rw e tt
 none_from_search d router (Err at) place keyed e gap = rw e (λ is. apart_from_gap (router_list d) router at gap ((Contains-router_list d keyed router).1 is))
 
--- no rows have no routers
+-- a list of no rows has no routers
 pub router_list-nil : [] ≡ router_list (database_of [])
 router_list-nil = router_list-entries [] [] refl (sym (nil_from_length _ (sym (finite.len-entries _) ∙ finite.len-empty nat_cmp (Unit {0}))))
 
--- the ends beside a part of the rows
+-- in a range of the rows, the column of ends names the routers that these rows run to
 pub ends_between : (rows : List Link) (routers ends : List ℕ) (first end : ℕ) (part : List Link) → AreEndsOf rows routers ends → between first end rows ≡ part
     → map (λ e. slice_index routers e) (between first end ends) ≡ map (λ (l : Link). l.to) part
 ends_between rows routers ends first end part so is =
@@ -126,12 +126,12 @@ ends_between rows routers ends first end part so is =
     map_between : {A B : Type 0} (f : A → B) (xs : List A) (i j : ℕ) → map f (between i j xs) ≡ between i j (map f xs)
     map_between f xs i j = sym (take-map f (j - i) (drop i xs)) ∙ ap (take (j - i)) (sym (drop-map f i xs))
 
--- marks make no router
+-- marks add no router
 pub routers_marked : (rows : List Link) (marks : List ℕ) → router_list (database_of rows) ≡ router_list (marked_database rows marks)
 unfolding router_list
 routers_marked rows marks = refl
 
--- the rows from a router of the list are the links from it
+-- the rows from a listed router are the links from it
 pub part_at : (d : Database) (rows : List Link) (marks : List ℕ) (routers : List ℕ) (at router : ℕ) (part : List Link) → marked_database rows marks ≡ d → AreByKey rows → routers ≡ router_list (database_of rows)
     → at < length (router_list d) → router ≡ get_or routers at router → part ≡ filter (λ l. nat_eq l.from router) rows → part ≡ links_from_index d at
 part_at d rows marks routers at router part e by_key all h read is =
@@ -141,34 +141,34 @@ part_at d rows marks routers at router part e by_key all h read is =
     ∙ ap (filter (λ (l : Link). nat_eq l.from router)) (sym (links_of-database_of rows by_key) ∙ ap links_of e)
     ∙ ap (λ r. filter (λ (l : Link). nat_eq l.from r) (links_of d)) (get_or_read_under routers at (length routers) router 0 read within refl ∙ ap (λ rs. slice_index rs at) listed)
 
--- the span of a router of the list
+-- the span at a router's index is the span of that router
 pub span_read : (d : Database) (rows : List Link) (marks : List ℕ) (routers : List ℕ) (spans : List Span) (at : ℕ) (span : Span) → marked_database rows marks ≡ d → routers ≡ router_list (database_of rows)
     → AreSpansOf rows routers spans → at < length (router_list d) → span ≡ get_or spans at span → IsSpanOf rows (slice_index routers at) span
 span_read d rows marks routers spans at span e all are h read =
     let within : at < length routers = subst (λ rs. at < length rs) (sym (all ∙ routers_marked rows marks ∙ ap router_list e)) h in
     subst (IsSpanOf rows (slice_index routers at)) (sym read) (are.each at span within)
 
--- the rows from a router of the list are where its span says
+-- the rows in a router's span are the links from the router
 pub span_at : (d : Database) (rows : List Link) (marks : List ℕ) (routers : List ℕ) (spans : List Span) (at : ℕ) (span : Span) → marked_database rows marks ≡ d → AreByKey rows → routers ≡ router_list (database_of rows)
     → AreSpansOf rows routers spans → at < length (router_list d) → span ≡ get_or spans at span → between span.first span.end rows ≡ links_from_index d at
 span_at d rows marks routers spans at span e by_key all are h read =
     let within : at < length routers = subst (λ rs. at < length rs) (sym (all ∙ routers_marked rows marks ∙ ap router_list e)) h in
     part_at d rows marks routers at (slice_index routers at) (between span.first span.end rows) e by_key all h (get_or_default routers at 0 (slice_index routers at) within) (span_read d rows marks routers spans at span e all are h read).part
 
--- which is within the rows
+-- a router's span is within the rows
 pub span_within : (d : Database) (rows : List Link) (marks : List ℕ) (routers : List ℕ) (spans : List Span) (at : ℕ) (span : Span) → marked_database rows marks ≡ d → routers ≡ router_list (database_of rows)
     → AreSpansOf rows routers spans → at < length (router_list d) → span ≡ get_or spans at span → (span.first ≤ span.end) × (span.end ≤ length rows)
 span_within d rows marks routers spans at span e all are h read =
     let is = span_read d rows marks routers spans at span e all are h read in
     (is.order, is.bound)
 
--- the ends beside them
+-- in a router's span, the column of ends names the routers that its links run to
 pub ends_at_part : (d : Database) (rows : List Link) (marks : List ℕ) (routers ends : List ℕ) (first end at : ℕ) → marked_database rows marks ≡ d → routers ≡ router_list (database_of rows) → AreEndsOf rows routers ends
     → between first end rows ≡ links_from_index d at → map (λ n. slice_index (router_list d) n) (between first end ends) ≡ map (λ (l : Link). l.to) (links_from_index d at)
 ends_at_part d rows marks routers ends first end at e all so is =
     subst (λ rs. map (λ n. slice_index rs n) (between first end ends) ≡ map (λ (l : Link). l.to) (links_from_index d at)) (all ∙ routers_marked rows marks ∙ ap router_list e) (ends_between rows routers ends first end (links_from_index d at) so is)
 
--- a search for a router finds it exactly where it is one of the database
+-- a search finds a router exactly if it is a router of the database
 pub tells_router : (d : Database) (router : ℕ) (r : Result ℕ ℕ) (b : Bool) → AreAtTheirKeys d → b ≡ is_ok r → IfOk r (λ at. at < length (router_list d)) → IfOk r (HoldsAt (λ y. y ≡ router) (router_list d))
     → IfErr r (IsPartitionPoint (λ y. nat_cmp y router ≡ Less) (λ y. nat_cmp y router ≡ Greater) (router_list d)) → IsTrue b ↔ IsRouterOf d router
 tells_router d router (Err at) b keyed e within found gap = (λ on. absurd (cc), λ is. absurd (apart_from_gap (router_list d) router at gap ((Contains-router_list d keyed router).1 is)))
@@ -181,14 +181,14 @@ pub among_from_search : (routers : List ℕ) (router : ℕ) (r : Result ℕ ℕ)
 among_from_search routers router (Ok at) b e within found on = subst (Contains routers) (found 0) (Contains-get_or routers at 0 within)
 among_from_search routers router (Err at) b e within found on = absurd (cc)
 
--- a router of the list is an end of a row
+-- a router in the list is an end of a row
 pub listed_end : (rows : List Link) (routers : List ℕ) (router : ℕ) → AreByKey rows → routers ≡ router_list (database_of rows) → Contains routers router → AnyEndsAt rows router
 listed_end rows routers router by_key all among =
     let is = (Contains-router_list (database_of rows) (rows_keyed rows) router).0 (subst (λ rs. Contains rs router) all among) in
     let has = (rows_listed rows (own_keys rows by_key)).whole is.0 is.1 in
     (has.0, has.1, λ d. subst (EndsAt router) (sym (get_or_default rows has.0 d is.0 has.1 ∙ has.2)) is.2)
 
--- the routers of the list are among the ends of the rows
+-- all routers in the list are among the ends of the rows
 pub ends_listed : (rows : List Link) (routers : List ℕ) → AreByKey rows → routers ≡ router_list (database_of rows) → All (λ r. set.contains (set.from_list {R = nat_cmp} (ends_of rows)) r ≡ true) routers
 ends_listed rows routers by_key all k d h =
     let router : ℕ = get_or routers k d in

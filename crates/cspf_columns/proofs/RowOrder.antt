@@ -1,4 +1,4 @@
--- Rows in order of the key, and the links of their database.
+-- Rows in order of the key, and the database that they make.
 use mathlib.Core.Bool.{true≢false}
 use Rattle.std.proofs.Common.{◌≡◌, ◌≢◌, ℕ, All, ◌<◌, ◌≤◌, ◌⊎◌, inl, inr, nat_lt, Bool, true, false, T, List, [], ◌∷◌, filter, length, map, get_or, slice_set, Result, Ok, Err, IfOk, IfErr, refl, sym, ap, subst, ◌∙◌, arith}
 use Rattle.std.specs.Ordering.{nat_cmp, eq_by_cmp, is_eq, ordering_then}
@@ -25,7 +25,7 @@ use Rattle.cspf_columns.proofs.SortedEntries.{test_from_true, true_from_test, pu
 pub own_keys : (rows : List Link) → AreByKey rows → HaveOwnKeys rows
 own_keys rows by_key = distinct keys_total entry_of rows (test_from_true _ by_key)
 
--- a key is at one index alone
+-- a key is at only one index
 apart_below : (rows : List Link) → AreByKey rows → (i j : ℕ) (d e : Link) → i < j → j < length rows → key_of (get_or rows i d) ≡ key_of (get_or rows j e) → ⊥
 apart_below rows by_key i j d e less within same =
     let k : Key = key_of d in
@@ -44,16 +44,16 @@ one_index rows by_key i j d e within also same =
 pub entries-database_of : (rows : List Link) → AreByKey rows → entries (database_of rows).links ≡ map entry_of rows
 entries-database_of rows by_key = entries-from_entries keys_total (map entry_of rows) (test_from_true _ by_key)
 
--- the links of some rows with their keys
+-- the links without their keys are the rows
 links_with_keys : (rows : List Link) → map (λ (e : Key × Link). e.1) (map entry_of rows) ≡ rows
 links_with_keys [] = refl
 links_with_keys (l ∷ rows) = ap (λ ls. l ∷ ls) (links_with_keys rows)
 
--- rows in order are the links of their database in order
+-- rows in order of the key are the links of their database
 pub links_of-database_of : (rows : List Link) → AreByKey rows → links_of (database_of rows) ≡ rows
 links_of-database_of rows by_key = ap (map (λ (e : Key × Link). e.1)) (entries-database_of rows by_key) ∙ links_with_keys rows
 
--- rows that are a database's entries are in order, and make it
+-- rows that are the entries of a map are in order of the key
 pub by_key-entries : (links : FinMap key_cmp Link) (rows : List Link) → entries links ≡ map entry_of rows → AreByKey rows
 by_key-entries links rows e = true_from_test _ (subst (λ es. T (is_sorted key_cmp es)) e (entries_sorted links))
 
@@ -62,38 +62,38 @@ database_of-entries d rows none e =
     let links : from_entries (map entry_of rows) ≡ d.links = from_entries-entries keys_total d.links (map entry_of rows) e in
     λ i. record { links = links i; marks = none i }
 
--- the entries after a put over the row with its key
+-- the entries after a link replaces the row with its key
 pub entries-hit : (rows : List Link) (at : ℕ) (l : Link) → AreByKey rows → at < length rows → HoldsAt (λ m. key_of m ≡ key_of l) rows at
     → entries (relinked (database_of rows) (Put l)).links ≡ map entry_of (slice_set rows at l)
 entries-hit rows at l by_key h has =
     entries-insert keys_total (database_of rows).links (key_of l) l ∙ ap (put key_cmp (key_of l) l) (entries-database_of rows by_key) ∙ put-hit keys_total entry_of rows at l l (test_from_true _ by_key) h (has l)
 
--- the entries after a put between the lower keys and the higher ones
+-- the entries after a link is inserted between the rows with lower and with higher keys
 pub entries-gap : (rows : List Link) (at : ℕ) (l : Link) → AreByKey rows → at ≤ length rows
     → IsPartitionPoint (λ m. key_cmp (key_of m) (key_of l) ≡ Less) (λ m. key_cmp (key_of m) (key_of l) ≡ Greater) rows at
     → entries (relinked (database_of rows) (Put l)).links ≡ map entry_of (insert rows at l)
 entries-gap rows at l by_key h gap =
     entries-insert keys_total (database_of rows).links (key_of l) l ∙ ap (put key_cmp (key_of l) l) (entries-database_of rows by_key) ∙ put-gap keys_total entry_of rows at l h gap.0 gap.1
 
--- without one row the others are in order
+-- rows in order are still in order after one is removed
 pub by_key-without : (rows : List Link) (at : ℕ) → AreByKey rows → AreByKey (without rows at)
 by_key-without rows at by_key = true_from_test _ (sorted_without keys_total entry_of rows at (test_from_true _ by_key))
 
--- those that a test keeps are in order
+-- rows in order are still in order after a filter
 pub by_key-filter : (p : Link → Bool) (rows : List Link) → AreByKey rows → AreByKey (filter p rows)
 by_key-filter p rows by_key = true_from_test _ (sorted_filter keys_total entry_of p rows (test_from_true _ by_key))
 
--- the row that a search by a key finds has it
+-- the row that a search for a key finds has that key
 pub found_key : (rows : List Link) (k : Key) (r : Result ℕ ℕ) → IsBinarySearchResult (λ l. key_cmp (key_of l) k) rows r → IfOk r (HoldsAt (λ l. key_of l ≡ k) rows)
 found_key rows k (Ok at) found = λ d. keys_antisymmetric _ _ (found d)
 found_key rows k (Err at) found = tt
 
--- where a search by a key finds none
+-- a search that finds no row returns the index at which it would be inserted
 pub key_gap : (rows : List Link) (k : Key) (r : Result ℕ ℕ) → AreByKey rows → IsBinarySearchResult (λ l. key_cmp (key_of l) k) rows r
     → IfErr r (IsPartitionPoint (λ l. key_cmp (key_of l) k ≡ Less) (λ l. key_cmp (key_of l) k ≡ Greater) rows)
 key_gap rows k r by_key found = gap_from (λ l. key_cmp (key_of l) k) rows r found (searchable keys_total entry_of rows k (test_from_true _ by_key))
 
--- a lower key has no higher router
+-- of two keys, the lower one's router isn't higher
 from_le : (j k : Key) → key_cmp j k ≡ Less → j.0 ≤ k.0
 from_le j k is =
     elim (nat_cmp j.0 k.0) as (λ r. r ≡ nat_cmp j.0 k.0 → ordering_then r (nat_cmp j.1 k.1) ≡ Less → j.0 ≤ k.0) [
@@ -102,7 +102,7 @@ from_le j k is =
       | Greater ↦ λ _ off. absurd (cc)
     ] refl is
 
--- the routers that rows in order run from don't fall
+-- in rows in order, each row's router is at least that of the row before
 pub from_rises : (rows : List Link) → AreByKey rows → IsNonDecreasingBy (λ l. l.from) rows
 from_rises rows by_key i j d le h =
     elim (i_or i j le) [
@@ -113,12 +113,12 @@ from_rises rows by_key i j d le h =
     i_or : (i j : ℕ) → i ≤ j → (i < j) ⊎ (i ≡ j)
     i_or i j le = elim (nat_lt i j) as (λ b. nat_lt i j ≡ b → (i < j) ⊎ (i ≡ j)) [ true ↦ λ e. inl (grind (arith, nat_tests)) | false ↦ λ e. inr (grind (arith, nat_tests)) ] refl
 
--- keys that don't tie differ
+-- keys that don't compare as equal are different
 pub untied : (j k : Key) → eq_by_cmp key_cmp j k ≡ false → j ≢ k
 untied j k apart same =
     let tie : eq_by_cmp key_cmp j k ≡ true = subst (λ q. eq_by_cmp key_cmp j q ≡ true) same (key_itself j) in
     true≢false (sym tie ∙ apart)
 
--- where a search by a key finds none, no row has it
+-- if a search for a key finds no row, no row has the key
 pub unmet_at_gap : (rows : List Link) (k : Key) (at : ℕ) → IsPartitionPoint (λ l. key_cmp (key_of l) k ≡ Less) (λ l. key_cmp (key_of l) k ≡ Greater) rows at → All (λ l. key_of l ≢ k) rows
 unmet_at_gap rows k at gap i d h = elim (cases_lt i at) [ inl below ↦ untied _ k (ap is_eq (gap.0 i d (omega arith) below)) | inr from ↦ untied _ k (ap is_eq (gap.1 i d from h)) ]

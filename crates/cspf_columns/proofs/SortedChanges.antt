@@ -1,4 +1,4 @@
--- Changes in the order of a list of their indices.
+-- Changes, sorted by a list of their keys and indices.
 use Rattle.std.proofs.Common.{◌≡◌, ℕ, ◌+◌, ◌<◌, false, List, [], ◌∷◌, ◌++◌, All, length, map, take, None, get_or, refl, sym, ap, subst, ◌∙◌, arith}
 use Rattle.std.specs.Ordering.{is_lt, is_eq, eq_by_cmp, nat_cmp, ordering_then, ordering_reverse}
 use Rattle.std.specs.declared.cmp.Ordering.{Ordering}
@@ -16,13 +16,13 @@ use Rattle.cspf_model.specs.Refusals.{AreOnceEach}
 use Rattle.cspf_columns.specs.MergeSteps.{AreSortedChanges, IsPlaceOfChange}
 use Rattle.cspf_model.proofs.Databases.Keys.{change_keys_total}
 
--- changes that are read by their indices, which stand beside keys
+-- changes that are read by their indices; each index is listed with the change's key
 module _ (changes : List Change) where
-  -- the change whose index stands beside the key
+  -- the change whose index is listed with the key
   abbrev pub change_of : Change → ChangeKey × ℕ → Change
   change_of d place = get_or changes place.1 d
 
-  -- one more key is listed
+  -- one more key and index is listed
   pub places_more : (order : List (ChangeKey × ℕ)) (at : ℕ) (k : ChangeKey) → at < length changes → ((d : Change) → k ≡ key_changed (get_or changes at d))
       → All (IsPlaceOfChange changes) order → All (IsPlaceOfChange changes) (order ++ (k, at) ∷ [])
   places_more order at k within key all =
@@ -40,36 +40,36 @@ module _ (changes : List Change) where
       (λ t. e t ++ (read ∙ get_or_default changes place.1 c d within) t ∷ []) ∙ ap (λ p. map (change_of d) (take i order) ++ change_of d p ∷ []) is ∙ sym (map-append (change_of d) (take i order) (get_or order i place ∷ []))
       ∙ ap (map (change_of d)) (sym (take_more order i place h))
 
-  -- the changes that are read in another order are the same changes
+  -- the changes in another order of their indices are a permutation of the changes
   pub permuted : (order sorted : List (ChangeKey × ℕ)) (out : List Change) → ((d : Change) → map (change_of d) order ≡ changes) → IsPermutation order sorted → ((d : Change) → out ≡ map (change_of d) sorted)
       → IsPermutation changes out
   permuted order sorted out listed moved copied =
       let d : Change = Remove 0 0 in
       subst (λ cs. IsPermutation cs out) (listed d) (subst (IsPermutation (map (change_of d) order)) (sym (copied d)) (IsPermutation-map (change_of d) order sorted moved))
 
-  -- the key of a change in that order stands beside its index
+  -- the key of a copied change is the key that is listed with its index
   key_at : (sorted : List (ChangeKey × ℕ)) (out : List Change) → All (IsPlaceOfChange changes) sorted → ((d : Change) → out ≡ map (change_of d) sorted) → (k : ℕ) (d : Change) → k < length sorted
       → key_changed (get_or out k d) ≡ (get_or sorted k ((0, None), 0)).0
   key_at sorted out places copied k d h =
       ap (λ cs. key_changed (get_or cs k d)) (copied d) ∙ ap key_changed (get_or-map (change_of d) sorted k ((0, None), 0) d h) ∙ sym ((places k ((0, None), 0) h).key d)
 
--- keys with indices are compared by the key first
+-- keys with indices are compared by the key first, and then by the index
 abbrev place_cmp : ChangeKey × ℕ → ChangeKey × ℕ → Ordering
 place_cmp p q = ordering_then (change_key_cmp p.0 q.0) (nat_cmp p.1 q.1)
 
--- what isn't below together isn't below at first
+-- if a pair of orderings isn't less, its first ordering isn't less
 first_not_less : (o p : Ordering) → is_lt (ordering_then o p) ≡ false → is_lt o ≡ false
 first_not_less Less p above = above
 first_not_less Equal p above = refl
 first_not_less Greater p above = refl
 
--- what is neither tied nor above is below
+-- an ordering that is neither equal nor greater is less
 only_less : (o p : Ordering) → o ≡ ordering_reverse p → is_lt p ≡ false → is_eq o ≡ false → o ≡ Less
 only_less o Less turned above apart = absurd (cc)
 only_less o Equal turned above apart = let tie = ap is_eq (sym turned) ∙ apart in absurd (cc)
 only_less o Greater turned above apart = turned
 
--- changes on distinct keys are in order where their keys are sorted
+-- changes with distinct keys are in order if the list of their keys is sorted
 pub in_order : (changes : List Change) (sorted : List (ChangeKey × ℕ)) (out : List Change) → All (IsPlaceOfChange changes) sorted → ((d : Change) → out ≡ map (change_of changes d) sorted)
     → IsSorted place_cmp sorted → AreOnceEach out → AreSortedChanges out
 in_order changes sorted out places copied rising once k d h =

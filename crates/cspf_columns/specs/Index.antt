@@ -1,4 +1,4 @@
--- The links and the routers of a database in order, and the links from a router.
+-- The links and the routers of a database in order, and the links from each router.
 use Rattle.std.specs.Prelude.{◌≡◌, ◌≢◌, ◌<◌, ℕ, List, map, filter, length, nat_eq, slice_index, slice_index_or}
 use Rattle.std.specs.Ordering.{nat_cmp}
 use Rattle.std.specs.FinMap as finite
@@ -6,19 +6,19 @@ use Rattle.cspf_model.specs.declared.link.Link.{Link}
 use Rattle.cspf_columns.specs.declared.limits.TheConstants.{NO_LINK}
 use Rattle.cspf_model.specs.Database.{Database, HasReverse, IsReverse, ends_of}
 
--- the links of a database, in order of the key
+-- the links of a database, in order of their keys
 abbrev pub links_of : Database → List Link
 links_of d = finite.values d.links
 
--- a number alone
+-- an entry that has nothing but a number
 abbrev pub with_nothing : ℕ → ℕ × Unit {0}
 with_nothing n = (n, tt)
 
--- the numbers of a list, each once
+-- the set of the numbers of a list
 abbrev pub numbers_in : List ℕ → finite.FinMap nat_cmp (Unit {0})
 numbers_in ns = finite.from_entries {R = nat_cmp} (map with_nothing ns)
 
--- the routers of a database, rising: the ends of its links, each once
+-- the routers of a database in rising order: each end of a link, listed once
 unfoldable pub router_list : Database → List ℕ
 router_list d = finite.keys (numbers_in (ends_of (links_of d)))
 
@@ -30,8 +30,8 @@ links_from d router = filter (λ l. nat_eq l.from router) (links_of d)
 abbrev pub links_from_index : Database → ℕ → List Link
 links_from_index d at = links_from d (slice_index (router_list d) at)
 
--- a number is the index of the reverse of a link among the links of a database, or `NO_LINK` where the
--- database has no reverse of it
+-- The number `n` is the index of the link's reverse among the links of the database, or `NO_LINK`
+-- if the database has no reverse of the link.
 pub record IsReverseAt (d : Database) (l : Link) (n : ℕ) : Type 0 where
   pub within : n ≢ NO_LINK → n < length (links_of d)
   pub found : n ≢ NO_LINK → IsReverse l (slice_index_or (links_of d) n l)

@@ -1,5 +1,5 @@
--- What the contracts of the columns cite beside the definitions of `cspf_model`: `Index` is for all, the others
--- are private.
+-- The definitions that the contracts of the columns cite besides those of `cspf_model`. `Index` is
+-- public, and the others are private.
 pub mod Index
 pub mod Rows
 pub mod Reverses

@@ -1,11 +1,11 @@
--- Private: the column of reverses, beside the rows.
+-- Private: the column of reverses, which has an item for each row.
 use Rattle.std.specs.Prelude.{◌≡◌, ◌≢◌, ◌<◌, ◌+◌, ◌-◌, ◌⊎◌, ℕ, cond, nat_eq, nat_le, List, length, slice_index_or}
 use Rattle.cspf_model.specs.declared.link.Link.{Link}
 use Rattle.cspf_columns.specs.declared.limits.TheConstants.{NO_LINK}
 use Rattle.cspf_model.specs.Database.{Key, key_of, IsReverse}
 
--- A number is the index at which the reverse of a link is among rows, or there is none. Links with
--- keys that are left out have no reverse and are none.
+-- The number `n` is the index of the row that is the reverse of the link `l`, or `NO_LINK`. A link
+-- whose key is left out has no reverse, and is no link's reverse.
 pub record IsIndexOfReverse (left_out : Key → Type 0) (rows : List Link) (l : Link) (n : ℕ) : Type 0 where
   pub within : n ≢ NO_LINK → n < length rows
   pub found : n ≢ NO_LINK → IsReverse l (slice_index_or rows n l)
@@ -13,7 +13,7 @@ pub record IsIndexOfReverse (left_out : Key → Type 0) (rows : List Link) (l : 
   pub none : n ≡ NO_LINK → (at : ℕ) → at < length rows → IsReverse l (slice_index_or rows at l)
       → left_out (key_of l) ⊎ left_out (key_of (slice_index_or rows at l))
 
--- so it is for each row
+-- each item of the column is the index of the row's reverse, or `NO_LINK`
 pub record AreReversesBut (left_out : Key → Type 0) (rows : List Link) (column : List ℕ) : Type 0 where
   pub many : length column ≡ length rows
   pub each : (at : ℕ) (d : Link) → at < length rows
@@ -23,14 +23,15 @@ pub record AreReversesBut (left_out : Key → Type 0) (rows : List Link) (column
 abbrev pub no_key : Key → Type 0
 no_key k = ⊥
 
--- this key is left out
+-- only the key `key` is left out
 abbrev pub same_key : Key → Key → Type 0
 same_key key k = k ≡ key
 
--- where an index is once a row was put between others
+-- the new index of a row, after another row was inserted at the index `at`; `NO_LINK` stays as it
+-- is
 abbrev pub index_behind : ℕ → ℕ → ℕ
 index_behind at n = cond (nat_eq n NO_LINK) n (cond (nat_le at n) (n + 1) n)
 
--- and once one was taken out
+-- the new index of a row, after the row before the index `at` was removed; `NO_LINK` stays as it is
 abbrev pub index_before : ℕ → ℕ → ℕ
 index_before at n = cond (nat_eq n NO_LINK) n (cond (nat_le at n) (n - 1) n)

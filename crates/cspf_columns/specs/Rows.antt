@@ -1,4 +1,4 @@
--- Private: rows of links with their routers and ends, and the database that they make.
+-- Private: rows of links, their routers and columns, and the database that the rows make.
 use Rattle.std.specs.Prelude.{◌≡◌, ◌+◌, ◌<◌, ◌≤◌, ℕ, IsTrue, List, All, Contains, filter, length, map, nat_eq, slice_index, slice_index_or, slice_range, Vec}
 use Rattle.std.specs.Vec.{vec_capacity}
 use Rattle.std.specs.declared.alloc.Global.{Global}
@@ -24,33 +24,34 @@ pub record HasSameEnds (l m : Link) : Type 0 where
   pub to : l.to ≡ m.to
   pub remote : l.remote ≡ m.remote
 
--- each router is above those before it
+-- each router in the list is above the routers before it
 abbrev pub AreRising : List ℕ → Type 0
 AreRising routers = IsTrue (is_sorted nat_cmp (map with_nothing routers))
 
--- the indices at which the routers are that the rows run to
+-- for each row, the index of the router that it runs to
 pub record AreEndsOf (rows : List Link) (routers : List ℕ) (ends : List ℕ) : Type 0 where
   pub within : All (λ end. end < length routers) ends
   pub each : map (λ end. slice_index routers end) ends ≡ map (λ l. l.to) rows
 
--- the router is at the place in the list
+-- the router is at this index of the list
 pub record IsPlaceOf (routers : List ℕ) (router place : ℕ) : Type 0 where
   pub within : place < length routers
   pub found : slice_index routers place ≡ router
 
--- where each of the routers is in another list, if it is there
+-- the index of each router in another list, if that list has the router
 abbrev pub ArePlacesIn : List ℕ → List ℕ → List ℕ → Type 0
 ArePlacesIn others routers places =
     (at : ℕ) → at < length routers → Contains others (slice_index routers at)
     → IsPlaceOf others (slice_index routers at) (slice_index places at)
 
--- the indices are the column of ends of the rows, and where each row begins is one of the routers too
+-- The indices are the column of ends of the rows. The router that each row runs from is in the list
+-- too.
 pub record IsEndColumn (links : List Link) (routers : List ℕ) (indices : List ℕ) : Type 0 where
   pub froms : All (λ l. Contains routers l.from) links
   pub ends : AreEndsOf links routers indices
 
--- Of some routers those are kept that are ends of rows, in their order, and beside all is the place that each
--- has among these. Both lists keep their room.
+-- The routers of a list that are ends of rows are kept, in the same order. For each router of the
+-- list, its place among the kept routers is listed. Both vectors keep their capacity.
 pub record AreKeptEnds (rows : List Link) (routers : List ℕ) (old old_places new new_places : Vec ℕ Global) : Type 0 where
   pub kept : new.items ≡ filter (is_end_of rows) routers
   pub placed : ArePlacesIn new.items routers new_places.items
@@ -58,7 +59,8 @@ pub record AreKeptEnds (rows : List Link) (routers : List ℕ) (old old_places n
   pub capacity : vec_capacity old ≤ vec_capacity new
   pub capacity_of_places : vec_capacity old_places ≤ vec_capacity new_places
 
--- where the rows from a router begin and end, and between which addresses their interfaces are
+-- the span of the rows from the router: where they begin and end, and the lowest and highest
+-- address of their interfaces
 pub record IsSpanOf (rows : List Link) (router : ℕ) (span : Span) : Type 0 where
   pub order : span.first ≤ span.end
   pub bound : span.end ≤ length rows
@@ -66,20 +68,20 @@ pub record IsSpanOf (rows : List Link) (router : ℕ) (span : Span) : Type 0 whe
   pub lowest : All (λ l. span.lowest ≤ l.local) (slice_range rows span.first span.end)
   pub highest : All (λ l. l.local ≤ span.highest) (slice_range rows span.first span.end)
 
--- so it is for each router
+-- the spans of all routers in the list
 pub record AreSpansOf (rows : List Link) (routers : List ℕ) (spans : List Span) : Type 0 where
   pub many : length spans ≡ length routers
   pub each : (at : ℕ) (d : Span) → at < length routers
       → IsSpanOf rows (slice_index routers at) (slice_index_or spans at d)
 
--- where the rows begin and end that are from the router that each row runs to
+-- for each row, the span of the rows from the router that it runs to
 abbrev pub AreSpansAtEnds : List Link → List ℕ → List Span → Type 0
 AreSpansAtEnds rows ends spans =
     (at : ℕ) (d : Link) → at < length rows
     → (slice_index_or ends at 0 < length spans)
     × ((e : Span) → IsSpanOf rows (slice_index_or rows at d).to (slice_index_or spans (slice_index_or ends at 0) e))
 
--- there is room for as many links and routers as a table may have, and a batch more
+-- there is capacity for a full table and for what one batch adds
 pub record HaveRoom (c : Columns) : Type 0 where
   pub rows : ROOM_FOR_LINKS ≤ vec_capacity c.rows
   pub routers : ROOM_FOR_ROUTERS ≤ vec_capacity c.routers
@@ -87,8 +89,8 @@ pub record HaveRoom (c : Columns) : Type 0 where
   pub reverses : ROOM_FOR_LINKS ≤ vec_capacity c.reverses
   pub spans : MOST_ROUTERS ≤ vec_capacity c.spans
 
--- Columns that changes are made to: the rows are in order of the key, and their ends are in a list of
--- routers that may have others.
+-- Columns while changes are made: the rows are in order of the key, and the list of routers has all
+-- their ends. It may also have routers that are no row's ends.
 pub record AreTiedColumns (c : Columns) : Type 0 where
   pub room : HaveRoom c
   pub by_key : AreByKey c.rows.items
@@ -96,19 +98,20 @@ pub record AreTiedColumns (c : Columns) : Type 0 where
   pub few : length c.routers.items ≤ ROOM_FOR_ROUTERS
   pub column : IsEndColumn c.rows.items c.routers.items c.ends.items
 
--- and the column of reverses is of the rows
+-- tied columns, whose column of reverses is right too
 pub record ArePaired (c : Columns) : Type 0 where
   pub tied : AreTiedColumns c
   pub reverses : AreReversesBut no_key c.rows.items c.reverses.items
 
--- One change is made to columns that are paired.
+-- One change was made to columns that have the right reverses.
 pub record IsOneChange (old new : Columns) (change : Change) : Type 0 where
   pub changed : database_of new.rows.items ≡ relinked (database_of old.rows.items) change
   pub paired : ArePaired new
   pub longer : length new.rows.items ≤ length old.rows.items + 1
   pub routers : new.routers.items ≡ old.routers.items
 
--- The rows with their routers and their ends, no more of them than a table may have.
+-- The rows, their routers and their ends are right, and there are no more of them than a table may
+-- have.
 pub record AreRowParts (c : Columns) : Type 0 where
   pub room : HaveRoom c
   pub by_key : AreByKey c.rows.items
@@ -117,7 +120,7 @@ pub record AreRowParts (c : Columns) : Type 0 where
   pub all : c.routers.items ≡ router_list (database_of c.rows.items)
   pub ends : AreEndsOf c.rows.items c.routers.items c.ends.items
 
--- and where the rows from each router begin and end, and where the reverse of each row is
+-- all columns are right: the row parts, the reverses and the spans
 pub record AreColumns (c : Columns) : Type 0 where
   pub parts : AreRowParts c
   pub reverses : AreReversesBut no_key c.rows.items c.reverses.items

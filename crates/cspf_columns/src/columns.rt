@@ -1,4 +1,4 @@
-//! The rows of a table, and the columns beside them and beside the routers.
+//! The rows of a table, and the columns: lists that have an item for each row or for each router.
 ghost use Rattle.std.specs.Prelude.{◌≡◌, [], IfOk};
 ghost use Rattle.cspf_columns.specs.Rows.{AreColumns};
 
@@ -8,24 +8,24 @@ use cspf_addr::Addr;
 use cspf_model::{Link, MOST_ROUTERS};
 use std::alloc::{AllocError, Global};
 
-/// The links of a database in order of their keys, the routers at their ends, rising, and columns
-/// beside both.
+/// The links of a database in order of their keys, the routers at their ends in rising order, and
+/// columns with an item for each link or each router.
 #[derive(Debug, Drop)]
 pub struct Columns {
-    /// The links.
+    /// The links, in order of their keys.
     pub rows: Vec<Link>,
-    /// The routers.
+    /// The routers, in rising order.
     pub routers: Vec<Addr>,
-    /// Beside the links, the index of the router that each runs to.
+    /// For each link, the index of the router that it runs to.
     pub ends: Vec<u16>,
-    /// Beside the links, the index of the reverse of each.
+    /// For each link, the index of its reverse, or `NO_LINK`.
     pub reverses: Vec<u16>,
-    /// Beside the routers, where the links from each are.
+    /// For each router, the range of the links from it.
     pub spans: Vec<Span>,
 }
 
 impl Columns {
-    /// The columns of no links, with room for a full database and a batch.
+    /// The columns of an empty database, with capacity for a full database and a batch.
     pub fn new(alloc: Global) -> Result<Columns, AllocError>
         ensures columns { IfOk result AreColumns }
         ensures rows { IfOk result (λ columns. columns.rows.items ≡ []) }

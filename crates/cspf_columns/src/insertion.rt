@@ -1,9 +1,10 @@
-//! Insertion into a vector, and appending to it, where it has the capacity.
+//! Inserts into vectors, and appends to them, without taking memory.
 ghost use Rattle.std.specs.Prelude.{◌≡◌, ◌+◌, ◌++◌, ◌<◌, ◌≤◌, length, vec_len};
 ghost use Rattle.std.specs.Vec.{vec_capacity};
 ghost use Rattle.std.specs.List.{insert};
 
-/// Inserts the item at an index. There is capacity, so this takes no memory and can't fail.
+/// Inserts the item at an index. The vector has the capacity, so this takes no memory and can't
+/// fail.
 pub fn insert_within<T: Copy>(items: &mut Vec<T>, at: usize, item: T)
     requires bound { at ≤ vec_len items.old }
     requires capacity { vec_len items.old < vec_capacity items.old }
@@ -14,7 +15,7 @@ pub fn insert_within<T: Copy>(items: &mut Vec<T>, at: usize, item: T)
     let _ = items.insert(at, item);
 }
 
-/// Appends the items. There is capacity, so this takes no memory and can't fail.
+/// Appends the items. The vector has the capacity, so this takes no memory and can't fail.
 pub(crate) fn extend_within<T: Copy>(items: &mut Vec<T>, more: &[T])
     requires { vec_len items.old + length more.now ≤ vec_capacity items.old }
     ensures items { items.new.items ≡ items.old.items ++ more.now }

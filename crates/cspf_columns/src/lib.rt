@@ -1,6 +1,7 @@
-//! The links of a database in order of their keys, with lists beside them, and how changes are made to all
-//! of these. `Table` of `cspf_db` keeps a database by them. The words of these contracts are private to
-//! the two crates: what a table promises is said of its database alone.
+//! The links of a database in order of their keys, with columns for the links and for the routers,
+//! and how changes are made to all of these. `Table` of `cspf_db` keeps its database in them. The
+//! definitions of these contracts are private to the two crates: a table's contracts speak only of
+//! its database.
 #![tactic(auto)]
 
 mod columns;

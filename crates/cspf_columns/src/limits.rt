@@ -1,12 +1,13 @@
-//! The room that columns take for the most that a database and a batch hold.
+//! The capacity of the columns, which is enough for a full database and a batch.
 use cspf_model::{MOST_CHANGES, MOST_LINKS, MOST_ROUTERS};
 
-/// How many links there is room for: those of a full database, and a put by each change of a batch.
+/// How many links the columns have capacity for: a full database, and one link for each change of a
+/// batch.
 pub const ROOM_FOR_LINKS: usize = MOST_LINKS + MOST_CHANGES;
 
-/// How many routers there is room for: those of a full database, and both ends of each link that a
-/// batch puts.
+/// How many routers the columns have capacity for: a full database, and two ends for each change of
+/// a batch.
 pub const ROOM_FOR_ROUTERS: usize = MOST_ROUTERS + 2 * MOST_CHANGES;
 
-/// The index of no link, above those of all.
+/// The index that stands for no link. It is above the index of each link.
 pub const NO_LINK: u16 = u16::MAX;

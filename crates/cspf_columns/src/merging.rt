@@ -1,4 +1,4 @@
-//! Rows and changes, both in order of the key, merged into spare room.
+//! Merges rows and changes, both in order of the key, into other vectors.
 ghost use Rattle.std.specs.Prelude.{◌≡◌, ◌+◌, ◌-◌, ◌<◌, ◌≤◌, List, true, false, [], ◌∷◌, ◌++◌, All, length, map, slice_index_or, vec_len};
 ghost use Rattle.std.specs.Vec.{vec_capacity};
 ghost use Rattle.std.specs.List.Sorted.{IsPermutation};
@@ -26,7 +26,7 @@ use cspf_addr::Addr;
 use cspf_model::{Change, Link, MOST_CHANGES};
 use std::cmp::Ordering;
 
-/// The index of the first row, from an index on, whose key isn't below this one.
+/// The index of the first row, from `at` on, whose key isn't below this key.
 fn step(rows: &[Link], at: usize, from: Addr, local: Addr) -> usize
     requires { at ≤ length rows.now }
     ensures order { at ≤ result }
@@ -43,7 +43,7 @@ fn step(rows: &[Link], at: usize, from: Addr, local: Addr) -> usize
     next
 }
 
-/// Whether the row at the index, where it isn't below this key, has it.
+/// Whether the row at `next` has this key. The row's key isn't below this key.
 fn is_at(rows: &[Link], next: usize, from: Addr, local: Addr) -> bool
     requires by_key { AreByKey rows.now }
     requires stop { next < length rows.now → (d : Linked)
@@ -59,7 +59,7 @@ fn is_at(rows: &[Link], next: usize, from: Addr, local: Addr) -> bool
     false
 }
 
-/// Adds the link of a put after the others, and the index of the router that it runs to.
+/// If the change puts a link, appends the link, and the index of the router that it runs to.
 fn put_behind(merged: &mut Vec<Link>, merged_ends: &mut Vec<u16>, routers: &[Addr], change: &Change)
     requires room { vec_len merged.old < vec_capacity merged.old }
     requires room_for_ends { vec_len merged_ends.old < vec_capacity merged_ends.old }
@@ -79,8 +79,8 @@ fn put_behind(merged: &mut Vec<Link>, merged_ends: &mut Vec<u16>, routers: &[Add
     }
 }
 
-/// Merges one change: the rows below its key are copied, and then the link that it puts, if it puts
-/// one, and their ends too.
+/// Merges one change: copies the rows below its key, and then adds the link that the change puts,
+/// if it puts one. The ends are copied and added along with the rows.
 fn merge_one(
     merged: &mut Vec<Link>,
     merged_ends: &mut Vec<u16>,
@@ -112,7 +112,7 @@ fn merge_one(
     next + usize::from(is_at(&columns.rows, next, from, local))
 }
 
-/// Merges changes in order of the key into the rows, with the column of ends.
+/// Merges changes, in order of the key, into the rows and the column of ends.
 pub(crate) fn merge(
     merged: &mut Vec<Link>,
     merged_ends: &mut Vec<u16>,
@@ -143,8 +143,8 @@ pub(crate) fn merge(
     extend_within(merged_ends, &columns.ends[at..]);
 }
 
-/// Lists the keys of the changes, each with the index of its change. There is room, so this takes no
-/// memory.
+/// Lists the key of each change with the change's index. The vector has the capacity, so this takes
+/// no memory.
 fn list_order(order: &mut Vec<((Addr, Option<Addr>), u16)>, changes: &[Change])
     requires short { length changes.now ≤ MOST_CHANGES }
     requires room { length changes.now ≤ vec_capacity order.old }
@@ -160,7 +160,7 @@ fn list_order(order: &mut Vec<((Addr, Option<Addr>), u16)>, changes: &[Change])
     }
 }
 
-/// Copies the changes in the order in which their indices stand.
+/// Copies the changes in the order of the listed indices.
 fn copy_changes(sorted: &mut Vec<Change>, order: &[((Addr, Option<Addr>), u16)], changes: &[Change])
     requires places { All (IsPlaceOfChange changes.now) order.now }
     requires room { length order.now ≤ vec_capacity sorted.old }
@@ -174,8 +174,8 @@ fn copy_changes(sorted: &mut Vec<Change>, order: &[((Addr, Option<Addr>), u16)],
     }
 }
 
-/// Copies changes on distinct keys in order of the key, with room to sort their keys. The changes
-/// themselves are copied once. It takes no memory.
+/// Copies changes that have distinct keys, in order of the key. Only their keys and indices are
+/// sorted, so each change is copied once. It takes no memory.
 pub(crate) fn sort_changes(
     order: &mut Vec<((Addr, Option<Addr>), u16)>,
     sorted: &mut Vec<Change>,

@@ -1,4 +1,4 @@
-//! One row that is put over another, put between others or taken out, with the columns beside the rows.
+//! Replaces, inserts or removes one row, along with the columns of ends and reverses.
 ghost use Rattle.std.specs.Prelude.{◌≡◌, ℕ, ◌<◌, ◌≤◌, length};
 ghost use Rattle.std.specs.List.{HoldsAt};
 ghost use Rattle.std.specs.List.Sorted.{IsPartitionPoint};
@@ -15,7 +15,7 @@ use crate::rows::is_alike;
 use cspf_model::{Change, Link};
 use std::cmp::Ordering;
 
-/// Puts the link over the row at an index, which has its key.
+/// Puts the link in place of the row at an index, which has the same key.
 pub(crate) fn replace_at(columns: &mut Columns, at: usize, link: &Link)
     requires paired { ArePaired columns.old }
     requires room { length columns.old.rows.items ≤ ROOM_FOR_LINKS }
@@ -34,7 +34,7 @@ pub(crate) fn replace_at(columns: &mut Columns, at: usize, link: &Link)
     pair(columns, at);
 }
 
-/// Puts the link at an index, between the rows with lower keys and those with higher ones.
+/// Inserts the link at an index, between the rows with lower keys and those with higher keys.
 pub(crate) fn insert_at(columns: &mut Columns, at: usize, link: &Link)
     requires paired { ArePaired columns.old }
     requires room { length columns.old.rows.items < ROOM_FOR_LINKS }
@@ -53,7 +53,7 @@ pub(crate) fn insert_at(columns: &mut Columns, at: usize, link: &Link)
     pair(columns, at);
 }
 
-/// Takes out the row at an index.
+/// Removes the row at an index.
 pub(crate) fn remove_at(columns: &mut Columns, at: usize)
     requires paired { ArePaired columns.old }
     requires room { length columns.old.rows.items ≤ ROOM_FOR_LINKS }

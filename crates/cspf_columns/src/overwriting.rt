@@ -1,5 +1,4 @@
-//! Links written over rows that run between the same interfaces, which leaves each column beside the
-//! rows as it is.
+//! Puts links in place of rows that run between the same interfaces. No column changes then.
 ghost use Rattle.std.specs.Prelude.{◌≡◌, ◌≤◌, All};
 ghost use Rattle.std.specs.Vec.{vec_capacity};
 ghost use Rattle.cspf_columns.specs.Rows.{AreColumns};
@@ -11,7 +10,7 @@ use crate::columns::Columns;
 use crate::rows::index_of;
 use cspf_model::{Change, Link};
 
-/// Writes the link that the change puts over the row that runs between the same interfaces.
+/// Puts the change's link in place of the row that runs between the same interfaces.
 fn write_one(rows: &mut Vec<Link>, change: &Change)
     requires by_key { AreByKey rows.old.items }
     requires alike { IsAlike rows.old.items change.now }
@@ -28,7 +27,7 @@ fn write_one(rows: &mut Vec<Link>, change: &Change)
     }
 }
 
-/// Makes changes of the rows that put links in place of ones between the same interfaces.
+/// Makes changes that each put a link in place of a row between the same interfaces.
 fn write_all(rows: &mut Vec<Link>, changes: &[Change])
     requires by_key { AreByKey rows.old.items }
     requires alike { All (IsAlike rows.old.items) changes.now }
@@ -42,7 +41,8 @@ fn write_all(rows: &mut Vec<Link>, changes: &[Change])
     }
 }
 
-/// Makes changes that put links in place of ones between the same interfaces.
+/// Makes changes that each put a link in place of a row between the same interfaces. The columns
+/// stay as they are.
 pub fn write_over(columns: &mut Columns, changes: &[Change])
     requires columns { AreColumns columns.old }
     requires alike { All (IsAlike columns.old.rows.items) changes.now }

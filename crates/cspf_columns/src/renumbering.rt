@@ -1,4 +1,4 @@
-//! Where routers are in another list, once routers are added to the list or dropped from it.
+//! The indices of routers in another list, after routers were added to the list or dropped from it.
 ghost use Rattle.std.specs.Prelude.{◌≡◌, ℕ, ◌+◌, ◌<◌, ◌≤◌, true, false, [], ◌∷◌, ◌++◌, cond, All, Contains, length, slice_index, slice_index_or, vec_len, nat_eq};
 ghost use Rattle.std.specs.Vec.{vec_capacity};
 ghost use Rattle.std.specs.List.{list_any};
@@ -12,7 +12,8 @@ use crate::rows::begins;
 use cspf_addr::Addr;
 use cspf_model::Link;
 
-/// Lists where the routers are in a list that has them all. Where both rise, few are searched.
+/// Lists the index of each router in a list that has them all. If both lists are sorted, few
+/// routers need a binary search.
 pub(crate) fn list_places(places: &mut Vec<u16>, routers: &[Addr], others: &[Addr])
     requires rising { AreRising others.now }
     requires few { length others.now ≤ ROOM_FOR_ROUTERS }
@@ -31,7 +32,7 @@ pub(crate) fn list_places(places: &mut Vec<u16>, routers: &[Addr], others: &[Add
     }
 }
 
-/// Marks the indices that are among the ends.
+/// Marks each index that is in the column of ends.
 fn mark_ends(marked: &mut [bool], ends: &[u16])
     requires within { All (λ end. end < length marked.old) ends.now }
     requires none { All (λ mark. mark ≡ false) marked.old }
@@ -43,7 +44,7 @@ fn mark_ends(marked: &mut [bool], ends: &[u16])
     }
 }
 
-/// Whether the router is an end of a row, where it is known whether one runs to it.
+/// Whether the router is an end of a row. `arrives` says whether a row runs to it.
 fn is_end(rows: &[Link], router: Addr, arrives: bool) -> bool
     requires by_key { AreByKey rows.now }
     requires known { arrives ≡ any_to rows.now router }
@@ -52,7 +53,7 @@ fn is_end(rows: &[Link], router: Addr, arrives: bool) -> bool
     arrives || begins(rows, router)
 }
 
-/// Notes the place that the router would have after those that stay, and keeps it if it stays.
+/// Lists the router's place among the kept routers, and keeps the router if it stays.
 fn keep_one(kept: &mut Vec<Addr>, places: &mut Vec<u16>, router: Addr, stays: bool)
     requires few { vec_len kept.old < ROOM_FOR_ROUTERS }
     requires room { vec_len kept.old < vec_capacity kept.old }
@@ -70,7 +71,7 @@ fn keep_one(kept: &mut Vec<Addr>, places: &mut Vec<u16>, router: Addr, stays: bo
     }
 }
 
-/// Keeps the routers that are ends of rows, and lists the places of each among them.
+/// Keeps the routers that are ends of rows, and lists each router's place among these.
 pub(crate) fn keep_ends(
     kept: &mut Vec<Addr>,
     places: &mut Vec<u16>,

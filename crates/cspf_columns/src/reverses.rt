@@ -1,4 +1,5 @@
-//! The column of the indices at which the reverses of the rows are, and how it follows the rows.
+//! The column of reverses: for each row, the index of the row that is its reverse. It changes along
+//! with the rows.
 ghost use Rattle.std.specs.Prelude.{◌≡◌, ◌<◌, ◌≤◌, length, map, slice_index_or, vec_len};
 ghost use Rattle.std.specs.Vec.{vec_capacity};
 ghost use Rattle.std.specs.List.{HoldsAt, insert, remove as without};
@@ -16,7 +17,8 @@ use crate::rows::index_of;
 use crate::spans::Span;
 use cspf_model::Link;
 
-/// The index, if the row there is the reverse of the link, which has the key of its reverse.
+/// The index `at`, if the row there is the reverse of the link, and `NO_LINK` otherwise. The row
+/// has the key of the reverse.
 fn index_back(rows: &[Link], at: usize, link: &Link) -> u16
     requires by_key { AreByKey rows.now }
     requires most { length rows.now ≤ ROOM_FOR_LINKS }
@@ -31,7 +33,7 @@ fn index_back(rows: &[Link], at: usize, link: &Link) -> u16
     at as u16
 }
 
-/// The index of the row that is the reverse of the link, if there is one.
+/// The index of the row that is the reverse of the link, or `NO_LINK`.
 pub fn reverse_index(rows: &[Link], link: &Link) -> u16
     requires by_key { AreByKey rows.now }
     requires most { length rows.now ≤ ROOM_FOR_LINKS }
@@ -43,7 +45,8 @@ pub fn reverse_index(rows: &[Link], link: &Link) -> u16
     index_back(rows, at, link)
 }
 
-/// The index of the reverse, where the span of the router that the link runs to is known.
+/// The index of the link's reverse, or `NO_LINK`. The span is that of the router that the link runs
+/// to.
 fn reverse_within(rows: &[Link], span: &Span, link: &Link) -> u16
     requires by_key { AreByKey rows.now }
     requires most { length rows.now ≤ ROOM_FOR_LINKS }
@@ -57,7 +60,7 @@ fn reverse_within(rows: &[Link], span: &Span, link: &Link) -> u16
     index_back(rows, first + at, link)
 }
 
-/// Lists where the reverse of each row is.
+/// Lists the index of each row's reverse.
 pub(crate) fn list_reverses(reverses: &mut Vec<u16>, rows: &[Link], ends: &[u16], spans: &[Span])
     requires by_key { AreByKey rows.now }
     requires most { length rows.now ≤ ROOM_FOR_LINKS }
@@ -74,7 +77,8 @@ pub(crate) fn list_reverses(reverses: &mut Vec<u16>, rows: &[Link], ends: &[u16]
     }
 }
 
-/// Parts the row at an index from its reverse, if it has one.
+/// Separates the row at an index from its reverse, if it has one: the column then has no reverse
+/// for either.
 pub(crate) fn unpair(columns: &mut Columns, at: usize)
     requires paired { ArePaired columns.old }
     requires within { at < length columns.old.rows.items }
@@ -92,7 +96,8 @@ pub(crate) fn unpair(columns: &mut Columns, at: usize)
     columns.reverses[at] = NO_LINK;
 }
 
-/// Pairs the row at an index, which has no reverse in the column, with its reverse, if there is one.
+/// Pairs the row at an index with its reverse, if there is one. Before, the column has no reverse
+/// for the row.
 pub(crate) fn pair(columns: &mut Columns, at: usize)
     requires tied { AreTiedColumns columns.old }
     requires most { length columns.old.rows.items ≤ ROOM_FOR_LINKS }
@@ -112,7 +117,7 @@ pub(crate) fn pair(columns: &mut Columns, at: usize)
     columns.reverses[at] = other;
 }
 
-/// Where the row at an index is once another was put before the rows from one on.
+/// The new index of a row, after another row was inserted at `at`. `NO_LINK` stays as it is.
 fn behind(reverse: u16, at: usize) -> u16
     ensures { result ≡ index_behind at reverse }
 {
@@ -123,7 +128,7 @@ fn behind(reverse: u16, at: usize) -> u16
     }
 }
 
-/// Where the row at an index is once the one before the rows from one on was taken out.
+/// The new index of a row, after the row before `at` was removed. `NO_LINK` stays as it is.
 fn before(reverse: u16, at: usize) -> u16
     ensures { result ≡ index_before at reverse }
 {
@@ -134,7 +139,7 @@ fn before(reverse: u16, at: usize) -> u16
     }
 }
 
-/// Moves the indices of the rows from one on, since a row is put before them.
+/// Adds 1 to each index from `at` on, since a row is inserted at `at`.
 fn move_behind(reverses: &mut [u16], at: usize)
     ensures { reverses.new ≡ map (index_behind at) reverses.old }
 {
@@ -143,7 +148,7 @@ fn move_behind(reverses: &mut [u16], at: usize)
     }
 }
 
-/// Moves the indices of the rows from one on back, since the row before them is taken out.
+/// Subtracts 1 from each index from `at` on, since the row before `at` is removed.
 fn move_before(reverses: &mut [u16], at: usize)
     ensures { reverses.new ≡ map (index_before at) reverses.old }
 {
@@ -152,8 +157,8 @@ fn move_before(reverses: &mut [u16], at: usize)
     }
 }
 
-/// Puts no reverse for a row that is put at an index, before the rows from it on. There is room, so this
-/// takes no memory and can't fail.
+/// Inserts an item without a reverse, for a row that is inserted at `at`. The vector has the
+/// capacity, so this takes no memory and can't fail.
 pub(crate) fn open_gap(reverses: &mut Vec<u16>, at: usize)
     requires few { vec_len reverses.old ≤ ROOM_FOR_LINKS }
     requires upto { at ≤ vec_len reverses.old }
@@ -165,7 +170,7 @@ pub(crate) fn open_gap(reverses: &mut Vec<u16>, at: usize)
     insert_within(reverses, at, NO_LINK);
 }
 
-/// Takes out the reverse of the row that is taken out at an index.
+/// Removes the item of the row that is removed at `at`.
 pub(crate) fn close_gap(reverses: &mut Vec<u16>, at: usize)
     requires { at < vec_len reverses.old }
     ensures closed { reverses.new.items ≡ map (index_before at) (without reverses.old.items at) }

@@ -1,4 +1,4 @@
-//! Lists of routers that rise, and where a router is in one.
+//! Rising lists of routers, and the index of a router in such a list.
 ghost use Rattle.std.specs.Prelude.{◌≡◌, ◌+◌, ◌*◌, ◌<◌, ◌≤◌, true, All, Contains, length, vec_len, IfOk, IfErr};
 ghost use Rattle.std.specs.Vec.{vec_capacity};
 ghost use Rattle.std.specs.List.{HoldsAt};
@@ -13,7 +13,7 @@ use cspf_addr::Addr;
 use cspf_model::Change;
 use std::cmp::Ordering;
 
-/// The index of the router, and else the index at which it would stand.
+/// The index of the router, or else the index at which it would be inserted.
 pub fn search(routers: &[Addr], router: Addr) -> Result<usize, usize>
     requires { AreRising routers.now }
     ensures within { IfOk result (λ at. at < length routers.now) }
@@ -27,7 +27,7 @@ pub fn search(routers: &[Addr], router: Addr) -> Result<usize, usize>
     routers.binary_search(&router)
 }
 
-/// Whether the router is one of them.
+/// Whether the router is in the list.
 pub fn is_among(routers: &[Addr], router: Addr) -> bool
     requires { AreRising routers.now }
     ensures { result ≡ true → Contains routers.now router }
@@ -35,7 +35,7 @@ pub fn is_among(routers: &[Addr], router: Addr) -> bool
     search(routers, router).is_ok()
 }
 
-/// Adds a router, if it isn't there.
+/// Adds the router to the list, unless it is there.
 fn add(routers: &mut Vec<Addr>, router: Addr)
     requires rising { AreRising routers.old.items }
     requires room { vec_len routers.old < vec_capacity routers.old }
@@ -50,7 +50,7 @@ fn add(routers: &mut Vec<Addr>, router: Addr)
     }
 }
 
-/// Adds both ends of the link that the change puts, if it does.
+/// Adds both ends of the link to the list, if the change puts a link.
 fn add_ends_of(routers: &mut Vec<Addr>, change: &Change)
     requires rising { AreRising routers.old.items }
     requires room { vec_len routers.old + 1 < vec_capacity routers.old }
@@ -81,7 +81,7 @@ pub(crate) fn add_ends(routers: &mut Vec<Addr>, changes: &[Change])
     }
 }
 
-/// The index of a router of the list.
+/// The index of a router that is in the list.
 pub(crate) fn index_among(routers: &[Addr], router: Addr) -> u16
     requires rising { AreRising routers.now }
     requires few { length routers.now ≤ ROOM_FOR_ROUTERS }
@@ -94,7 +94,7 @@ pub(crate) fn index_among(routers: &[Addr], router: Addr) -> u16
     }
 }
 
-/// The router's index, where the one at which it may be is looked at first.
+/// The index of a router that is in the list. The index `near` is tried before a search.
 pub(crate) fn index_near(routers: &[Addr], near: usize, router: Addr) -> u16
     requires rising { AreRising routers.now }
     requires few { length routers.now ≤ ROOM_FOR_ROUTERS }

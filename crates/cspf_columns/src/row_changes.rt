@@ -1,4 +1,4 @@
-//! Changes of rows, with the columns of ends and of reverses changed as each row changes.
+//! Makes changes to the rows and to all columns.
 ghost use Rattle.std.specs.Prelude.{count_by, ◌≡◌, ◌+◌, ◌<◌, ◌≤◌, true, All, length};
 ghost use Rattle.cspf_model.specs.Lemmas.LinkChanges.{all_relinked};
 ghost use Rattle.cspf_model.specs.Lemmas.CountedEnds.{HasListedEnds};
@@ -19,7 +19,7 @@ use crate::scratch::Scratch;
 use crate::spans::list_spans;
 use cspf_model::Change;
 
-/// Makes one change.
+/// Makes one change to the rows, and to the columns of ends and reverses.
 fn change_one(columns: &mut Columns, change: &Change)
     requires paired { ArePaired columns.old }
     requires room { length columns.old.rows.items < ROOM_FOR_LINKS }
@@ -40,7 +40,7 @@ fn change_one(columns: &mut Columns, change: &Change)
     }
 }
 
-/// Makes changes one by one. They put links between listed routers alone.
+/// Makes changes one by one. They put links only between listed routers.
 fn change_rows(columns: &mut Columns, changes: &[Change])
     requires paired { ArePaired columns.old }
     requires room { length columns.old.rows.items + length changes.now ≤ ROOM_FOR_LINKS }
@@ -54,24 +54,25 @@ fn change_rows(columns: &mut Columns, changes: &[Change])
     }
 }
 
-/// Whether the change takes out a link.
+/// Whether the change removes a link.
 fn is_removal(change: &Change) -> bool
     ensures { result ≡ removes_link change.now }
 {
     matches!(change, Change::Remove { .. })
 }
 
-/// How many changes take out a link.
+/// The number of changes that remove a link.
 pub fn count_removed(changes: &[Change]) -> usize
     ensures { result ≡ count_by removes_link changes.now }
 {
     changes.iter().filter(|change| is_removal(change)).count()
 }
 
-/// How many rows may be put between others or taken out one by one, as each moves those after it.
+/// The most rows that are inserted or removed one by one. Each of them moves all rows after it.
 const FEW: usize = 16;
 
-/// Whether changes, `added` of which add a link, put few rows between others and take few out.
+/// Whether few rows are inserted and few are removed. `added` is the number of changes that add a
+/// link.
 fn move_few(added: usize, changes: &[Change]) -> bool
     requires few { added ≤ MOST_CHANGES }
     requires short { length changes.now ≤ MOST_CHANGES }
@@ -80,8 +81,8 @@ fn move_few(added: usize, changes: &[Change]) -> bool
     added + count_removed(changes) <= FEW
 }
 
-/// Makes changes on distinct keys, with the column of ends, and says whether that of reverses
-/// follows. They put links between listed routers alone.
+/// Makes changes with distinct keys to the rows and to the column of ends, and returns whether the
+/// column of reverses is changed too. The changes put links only between listed routers.
 fn change_with_ends(
     columns: &mut Columns,
     scratch: &mut Scratch,
@@ -108,7 +109,7 @@ fn change_with_ends(
     false
 }
 
-/// Lists where the rows from each router are, and the reverses if their column doesn't follow.
+/// Lists the spans of all routers. If `follows` is false, it also lists the reverses of all rows.
 fn list_beside(columns: &mut Columns, follows: bool)
     requires parts { AreRowParts columns.old }
     requires reverses { follows ≡ true
@@ -127,8 +128,8 @@ fn list_beside(columns: &mut Columns, follows: bool)
     }
 }
 
-/// Makes the changes of a batch that fits. `added` of them add a link, and they put links between the
-/// routers alone where `brought` is 0.
+/// Makes the changes of a batch that fits. `added` is the number of changes that add a link. If
+/// `brought` is 0, the changes put links only between routers that are listed.
 pub fn change_columns(
     columns: &mut Columns,
     scratch: &mut Scratch,

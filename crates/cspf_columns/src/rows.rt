@@ -1,4 +1,4 @@
-//! The rows of a table, which are its links in order of their keys, and how they are searched.
+//! The rows of a table, which are its links in order of their keys, and searches for a row.
 
 ghost use Rattle.std.specs.Prelude.{◌≡◌, ◌≢◌, ℕ, ◌<◌, ◌≤◌, true, false, All, filter, length, nat_eq, slice_range, IfOk, IfErr, IfSome, IfNone};
 ghost use Rattle.std.specs.List.{HoldsAt};
@@ -14,14 +14,14 @@ use cspf_addr::{Addr, Prefix};
 use cspf_model::Link;
 use std::cmp::Ordering;
 
-/// How the key of the row compares with another.
+/// How the key of the row compares with this key.
 pub(crate) fn compare(row: &Link, from: Addr, local: Addr) -> Ordering
     ensures { result ≡ key_cmp (key_of row.now) (from, local) }
 {
     row.from.cmp(&from).then(row.local.cmp(&local))
 }
 
-/// The index of the row with this key, and else the index at which it would stand.
+/// The index of the row with this key, or else the index at which it would be inserted.
 pub(crate) fn search(rows: &[Link], from: Addr, local: Addr) -> Result<usize, usize>
     requires { AreByKey rows.now }
     ensures within { IfOk result (λ at. at < length rows.now) }
@@ -49,7 +49,7 @@ pub fn index_of(rows: &[Link], from: Addr, local: Addr) -> Option<usize>
     search(rows, from, local).ok()
 }
 
-/// Whether the row at the index, which has the link's key, runs between the same interfaces.
+/// Whether the row at `at` runs between the same interfaces as the link. Both have the same key.
 pub fn is_alike(rows: &[Link], at: usize, link: &Link) -> bool
     requires within { at < length rows.now }
     requires key { HoldsAt (λ l. key_of l ≡ key_of link.now) rows.now at }
@@ -58,7 +58,7 @@ pub fn is_alike(rows: &[Link], at: usize, link: &Link) -> bool
     rows[at].to == link.to && rows[at].remote == link.remote
 }
 
-/// Where the rows from the router begin and end.
+/// The range of the rows from the router.
 pub fn span(rows: &[Link], router: Addr) -> (usize, usize)
     requires { AreByKey rows.now }
     ensures order { result.0 ≤ result.1 }
@@ -80,7 +80,7 @@ pub fn rows_from(rows: &[Link], router: Addr) -> &[Link]
     &rows[first..end]
 }
 
-/// Whether a row begins at the router.
+/// Whether a row runs from the router.
 pub(crate) fn begins(rows: &[Link], router: Addr) -> bool
     requires { AreByKey rows.now }
     ensures { result ≡ any_from rows.now router }
@@ -89,7 +89,7 @@ pub(crate) fn begins(rows: &[Link], router: Addr) -> bool
     first < end
 }
 
-/// Whether one of the rows has the address of its interface within the prefix.
+/// Whether a row has its local address in the prefix.
 pub fn any_within(rows: &[Link], prefix: Prefix) -> bool
     ensures yes { result ≡ true
         → (at : ℕ) × (at < length rows.now) × HoldsAt (λ l. Covers prefix l.local) rows.now at }

@@ -1,4 +1,4 @@
-//! The room in which a batch's changes are made, which the table takes once, when it is made.
+//! The memory in which a batch's changes are made. A table takes it once, when the table is made.
 
 ghost use Rattle.std.specs.Prelude.{◌≡◌, ◌≤◌, All, length};
 ghost use Rattle.std.specs.Vec.{vec_capacity};
@@ -16,8 +16,8 @@ use cspf_model::{Change, Link, MOST_CHANGES};
 use std::alloc::{AllocError, Global};
 use std::mem::swap;
 
-/// Room for the rows, their ends and the routers after changes, for the changes and their keys in order, and
-/// for the places of routers.
+/// Memory for the rows, the ends and the routers after the changes, for the changes and their keys
+/// in order, and for the places of routers.
 #[derive(Debug, Drop)]
 pub struct Scratch {
     merged: Vec<Link>,
@@ -34,7 +34,7 @@ pub struct Scratch {
     ghost room_for_places: { ROOM_FOR_ROUTERS ≤ vec_capacity places },
 }
 
-/// Copies the routers. There is room, so this takes no memory and can't fail.
+/// Copies the routers. The vector has the capacity, so this takes no memory and can't fail.
 fn copy_routers(listed: &mut Vec<Addr>, routers: &[Addr])
     requires { length routers.now ≤ vec_capacity listed.old }
     ensures items { listed.new.items ≡ routers.now }
@@ -45,7 +45,7 @@ fn copy_routers(listed: &mut Vec<Addr>, routers: &[Addr])
 }
 
 impl Scratch {
-    /// Room for the rows of a full table and a batch.
+    /// Memory for the rows of a full table and a batch.
     pub fn new(alloc: Global) -> Result<Self, AllocError> {
         Ok(Scratch {
             merged: Vec::with_capacity(alloc, ROOM_FOR_LINKS)?,
@@ -66,8 +66,8 @@ impl Scratch {
     ghost use Rattle.cspf_columns.specs.Index.{router_list};
     ghost use Rattle.cspf_model.specs.Refusals.{AreOnceEach};
 
-    /// Makes changes on distinct keys, however many rows they move, with the column of ends. They
-    /// put links between listed routers alone. It takes no memory.
+    /// Makes changes with distinct keys to the rows and to the column of ends, however many rows
+    /// they move. The changes put links only between listed routers. It takes no memory.
     pub(crate) fn change(&mut self, columns: &mut Columns, changes: &[Change])
         requires tied { AreTiedColumns columns.old }
         requires most { length columns.old.rows.items ≤ MOST_LINKS }
@@ -86,8 +86,8 @@ impl Scratch {
         swap(&mut columns.ends, &mut self.ends);
     }
 
-    /// Lists the ends of the links that the changes put, those that aren't listed, where there are
-    /// any. The column of ends says of the rows what it said.
+    /// Adds the ends of the links that the changes put to the list of routers, unless `brought` is
+    /// 0. The column of ends then has the indices in the new list.
     pub(crate) fn add_routers(&mut self, columns: &mut Columns, changes: &[Change], brought: usize)
         requires listed { brought ≡ 0
             → All (HasListedEnds columns.old.routers.items) changes.now }
@@ -109,7 +109,8 @@ impl Scratch {
         swap(&mut columns.routers, &mut self.listed);
     }
 
-    /// Drops the routers that are no end of a row. The column of ends follows.
+    /// Drops the routers that aren't ends of rows. The column of ends then has the indices in the
+    /// new list.
     pub(crate) fn drop_routers(&mut self, columns: &mut Columns)
         requires tied { AreTiedColumns columns.old }
         ensures room { HaveRoom columns.new }

@@ -1,4 +1,5 @@
-//! Where the rows from each router begin and end, and between which addresses its interfaces are.
+//! Spans: the range of the rows from each router, and the lowest and highest address of its
+//! interfaces.
 ghost use Rattle.std.specs.Prelude.{◌≡◌, ℕ, All, ◌+◌, ◌-◌, ◌<◌, ◌≤◌, true, filter, length, nat_eq, slice_index_or, slice_range, vec_len};
 ghost use Rattle.std.specs.Vec.{vec_capacity};
 ghost use Rattle.std.specs.List.Sorted.{IsNonDecreasingBy};
@@ -11,8 +12,8 @@ use crate::rows::span;
 use cspf_addr::Addr;
 use cspf_model::Link;
 
-/// Where the rows from a router begin and end, and the lowest and the highest address of its
-/// interfaces on them. Where there are no rows, the lowest is above the highest.
+/// The range of the rows from a router, and the lowest and highest address of the router's
+/// interfaces in these rows. If there are no rows, the lowest is above the highest.
 #[derive(Clone, Copy, Debug)]
 pub struct Span {
     pub first: u16,
@@ -21,7 +22,7 @@ pub struct Span {
     pub highest: Addr,
 }
 
-/// The span of no rows.
+/// The span of a router without rows.
 fn no_span() -> Span {
     Span {
         first: 0,
@@ -31,7 +32,7 @@ fn no_span() -> Span {
     }
 }
 
-/// The index after the rows from the router that follow each other from an index on.
+/// The index after the rows from the router that begin at `first`.
 fn skip(rows: &[Link], first: usize, router: Addr) -> usize
     requires { first ≤ length rows.now }
     ensures order { first ≤ result }
@@ -64,7 +65,7 @@ fn is_before(rows: &[Link], at: usize, router: Addr) -> bool
     at == rows.len() || router < rows[at].from
 }
 
-/// Whether the rows from one index to another, if there are any, are all from the router.
+/// Whether all rows of a range are from the router. Only its first and its last row are read.
 fn is_run(rows: &[Link], first: usize, end: usize, router: Addr) -> bool
     requires by_key { AreByKey rows.now }
     requires order { first ≤ end }
@@ -75,7 +76,7 @@ fn is_run(rows: &[Link], first: usize, end: usize, router: Addr) -> bool
     first == end || (rows[first].from == router && rows[end - 1].from == router)
 }
 
-/// Whether the rows from the router are those from one index to another.
+/// Whether this range has exactly the rows from the router.
 fn is_span(rows: &[Link], first: usize, end: usize, router: Addr) -> bool
     requires by_key { AreByKey rows.now }
     requires order { first ≤ end }
@@ -89,7 +90,7 @@ fn is_span(rows: &[Link], first: usize, end: usize, router: Addr) -> bool
     is_behind(rows, first, router) && is_before(rows, end, router)
 }
 
-/// Where the rows from the router begin and end. The index is where to look first.
+/// The range of the rows from the router. The index `at` is tried before a search.
 fn span_from(rows: &[Link], at: usize, router: Addr) -> (usize, usize)
     requires by_key { AreByKey rows.now }
     requires bound { at ≤ length rows.now }
@@ -106,8 +107,8 @@ fn span_from(rows: &[Link], at: usize, router: Addr) -> (usize, usize)
     }
 }
 
-/// The router's span, where a guess says how many rows there are from it: a few of them are read if
-/// it is right.
+/// The range of the rows from the router. The index `at` and the number `count` are a guess: if
+/// they are right, only a few rows are read.
 fn span_near(rows: &[Link], at: usize, count: u16, router: Addr) -> (usize, usize)
     requires by_key { AreByKey rows.now }
     requires most { length rows.now ≤ MOST_LINKS }
@@ -125,7 +126,7 @@ fn span_near(rows: &[Link], at: usize, count: u16, router: Addr) -> (usize, usiz
     }
 }
 
-/// The rows from one index to another, which rise by the address of their interface.
+/// The span of a range of rows that are in order of their local addresses.
 fn rising_between(rows: &[Link], first: usize, end: usize) -> Span
     requires most { length rows.now ≤ MOST_LINKS }
     requires order { first ≤ end }
@@ -146,8 +147,8 @@ fn rising_between(rows: &[Link], first: usize, end: usize) -> Span
     span
 }
 
-/// Where the rows from the router are. The index is where to look first, and the number a guess of
-/// how many there are.
+/// The span of the router. `at` is the index to try first, and `count` is a guess of the number of
+/// rows.
 fn locate(rows: &[Link], at: usize, count: u16, router: Addr) -> Span
     requires by_key { AreByKey rows.now }
     requires most { length rows.now ≤ MOST_LINKS }
@@ -158,7 +159,7 @@ fn locate(rows: &[Link], at: usize, count: u16, router: Addr) -> Span
     rising_between(rows, first, end)
 }
 
-/// Makes there be as many spans as routers.
+/// Makes the list have `count` spans.
 fn resize(spans: &mut Vec<Span>, count: usize)
     requires few { count ≤ MOST_ROUTERS }
     requires room { MOST_ROUTERS ≤ vec_capacity spans.old }
@@ -171,8 +172,8 @@ fn resize(spans: &mut Vec<Span>, count: usize)
     }
 }
 
-/// Lists where the rows from each router are. A router that has as many rows as the one at its index
-/// had before costs a few reads. Where the routers rise, this passes over the other rows once.
+/// Lists the span of each router. A router costs only a few reads if it has as many rows as the old
+/// span at its index. If the routers are in rising order, the other rows are read once in all.
 pub(crate) fn list_spans(spans: &mut Vec<Span>, routers: &[Addr], rows: &[Link])
     requires by_key { AreByKey rows.now }
     requires most { length rows.now ≤ MOST_LINKS }

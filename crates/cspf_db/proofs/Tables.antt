@@ -1,4 +1,4 @@
--- Lemmas of the parts of a table, and of the look at a batch.
+-- Lemmas on the parts of a table, and on checking a batch.
 pub mod LinkCounts
 pub mod OwnerPlaces
 pub mod GoneRouters

@@ -1,4 +1,4 @@
--- The routers of a database that own a prefix, by their indexes.
+-- The routers of a database that own an address of a prefix, by their indexes.
 use Rattle.std.specs.Prelude.{◌<◌, ◌↔◌, ℕ, List, All, Contains, length, slice_index}
 use Rattle.std.specs.List.Sorted.{IsStrictlyIncreasing}
 use Rattle.cspf_addr.specs.PrefixParts.{PrefixParts}
@@ -6,7 +6,7 @@ use Rattle.cspf_model.specs.Database.{Database}
 use Rattle.cspf_columns.specs.Index.{router_list}
 use Rattle.cspf_model.specs.Targets.{Owns}
 
--- the indexes in the list of routers of those that own an address that a prefix covers, rising
+-- The indexes in the list of routers of all routers that own an address of the prefix, in rising order.
 pub record AreOwners (d : Database) (prefix : PrefixParts) (places : List ℕ) : Type 0 where
   pub within : All (λ at. at < length (router_list d)) places
   pub each : (at : ℕ) → at < length (router_list d) → Contains places at ↔ Owns d prefix (slice_index (router_list d) at)

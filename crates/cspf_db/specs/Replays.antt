@@ -1,10 +1,10 @@
--- Where a replay stops that doesn't absorb all batches.
+-- The database after a replay that doesn't absorb all batches.
 use Rattle.std.specs.Prelude.{◌≡◌, List, ◌∷◌, ◌++◌}
 use Rattle.cspf_model.specs.Numbered.{NumberedChanges}
 use Rattle.cspf_model.specs.Database.{Database}
 use Rattle.cspf_model.specs.Changes.{AreLawful, Fits, database_after}
 
--- the database of the batches before the first that doesn't fit the database of those before it
+-- `d` is the database of the batches before the first batch that doesn't fit.
 pub record IsStoppedReplay (batches : List NumberedChanges) (d : Database) : Type 0 where
   pub before : List NumberedChanges
   pub batch : NumberedChanges

@@ -1,11 +1,11 @@
--- Databases that differ in unreserved bandwidths alone.
+-- Databases that differ only in unreserved bandwidths.
 use Rattle.std.specs.Prelude.{◌≡◌, ℕ}
 use Rattle.std.specs.Option.{option_map}
 use Rattle.cspf_model.specs.declared.link.Link.{Link}
 use Rattle.cspf_model.specs.Database.{Database, Key, link_at}
 use Rattle.cspf_columns.specs.Index.{router_list}
 
--- what a link has beside its unreserved bandwidths
+-- all attributes of a link except its unreserved bandwidths
 pub record Shape : Type 0 where
   pub from : ℕ
   pub local : ℕ
@@ -25,12 +25,12 @@ shape_of l = record {
   group = l.group;
 }
 
--- The databases have the same marks. At each key both have no link, or links that differ in their
--- unreserved bandwidths alone.
+-- The databases have the same marks. At each key either both have no link, or their links differ only in their
+-- unreserved bandwidths.
 pub record HaveOneShape (d e : Database) : Type 0 where
   pub marks : e.marks ≡ d.marks
   pub links : (k : Key) → option_map shape_of (link_at e k) ≡ option_map shape_of (link_at d k)
 
--- databases with one shape have one list of routers
+-- Two databases with the same shape have the same list of routers.
 abbrev pub ShapesTellRouters : Type 0
 ShapesTellRouters = (d e : Database) → HaveOneShape d e → router_list e ≡ router_list d

@@ -1,5 +1,5 @@
-//! The table that keeps a traffic engineering database. `cspf_model` has the definitions that its contracts
-//! cite, and the types, which stand here too.
+//! The table that keeps a traffic engineering database. Its contracts use the definitions of
+//! `cspf_model`. This crate also exports the types of `cspf_model`.
 #![tactic(auto)]
 
 mod limits;

@@ -1,5 +1,5 @@
-//! The table that keeps a traffic engineering database, with the lists that the search reads.
-//! The modules below have one list or one step of a change each.
+//! The table that keeps a traffic engineering database, with the lists that the search reads. Each
+//! module of `table/` has one list, or one step of absorbing a batch.
 
 ghost use Rattle.std.specs.Prelude.{◌≡◌, ◌<◌, ◌≤◌, ◌↔◌, ℕ, All, Contains, length, map, slice_index, slice_index_or, IfOk, OnOk, IfErr, OnErr, IfSome, IfNone, IsTrue};
 ghost use Rattle.std.specs.Vec.{vec_capacity};
@@ -41,8 +41,8 @@ use std::alloc::{AllocError, Global};
 use std::marker::Model;
 use transits::list_transits;
 
-/// A traffic engineering database of at most 16,384 links, 1,024 routers and 1,024 marks of routers
-/// without transit. No call but `new` can fail for memory.
+/// A traffic engineering database of at most 16,384 links, 1,024 routers, and 1,024 marks of
+/// routers without transit. Only `new` takes memory.
 #[derive(Debug, Drop)]
 pub struct Table {
     columns: Columns,
@@ -80,8 +80,8 @@ impl Table {
         })
     }
 
-    /// The links, each once, in order of the router that they run from and then of their address
-    /// there. They have at most 1,024 routers at their ends.
+    /// The links, each once, in order of the router from which they run and then of their interface
+    /// address at this router. At most 1,024 routers are endpoints of these links.
     pub fn links(&self) -> &[Link]
         ensures listed { AreLinksOf self.now result.now }
         ensures most { length result.now ≤ MOST_LINKS }
@@ -93,7 +93,7 @@ impl Table {
         self.columns.rows.as_slice()
     }
 
-    /// The routers, each once, rising.
+    /// The routers, each once, in rising order.
     pub fn routers(&self) -> &[Addr]
         ensures all { result.now ≡ router_list self.now }
         ensures known { (router : ℕ) → Contains result.now router ↔ IsRouterOf self.now router }
@@ -103,7 +103,7 @@ impl Table {
         self.columns.routers.as_slice()
     }
 
-    /// Beside the links, the index in `routers` of the router that each runs to.
+    /// For each link of `links`, the index in `routers` of the router to which it runs.
     pub fn ends(&self) -> &[u16]
         ensures within { All (λ end. end < length (router_list self.now)) result.now }
         ensures each { map (λ end. slice_index (router_list self.now) end) result.now
@@ -112,7 +112,7 @@ impl Table {
         self.columns.ends.as_slice()
     }
 
-    /// The index of the router in `routers`, if it is one of them.
+    /// The index of the router in `routers`, if the router is in it.
     pub fn place_of(&self, router: Addr) -> Option<usize>
         ensures bound { IfSome result (λ at. at < length (router_list self.now)) }
         ensures some { IfSome result (λ at. slice_index (router_list self.now) at ≡ router) }
@@ -121,7 +121,7 @@ impl Table {
         search(&self.columns.routers, router).ok()
     }
 
-    /// The links from the router, in order of their address there.
+    /// The links from the router, in order of their interface address at it.
     pub fn out(&self, router: Addr) -> &[Link]
         ensures { result.now ≡ links_from self.now router }
     {
@@ -137,7 +137,7 @@ impl Table {
         &self.columns.rows[usize::from(span.first)..usize::from(span.end)]
     }
 
-    /// Beside the links of `out_at`, the index in `routers` of the router that each runs to.
+    /// For each link of `out_at`, the index in `routers` of the router to which it runs.
     pub fn ends_at(&self, at: usize) -> &[u16]
         requires { at < length (router_list self.now) }
         ensures within { All (λ end. end < length (router_list self.now)) result.now }
@@ -148,8 +148,8 @@ impl Table {
         &self.columns.ends[usize::from(span.first)..usize::from(span.end)]
     }
 
-    /// Beside the links of `out_at`, the index in `links` of the reverse of each, as `has_reverse`
-    /// says, or `NO_LINK` where there is none.
+    /// For each link of `out_at`, the index of its reverse in `links`, or `NO_LINK` if it has none.
+    /// `has_reverse` defines the reverse.
     pub fn reverses_at(&self, at: usize) -> &[u16]
         requires { at < length (router_list self.now) }
         ensures many { length result.now ≡ length (links_from_index self.now at) }
@@ -169,24 +169,24 @@ impl Table {
         Some(self.columns.rows[at])
     }
 
-    /// Whether the table has the reverse of the link, whatever the reverse's attributes. The
-    /// reverse runs back over the same two interfaces. RFC 2328 16.1, step 2b, asks for a link back
-    /// to the router alone.
+    /// Whether the table has the reverse of the link, with any attributes. The reverse runs back
+    /// between the same two interfaces. RFC 2328 16.1, step 2b, only requires some link back to the
+    /// router.
     pub fn has_reverse(&self, link: &Link) -> bool
         ensures { IsTrue result ↔ HasReverse self.now link.now }
     {
         reverse_index(&self.columns.rows, link) != NO_LINK
     }
 
-    /// Whether a link begins or ends at the router.
+    /// Whether the router is an endpoint of a link.
     pub fn has_router(&self, router: Addr) -> bool
         ensures { IsTrue result ↔ IsRouterOf self.now router }
     {
         search(&self.columns.routers, router).is_ok()
     }
 
-    /// The Router IDs that are marked as without transit (RFC 6987), each once, rising. A router with
-    /// one of them may not be there.
+    /// The Router IDs that are marked as without transit (RFC 6987), each once, in rising order. A
+    /// marked Router ID need not be that of a router in the table.
     pub fn marks(&self) -> &[Addr]
         ensures all { self.now.marks ≡ set.from_list result.now }
         ensures rising { IsStrictlyIncreasing result.now }
@@ -195,15 +195,15 @@ impl Table {
         self.marks.as_slice()
     }
 
-    /// Whether a router with this Router ID, if there is one, has transit: whether routes may pass
-    /// through it, and not only begin and end there (RFC 6987).
+    /// Whether the router has transit: whether routes may pass through it (RFC 6987). Without
+    /// transit, routes may only begin and end at the router. The router need not be in the table.
     pub fn transit(&self, router: Addr) -> bool
         ensures { IsTrue result ↔ HasTransit self.now router }
     {
         !is_marked(&self.marks, router)
     }
 
-    /// `transit` of the router at an index of `routers`.
+    /// Whether the router at an index of `routers` has transit, as `transit` defines it.
     pub fn transit_at(&self, at: usize) -> bool
         requires { at < length (router_list self.now) }
         ensures { IsTrue result ↔ HasTransit self.now (slice_index (router_list self.now) at) }
@@ -211,8 +211,9 @@ impl Table {
         self.transits[at]
     }
 
-    /// Whether a link begins or ends at the router and the prefix covers the router or its
-    /// interface on a link from it. The link's attributes don't matter (RFC 3209 4.3.3.2).
+    /// Whether the router is an endpoint of a link, and the prefix covers the Router ID or the
+    /// address of one of its interfaces on a link from it. The link's attributes don't matter (RFC
+    /// 3209 4.3.3.2).
     pub fn owns(&self, router: Addr, prefix: Prefix) -> bool
         ensures { IsTrue result ↔ Owns self.now prefix router }
     {
@@ -222,8 +223,8 @@ impl Table {
         }
     }
 
-    /// `owns` of the router at an index of `routers`, with the range of the addresses that the
-    /// prefix covers.
+    /// Whether the router at an index of `routers` owns an address of the prefix, as `owns` defines
+    /// it. `range` is the range of the addresses that the prefix covers.
     fn owns_within(&self, at: usize, prefix: Prefix, range: &AddressRange) -> bool
         requires bound { at < length (router_list self.now) }
         requires range { IsRangeOf prefix range.now }
@@ -240,9 +241,10 @@ impl Table {
         any_within(self.out_at(at), prefix)
     }
 
-    /// Lists the indexes in `routers` of those that own an address that the prefix covers, as `owns`
-    /// says, rising. Links are read only from a router between whose interfaces the prefix has
-    /// addresses. There is room for all routers, so this takes no memory.
+    /// Lists the indexes in `routers` of all routers that own an address of the prefix, in rising
+    /// order. `owns` defines this. The links of a router are read only if the range of the prefix
+    /// reaches between its lowest and highest interface address. There is room for all routers, so
+    /// this takes no memory.
     pub fn list_owners(&self, owners: &mut Vec<u16>, prefix: Prefix)
         requires { MOST_ROUTERS ≤ vec_capacity owners.old }
         ensures owners { AreOwners self.now prefix owners.new.items }
@@ -257,8 +259,8 @@ impl Table {
         }
     }
 
-    /// Whether the batch fits, and else the first reason why it doesn't. The batch's number isn't
-    /// looked at.
+    /// Checks whether the batch fits. If it doesn't, returns the first reason. The batch's number
+    /// isn't checked.
     pub fn check(&self, batch: &Batch) -> Result<(), Refusal>
         ensures ok { OnOk result (Fits self.now batch.now) }
         ensures err { IfErr result (λ refusal. IsRefusal self.now batch.now refusal) }
@@ -270,8 +272,9 @@ impl Table {
         }
     }
 
-    /// What a batch that fits does to the table, by which `absorb_planned` absorbs it, and else the
-    /// first reason why it doesn't fit. The batch's number isn't looked at.
+    /// Checks whether the batch fits. If it does, returns what it does to the table, for
+    /// `absorb_planned`. Otherwise returns the first reason why it doesn't fit. The batch's number
+    /// isn't checked.
     pub fn plan(&self, batch: &Batch) -> Result<Plan, Refusal>
         ensures ok { IfOk result (IsPlanOf self.now batch.now) }
         ensures err { IfErr result (λ refusal. IsRefusal self.now batch.now refusal) }
@@ -283,7 +286,7 @@ impl Table {
         }
     }
 
-    /// Makes all changes of a batch that fits. One that doesn't changes nothing.
+    /// Makes all changes of the batch if it fits. A batch that doesn't fit changes nothing.
     pub fn absorb(&mut self, batch: &Batch)
         ensures fitting { Fits self.old batch.now
             → self.new ≡ after_changes self.old batch.now.changes }
@@ -292,8 +295,8 @@ impl Table {
         let _ = self.try_absorb(batch);
     }
 
-    /// Makes all changes of a batch that fits. Else it changes nothing, and answers the first reason
-    /// why the batch doesn't fit. The batch's number isn't looked at.
+    /// Makes all changes of the batch if it fits. Otherwise changes nothing, and returns the first
+    /// reason why the batch doesn't fit. The batch's number isn't checked.
     pub fn try_absorb(&mut self, batch: &Batch) -> Result<(), Refusal>
         ensures ok { OnOk result (Fits self.old batch.now) }
         ensures changed { OnOk result (self.new ≡ after_changes self.old batch.now.changes) }
@@ -310,8 +313,8 @@ impl Table {
         }
     }
 
-    /// Makes all changes of a batch that fits, by the plan that `plan` answered for this batch and this
-    /// database. It doesn't look again whether the batch fits, and takes no memory.
+    /// Makes all changes of a batch that fits. `plan` is what the call `plan` returned for this
+    /// batch and this database. It isn't checked again whether the batch fits. It takes no memory.
     pub fn absorb_planned(&mut self, batch: &Batch, plan: Plan)
         requires { IsPlanOf self.old batch.now plan }
         ensures { self.new ≡ after_changes self.old batch.now.changes }

@@ -1,14 +1,14 @@
--- Lists that hold each number below a bound once.
+-- Lists that have each number below a bound once.
 use Rattle.std.specs.Prelude.{◌≡◌, ℕ, ◌==◌, if◌then◌else◌, nat_lt, List, count_by}
 
 -- how often a number is in a list
 abbrev pub times : ℕ → List ℕ → ℕ
 times x xs = count_by (λ y. y == x) xs
 
--- once for a number below the bound, and never for another
+-- 1 for a number below the bound, and 0 for any other number
 abbrev pub once_below : ℕ → ℕ → ℕ
 once_below bound x = if nat_lt x bound then 1 else 0
 
--- the list holds each number below the bound once, and no other
+-- the list has each number below the bound once, and no other number
 abbrev pub HoldsEachOnce : ℕ → List ℕ → Type 0
 HoldsEachOnce bound xs = (x : ℕ) → times x xs ≡ once_below bound x

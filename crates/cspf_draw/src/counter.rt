@@ -1,4 +1,4 @@
-//! The word from which numbers are drawn.
+//! The counter from whose word numbers are drawn.
 ghost use Rattle.std.specs.Prelude.{◌≡◌, ◌+◌, ◌<◌, ◌≤◌, [], All, IfOk, vec_len, flat_map};
 ghost use Rattle.std.specs.List.Sorted.{IsStrictlyIncreasing};
 ghost use Rattle.cspf_draw.specs.EachOnce.{HoldsEachOnce};
@@ -12,7 +12,7 @@ use atomic_table::Table;
 use std::alloc::{AllocError, Global};
 use std::marker::Model;
 
-/// A counter of draws: a word that is 0 at first, and grows by 1 at each draw.
+/// A counter: one atomic number, its *word*. It is 0 at first, and each draw returns it and adds 1 to it.
 #[derive(Drop)]
 pub struct Counter {
     table: Table<u64, SeatDraws, u64, DrawRule, Global>,
@@ -33,7 +33,7 @@ impl Model for Counter {
 }
 
 impl Counter {
-    /// A counter for this many requests, from which nothing is drawn yet, and the seat that has all
+    /// A counter for this many requests, from which no number is drawn yet, and the first seat, which has all
     /// draws.
     pub fn open(alloc: Global, requests: u64) -> Result<(Counter, FirstSeat), AllocError>
         requires { requests ≤ MOST_REQUESTS }
@@ -49,7 +49,7 @@ impl Counter {
         Ok((Counter { table, requests }, first))
     }
 
-    /// A drawer with one more draw than there are requests. It takes no memory.
+    /// Makes a drawer that may draw once more than there are requests. Takes no memory.
     pub fn split<'a>(&'a self, first: &mut FirstSeat) -> Drawer<'a>
         requires counter { first.old.counter ≡ self.now }
         requires some { 0 < first.old.shares }
@@ -61,7 +61,7 @@ impl Counter {
         Drawer::new(&self.table.shared, seat, self.requests + 1)
     }
 
-    /// Merges the draws of all drawers, in their order, into the last seat. It takes no memory.
+    /// Merges what all drawers have drawn, in the order of the drawers, into the last seat. Takes no memory.
     pub fn join(&self, first: FirstSeat, drawers: Vec<Drawer<'_>>) -> LastSeat
         requires counter { (first.counter ≡ self.now) × All (λ d. d.counter ≡ self.now) drawers.items }
         requires all { first.shares + vec_len drawers ≡ MOST_DRAWERS }
@@ -83,7 +83,7 @@ impl Counter {
         LastSeat { seat, requests }
     }
 
-    /// The word: how many numbers were drawn. Each number below it was drawn once, and no other.
+    /// How many numbers were drawn. Each number below this was drawn once, and no other number was.
     pub fn close(self, last: LastSeat) -> u64
         requires { last.counter ≡ self }
         ensures { HoldsEachOnce result last.drawn }

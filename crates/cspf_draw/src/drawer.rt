@@ -1,14 +1,13 @@
-//! A drawer of numbers.
+//! A drawer, with which one thread draws numbers.
 ghost use Rattle.std.specs.Prelude.{◌≡◌, ◌+◌, ◌<◌, ◌++◌, [], ◌∷◌, length, All};
 ghost use Rattle.std.specs.List.Sorted.{IsStrictlyIncreasing};
 
 use crate::draw_rule::{Draw, Word, WordSeat};
 use std::marker::Model;
 
-/// A seat at a counter's word, which draws numbers from it: at most one more number than there are
-/// requests.
+/// Draws numbers from a counter, at most one more than there are requests.
 ///
-/// Only `Counter::split` makes one. It may be in a struct and in a `Vec`, and be sent to another
+/// Only `Counter::split` makes drawers. A drawer may be kept in a struct or a `Vec`, and sent to another
 /// thread.
 #[derive(Drop)]
 pub struct Drawer<'a> {
@@ -35,7 +34,7 @@ impl<'a> Drawer<'a> {
     ghost use Rattle.std.specs.List.Sorted.{IsStrictlyIncreasing};
     ghost use Rattle.cspf_draw.specs.SeatDraws.{IsDrawer};
 
-    /// The drawer of a seat that has drawn nothing.
+    /// The drawer of a seat that has drawn no number yet.
     pub(crate) fn new(word: &'a Word, seat: WordSeat, left: u64) -> Drawer<'a>
         requires home { (seat.table_id ≡ word.now.table_id) × (word.now.table_id.words ≡ 1) }
         requires left { (left ≡ seat.me.0.left) × (seat.me.1 ≡ []) }
@@ -45,7 +44,7 @@ impl<'a> Drawer<'a> {
         Drawer { word, seat, left }
     }
 
-    /// The seat, with what it drew.
+    /// The drawer's seat, with the numbers that it has drawn.
     pub(crate) fn into_seat(self) -> WordSeat
         ensures seat { (result.table_id ≡ self.entry.counter.table) × (result.me.1 ≡ []) }
         ensures drawn { (result.me.0.drawn ≡ self.entry.drawn) × IsDrawer self.entry.counter.requests result.me.0 }
@@ -58,7 +57,7 @@ impl<'a> Drawer<'a> {
         seat
     }
 
-    /// How often it may still draw.
+    /// How often the drawer may still draw.
     pub fn left(&self) -> u64
         ensures left { result ≡ self.now.left }
         ensures all { length self.now.drawn + self.now.left ≡ self.now.counter.requests + 1 }
@@ -67,7 +66,7 @@ impl<'a> Drawer<'a> {
         self.left
     }
 
-    /// The next number, which no other drawer gets. It takes no memory and never blocks.
+    /// The next number. No other draw returns it. Takes no memory and never blocks.
     pub fn draw(&mut self) -> u64
         requires { 0 < self.old.left }
         ensures drawn { self.new.drawn ≡ self.old.drawn ++ result ∷ [] }

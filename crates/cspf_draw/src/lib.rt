@@ -1,15 +1,15 @@
-//! Drawers in several threads draw numbers from one word. Each number is drawn once, and none is
-//! left out.
+//! Several threads draw numbers from one counter. Each number is drawn once, and none is left out.
 //!
-//! A draw is one step on the word, a `fetch_add` of 1. `specs/DrawRule.antt` says what holds
-//! between any two steps. It has the effect of each kind of step: a draw, the split of a seat, the
-//! join of two, and the close of the word. `specs/DrawnNumbers.antt` has the values of a counter,
-//! its seats and its drawers in a caller's clauses, and `specs/EachOnce.antt` what is known of the
-//! numbers in the end.
+//! A counter has one atomic number, its word. A draw is one step on the word, a `fetch_add` of 1. Each
+//! thread has a *drawer*, and each drawer has a *seat*: its list of drawn numbers in the proof.
+//! `specs/DrawRule.antt` defines what holds between any two steps, and what a draw does. How a seat is split
+//! off, and how two seats are joined, is in `specs/SeatDraws.antt`. `specs/DrawnNumbers.antt` has a counter,
+//! its seats and its drawers as the clauses of a caller see them, and `specs/EachOnce.antt` what is known of
+//! the drawn numbers in the end.
 //!
-//! `Counter::open` takes all memory. Then `split` makes drawers, `Drawer::draw` draws, `join` puts
-//! the numbers of all drawers together, and `close` returns the word: the numbers below it were
-//! drawn, each by one drawer.
+//! `Counter::open` takes all memory. Then `split` makes drawers, `Drawer::draw` draws a number, and `join`
+//! merges the numbers of all drawers. `close` returns the word: exactly the numbers below it were drawn, each
+//! by one drawer.
 #![tactic(auto)]
 
 mod counter;

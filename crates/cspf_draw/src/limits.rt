@@ -1,7 +1,7 @@
 //! The limits of drawers and requests.
 
-/// How many drawers a counter has at most.
+/// The most drawers of a counter.
 pub const MOST_DRAWERS: usize = 64;
 
-/// The most requests that a counter may be made for.
+/// The most requests of a counter.
 pub const MOST_REQUESTS: u64 = 1_000_000;

@@ -1,10 +1,10 @@
-//! The seats at a counter's word that aren't drawers: the first, and the last.
+//! The seats of a counter that aren't drawers: the first and the last.
 ghost use Rattle.std.specs.Prelude.{◌≡◌};
 
 use crate::draw_rule::WordSeat;
 use std::marker::Model;
 
-/// The seat that has all draws which no drawer has been given.
+/// The seat that has all draws that no drawer was given.
 #[derive(Drop)]
 pub struct FirstSeat {
     pub(crate) seat: WordSeat,
@@ -25,7 +25,7 @@ impl Model for FirstSeat {
 }
 
 impl FirstSeat {
-    /// How many drawers it may still be split for.
+    /// How many drawers can still be split off.
     pub fn shares(&self) -> usize
         ensures { result ≡ self.now.shares }
     {
@@ -33,7 +33,7 @@ impl FirstSeat {
     }
 }
 
-/// The seat that has the merged draws of all drawers, and the draws that they had left.
+/// The seat that has the merged numbers of all drawers, and the draws that they had left.
 #[derive(Drop)]
 pub struct LastSeat {
     pub(crate) seat: WordSeat,

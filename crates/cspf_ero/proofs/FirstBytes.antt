@@ -1,4 +1,4 @@
--- The first bytes of an object decide which hops it has.
+-- The first bytes of an object decide which hops it has, or why it is refused.
 use Rattle.std.proofs.Common.{◌≡◌, ℕ, zero, suc, ◌+◌, ◌-◌, ◌*◌, ◌<◌, ◌≤◌, inl, inr, false, leb, ltb, eqb, List, [], ◌∷◌, length, take, drop, get_or, Ok, Err, refl, sym, ap, ◌∙◌, arith}
 use Rattle.std.proofs.lemmas.Bool.{le-leb, le-ltb, ne_eqb, cases_lt}
 use Rattle.std.proofs.lemmas.List.{take_all, length-take-le, get_or-take, drop-take}
@@ -6,7 +6,7 @@ use Rattle.cspf_ero.specs.declared.ero_error.EroError.TheVariants as error
 use Rattle.cspf_addr.specs.ResultSteps.{◌>>=◌}
 use Rattle.cspf_ero.specs.Reading.{hop_at, subobject_hops, sized_ero_of}
 
--- a subobject is read by its 8 bytes
+-- the first 8 bytes of a subobject decide which hop it is
 hop_at-take : (at m : ℕ) (bytes : List ℕ) → 8 ≤ m → m ≤ length bytes → hop_at at (take m bytes) ≡ hop_at at bytes
 unfolding hop_at
 hop_at-take at m bytes eight more =
@@ -15,7 +15,7 @@ hop_at-take at m bytes eight more =
     let same : (i : ℕ) → i < 8 → get_or (take m bytes) i 0 ≡ get_or bytes i 0 = λ i below. get_or-take m bytes i 0 (omega arith) in
     rw (whole, same 0 (omega arith), same 1 (omega arith), same 2 (omega arith), same 3 (omega arith), same 4 (omega arith), same 5 (omega arith), same 6 (omega arith)) refl
 
--- one subobject, and the rest
+-- the hops of some bytes are the hop of the first subobject and the hops of the bytes after it
 hops_at-some : (most at : ℕ) (bytes : List ℕ) → 0 < length bytes
     → subobject_hops (suc most) at bytes ≡ (hop_at at bytes >>= (λ hop. subobject_hops most (at + 8) (drop 8 bytes) >>= (λ hops. Ok (hop ∷ hops))))
 hops_at-some most at [] some = absurd (omega arith)
@@ -25,7 +25,7 @@ hops_at-none : (at : ℕ) (bytes : List ℕ) → 0 < length bytes → subobject_
 hops_at-none at [] some = absurd (omega arith)
 hops_at-none at (byte ∷ bytes) some = refl
 
--- more bytes than this many subobjects have decide which hops they are
+-- cutting off the bytes later than after `most` subobjects doesn't change the hops
 hops_at-take : (most at m : ℕ) (bytes : List ℕ) → 8 * most < m → subobject_hops most at (take m bytes) ≡ subobject_hops most at bytes
 hops_at-take zero at m bytes enough =
     elim (cases_lt m (length bytes)) [
@@ -47,7 +47,7 @@ hops_at-take (suc most) at m bytes enough =
     past_eight : 8 ≤ m → m ≡ 8 + (m - 8)
     past_eight eight = omega arith
 
--- the first `FIRST_BYTES` bytes of an object, and how many it has, decide which hops it has
+-- the first `FIRST_BYTES` bytes of an object, and how many bytes it has, decide which hops it has
 pub first_bytes_decide : (size : ℕ) (bytes : List ℕ) → sized_ero_of size (take 64 bytes) ≡ sized_ero_of size bytes
 unfolding sized_ero_of
 first_bytes_decide size bytes =

@@ -1,11 +1,11 @@
--- The hops that are read one after the other.
+-- The loop that reads one hop after the other.
 use Rattle.std.proofs.Common.{◌≡◌, ℕ, suc, ◌+◌, ◌-◌, ◌*◌, ◌<◌, List, [], ◌∷◌, ◌++◌, length, drop, Result, Ok, Err, append_assoc, refl, sym, ap, ◌∙◌, arith}
 use Rattle.cspf_addr.specs.declared.hop.Hop.{Hop}
 use Rattle.cspf_ero.specs.declared.ero_error.EroError.{EroError}
 use Rattle.cspf_addr.specs.ResultSteps.{◌>>=◌}
 use Rattle.cspf_ero.specs.Reading.{hop_at, subobject_hops}
 
--- the result of a reader that has these hops, by the result for the rest
+-- the result for all bytes, from the hops read so far and the result for the bytes after them
 abbrev pub behind : List Hop → Result (List Hop) EroError → Result (List Hop) EroError
 behind hops (Ok more) = Ok (hops ++ more)
 behind hops (Err e) = Err e
@@ -18,18 +18,18 @@ behind_more : (hops : List Hop) (hop : Hop) (rest : Result (List Hop) EroError) 
 behind_more hops hop (Ok more) = ap Ok (sym (append_assoc hops (hop ∷ []) more))
 behind_more hops hop (Err e) = refl
 
--- one subobject that is a hop, and the rest
+-- if the first subobject is read as a hop, the hops are this hop and those of the bytes after it
 pub hops_at-more : (most at : ℕ) (bytes : List ℕ) (hop : Hop) → 0 < length bytes → hop_at at bytes ≡ Ok hop
     → subobject_hops (suc most) at bytes ≡ (subobject_hops most (at + 8) (drop 8 bytes) >>= (λ more. Ok (hop ∷ more)))
 hops_at-more most at [] hop some found = absurd (omega arith)
 hops_at-more most at (byte ∷ bytes) hop some found = rw found refl
 
--- a subobject that is none
+-- if the first subobject is refused, the bytes are refused with the same error
 pub hops_at-refused : (most at : ℕ) (bytes : List ℕ) (e : EroError) → 0 < length bytes → hop_at at bytes ≡ Err e → subobject_hops (suc most) at bytes ≡ Err e
 hops_at-refused most at [] e some found = absurd (omega arith)
 hops_at-refused most at (byte ∷ bytes) e some found = rw found refl
 
--- the loop has read one hop more
+-- the loop has read one more hop
 pub read_more : (body rest : List ℕ) (hops : List Hop) (hop : Hop) → length hops < 7 → 0 < length rest → hop_at (4 + 8 * length hops) rest ≡ Ok hop
     → behind hops (subobject_hops (7 - length hops) (4 + 8 * length hops) rest) ≡ subobject_hops 7 4 body
     → behind (hops ++ hop ∷ []) (subobject_hops (7 - (length hops + 1)) (4 + 8 * (length hops + 1)) (drop 8 rest)) ≡ subobject_hops 7 4 body
@@ -41,7 +41,7 @@ read_more body rest hops hop room some found before =
     ∙ sym (ap (behind hops) (hops_at-more (7 - (length hops + 1)) (4 + 8 * length hops) rest hop some found))
     ∙ (rw left at before))
 
--- the loop has met a refusal
+-- the loop has come to a subobject that is refused
 pub read_refused : (body rest : List ℕ) (hops : List Hop) (e : EroError) → length hops < 7 → 0 < length rest → hop_at (4 + 8 * length hops) rest ≡ Err e
     → behind hops (subobject_hops (7 - length hops) (4 + 8 * length hops) rest) ≡ subobject_hops 7 4 body → Err e ≡ subobject_hops 7 4 body
 read_refused body rest hops e room some found before =

@@ -1,4 +1,4 @@
--- The pieces of a line.
+-- The pieces of a reply line, and how many bytes it has at most.
 use Rattle.std.proofs.Common.{◌≡◌, ℕ, ◌*◌, ◌^◌, ◌<◌, ◌≤◌, Bool, true, false, List, [], ◌∷◌, ◌++◌, codes, length, append_assoc, length-append, lit≤, arith}
 use Rattle.std.proofs.lemmas.Fmt.{length-decimal-le}
 use Rattle.std.specs.Fmt.{decimal}
@@ -11,18 +11,18 @@ regrouped : (a id b version c d cost e hops f again g : List ℕ)
     ≡ a ++ id ++ b ++ version ++ c ++ (d ++ cost ++ e ++ hops ++ f ++ again ++ g)
 regrouped a id b version c d cost e hops f again g = simp append_assoc
 
--- a line up to its object, piece by piece, and by its words
+-- a line up to its object, as it is written and as `measures_text` has it
 pub front_pieces : (id version cost hops again : List ℕ)
     → codes "ask " ++ (id ++ (codes " v" ++ (version ++ (codes " route cost=" ++ (cost ++ (codes " hops=" ++ (hops ++ (codes " again=" ++ (again ++ codes " ero=")))))))))
     ≡ codes "ask " ++ id ++ codes " v" ++ version ++ codes " " ++ (codes "route cost=" ++ cost ++ codes " hops=" ++ hops ++ codes " again=" ++ again ++ codes " ero=")
 front_pieces id version cost hops again =
     regrouped (codes "ask ") id (codes " v") version (codes " ") (codes "route cost=") cost (codes " hops=") hops (codes " again=") again (codes " ero=")
 
--- after its words, a line has the digits of its object and a line feed
+-- after the words of the answer come the digits of the object and a line feed
 pub line_pieces : (front words digits feed : List ℕ) → front ++ words ++ digits ++ feed ≡ front ++ (words ++ digits) ++ feed
 line_pieces front words digits feed = simp append_assoc
 
--- how many digits an id, a version, a cost and a number of links have at most
+-- how many digits an id, a version, a cost and a count of links have at most
 pub id_digits : (id : ℕ) → id < 2 ^ 64 → length (decimal id) ≤ 20
 id_digits id small = length-decimal-le 20 id (omega arith) (omega arith) small
 
@@ -44,11 +44,11 @@ pub front_most : (id version cost hops again : List ℕ) → length id ≤ 20 �
     → length (codes "ask " ++ (id ++ (codes " v" ++ (version ++ (codes " route cost=" ++ (cost ++ (codes " hops=" ++ (hops ++ (codes " again=" ++ (again ++ codes " ero=")))))))))) ≤ 87
 front_most id version cost hops again a b c d e = simp length-append (omega arith)
 
--- a line with a few words has at most 50 bytes
+-- a line without a route has at most 50 bytes
 pub short_most : (id version words : List ℕ) → length id ≤ 20 → length version ≤ 10 → length words ≤ 12
     → length (codes "ask " ++ (id ++ (codes " v" ++ (version ++ (codes " " ++ (words ++ codes "\n")))))) ≤ 50
 short_most id version words a b c = simp length-append (omega arith)
 
--- a line that is closed by the digits of an object
+-- a line with the digits of an object has at most `MOST_LINE_BYTES` bytes
 pub line_most : (front digits object : List ℕ) → length front ≤ 87 → length object ≤ MOST_OBJECT_BYTES → length digits ≡ 2 * length object → length (front ++ digits ++ 10 ∷ []) ≤ MOST_LINE_BYTES
 line_most front digits object a b c = simp length-append (omega arith)

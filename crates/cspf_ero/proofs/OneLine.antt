@@ -1,4 +1,4 @@
--- An answer has one line.
+-- An answer has at most one line for an id and a version.
 use Rattle.std.proofs.Common.{◌≡◌, ℕ, ◌↔◌, Bool, true, false, IsTrue, List, refl, sym, ◌∙◌}
 use Rattle.cspf_model.specs.Best.{Answer, unknown_from, unknown_to, no_route, route}
 use Rattle.cspf_ero.specs.ReplyLine.{IsAnswerText, HasOneReplyLine}

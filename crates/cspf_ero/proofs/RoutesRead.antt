@@ -1,4 +1,4 @@
--- The object of a short route is read back.
+-- The object of a route of 1 to 7 links is read as the route's hops.
 use Rattle.std.proofs.Common.{ℕ, ◌+◌, ◌*◌, ◌^◌, ◌<◌, ◌≤◌, List, [], ◌∷◌, ◌++◌, length, refl, sym, ap, ◌∙◌, lit≤, arith}
 use Rattle.std.proofs.lemmas.List.{length-map}
 use Rattle.std.specs.List.{flat_map, AllByRecursion}
@@ -9,7 +9,7 @@ use Rattle.cspf_ero.specs.Laws.{hops_along, AreRoutesReadBack}
 use Rattle.cspf_ero.proofs.Writing.{length-object_of}
 use Rattle.cspf_ero.proofs.Spelling.{spelled_ero}
 
--- a whole address is a prefix
+-- an address with the prefix length 32 is a prefix
 whole_prefix : (address : ℕ) → address < 2 ^ 32 → IsPrefix (record { address = address; length = 32 })
 whole_prefix address small = record { most = lit≤ tt; small = small; zeros = omega arith }
 

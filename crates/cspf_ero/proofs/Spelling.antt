@@ -1,4 +1,4 @@
--- Objects that are read, and objects that spell hops.
+-- An object is read as hops exactly if it spells them.
 use Rattle.std.proofs.Common.{◌≡◌, ℕ, zero, suc, ◌+◌, ◌*◌, ◌%◌, ◌^◌, ◌<◌, ◌≤◌, Bool, true, false, cond, eqb, ltb, List, [], ◌∷◌, ◌++◌, length, drop, get_or, Result, Ok, Err, append_assoc, refl, sym, ap, ◌∙◌, lit<, arith, length-append, length-drop}
 use Rattle.std.proofs.Math.Seq.{drop-append_seam}
 use Rattle.std.proofs.lemmas.Bool.{and_parts, eqb-true, ltb-false, eqb-false, le-ltb, ne_eqb, eq-eqb}
@@ -15,16 +15,16 @@ use Rattle.cspf_ero.specs.Laws.{AreObjectsRead, SpellsOneHopList}
 use Rattle.cspf_ero.proofs.HopReading.{hops_at-more}
 use Rattle.cspf_ero.proofs.Subobjects.{passed, hop_at-read, read_spells, spelled_read, length-spelled}
 
--- the bytes after the first `n` are bytes
+-- all numbers after the first `n` are bytes, too
 drop_bytes : (n : ℕ) (bytes : List ℕ) → IsBytes bytes → IsBytes (drop n bytes)
 drop_bytes n bytes small i = rw (get_or-drop n bytes i 0) (small (n + i))
 
--- both steps gave a value
+-- if two steps together have a value, each of them has one
 both_read : {A B : Type 0} (r : Result A EroError) (more : A → Result B EroError) (b : B) → (r >>= more) ≡ Ok b → (a : A) × (r ≡ Ok a) × (more a ≡ Ok b)
 both_read (Ok a) more b same = (a, refl, same)
 both_read (Err e) more b same = absurd (cc)
 
--- the subobjects that are read spell their hops
+-- subobjects that are read as hops spell these hops
 pub hops_at-spells : (most at : ℕ) (bytes : List ℕ) (hops : List Hop) → IsBytes bytes → subobject_hops most at bytes ≡ Ok hops
     → (length hops ≤ most) × (length bytes ≡ 8 * length hops) × SpellsEach bytes hops
 hops_at-spells most at [] [] small found = (omega arith, refl, refl)
@@ -42,7 +42,7 @@ hops_at-spells (suc most) at (byte ∷ bytes) hops small found =
 some_byte : (front back : List ℕ) → length front ≡ 8 → 0 < length (front ++ back)
 some_byte front back eight = omega (arith, length-append front back)
 
--- the subobjects that spell hops are read as those
+-- subobjects that spell hops are read as these hops
 pub spelled_hops : (most at : ℕ) (bytes : List ℕ) (hops : List Hop) → length hops ≤ most → SpellsEach bytes hops → subobject_hops most at bytes ≡ Ok hops
 spelled_hops most at bytes [] few spelled = rw spelled refl
 spelled_hops zero at bytes (hop ∷ hops) few spelled = absurd (omega arith)
@@ -51,7 +51,7 @@ spelled_hops (suc most) at bytes (hop ∷ hops) few (front, back, cut, first, re
     let behind : drop 8 (front ++ back) ≡ back = ap (λ n. drop n (front ++ back)) (sym eight) ∙ drop-append_seam front back in
     rw (cut, hops_at-more most at (front ++ back) hop (some_byte front back eight) (spelled_read at front back hop first), behind, spelled_hops most (at + 8) back hops (omega arith) rest) refl
 
--- the bytes of a header, one by one
+-- the header and the bytes after it, with each byte of the header named
 four_bytes : (bytes : List ℕ) → 4 ≤ length bytes → bytes ≡ (get_or bytes 0 0 ∷ get_or bytes 1 0 ∷ []) ++ get_or bytes 2 0 ∷ get_or bytes 3 0 ∷ drop 4 bytes
 four_bytes [] whole = absurd (omega arith)
 four_bytes (a ∷ []) whole = absurd (omega arith)
@@ -62,12 +62,12 @@ four_bytes (a ∷ b ∷ c ∷ d ∷ rest) whole = refl
 with_class : (field written rest : List ℕ) → field ≡ written → field ++ 20 ∷ 1 ∷ rest ≡ (written ++ 20 ∷ 1 ∷ []) ++ rest
 with_class field written rest same = ap (λ (front : List ℕ). front ++ 20 ∷ 1 ∷ rest) same ∙ sym (append_assoc written (20 ∷ 1 ∷ []) rest)
 
--- the converse: a test that was not passed
+-- there is a value only if the test `b` is false, since it is the error `e` otherwise
 refused_by : {A : Type 0} (b : Bool) (e : EroError) (r : Result A EroError) (x : A) → cond b (Err e) r ≡ Ok x → (b ≡ false) × (r ≡ Ok x)
 refused_by true e r x same = absurd (cc)
 refused_by false e r x same = (refl, same)
 
--- what an object that is read spells
+-- an object that is read as hops spells these hops
 pub ero_of-spells : (bytes : List ℕ) (hops : List Hop) → IsBytes bytes → ero_of bytes ≡ Ok hops → Spells bytes hops
 unfolding sized_ero_of
 ero_of-spells bytes hops small found =
@@ -98,7 +98,7 @@ ero_of-spells bytes hops small found =
     two_small ha hb (suc zero) = hb
     two_small ha hb (suc (suc i)) = lit< tt
 
--- an object has its hops after its header
+-- an object with a proper header is read as the hops of the subobjects after it
 pub sized_header : (size : ℕ) (body : List ℕ) → size < 2 ^ 16 → size % 4 ≡ 0 → 0 < length body → sized_ero_of size (header size ++ body) ≡ subobject_hops 7 4 body
 unfolding sized_ero_of
 sized_header size body small fourth some =
@@ -107,7 +107,7 @@ sized_header size body small fourth some =
     let field : length_field (header size ++ body) ≡ size = from_be_bytes-to_be_bytes_2 size small in
     rw (enough, field, eq-eqb size size refl, fourth, more) refl
 
--- an object that spells hops is read as those
+-- an object that spells hops is read as these hops
 pub spelled_ero : (bytes : List ℕ) (hops : List Hop) → Spells bytes hops → ero_of bytes ≡ Ok hops
 spelled_ero bytes hops spelled =
     let size = spelled.size in

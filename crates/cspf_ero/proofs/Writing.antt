@@ -7,7 +7,7 @@ use Rattle.cspf_model.specs.declared.link.Link.{Link}
 use Rattle.cspf_model.specs.declared.limits.TheConstants.{MOST_ROUTE_LINKS}
 use Rattle.cspf_ero.specs.Objects.{object_of, header, subobject_of}
 
--- the subobjects have 8 bytes each
+-- each subobject has 8 bytes
 length-subobjects : (links : List Link) → length (flat_map subobject_of links) ≡ 8 * length links
 length-subobjects [] = refl
 length-subobjects (link ∷ links) = omega (arith, length-append (subobject_of link) (flat_map subobject_of links), length-subobjects links)
@@ -16,7 +16,7 @@ pub length-object_of : (links : List Link) → length (object_of links) ≡ 4 + 
 unfolding object_of
 length-object_of links = omega (arith, length-append (header (4 + 8 * length links)) (flat_map subobject_of links), length-subobjects links)
 
--- the length field is the length
+-- the length field of the object is its length in bytes
 pub field-object_of : (links : List Link) → length links ≤ MOST_ROUTE_LINKS → from_be_bytes w16 (take 2 (object_of links)) ≡ length (object_of links)
 unfolding object_of
 field-object_of links most =

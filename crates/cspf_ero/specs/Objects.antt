@@ -12,16 +12,16 @@ use Rattle.cspf_model.specs.declared.link.Link.{Link}
 abbrev pub header : ℕ → List ℕ
 header size = to_be_bytes w16 size ++ 20 ∷ 1 ∷ []
 
--- the first byte of a subobject: type 1, an IPv4 prefix, and above it the bit L of a loose hop
+-- the first byte of a subobject: the type 1 of an IPv4 prefix, and the highest bit, L, which is set for a loose hop
 abbrev pub type_byte : Bool → ℕ
 type_byte loose = if loose then 129 else 1
 
--- a subobject: its type, its length 8, an address, a prefix length, and a byte of padding
+-- a subobject: its first byte, its length 8, an address, a prefix length, and a byte of padding
 abbrev pub subobject : Bool → ℕ → ℕ → ℕ → List ℕ
 subobject loose address bits padding = type_byte loose ∷ 8 ∷ to_be_bytes w32 address ++ bits ∷ padding ∷ []
 
--- A subobject spells a hop: its address agrees with the prefix in the bits that count. The other bits of the
--- address and the padding may be any.
+-- A subobject spells a hop if the first bits of its address are those of the hop's prefix, as many as the prefix
+-- length says. The other bits of the address and the padding may be anything.
 pub record SpellsHop (bytes : List ℕ) (hop : Hop) : Type 0 where
   pub address : ℕ
   pub padding : ℕ
@@ -30,7 +30,7 @@ pub record SpellsHop (bytes : List ℕ) (hop : Hop) : Type 0 where
   pub prefix : IsPrefix hop.prefix
   pub agrees : Covers hop.prefix address
 
--- subobjects, one after the other, spell the hops in their order
+-- subobjects spell hops, one after the other and in their order
 abbrev pub SpellsEach : List ℕ → List Hop → Type 0
 SpellsEach bytes [] = bytes ≡ []
 SpellsEach bytes (hop ∷ hops) = (front : List ℕ) × (back : List ℕ) × (bytes ≡ front ++ back) × SpellsHop front hop × SpellsEach back hops
@@ -44,7 +44,7 @@ pub record Spells (bytes : List ℕ) (hops : List Hop) : Type 0 where
   pub whole : bytes ≡ header (length bytes) ++ body
   pub each : SpellsEach body hops
 
--- the subobject of a link: a strict hop, the remote address alone
+-- the subobject of a link: a strict hop of its remote address
 abbrev pub subobject_of : Link → List ℕ
 subobject_of link = subobject false link.remote 32 0
 

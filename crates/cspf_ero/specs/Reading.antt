@@ -1,4 +1,4 @@
--- What is read from the bytes of an object: its hops, or the first refusal.
+-- What the bytes of an object are read as: its hops, or the first reason for a refusal.
 use Rattle.std.specs.Prelude.{ℕ, zero, suc, ◌+◌, ◌%◌, ◌&&◌, ◌==◌, nat_lt, nat_le, if◌then◌else◌, List, [], ◌∷◌, length, drop, slice_index, Result, Ok, Err}
 use Rattle.std.specs.Int.{w16, w32, from_be_bytes}
 use Rattle.cspf_addr.specs.ResultSteps.{◌>>=◌}
@@ -8,7 +8,7 @@ use Rattle.cspf_addr.specs.declared.hops.TheConstants.{MOST_HOPS}
 use Rattle.cspf_ero.specs.declared.ero_error.EroError.{EroError}
 use Rattle.cspf_ero.specs.declared.ero_error.EroError.TheVariants as error
 
--- the length field
+-- the length field of an object's header
 abbrev pub length_field : List ℕ → ℕ
 length_field bytes = from_be_bytes w16 (slice_index bytes 0 ∷ slice_index bytes 1 ∷ [])
 
@@ -16,7 +16,7 @@ length_field bytes = from_be_bytes w16 (slice_index bytes 0 ∷ slice_index byte
 abbrev pub address_in : List ℕ → ℕ
 address_in bytes = from_be_bytes w32 (slice_index bytes 2 ∷ slice_index bytes 3 ∷ slice_index bytes 4 ∷ slice_index bytes 5 ∷ [])
 
--- the hop of the subobject that the bytes begin with, at this offset of the object
+-- the hop of the first subobject of these bytes, which begin at the offset `at` of the object
 unfoldable pub hop_at : ℕ → List ℕ → Result Hop EroError
 hop_at at bytes =
     if slice_index bytes 0 % 128 == 1
@@ -27,7 +27,7 @@ hop_at at bytes =
     else Err (error.Sublength at))
     else Err (error.Unsupported at (slice_index bytes 0 % 128))
 
--- the hops of subobjects, the first at this offset of the object, of which at most this many may come
+-- the hops of the subobjects in these bytes, which begin at the offset `at`. More than `most` subobjects are refused.
 abbrev pub subobject_hops : ℕ → ℕ → List ℕ → Result (List Hop) EroError
 subobject_hops most at [] = Ok []
 subobject_hops zero at (byte ∷ bytes) = Err error.TooManyHops
@@ -36,7 +36,7 @@ subobject_hops (suc most) at (byte ∷ bytes) = do
   hops ← subobject_hops most (at + 8) (drop 8 (byte ∷ bytes))
   Ok (hop ∷ hops)
 
--- the hops of an object of this many bytes
+-- the hops of an object of `size` bytes that begins with these bytes
 unfoldable pub sized_ero_of : ℕ → List ℕ → Result (List Hop) EroError
 sized_ero_of size bytes =
     if nat_lt (length bytes) 4

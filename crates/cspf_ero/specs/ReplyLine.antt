@@ -12,29 +12,29 @@ abbrev pub yes_or_no : Bool → List ℕ
 yes_or_no true = codes "yes"
 yes_or_no false = codes "no"
 
--- a route's cost, its number of links, and whether it visits a router twice
+-- a route's cost, its count of links, and whether it visits a router twice
 unfoldable pub measures_text : ℕ → ℕ → Bool → List ℕ
 measures_text cost hops again =
     codes "route cost=" ++ decimal cost ++ codes " hops=" ++ decimal hops ++ codes " again=" ++ yes_or_no again ++ codes " ero="
 
--- the words for a route, with its object in lower-case hexadecimal digits
+-- the text for a route, with its object in lower-case hexadecimal digits
 pub record IsRouteText (links : List Link) (text : List ℕ) : Type 0 where
   pub again : Bool
   pub twice : IsTrue again ↔ VisitsTwice links
   pub words : text ≡ measures_text (cost_of links) (length links) again ++ encode_lower (object_of links)
 
--- the words for an answer
+-- the text for an answer
 abbrev pub IsAnswerText : Answer → List ℕ → Type 0
 IsAnswerText unknown_from text = text ≡ codes "unknown-from"
 IsAnswerText unknown_to text = text ≡ codes "unknown-to"
 IsAnswerText no_route text = text ≡ codes "none"
 IsAnswerText (route links) text = IsRouteText links text
 
--- the line that answers the request with an id at a version, its line feed included
+-- the line that answers the request with this id at this version, with its line feed
 abbrev pub IsReply : ℕ → ℕ → Answer → List ℕ → Type 0
 IsReply id version answer line =
     (text : List ℕ) × IsAnswerText answer text × (line ≡ codes "ask " ++ decimal id ++ codes " v" ++ decimal version ++ codes " " ++ text ++ codes "\n")
 
--- an answer has at most one line for an id and a version
+-- for an id and a version an answer has at most one line
 abbrev pub HasOneReplyLine : Type 0
 HasOneReplyLine = (id version : ℕ) (answer : Answer) (line other : List ℕ) → IsReply id version answer line → IsReply id version answer other → line ≡ other

@@ -1,40 +1,40 @@
 use cspf_addr::MOST_HOPS;
 use thiserror::Error;
 
-/// Why bytes are no EXPLICIT_ROUTE object that spells 1 to 7 hops. Offsets count from 0, the first
-/// byte of the object.
+/// Why bytes aren't an EXPLICIT_ROUTE object of 1 to 7 hops. Offsets count from 0, the first byte of the
+/// object.
 #[derive(Clone, Copy, Debug, PartialEq, Eq, Error)]
 pub enum EroError {
-    /// Fewer than the 4 bytes of a header.
+    /// There are fewer than the 4 bytes of a header.
     #[error("fewer than 4 bytes")]
     Short,
     /// The length field isn't the number of bytes, or isn't a multiple of 4.
     #[error("a length field that isn't the number of bytes or isn't a multiple of 4")]
     Length,
-    /// Another class than 20, or another C-Type than 1.
+    /// The class isn't 20, or the C-Type isn't 1.
     #[error("another class than 20 or another C-Type than 1")]
     Class,
-    /// No subobject.
+    /// There is no subobject.
     #[error("no subobject")]
     Empty,
-    /// More than seven subobjects.
+    /// There are more than seven subobjects.
     #[error("more than {most} subobjects", most = MOST_HOPS)]
     TooManyHops,
-    /// A subobject that isn't an IPv4 prefix.
+    /// A subobject isn't an IPv4 prefix.
     #[error("a subobject of type {kind} at {at}")]
     Unsupported {
-        /// The offset of its first byte.
+        /// The offset of the subobject's first byte.
         at: usize,
-        /// Its type, below 128.
+        /// The subobject's type, below 128.
         kind: u8,
     },
-    /// An IPv4 prefix whose length isn't 8 bytes, or that is cut off.
+    /// The subobject of an IPv4 prefix has a length other than 8 bytes, or is cut off.
     #[error("a subobject that isn't 8 bytes long at {at}")]
     Sublength {
-        /// The offset of its first byte.
+        /// The offset of the subobject's first byte.
         at: usize,
     },
-    /// A prefix length above 32.
+    /// A prefix length is above 32.
     #[error("a prefix length above 32 at {at}")]
     PrefixLength {
         /// The offset of the subobject's first byte.

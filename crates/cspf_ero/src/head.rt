@@ -4,17 +4,17 @@ ghost use Rattle.cspf_ero.specs.ReplyHead.{BeginsWithHead, HasNoHead};
 
 use cspf_addr::number;
 
-/// Which request a reply line answers, and at which version.
+/// The request that a reply line answers, and the version of the database that the answer is for.
 #[derive(Clone, Copy, Debug, PartialEq, Eq)]
 pub struct Head {
     /// The id of the request.
     pub id: u64,
-    /// The version at which it is answered.
+    /// The version of the database.
     pub version: u32,
 }
 
-/// The id and the version that a reply line begins with: `ask`, the id, and `v` with the version,
-/// each followed by a space. `None` where it doesn't begin so. Takes no memory.
+/// The id and the version that a reply line begins with: `ask`, the id, and `v` with the version, each
+/// followed by a space. `None` if the line doesn't begin like this. Takes no memory.
 pub fn reply_head(line: &[u8]) -> Option<Head>
     ensures some { IfSome result (BeginsWithHead line.now) }
     ensures none { IfNone result (HasNoHead line.now) }

@@ -1,8 +1,8 @@
 //! EXPLICIT_ROUTE objects as bytes, and the lines that answer requests.
 //!
-//! `specs/Objects.antt` defines which bytes spell which hops and what is written for a route,
-//! `specs/Reading.antt` what is read or the first refusal. `specs/ReplyLine.antt` has the lines,
-//! and `specs/ReplyHead.antt` what a line begins with. Reading takes no memory.
+//! `specs/Objects.antt` defines which bytes spell which hops, and the object of a route.
+//! `specs/Reading.antt` defines what bytes are read as, or why they are refused. `specs/ReplyLine.antt`
+//! defines the lines, and `specs/ReplyHead.antt` what a line begins with. Reading takes no memory.
 #![tactic(auto)]
 
 mod ero_error;

@@ -1,9 +1,9 @@
-//! How many bytes the object of a route and a reply line have at most.
+//! The most bytes of the object of a route, and of a reply line.
 use cspf_model::MOST_ROUTE_LINKS;
 
-/// How many bytes the object of a route has at most: a header, and a subobject for each link.
+/// The most bytes of the object of a route: those of its header, and of a subobject for each link.
 pub const MOST_OBJECT_BYTES: usize = 4 + 8 * MOST_ROUTE_LINKS;
 
-/// How many bytes a reply line has at most: 87 up to its object, the object in hexadecimal digits, and
-/// the line feed.
+/// The most bytes of a reply line: 87 before its object, two hexadecimal digits for each byte of the
+/// object, and the line feed.
 pub const MOST_LINE_BYTES: usize = 87 + 2 * MOST_OBJECT_BYTES + 1;

@@ -1,4 +1,4 @@
-//! The reader of EXPLICIT_ROUTE objects: bytes in, hops or the first refusal out.
+//! The reader of EXPLICIT_ROUTE objects: it returns an object's hops, or the first reason to refuse it.
 
 ghost use Rattle.std.specs.Prelude.{◌≡◌, ◌≤◌, ℕ, List, length, take, IfOk};
 ghost use Rattle.cspf_ero.specs.Reading.{ero_of, sized_ero_of, subobject_hops, hop_at};
@@ -6,21 +6,21 @@ ghost use Rattle.cspf_ero.specs.Reading.{ero_of, sized_ero_of, subobject_hops, h
 use crate::ero_error::EroError;
 use cspf_addr::{Addr, Hop, Hops, MOST_HOPS, Prefix};
 
-/// How many bytes of an object decide which hops it has: more than a header and `MOST_HOPS`
-/// subobjects.
+/// How many of an object's first bytes decide which hops it has: more than the bytes of a header and
+/// `MOST_HOPS` subobjects.
 pub const FIRST_BYTES: usize = 64;
 
-/// The hops that the bytes of an EXPLICIT_ROUTE object spell (RFC 2205 3.1.2, RFC 3209 4.3), or the
-/// first refusal. The header is looked at before the subobjects, and these in their order.
+/// The hops that the bytes of an EXPLICIT_ROUTE object spell (RFC 2205 3.1.2, RFC 3209 4.3), or the first
+/// reason to refuse it. The header is checked before the subobjects, and the subobjects in their order.
 pub fn read_ero(bytes: &[u8]) -> Result<Hops, EroError>
     ensures { result ≡ ero_of bytes.now }
 {
     read_sized(bytes, bytes.len())
 }
 
-/// The hops of an object of `size` bytes by its first `FIRST_BYTES`, or all where it has fewer: the
-/// answer of `read_ero` on the whole object. Later bytes change nothing, since more than seven hops
-/// are refused.
+/// The hops of an object of `size` bytes by its first `FIRST_BYTES` bytes, or by all if it has fewer. The
+/// result is that of `read_ero` on the whole object: later bytes can't change it, since more than seven
+/// hops are refused.
 pub fn read_ero_front(front: &[u8], size: usize) -> Result<Hops, EroError>
     ensures { (bytes : List ℕ) → length bytes ≡ size → take FIRST_BYTES bytes ≡ front.now
         → result ≡ ero_of bytes }
@@ -28,7 +28,7 @@ pub fn read_ero_front(front: &[u8], size: usize) -> Result<Hops, EroError>
     read_sized(front, size)
 }
 
-/// The hops of an object of `size` bytes that begins with these.
+/// The hops of an object of `size` bytes that begins with `bytes`.
 #[tactic(auto, unfolding(crate::specs::Reading::sized_ero_of))]
 fn read_sized(bytes: &[u8], size: usize) -> Result<Hops, EroError>
     ensures { result ≡ sized_ero_of size bytes.now }
@@ -50,7 +50,7 @@ fn read_sized(bytes: &[u8], size: usize) -> Result<Hops, EroError>
     read_hops(body)
 }
 
-/// The hops of the subobjects after the header.
+/// The hops of the subobjects, which come after the header.
 fn read_hops(body: &[u8]) -> Result<Hops, EroError>
     ensures { result ≡ subobject_hops MOST_HOPS 4 body.now }
 {
@@ -66,7 +66,7 @@ fn read_hops(body: &[u8]) -> Result<Hops, EroError>
     Ok(hops)
 }
 
-/// The hop of the subobject that these bytes begin with, at this offset of the object.
+/// The hop of the first subobject of `bytes`, which begin at the offset `at` of the object.
 #[tactic(auto, unfolding(crate::specs::Reading::hop_at))]
 fn read_hop(bytes: &[u8], at: usize) -> Result<Hop, EroError>
     requires { 1 ≤ length bytes.now }

@@ -1,4 +1,4 @@
-//! The line that answers a request, with the object of its route in hexadecimal digits.
+//! The line that answers a request. A route's object is written in it in hexadecimal digits.
 
 ghost use Rattle.std.specs.Prelude.{◌≡◌, ◌++◌, ◌+◌, ◌*◌, ◌≤◌, ◌<◌, ◌^◌, ◌↔◌, Bool, IsTrue, IfOk, OnOk, length, codes};
 ghost use Rattle.std.specs.Fmt.{decimal};
@@ -15,9 +15,8 @@ use crate::writer::write_ero;
 use cspf_model::{Outcome, Route};
 use std::alloc::{AllocError, Global};
 
-/// The line that answers the request with this id at a version, its line feed included. The object
-/// of a route is written in lower-case hexadecimal digits. It has at most
-/// `MOST_LINE_BYTES` bytes.
+/// The line that answers the request with this id at this version, with its line feed. A route's object
+/// is written in lower-case hexadecimal digits. The line has at most `MOST_LINE_BYTES` bytes.
 pub fn reply_line(
     alloc: Global,
     id: u64,
@@ -35,7 +34,7 @@ pub fn reply_line(
     }
 }
 
-/// The line of an answer with these words and no route.
+/// The line of an answer that isn't a route, with these words.
 fn short_line(alloc: Global, id: u64, version: u32, words: &str) -> Result<Vec<u8>, AllocError>
     requires { length words.now ≤ 12 }
     ensures line { IfOk result (λ line. line.items ≡

@@ -1,20 +1,20 @@
--- The routers of a database by their index in the list of routers.
+-- The routers of a database by their indexes in the list of routers.
 use Rattle.std.specs.Prelude.{◌≡◌, ℕ, ◌<◌, ◌≤◌, ◌↔◌, Contains, length, slice_index}
 use Rattle.std.specs.List.Sorted.{IsStrictlyIncreasing}
 use Rattle.cspf_model.specs.declared.limits.TheConstants.{MOST_LINKS, MOST_ROUTERS}
 use Rattle.cspf_model.specs.Database.{Database, IsRouterOf}
 use Rattle.cspf_db.specs.Index.{router_list, links_of}
 
--- the router at an index of the list
+-- The router at an index of the list of routers.
 abbrev pub router_at : Database → ℕ → ℕ
 router_at d p = slice_index (router_list d) p
 
--- The router at an index of the list is this one.
+-- `place` is the index of the router in the list of routers.
 pub record IsIndexOf (d : Database) (router : ℕ) (place : ℕ) : Type 0 where
   pub within : place < length (router_list d)
   pub is : slice_index (router_list d) place ≡ router
 
--- The list of routers is that of the database, and rises.
+-- The list has exactly the routers of the database, in increasing order.
 pub record AreListed (d : Database) : Type 0 where
   pub known : (router : ℕ) → Contains (router_list d) router ↔ IsRouterOf d router
   pub rising : IsStrictlyIncreasing (router_list d)

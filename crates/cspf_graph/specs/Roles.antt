@@ -1,4 +1,4 @@
--- What a route may do at the routers of a table in the legs of a request.
+-- What a route may do at each router of a table in each leg of a request.
 use Rattle.std.specs.Prelude.{◌≡◌, ℕ, ◌+◌, ◌*◌, ◌/◌, ◌%◌, ◌<◌, ◌⊎◌, ◌↔◌, IsTrue, List, All, Contains, length, slice_index_or}
 use Rattle.std.specs.Prelude.{Vec}
 use Rattle.std.specs.declared.alloc.Global.{Global}
@@ -10,50 +10,51 @@ use Rattle.cspf_db.specs.Index.{router_list}
 use Rattle.cspf_graph.specs.declared.roles.Role.{Role}
 use Rattle.cspf_graph.specs.Lists.{router_at}
 
--- A walk may leave the router: it has transit, or the walk may begin there.
+-- A walk of the request may leave the router: the router has transit, or the walk may begin there.
 abbrev pub MayBeLeft : Database → Request → ℕ → Type 0
 MayBeLeft d q router = HasTransit d router ⊎ (router ≡ q.from)
 
--- A link may lead a route to the router in the leg: it is inside the leg, and the route may go on from
--- there or end there.
+-- A link may lead a route to the router in this leg. The router is inside the leg, and the route may
+-- leave it or end there.
 pub record MayEnter (d : Database) (q : Request) (leg router : ℕ) : Type 0 where
   pub inside : IsInside d q leg router
   pub through : HasTransit d router ⊎ (router ≡ q.to)
 
--- A route may visit the router: it may go on from there, begin there or end there.
+-- A route may visit the router: it may pass through it, begin there or end there.
 abbrev pub MayStand : Database → Request → ℕ → Type 0
 MayStand d q router = HasTransit d router ⊎ ((router ≡ q.from) ⊎ (router ≡ q.to))
 
--- A route may turn to the next leg at the router: it is a target of the leg, and a route may visit
--- it.
+-- A route may turn to the next leg at the router: the router is a target of this leg, and a route may
+-- visit it.
 pub record MayTurn (d : Database) (q : Request) (leg router : ℕ) : Type 0 where
   pub target : IsTarget d q leg router
   pub stands : MayStand d q router
 
--- The index is that of a router in a leg of the request. Each leg has 1,024 indexes, and among them
--- a router has its index in the list of routers.
+-- `i` is the index of a router in a leg of the request. Each leg has 1,024 indexes. In a leg, the index
+-- of a router is its index in the list of routers.
 pub record IsStateIndex (d : Database) (q : Request) (i : ℕ) : Type 0 where
   pub low : i < (length q.hops + 1) * MOST_ROUTERS
   pub place : i % MOST_ROUTERS < length (router_list d)
 
--- whether a link may lead a route to a router in a leg, and whether it may turn to the next leg there
+-- The role says exactly whether a link may lead a route to the router in this leg, and whether the
+-- route may turn to the next leg there.
 pub record IsRole (d : Database) (q : Request) (leg router : ℕ) (role : Role) : Type 0 where
   pub enter : IsTrue role.enter ↔ MayEnter d q leg router
   pub target : IsTrue role.target ↔ MayTurn d q leg router
 
--- the roles are these for each router in each leg
+-- The list has the role of each router in each leg.
 pub record AreRoles (d : Database) (q : Request) (roles : List Role) : Type 0 where
   pub many : length roles ≡ (length q.hops + 1) * MOST_ROUTERS
   pub each : (i : ℕ) (e : Role) → IsStateIndex d q i
       → IsRole d q (i / MOST_ROUTERS + 1) (router_at d (i % MOST_ROUTERS)) (slice_index_or roles i e)
 
--- the indexes in the list of routers of the targets of a leg
+-- The places are the targets of the leg, by their indexes in the list of routers.
 pub record AreTargetsOf (d : Database) (q : Request) (leg : ℕ) (places : List ℕ) : Type 0 where
   pub within : All (λ p. p < length (router_list d)) places
   pub each : (p : ℕ) → p < length (router_list d)
       → Contains places p ↔ IsTarget d q leg (router_at d p)
 
--- the indexes are these for the leg to each hop
+-- For each hop, the list has the targets of the leg to that hop.
 pub record AreTargets (d : Database) (q : Request) (targets : List (Vec ℕ Global)) : Type 0 where
   pub many : length targets ≡ length q.hops
   pub each : (i : ℕ) (e : Vec ℕ Global) → i < length q.hops

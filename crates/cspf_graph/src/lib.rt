@@ -1,9 +1,9 @@
-//! Which links a request may use, and which routers its walks may go on from. At which routers the
-//! legs of its routes may end, which they may visit, and what a route may do at each router in each
-//! leg. `accepts`, `admissible`, `may_leave`, `may_leave_at`, `member` and `inside` are exact for
-//! `IsAdmitted`, `IsUsable`, `MayLeave`, `IsTarget` and `IsInside` of `cspf_model`. `may_be_left`
-//! and `find_roles` are exact for `MayBeLeft`, `MayEnter` and `MayTurn`, which are made of these.
-//! No call but `find_roles` takes memory.
+//! Which links a request may use, and which routers its walks may leave. Also: at which routers the
+//! legs of a route may end, which routers a leg may visit, and what a route may do at each router
+//! in each leg. The functions `accepts`, `admissible`, `may_leave`, `may_leave_at`, `member` and
+//! `inside` decide `IsAdmitted`, `IsUsable`, `MayLeave`, `IsTarget` and `IsInside` of `cspf_model`
+//! exactly. `may_be_left` and `find_roles` decide `MayBeLeft`, `MayEnter` and `MayTurn` exactly,
+//! which this crate defines. Only `find_roles` allocates memory.
 #![tactic(auto)]
 
 mod admission;

@@ -1,5 +1,6 @@
-//! What a route may do at each router in each leg: whether a link may lead it there, and whether it
-//! may turn to the next leg there. Both are computed from the last leg and the targets of legs.
+//! What a route may do at each router in each leg: whether a link may lead the route there, and
+//! whether the route may turn to the next leg there. Both follow from the last leg and the targets
+//! of the legs.
 
 ghost use Rattle.std.specs.Prelude.{◌≡◌, ◌≢◌, true, ◌+◌, ◌*◌, ◌<◌, ◌↔◌, ◌⊎◌, All, IsTrue, IfOk, length, slice_get};
 ghost use Rattle.cspf_db.specs.Index.{router_list};
@@ -16,21 +17,21 @@ use std::alloc::{AllocError, Global};
 /// What a route may do at a router in a leg.
 #[derive(Clone, Copy, Debug)]
 pub struct Role {
-    /// Whether a link may lead it there.
+    /// Whether a link may lead the route to the router.
     pub enter: bool,
     /// Whether the router is a target of the leg, and a route may visit it.
     pub target: bool,
 }
 
-/// The role of a router that no link may lead a route to, and where it may not turn to the next
-/// leg.
+/// The role of a router to which no link may lead a route, and at which the route may not turn to
+/// the next leg.
 const NOTHING: Role = Role {
     enter: false,
     target: false,
 };
 
-/// What a route may do at the router at an index, in the leg after the last hop. That leg is loose,
-/// and the tail-end is its one target.
+/// What a route may do at the router `place` in the leg after the last hop. That leg is loose, and
+/// its only target is the tail-end.
 fn last_role(table: &Table, request: &Request, place: usize) -> Role
     requires { place < length (router_list table.now) }
     ensures { IsRole table.now request.now (length request.now.hops + 1)
@@ -56,8 +57,8 @@ fn passed_role(table: &Table, request: &Request, place: usize) -> Role
     }
 }
 
-/// Sets what a route may do at each router in the leg after the last hop. The tail-end is the
-/// router at an index.
+/// Sets what a route may do at each router in the leg after the last hop. `to` is the index of the
+/// tail-end.
 fn set_last_roles(table: &Table, request: &Request, to: usize, roles: &mut [Role])
     requires listed { AreListed table.now }
     requires to { IsIndexOf table.now request.now.to to }
@@ -71,8 +72,8 @@ fn set_last_roles(table: &Table, request: &Request, to: usize, roles: &mut [Role
     roles[first + to] = last_role(table, request, to);
 }
 
-/// The indexes in a list of roles at which the roles of a leg to a hop begin, and those of the leg
-/// after the last hop. Each leg has one role for each router, and `count` routers.
+/// The indexes at which the roles of two legs begin in a list of roles: of a leg to a hop, and of
+/// the leg after the last hop. Each leg has one role for each of the `count` routers.
 #[derive(Clone, Copy)]
 struct RoleRows {
     first: usize,
@@ -80,9 +81,9 @@ struct RoleRows {
     count: usize,
 }
 
-/// Begins a leg to a hop. Where the leg is loose, a link may lead a route to each router that a
-/// route may go on from or end at. Where it is strict, a link may lead to none. No router is a
-/// target yet.
+/// Sets the first roles of a leg to a hop. In a loose leg, a link may lead a route to each router
+/// that the route may leave or end at. In a strict leg, no link may lead a route to any router yet.
+/// No router is a target yet.
 fn spread(roles: &mut [Role], rows: RoleRows, loose: bool)
     requires rows { AreRoleRows rows roles.old }
     ensures { IsSpread rows loose roles.old roles.new }
@@ -96,8 +97,9 @@ fn spread(roles: &mut [Role], rows: RoleRows, loose: bool)
     }
 }
 
-/// Adds to a router's role what being a target allows, if a route may visit it or begins there. It
-/// may turn to the next leg only if the target is the leg's own.
+/// The role of a router after it was found among the targets of a leg. `stands` says whether a
+/// route may enter it in the leg after the last hop, and `begins` whether it is the head-end. The
+/// route may turn to the next leg there only if `own` says that it is a target of this leg.
 fn with_more(old: Role, stands: bool, own: bool, begins: bool) -> Role
     ensures enter { IsTrue result.enter ↔ (IsTrue old.enter ⊎ IsTrue stands) }
     ensures target { IsTrue result.target
@@ -109,9 +111,9 @@ fn with_more(old: Role, stands: bool, own: bool, begins: bool) -> Role
     }
 }
 
-/// Adds to the roles of some routers what being a target allows: those of the leg before, or the
-/// leg's own. A link may lead a route there, and, where they are its own, a route may turn to the
-/// next leg there. The head-end is the router at an index.
+/// Adds to the roles of the routers `places`, which are the targets of the leg before, or of this
+/// leg if `own` holds. A link may lead a route to each of these routers. At the targets of this leg
+/// the route may also turn to the next leg. `from` is the index of the head-end.
 fn mark(roles: &mut [Role], rows: RoleRows, places: &[u16], own: bool, from: usize)
     requires rows { AreRoleRows rows roles.old }
     requires places { All (λ place. place < rows.count) places.now }
@@ -124,7 +126,8 @@ fn mark(roles: &mut [Role], rows: RoleRows, places: &[u16], own: bool, from: usi
     }
 }
 
-/// The targets of the leg to the hop at an index, by their index in the list of routers.
+/// The targets of the leg to a hop, by their indexes in the list of routers. `leg_index` is the
+/// index of the hop.
 fn targets_of(
     alloc: Global,
     table: &Table,
@@ -144,7 +147,7 @@ fn targets_of(
     }
 }
 
-/// Whether the leg to the hop at an index is loose.
+/// Whether the leg to the hop at the index `leg_index` is loose.
 pub fn is_loose(request: &Request, leg_index: usize) -> bool
     requires { leg_index < length request.now.hops }
     ensures { IsTrue result ↔ IsLoose (slice_get request.now.hops leg_index) }
@@ -155,20 +158,20 @@ pub fn is_loose(request: &Request, leg_index: usize) -> bool
     }
 }
 
-/// A leg to a hop, with the routers at which it begins and its targets, by their index in the list of
-/// routers.
+/// A leg to a hop, with the routers at which it begins and its targets, both by their indexes in
+/// the list of routers.
 #[derive(Clone, Copy)]
 struct Leg<'a> {
     /// The index of the hop.
     index: usize,
-    /// The head-end in the first leg, and the targets of the leg before in each other one.
+    /// In the first leg the head-end, and in each other leg the targets of the leg before it.
     starts: &'a [u16],
-    /// The targets.
+    /// The targets of the leg.
     targets: &'a [u16],
 }
 
-/// Sets what a route may do at each router in the leg to a hop. The head-end is the router at an
-/// index.
+/// Sets what a route may do at each router in the leg to a hop. `from` is the index of the
+/// head-end.
 fn set_roles(table: &Table, request: &Request, leg: Leg<'_>, from: usize, roles: &mut [Role])
     requires within { leg.index < length request.now.hops }
     requires listed { AreListed table.now }
@@ -189,18 +192,18 @@ fn set_roles(table: &Table, request: &Request, leg: Leg<'_>, from: usize, roles:
     mark(roles, rows, leg.targets, true, from);
 }
 
-/// What a route may do at each router in each leg, and where the legs to hops end.
+/// What a route may do at each router in each leg, and the routers at which the legs to hops end.
 #[derive(Drop)]
 pub struct Roles {
-    /// What a route may do at each router in each leg: 1,024 roles for each leg. The role of a
-    /// router is at its index in `Table::routers`.
+    /// What a route may do at each router in each leg. Each leg has 1,024 roles. In its leg, a
+    /// router's role is at the router's index in `Table::routers`.
     pub states: Vec<Role>,
-    /// For each hop the targets of the leg to it, by their index in `Table::routers`.
+    /// For each hop, the targets of the leg to that hop, by their indexes in `Table::routers`.
     pub targets: Vec<Vec<u16>>,
 }
 
-/// What a route may do at each router in each leg, and where the legs to hops end. The head-end and the
-/// tail-end are the routers at these indexes of `Table::routers`.
+/// What a route may do at each router in each leg, and the routers at which the legs to hops end.
+/// `from` and `to` are the indexes of the head-end and the tail-end in `Table::routers`.
 pub fn find_roles(
     alloc: Global,
     table: &Table,

@@ -5,9 +5,9 @@ use cspf_addr::Addr;
 use cspf_db::Table;
 use cspf_model::Request;
 
-/// Whether the router is a target of the leg (RFC 3209 4.3.3.2). Leg 0 has the head-end alone. Leg
-/// i has the routers of the table with an address that the prefix of hop i covers. The leg after
-/// the last hop has the tail-end alone.
+/// Whether the router is a target of the leg (RFC 3209 4.3.3.2). The only target of leg 0 is the
+/// head-end. The targets of leg i are the routers of the table with an address in the prefix of hop
+/// i, where the first hop is hop 1. The only target of the leg after the last hop is the tail-end.
 pub fn member(table: &Table, router: Addr, leg: usize, request: &Request) -> bool
     requires { leg ≤ length request.now.hops + 1 }
     ensures { IsTrue result ↔ IsTarget table.now request.now leg router }
@@ -21,9 +21,9 @@ pub fn member(table: &Table, router: Addr, leg: usize, request: &Request) -> boo
     }
 }
 
-/// Whether a route may visit the router in the leg, which counts from 1. In a loose leg it may
-/// visit any router. In a strict leg it may visit only the targets of the leg before and of this
-/// leg (RFC 3209 4.3.3.1). The leg after the last hop is loose.
+/// Whether a route may visit the router in the leg. The first leg is leg 1. In a loose leg a route
+/// may visit any router. In a strict leg it may visit only the targets of this leg and of the leg
+/// before it (RFC 3209 4.3.3.1). The leg after the last hop is loose.
 pub fn inside(table: &Table, router: Addr, leg: usize, request: &Request) -> bool
     requires from_one { 1 ≤ leg }
     requires most { leg ≤ length request.now.hops + 1 }

@@ -7,7 +7,7 @@ use cspf_addr::Addr;
 use cspf_db::Table;
 use cspf_model::Request;
 
-/// Whether a walk of `links_so_far` links that has reached the router may go on from it: the router
+/// Whether a walk that has reached the router over `links_so_far` links may leave it: the router
 /// has transit, or the walk begins there (RFC 6987).
 pub fn may_leave(table: &Table, router: Addr, links_so_far: u32) -> bool
     ensures { IsTrue result ↔ MayLeave table.now router links_so_far }
@@ -15,7 +15,7 @@ pub fn may_leave(table: &Table, router: Addr, links_so_far: u32) -> bool
     links_so_far == 0 || table.transit(router)
 }
 
-/// As `may_leave`, for the router at an index of `Table::routers`.
+/// As `may_leave`, for the router at the index `place` of `Table::routers`.
 pub fn may_leave_at(table: &Table, place: usize, links_so_far: u32) -> bool
     requires { place < length (router_list table.now) }
     ensures { IsTrue result
@@ -24,8 +24,8 @@ pub fn may_leave_at(table: &Table, place: usize, links_so_far: u32) -> bool
     links_so_far == 0 || table.transit_at(place)
 }
 
-/// Whether some walk of the request may leave the router at an index of `Table::routers`: it has
-/// transit, or the walk may begin there.
+/// Whether some walk of the request may leave the router at the index `place` of `Table::routers`.
+/// The router has transit, or the walk begins there.
 pub fn may_be_left(table: &Table, place: usize, request: &Request) -> bool
     requires { place < length (router_list table.now) }
     ensures { IsTrue result

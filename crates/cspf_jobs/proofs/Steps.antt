@@ -1,4 +1,4 @@
--- One job more: what its thread ended with, beside what is known of the jobs before it.
+-- One more job: what its thread ended with, and what is known of the jobs before it.
 use Rattle.std.proofs.Common.{◌≡◌, suc, ◌<◌, ◌≤◌, ◌^◌, List, [], ◌∷◌, ◌++◌, length, Result, Ok, Err, MatchResult, IsOkAnd, refl, sym, ap, subst, ◌∙◌, arith, Global}
 use Rattle.std.proofs.Math.Nat.{ℕ_set}
 use Rattle.std.specs.Global.{Vec}
@@ -11,7 +11,7 @@ use Rattle.cspf_jobs.specs.declared.word.NoThread.{NoThread}
 one_heap : (a b : Global) → a ≡ b
 one_heap a b = refl
 
--- a vector is its place and its items
+-- Vectors with the same address, the same capacity and the same items are equal.
 vec_same : {X : Type 0} (v w : Vec X) → v.ptr ≡ w.ptr → v.cap ≡ w.cap → v.items ≡ w.items → v ≡ w
 vec_same v w p c i =
     let l : v.len ≡ w.len = v.ok.0 ∙ ap length i ∙ sym w.ok.0 in
@@ -25,7 +25,7 @@ vec_same v w p c i =
       small = is_prop→PathP (λ j. c j < 2 ^ 63) (λ j. le_prop) v.small w.small k;
     }
 
--- the last pair of two lists, and those before it
+-- What holds of the pairs of two lists holds of the last pair, and of the pairs before it.
 pub zip_front : {A B : Type 0} (R : A → B → Type 0) (xs : List A) (ys : List B) (x : A) (y : B) → AllZip R (xs ++ x ∷ []) (ys ++ y ∷ []) → AllZip R xs ys × R x y
 zip_front R [] [] x y all = (tt, all.0)
 zip_front R [] (b ∷ []) x y all = absurd all.1
@@ -34,7 +34,7 @@ zip_front R (a ∷ []) [] x y all = absurd all.1
 zip_front R (a ∷ c ∷ xs) [] x y all = absurd all.1
 zip_front R (a ∷ xs) (b ∷ ys) x y all = let rest = zip_front R xs ys x y all.1 in ((all.0, rest.0), rest.1)
 
--- one job more was done
+-- One more job was done.
 done_push : {W J O : Type 0} (done : W → J → O → Type 0) (ws : List W) (js : List J) (os : List O) (w : W) (j : J) (o : O) → AreDone done ws js os → done w j o
     → AreDone done (ws ++ w ∷ []) (js ++ j ∷ []) (os ++ o ∷ [])
 done_push done [] [] [] w j o all one = (one, tt)
@@ -58,11 +58,11 @@ none_done done Ready (w ∷ ws) [] none all = absurd all
 none_done done Ready ws (j ∷ js) none all = absurd (omega (arith, none))
 
 module _ {G W J O M P : Type 0} (done : W → J → O → Type 0) (last_done : M → Unit {0} → P → Type 0) where
-  -- what a thread ended with, by the word
+  -- What a thread ended with, according to the decision.
   abbrev Ends : Result G NoThread → W → J → Result O J → Type 0
   Ends said w j ended = MatchResult said (λ go. IsOkAnd ended (done w j)) (λ not. ended ≡ Err j)
 
-  -- no job is left
+  -- The case in which no job is left.
   pub gone_none : (Ready : W → J → Type 0) (workers : List W) (jobs : Vec J) (outputs : List O) (last : M) (said : Result G NoThread) (result : Result P M)
       → jobs.len ≡ 0 → outputs ≡ [] → AllZip Ready workers jobs.items
       → MatchResult said (λ go. IsOkAnd result (last_done last tt)) (λ not. result ≡ Err last)
@@ -71,7 +71,7 @@ module _ {G W J O M P : Type 0} (done : W → J → O → Type 0) (last_done : M
       (rw no_output (none_done done Ready workers jobs.items (sym jobs.ok.0 ∙ none) ready), ends)
   gone_none Ready workers jobs outputs last (Err not) result none no_output ready ends = (refl, ends)
 
-  -- there is room for it
+  -- The lists have room for what the thread ended with.
   pub keeps : (workers : List W) (jobs left : Vec J) (outputs : Vec O) (last : M) (w : W) (j : J) (said : Result G NoThread) (result : Result P M) (ended : Result O J)
       → HaveEnded done last_done workers jobs outputs.items last left said result → Ends said w j ended
       → jobs.len < jobs.cap → jobs.len < outputs.cap
@@ -83,7 +83,7 @@ module _ {G W J O M P : Type 0} (done : W → J → O → Type 0) (last_done : M
   keeps workers jobs left outputs last w j (Err not) result ended gone ends more room =
       subst (λ r. MatchResult r (λ o. outputs.len < outputs.cap) (λ k. left.len < left.cap)) (sym ends) (subst (λ (v : Vec J). v.len < v.cap) (sym gone.0) more)
 
-  -- and the job is done, or is where it was
+  -- The case of one more job, which was done, or is back in its list.
   pub gone_more : (workers front : List W) (jobs before left kept : Vec J) (outputs more : Vec O) (last : M) (w : W) (j : J) (said : Result G NoThread) (result : Result P M) (ended : Result O J)
       → HaveEnded done last_done front before outputs.items last left said result → Ends said w j ended
       → workers ≡ front ++ w ∷ [] → jobs.items ≡ before.items ++ j ∷ [] → before.ptr ≡ jobs.ptr → before.cap ≡ jobs.cap

@@ -1,4 +1,4 @@
--- What is known of jobs once their threads have ended.
+-- What holds of the jobs of a run after their threads have ended.
 use Rattle.std.specs.Prelude.{◌≡◌, ℕ, ◌+◌, ◌<◌, ◌≤◌, ⊤, List, [], ◌∷◌, ◌++◌, Result, Ok, Err, IsOkAnd, MatchResult, vec_capacity}
 use Rattle.std.specs.Global.{Vec}
 use Rattle.std.specs.Vec.{vec_ptr}
@@ -6,7 +6,7 @@ use Rattle.cspf_jobs.specs.declared.go.JobCount.{Ghosts}
 use Rattle.cspf_jobs.specs.declared.word.NoThread.{NoThread}
 use Rattle.cspf_jobs.specs.declared.crew.Came.{Came}
 
--- each job is done, by the worker at its place
+-- Each job is done by the worker at the same place in the list, and its output is at this place.
 abbrev pub AreDone : {W J O : Type 0} → (W → J → O → Type 0) → List W → List J → List O → Type 0
 AreDone done [] [] [] = ⊤
 AreDone done [] [] (o ∷ os) = ⊥
@@ -15,36 +15,38 @@ AreDone done (w ∷ ws) [] os = ⊥
 AreDone done (w ∷ ws) (j ∷ js) [] = ⊥
 AreDone done (w ∷ ws) (j ∷ js) (o ∷ os) = done w j o × AreDone done ws js os
 
--- Private: one job more has a thread, unless one was refused it
+-- Private: the count after one more job got a thread. An earlier refusal stays.
 abbrev pub with_thread : Result ℕ NoThread → Result ℕ NoThread
 with_thread (Ok n) = Ok (n + 1)
 with_thread (Err first) = Err first
 
--- Private: the job of this number was refused a thread, and is the first unless there was one
+-- Private: the count after this job was refused a thread. An earlier refusal stays.
 abbrev pub without_thread : ℕ → Result ℕ NoThread → Result ℕ NoThread
 without_thread job (Ok n) = Err (record { job = job })
 without_thread job (Err first) = Err first
 
--- Private: a thread heard the word, and then did its job or has it still.
+-- Private: a thread heard the decision. At go it did its job, and otherwise it returns the job.
 pub record HasCome {N W J O : Type 0} {n : Ghosts N} (done : W → J → O → Type 0) (word : ℕ) (worker : W) (job : J) (came : Came N J O n) : Type 0 where
   pub heard : came.said.of ≡ word
   pub ended : MatchResult came.said.value (λ go. IsOkAnd came.ended (done worker job)) (λ not. came.ended ≡ Err job)
 
--- Private: at go all jobs were done, and the last one in this thread. Else all jobs are as before.
+-- Private: at go all jobs were done, and `last` was done by the calling thread. Otherwise all jobs are
+-- as before.
 abbrev pub HaveEnded : {G W J O M P : Type 0} → (W → J → O → Type 0) → (M → Unit {0} → P → Type 0) → List W → Vec J → List O → M → Vec J → Result G NoThread → Result P M → Type 0
 HaveEnded done last_done workers jobs outputs last left said ended =
     MatchResult said
     (λ go. AreDone done workers jobs.items outputs × IsOkAnd ended (last_done last tt))
     (λ not. (left ≡ jobs) × (ended ≡ Err last))
 
--- Private: all jobs were done, and the last one in this thread. Else all jobs are as before, and one of them is named.
+-- Private: all jobs were done, and `last` was done by the calling thread. Otherwise all jobs are as
+-- before, and the error names one job.
 abbrev pub HaveRun : {W J O M P : Type 0} → (W → J → O → Type 0) → (M → Unit {0} → P → Type 0) → List W → Vec J → M → Result (Vec O × P) (NoThread × Vec J × M) → Type 0
 HaveRun done last_done workers jobs last result =
     MatchResult result
     (λ r. AreDone done workers jobs.items r.0.items × last_done last tt r.1)
     (λ e. (0 < e.0.job) × (e.0.job ≤ jobs.len) × (e.1 ≡ jobs) × (e.2 ≡ last))
 
--- Private: the vector with one more at its end, in the same place.
+-- Private: the vector with one more item at its end, at the same address and with the same capacity.
 pub record IsPushed {X : Type 0} (old new : Vec X) (x : X) : Type 0 where
   pub items : new.items ≡ old.items ++ x ∷ []
   pub place : vec_ptr new ≡ vec_ptr old

@@ -1,4 +1,4 @@
-//! The threads, from the first that is made to the last that is joined.
+//! Makes the threads of a run, makes the decision whether they begin, and joins them.
 
 ghost use Rattle.std.specs.Prelude.{◌≡◌, ℕ, ◌+◌, ◌<◌, ◌≤◌, [], Err, IfOk, IfErr, IsOkAnd, MatchResult, vec_len, vec_capacity};
 ghost use Rattle.std.specs.Result.{ForOk};
@@ -14,15 +14,16 @@ use std::sync::{OnceLock, Wait};
 use std::thread;
 use std::thread::{Promise, Scope, Threads};
 
-/// What does a job, in a thread of its own.
+/// A worker: does one job, in its own thread.
 pub trait Doer<J> {
-    /// What it makes of the job.
+    /// The output of a job.
     type Output;
 
-    /// What it needs to hold of the number of jobs that have a thread, itself and the job.
+    /// The precondition of `work`, on the number of jobs that have a thread, the worker and the
+    /// job.
     ghost ready: { ℕ → Self → J → Type 0 };
 
-    /// What then holds of its output.
+    /// The postcondition of `work`, on the worker, the job and the output.
     ghost done: { Self → J → Self.Output → Type 0 };
 
     /// Does the job. `go` shows how many jobs have a thread.
@@ -31,15 +32,16 @@ pub trait Doer<J> {
         ensures { done self job result };
 }
 
-/// What the calling thread does meanwhile.
+/// The work of the calling thread, which it does while the workers do their jobs.
 pub trait Meanwhile {
-    /// What it ends with.
+    /// The output of this work.
     type Output;
 
-    /// What it needs to hold of the number of jobs that have a thread, and itself.
+    /// The precondition of `run`, on the number of jobs that have a thread, and on this value.
     ghost ready: { ℕ → Self → Type 0 };
 
-    /// What then holds of itself before, its output, and itself after.
+    /// The postcondition of `run`, on this value before the call, the output, and this value after
+    /// the call.
     ghost ran: { Self → Self.Output → Self → Type 0 };
 
     /// Does the work. `go` shows how many jobs have a thread.
@@ -48,7 +50,7 @@ pub trait Meanwhile {
         ensures { ran self.old result self.new };
 }
 
-/// The work of the calling thread as a value, which a closure can hold.
+/// The work of the calling thread as a value that a closure can own.
 #[derive(Drop)]
 struct Lent<'a, M> {
     own: &'a mut M,
@@ -68,14 +70,15 @@ impl<'a, P, M: Meanwhile<Output = P>> Doer<()> for Lent<'a, M> {
     }
 }
 
-/// What a thread ends with: the word that it heard, and its output or its job.
+/// The result of a thread: the decision that it heard, and the job's output. If the job wasn't
+/// begun, it is returned in place of the output.
 #[derive(Drop)]
 pub(crate) struct Came<'a, N: JobCount, J, O> {
     said: Said<'a, N>,
     ended: Result<O, J>,
 }
 
-/// What a thread was given.
+/// What a thread is given: the lock in which the decision is set, the worker and the job.
 #[derive(Drop)]
 pub(crate) struct Given<'a, N: JobCount, W, J> {
     word: &'a StartWord<N>,
@@ -88,7 +91,7 @@ impl<'a, N: JobCount, J, O, W: Doer<J, Output = O>> Promise<Came<'a, N, J, O>>
     ghost kept_by = { λ g c. HasCome W.Doer.done g.word.now.id g.worker.value g.job.value c };
 }
 
-/// Waits for the word, and does the job if it is go.
+/// Waits for the decision. At go the worker does the job. Otherwise the job is returned.
 fn wait_and_work<'a, N: JobCount, J, O, W: Doer<J, Output = O> + Drop, R: Wait>(
     rt: &R,
     word: &'a StartWord<N>,
@@ -106,7 +109,7 @@ fn wait_and_work<'a, N: JobCount, J, O, W: Doer<J, Output = O> + Drop, R: Wait>(
     Came { said, ended }
 }
 
-/// Says the word, and does the work of this thread at go.
+/// Makes the decision. At go it does the work of the calling thread.
 fn finish<'a, N: JobCount, P, M: Doer<(), Output = P> + Drop, R: Wait>(
     rt: &R,
     word: &'a StartWord<N>,
@@ -127,8 +130,8 @@ fn finish<'a, N: JobCount, P, M: Doer<(), Output = P> + Drop, R: Wait>(
     (said, ended)
 }
 
-/// Makes a thread for each job, the last job first, and counts it. Then it says the word, does the
-/// work of this thread at go, and joins the threads.
+/// Makes a thread for each job, the last job first, and counts the threads. Then it makes the
+/// decision, does the work of the calling thread at go, and joins the threads.
 fn call_all<
     's,
     'w: 's,
@@ -185,7 +188,8 @@ fn call_all<
     (said, ended)
 }
 
-/// Puts the output of a job, or the job, behind those of the jobs before it.
+/// Puts the output of a job after the outputs of earlier jobs. A job that wasn't begun is put back
+/// after the earlier jobs.
 fn keep<J, O>(ended: Result<O, J>, jobs: &mut Vec<J>, outputs: &mut Vec<O>)
     requires { MatchResult ended (λ _. vec_len outputs.old < vec_capacity outputs.old) (λ _. vec_len jobs.old < vec_capacity jobs.old) }
     ensures jobs { MatchResult ended (λ _. jobs.new ≡ jobs.old) (IsPushed jobs.old jobs.new) }
@@ -197,7 +201,7 @@ fn keep<J, O>(ended: Result<O, J>, jobs: &mut Vec<J>, outputs: &mut Vec<O>)
     }
 }
 
-/// The refusal that the word is, of one of so many jobs.
+/// The refusal that the decision names. `count` is the number of jobs.
 fn refusal<'a, N: JobCount>(word: &'a StartWord<N>, said: &Said<'a, N>, count: usize) -> NoThread
     requires { (said.now.of ≡ word.now.id) × (0 < count) }
     ensures { (0 < result.job) × (result.job ≤ count) }
@@ -211,7 +215,7 @@ fn refusal<'a, N: JobCount>(word: &'a StartWord<N>, said: &Said<'a, N>, count: u
     }
 }
 
-/// As `run_all`, with work that is a value.
+/// As `run_all`, but the work of the calling thread is given as a value.
 fn run_with<
     N: JobCount + Send + Sync + Drop,
     J: Send + Drop,
@@ -236,7 +240,7 @@ fn run_with<
     run_under(rt, &word, workers, jobs, room, last)
 }
 
-/// As `run_with`, with the word that the threads wait for.
+/// As `run_with`, but the lock in which the decision is set is given by the caller.
 fn run_under<
     'w,
     N: JobCount + Send + Sync + Drop,
@@ -288,12 +292,13 @@ fn run_under<
     )
 }
 
-/// Does each job in a thread of its own, by the worker at its place, while this thread does its own
-/// work. No job begins before all have a thread, nor does the work of this thread: each is called
-/// with a `Go` of as many threads as jobs. `room` takes the outputs.
+/// Does each job in its own thread, by the worker at the same place in `workers`. Meanwhile the
+/// calling thread does its own work. No job and no work of the calling thread begins before all
+/// jobs have a thread. Each is called with a `Go` that counts as many threads as there are jobs.
+/// The outputs are put into `room`.
 ///
-/// Where a thread can't be had no job begins, nor the work of this thread. All threads end, and the
-/// jobs come back.
+/// If a thread can't be had, no job begins, and the calling thread doesn't do its own work. All
+/// threads end, and the jobs are returned.
 pub fn run_all<
     J: Send + Drop,
     O: Send + Drop,
@@ -327,7 +332,7 @@ pub fn run_all<
     }
 }
 
-/// Does nothing. This use of a reference ties it, for the borrow checker, to what was lent.
+/// Does nothing. For the borrow checker, this use of the reference ties it to what was lent.
 fn take_back<M>(own: &mut M)
     ensures { own.new ≡ own.old }
 {}

@@ -1,4 +1,4 @@
-//! Go, and the count of the threads that gives it.
+//! `Go`, which all work needs, and the count of threads that makes it.
 
 ghost use Rattle.std.specs.Prelude.{◌≡◌, ◌<◌, Ok, Err, IsOk, MatchResult};
 ghost use Rattle.std.specs.Result.{ForOk, ForErr};
@@ -9,7 +9,7 @@ use std::marker::{Brand, Model, PhantomData};
 use std::snapshot::Snapshot;
 use std::thread::{Promise, PromisedHandle, SpawnError, Threads};
 
-/// How many jobs a run has, by a type. Only proofs read it.
+/// A type that stands for the number of jobs of a run. Only proofs use it.
 pub(crate) trait JobCount {
     ghost use Rattle.std.specs.Prelude.{ℕ};
 
@@ -20,7 +20,7 @@ impl JobCount for Brand {
     ghost jobs = { 0 };
 }
 
-/// Shows how many jobs have a thread. Contracts see it as their number.
+/// Shows how many jobs have a thread. In contracts its value is that number.
 #[derive(Drop)]
 pub struct Go {
     threads: usize,
@@ -34,7 +34,7 @@ impl Model for Go {
     ghost view = { λ g. g.threads };
 }
 
-/// Shows that each job of a run has a thread.
+/// Shows that each job of the run has a thread.
 #[derive(Drop)]
 pub(crate) struct GoForAll<N: JobCount> {
     go: Go,
@@ -43,7 +43,7 @@ pub(crate) struct GoForAll<N: JobCount> {
 }
 
 impl<N: JobCount> GoForAll<N> {
-    /// What it shows a worker.
+    /// The `Go` that a worker is called with.
     pub(crate) fn go(&self) -> &Go
         ensures { result.now ≡ N.jobs }
     {
@@ -51,13 +51,13 @@ impl<N: JobCount> GoForAll<N> {
     }
 }
 
-/// The thread of a job, or the closure for which none could be made.
+/// The thread of a job, or the closure of a job that was refused a thread.
 pub(crate) struct JobThread<T, P: Promise<T>, F> {
     thread: Result<PromisedHandle<T, P>, SpawnError<F>>,
 }
 
 impl<T, P: Promise<T>, F: FnOnce() -> T> JobThread<T, P, F> {
-    /// Joins the thread, or calls the closure.
+    /// Joins the thread, or calls the closure if there is no thread.
     pub(crate) fn join<R: Threads>(self, rt: &R, promise: Snapshot<P>) -> T
         requires promise { ForOk self.thread (λ h. h.promise ≡ promise.value) }
         requires runs { ForErr self.thread (λ e. F.pre e.value) }
@@ -72,7 +72,7 @@ impl<T, P: Promise<T>, F: FnOnce() -> T> JobThread<T, P, F> {
     }
 }
 
-/// How many jobs have a thread, or the first that was refused one.
+/// How many jobs have a thread, or the first refusal of a thread.
 #[derive(Drop)]
 pub(crate) struct ThreadCount {
     made: Result<usize, NoThread>,
@@ -81,15 +81,15 @@ pub(crate) struct ThreadCount {
 impl ThreadCount {
     ghost use Rattle.cspf_jobs.specs.Jobs.{with_thread, without_thread};
 
-    /// No job has a thread yet.
+    /// A count of no threads, without a refusal.
     pub(crate) fn new() -> ThreadCount
         ensures { result.made ≡ Ok 0 }
     {
         ThreadCount { made: Ok(0) }
     }
 
-    /// Counts the thread of the job of this number, or that it was refused one. It takes the thread,
-    /// so that none is counted twice.
+    /// Counts the thread of the job with this number, or notes that the job was refused a thread.
+    /// The call takes the thread, so that no thread is counted twice.
     pub(crate) fn add<'a, N: JobCount, J, O, W: Doer<J, Output = O>, F>(
         &mut self,
         job: usize,
@@ -108,7 +108,7 @@ impl ThreadCount {
         JobThread { thread }
     }
 
-    /// The word: go if each job has a thread, else the first that was refused one.
+    /// The decision: go if each job has a thread, and otherwise the first refusal.
     pub(crate) fn word<N: JobCount>(&self) -> Result<GoForAll<N>, NoThread>
         requires { ForOk self.now.made (λ n. n ≡ N.jobs) }
         ensures { MatchResult result (λ _. IsOk self.now.made) (λ first. self.now.made ≡ Err first) }

@@ -1,9 +1,10 @@
-//! Jobs in threads of their own, none of which begins before all have a thread.
+//! Runs each job in its own thread. No job begins before all jobs have a thread.
 //!
-//! `run_all` makes a thread for each job, and counts them. The threads wait for one word: go, or that
-//! a thread could not be had. Only the count gives a `Go`, which all work takes. At go each thread does
-//! its job while the calling thread does its own. Otherwise no job is begun, and all jobs come back.
-//! `specs/Jobs.antt` has what its contract says.
+//! `run_all` makes a thread for each job, and counts the threads. All threads wait for one
+//! decision: go, or that no thread could be had for some job. Only the count makes a `Go`, which
+//! every piece of work needs. At go each thread does its job, and the calling thread does its own
+//! work meanwhile. Otherwise no job begins, and all jobs are returned. The terms of the contract of
+//! `run_all` are defined in `specs/Jobs.antt`.
 #![tactic(auto)]
 
 mod crew;

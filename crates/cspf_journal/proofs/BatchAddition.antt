@@ -19,11 +19,11 @@ use Rattle.cspf_journal.proofs.JournalSteps.{batches_of-append, batches_of-prefi
 abbrev pub shown : List LogStep → List LogStep
 shown log = []
 
--- what a step shows them: nothing
+-- what a step shows clients: nothing
 abbrev pub moved : List LogStep → List LogStep → ℕ → Type 0
 moved xs ys n = Unit {0}
 
--- the rule where a step changes nothing
+-- the rule holds after a step that changes nothing
 pub IsKeptHistory-same : (cells : List Cell) (log : List LogStep) → IsKeptHistory cells log → IsKeptHistory cells (log ++ [])
 IsKeptHistory-same cells log = subst (IsKeptHistory cells) (sym (append-nil log))
 
@@ -58,7 +58,8 @@ adds_goes law log v first e old len known next journal pre false is =
       rw is tt,
     )
 
--- whatever the steps are, the exchange adds the batch to all that was recorded, or finds a longer list
+-- whatever the earlier steps are, the exchange adds the batch after all recorded batches, or finds a
+-- longer list
 pub adds_moves : LawfulByOneMore → (v : List LogStep) (first : List NumberedChanges) (e : NumberedChanges) (old : ℕ) → length first ≡ old → BeginsWith (batches_of v) first → MayFollow first e
     → Moves IsKeptHistory shown moved 0 (v, (no_nib, None)) (λ n. either (n == old) (old + 1) n) (Adds (step 0 old (old + 1) (Recorded e)) (v, (no_nib, None)))
 adds_moves law v first e old len known next cs log kept pre away =

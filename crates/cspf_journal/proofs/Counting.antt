@@ -14,11 +14,11 @@ use Rattle.cspf_journal.proofs.BatchAddition.{shown, moved, IsKeptHistory-same}
 use Rattle.cspf_journal.proofs.Prefixes.{length-prefix}
 use Rattle.cspf_journal.proofs.JournalSteps.{batches_of-append, batches_of-prefix, count_from-append, count_from-le, AreJournalSteps-same}
 
--- a step after all that were seen
+-- the step comes after all seen steps
 up_to : (v log : List LogStep) (e : LogStep) → IsPrefix v log → AreStepsUpTo v (log ++ e ∷ []) e
 up_to v log e pre = (pre.0, ap (λ (w : List LogStep). w ++ e ∷ []) (sym pre.1))
 
--- as many batches are recorded after a step that records none
+-- a step that records no batch leaves the recorded batches as they were
 recorded-same : (log : List LogStep) (e : LogStep) → batches_of (e ∷ []) ≡ [] → batches_of (log ++ e ∷ []) ≡ batches_of log
 recorded-same log e none = batches_of-append log (e ∷ []) ∙ (ap (λ (w : List NumberedChanges). batches_of log ++ w) none ∙ append-nil (batches_of log))
 
@@ -52,7 +52,8 @@ counts_goes log v old new one within journal pre false is =
       rw is tt,
     )
 
--- whatever the steps are, the exchange counts a batch that was seen recorded, or finds another count
+-- whatever the earlier steps are, the exchange counts a batch that is known to be recorded, or finds
+-- another count
 pub counts_moves : (v : List LogStep) (old new : ℕ) → new ≡ old + 1 → new ≤ length (batches_of v)
     → Moves IsKeptHistory shown moved 1 (v, (no_nib, None)) (λ n. either (n == old) new n) (CountsOneMore (step 1 old new (Published new)) (v, (no_nib, None)))
 counts_moves v old new one within cs log kept pre away =
@@ -77,7 +78,7 @@ reads_goes log v reader place asked journal pre =
       (up_to v log e pre, omega (arith, within, length_is), journal'),
     )
 
--- whatever the steps are, the reading finds the last count
+-- whatever the earlier steps are, the reading finds the last count
 pub reads_moves : (v : List LogStep) (reader place asked : ℕ)
     → Moves IsKeptHistory shown moved 1 (v, (no_nib, None)) (λ n. n) (Reads (step 1 0 0 (Read reader place asked)) (v, (no_nib, None)))
 reads_moves v reader place asked cs log kept pre away =

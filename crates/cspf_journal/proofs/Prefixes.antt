@@ -15,7 +15,7 @@ BeginsWith-snoc all first b p = (p.0 ++ b ∷ [], ap (λ (w : List NumberedChang
 pub BeginsWith-trans : (all some first : List NumberedChanges) → BeginsWith all some → BeginsWith some first → BeginsWith all first
 BeginsWith-trans all some first p q = (q.0 ++ p.0, p.1 ∙ (ap (λ (w : List NumberedChanges). w ++ p.0) q.1 ∙ append_assoc first q.0 p.0))
 
--- as many of a list as are taken begin it
+-- the first `n` batches of a list are a prefix of the list
 pub BeginsWith-take : (n : ℕ) (all : List NumberedChanges) → BeginsWith all (take n all)
 BeginsWith-take n all = (drop n all, sym (take-append-drop n all))
 
@@ -45,7 +45,7 @@ AreNumberedFrom-snoc : (n : ℕ) (bs : List NumberedChanges) (b : NumberedChange
 AreNumberedFrom-snoc n [] b all is = (omega (arith, is), tt)
 AreNumberedFrom-snoc n (c ∷ bs) b all is = (all.0, AreNumberedFrom-snoc (n + 1) bs b all.1 (omega (arith, is)))
 
--- a history stays one with a batch that may come next
+-- a history with a batch after it that may come next is a history
 pub IsHistory-snoc : LawfulByOneMore → (bs : List NumberedChanges) (b : NumberedChanges) → IsHistory bs → MayFollow bs b → IsHistory (bs ++ b ∷ [])
 IsHistory-snoc law bs b h f = record {
   lawful = (law bs b).1 (h.lawful, f.fits);
@@ -57,7 +57,7 @@ AreNumberedFrom-prefix : (n : ℕ) (bs more : List NumberedChanges) → AreNumbe
 AreNumberedFrom-prefix n [] more all = tt
 AreNumberedFrom-prefix n (b ∷ bs) more all = (all.0, AreNumberedFrom-prefix (n + 1) bs more all.1)
 
--- a prefix of a history is one
+-- a prefix of a history is a history
 pub IsHistory-prefix : FirstBatchesAreLawful → (all first : List NumberedChanges) → BeginsWith all first → IsHistory all → IsHistory first
 IsHistory-prefix law all first p h = record {
   lawful = law first p.0 (subst AreLawful p.1 h.lawful);

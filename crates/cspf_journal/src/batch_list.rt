@@ -1,4 +1,4 @@
-//! The list of all batches of a journal. Only its owner can add to it.
+//! The list of all batches of a journal. Only its owner can add batches.
 ghost use Rattle.std.specs.Prelude.{◌≡◌, [], IfSome};
 ghost use Rattle.cspf_journal.specs.Histories.{MayFollow};
 ghost use Rattle.cspf_journal.specs.HistoryRule.{length_word};
@@ -14,10 +14,10 @@ use cspf_model::{Batch, lawful_batches};
 use logbook::{Offer, Seen, Start, Word};
 use std::marker::Model;
 
-/// The word that the journal moves: the length of the list.
+/// The counter that threads share: the length of the list.
 type LengthWord = Word<LogStep, u64, History>;
 
-/// The batches of a list that are kept. Batches are added only through this value.
+/// The batches of a list that its owner keeps. Batches are added only through this value.
 #[derive(Drop)]
 pub(crate) struct BatchList {
     word: LengthWord,
@@ -37,7 +37,7 @@ impl Model for BatchList {
 }
 
 impl BatchList {
-    /// A new list, with no batch, and the right to show its batches.
+    /// A new list without batches, and the right to show its batches.
     pub(crate) fn new() -> (BatchList, RightToShow)
         ensures list { result.0.batches ≡ [] }
         ensures right { result.1 ≡ record { batches = []; source = result.0.source } }
@@ -51,14 +51,14 @@ impl BatchList {
         (BatchList { word, kept }, RightToShow::new(right, count))
     }
 
-    /// Adds a batch, by one step. The result knows the longer list; it isn't kept yet. None if the
-    /// list has more batches than are kept: then the step is lost.
+    /// Adds a batch in one step. Returns the longer list, which isn't kept yet. Returns `None` if the
+    /// list has more batches than are kept: then the batch isn't added.
     pub(crate) fn add(&self, batch: &Batch) -> Option<Known>
         requires { MayFollow self.now.batches batch.now }
         ensures { IfSome result (λ longer.
             longer ≡ known_with self.now.batches self.now.source batch.now) }
     {
-        // A law: one more batch that fits keeps the list lawful.
+        // Law: the list stays lawful with one more batch that fits.
         lawful_batches();
         let mut seen = self.kept.seen();
         let mut offer: Offer<LogStep, u64, History, NoGain> = seen.plain::<NoGain, Batch, AddBatch>(

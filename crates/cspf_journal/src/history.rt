@@ -1,11 +1,11 @@
-//! The steps of a journal, which exist in proofs alone. What is shared is how many batches are
-//! recorded, and how many are published.
+//! The steps of a journal, which exist only in proofs. Threads share only two counters: how many
+//! batches are recorded, and how many are published.
 use crate::log_step::{LogStep, RowOfReader};
 use cspf_model::Batch;
 use logbook::{Gain, Plain, Play, Rule};
 
-/// The rule of the steps: they are in order, the recorded batches are a history, and both words say
-/// how many there are.
+/// By the rule of the steps, the steps are in order, and the recorded batches are a history. One
+/// counter is the number of recorded batches, the other counter the number of published batches.
 pub struct History;
 
 impl Rule<LogStep, u64> for History {
@@ -26,7 +26,7 @@ impl Rule<LogStep, u64> for History {
     ghost moves = { λ ask before after answer. Unit {0} };
 }
 
-/// Callers keep only the steps.
+/// A step gives its caller only the knowledge of the steps.
 pub struct NoGain;
 
 impl Gain<LogStep, u64> for NoGain {
@@ -44,7 +44,7 @@ impl Play<LogStep, u64> for AddBatch {
     ghost then = { Adds };
 }
 
-/// The step takes the batch.
+/// A caller gives the batch to the step.
 impl Plain<Batch, LogStep, u64> for AddBatch {
     ghost use Rattle.std.specs.Prelude.{None};
     ghost use Rattle.cspf_journal.specs.declared.log_step.LogStep.TheVariants.{Recorded};
@@ -63,7 +63,7 @@ impl Play<LogStep, u64> for CountBatch {
     ghost then = { CountsOneMore };
 }
 
-/// The step takes the count.
+/// A caller gives the new count to the step.
 impl Plain<u32, LogStep, u64> for CountBatch {
     ghost use Rattle.std.specs.Prelude.{None};
     ghost use Rattle.cspf_journal.specs.declared.log_step.LogStep.TheVariants.{Published};
@@ -82,7 +82,7 @@ impl Play<LogStep, u64> for ReadCount {
     ghost then = { Reads };
 }
 
-/// The step takes the row. Its count is the one that it finds, and no 0.
+/// A caller gives the row to the step. The 0 is replaced by the count that the step finds.
 impl Plain<RowOfReader, LogStep, u64> for ReadCount {
     ghost use Rattle.std.specs.Prelude.{None};
     ghost use Rattle.cspf_journal.specs.declared.log_step.LogStep.TheVariants.{Read};

@@ -14,8 +14,8 @@ use cspf_rows::put_all;
 use std::io::Write;
 use std::marker::Model;
 
-/// A writer, and the list of the batches whose texts it has. Only `record` gives knowledge of a
-/// longer list, so no batch can be shown that isn't recorded.
+/// A writer, and the list of the batches whose texts the writer has. Only `record` makes a longer list
+/// known, so a batch that isn't recorded can't be shown.
 #[derive(Drop)]
 pub struct JournalWriter<W> {
     writer: W,
@@ -37,7 +37,7 @@ impl<W> Model for JournalWriter<W> {
 }
 
 impl<W> JournalWriter<W> {
-    /// The journal of a list.
+    /// The journal of a list, with this writer.
     pub(crate) fn new(writer: W, list: BatchList) -> JournalWriter<W>
         ensures { result ≡ record {
           batches = list.batches;
@@ -74,9 +74,9 @@ impl<W> JournalWriter<W> {
 }
 
 impl<W: Write> JournalWriter<W> {
-    /// Records a batch. A step on the list comes first. If it is lost, nothing is written. Else the
-    /// batch's text is written whole, and then the batches up to it are known. It takes no memory
-    /// and always returns.
+    /// Records a batch. First the batch is added to the list. If that step is lost, nothing is written.
+    /// Otherwise the batch's text is written whole, and the batches up to this batch are returned. The
+    /// call takes no memory and always returns.
     pub fn record(&mut self, batch: &Batch, text: &[u8]) -> Result<Known, NotRecorded>
         requires going { self.old.stopped ≡ false }
         requires next { MayFollow self.old.batches batch.now }

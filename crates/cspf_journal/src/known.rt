@@ -12,8 +12,8 @@ use cspf_model::lawful_batches;
 use logbook::Seen;
 use std::marker::Model;
 
-/// A prefix of a journal's list of batches. The code keeps its length alone. More batches may be
-/// recorded by the steps that were seen.
+/// A prefix of a journal's list of batches. At run time only its length is kept. The steps that were
+/// seen may record more batches.
 #[derive(Drop)]
 pub struct Known {
     version: u32,
@@ -38,7 +38,7 @@ impl Model for Known {
 }
 
 impl Known {
-    /// All batches that the seen steps record, with how many they are.
+    /// All batches that the seen steps record. `version` is the number of these batches.
     pub(crate) fn new(version: u32, seen: Seen<LogStep, u64, History>) -> Known
         requires version { version ≡ length (batches_of seen.log) }
         requires history { IsHistory (batches_of seen.log) }
@@ -47,7 +47,7 @@ impl Known {
         Known { version, seen }
     }
 
-    /// The seen steps, which record the batches.
+    /// The seen steps, which record the known batches.
     pub(crate) fn seen(&self) -> Seen<LogStep, u64, History>
         ensures recorded { BeginsWith (batches_of result.log) self.now.batches }
         ensures source { result.book ≡ self.now.source }
@@ -63,7 +63,7 @@ impl Known {
         self.version
     }
 
-    /// A copy.
+    /// A copy of the known batches.
     pub fn copy(&self) -> Known
         ensures { result ≡ self.now }
     {
@@ -73,8 +73,8 @@ impl Known {
         }
     }
 
-    /// Knows the other's batches from now on, if they are no fewer. Returns whether they are. The
-    /// shorter list is a prefix of the longer.
+    /// Takes over the batches of `other`, if they aren't fewer than the known batches. Returns whether
+    /// it does. The shorter list is a prefix of the longer list.
     pub fn raise(&mut self, other: &Known) -> bool
         requires { other.now.source ≡ self.old.source }
         ensures { MatchBool result
@@ -91,8 +91,8 @@ impl Known {
         true
     }
 
-    /// Reads the count of published batches for a row, and knows at least as many from now on. The
-    /// steps end in the reading.
+    /// Reads the count of published batches for a row. From then on at least as many batches are known.
+    /// The reading is the last of `steps` after the call.
     pub fn catch_up(
         &mut self,
         count: &PublishedCount,
@@ -103,7 +103,7 @@ impl Known {
         requires steps { steps.old.source ≡ self.old.source }
         ensures { CatchesUp self.old self.new steps.old steps.new row.reader row.place result }
     {
-        // A law: a prefix of a lawful list is lawful.
+        // Law: a prefix of a lawful list is lawful.
         lawful_batches();
         let mut seen = steps.seen();
         seen.learn(&self.seen);
@@ -114,7 +114,7 @@ impl Known {
         published
     }
 
-    /// Steps that record the batches.
+    /// Steps that record the known batches.
     pub fn steps(&self) -> SeenSteps
         ensures source { result.source ≡ self.now.source }
         ensures recorded { BeginsWith (batches_of result.steps) self.now.batches }

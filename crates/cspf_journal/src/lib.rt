@@ -1,22 +1,23 @@
-//! The journal of a publisher: the list of its batches, what is known of that list, and the writer
-//! that gets their texts.
+//! The journal of a publisher: the list of its batches, which of these batches are known, and the
+//! writer that gets their texts.
 //!
-//! A list is made by `NewJournal::new` alone, with its own source. Of a longer list only
-//! `JournalWriter::record` gives knowledge, behind the last batch's whole text. `Known` and the list
-//! have no other maker. So no other crate can show a batch before its text is written, not even in a
-//! call that never returns.
+//! Only `NewJournal::new` makes a list, and each list has a different source. Only
+//! `JournalWriter::record` makes a longer list known, after the last batch's text is written whole.
+//! Nothing else makes a `Known` or a list. So no other crate can show a batch before its text is
+//! written, not even in a call that never returns.
 //!
-//! One word is the count of published batches. The holder of a journal's `RightToCount` moves it, by
-//! one for each batch that it shows. A `Known` that reads it knows as many batches from then on. Each
-//! count and each reading is a step of the journal, so a later reading finds no less. The step of a
-//! reading names the row that it is for.
+//! The count of published batches is a counter that threads share. The holder of a journal's
+//! `RightToCount` raises the counter by one for each batch that the holder shows. A `Known` that reads
+//! the counter knows at least as many batches from then on. Each count and each reading is a step of
+//! the journal, so a later reading finds no less. The step of a reading names the row for which the
+//! count is read.
 //!
-//! A journal gives two `CopyRight`s. Each copy of the table that its publisher keeps holds one, so there
-//! are two copies.
+//! A journal gives two `CopyRight`s. Each copy of the publisher's table holds one of them, so there are
+//! two copies.
 //!
-//! `specs/Histories.antt` says which lists may be published, `specs/KnownBatches.antt` what is known
-//! of one, and `specs/JournalStates.antt` what a journal is in clauses. `specs/JournalSteps.antt` has
-//! the steps, and `specs/Readings.antt` what a reading finds.
+//! `specs/Histories.antt` says which lists may be published, and `specs/KnownBatches.antt` what is
+//! known of a list. `specs/JournalStates.antt` says how clauses see a journal.
+//! `specs/JournalSteps.antt` has the steps, and `specs/Readings.antt` says what a reading finds.
 #![tactic(auto)]
 
 mod batch_list;

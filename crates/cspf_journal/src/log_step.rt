@@ -5,15 +5,15 @@ use cspf_model::Batch;
 pub enum LogStep {
     /// A batch is added to the list.
     Recorded(Batch),
-    /// One more batch is published: this many are from now on.
+    /// One more batch is published. From then on this many batches are published.
     Published(u32),
-    /// The count of published batches is read for a row, and it is this one.
+    /// The count of published batches is read for a row.
     Read {
         /// The number of the reader.
         reader: u64,
-        /// The place of its row, from 1.
+        /// The place of the reader's row, counted from 1.
         place: u64,
-        /// The count.
+        /// The count that the reading finds.
         count: u32,
     },
 }
@@ -23,6 +23,6 @@ pub enum LogStep {
 pub struct RowOfReader {
     /// The number of the reader.
     pub reader: u64,
-    /// The place of its row, from 1.
+    /// The place of the reader's row, counted from 1.
     pub place: u64,
 }

@@ -6,7 +6,7 @@ use crate::journal_writer::JournalWriter;
 use crate::rights::RightToShow;
 use std::marker::Model;
 
-/// A writer, a list to which no batch was added, and the right to show its batches.
+/// A writer, a list without batches, and the right to show the batches of that list.
 #[derive(Drop)]
 pub struct NewJournal<W> {
     writer: W,
@@ -27,7 +27,7 @@ impl<W> Model for NewJournal<W> {
 }
 
 impl<W> NewJournal<W> {
-    /// A journal with a list of its own.
+    /// A journal with a new list.
     pub fn new(writer: W) -> NewJournal<W>
         ensures { result.writer ≡ writer }
     {
@@ -39,7 +39,7 @@ impl<W> NewJournal<W> {
         }
     }
 
-    /// The journal, and the one right to show its batches.
+    /// The journal, and the only right to show its batches.
     pub fn start(self) -> (JournalWriter<W>, RightToShow)
         ensures journal { result.0 ≡ record {
           batches = [];

@@ -1,4 +1,4 @@
-//! The count of published batches, a word that threads share.
+//! The count of published batches, a counter that threads share.
 ghost use Rattle.std.specs.Prelude.{◌≡◌, ◌<◌, ◌≤◌, length, MatchBool};
 ghost use Rattle.cspf_journal.specs.HistoryRule.{count_word};
 ghost use Rattle.cspf_journal.specs.JournalSteps.{batches_of, count_of, AreJournalSteps, AreStepsUpTo};
@@ -9,8 +9,9 @@ use crate::log_step::{LogStep, RowOfReader};
 use logbook::{Offer, Seen, Word};
 use std::marker::Model;
 
-/// How many batches of a journal are published. Only the holder of its `RightToCount` moves it, by
-/// one for each batch. In clauses it is its journal's source: its value is known at steps alone.
+/// How many batches of a journal are published. Only the holder of the journal's `RightToCount` raises
+/// the count, by one for each batch. Clauses see the count as its journal's source, since its value is
+/// known only at steps.
 #[derive(Drop)]
 pub struct PublishedCount {
     word: Word<LogStep, u64, History>,
@@ -31,7 +32,7 @@ impl Model for PublishedCount {
 }
 
 impl PublishedCount {
-    /// The count that the word has.
+    /// The count that this counter holds.
     pub(crate) fn new(word: Word<LogStep, u64, History>) -> PublishedCount
         requires { word ≡ count_word word.book }
         ensures { result ≡ word.book }
@@ -39,8 +40,8 @@ impl PublishedCount {
         PublishedCount { word }
     }
 
-    /// Counts one more batch as published, by one step. Returns whether it did: the count was not
-    /// one less where it did not.
+    /// Counts one more batch as published, in one step. Returns whether it did. If it didn't, the count
+    /// before wasn't `count` less 1.
     pub(crate) fn move_to(&self, count: u32, seen: &mut Seen<LogStep, u64, History>) -> bool
         requires source { seen.old.book ≡ self.now }
         requires recorded { (0 < count) × (count ≤ length (batches_of seen.old.log)) }
@@ -67,7 +68,7 @@ impl PublishedCount {
         found == old
     }
 
-    /// Reads the count for a row, by one step.
+    /// Reads the count for a row, in one step.
     pub(crate) fn read(&self, seen: &mut Seen<LogStep, u64, History>, row: RowOfReader) -> u32
         requires { seen.old.book ≡ self.now }
         ensures source { seen.new.book ≡ seen.old.book }

@@ -1,5 +1,5 @@
-//! The rights to show the batches of a journal, to keep the two copies of their table, and to count them
-//! as published.
+//! The rights to show the batches of a journal, to keep the two copies of their table, and to count the
+//! batches as published.
 ghost use Rattle.std.specs.Prelude.{◌≡◌, length, MatchBool};
 ghost use Rattle.cspf_model.specs.Numbered.{NumberedChanges};
 ghost use Rattle.cspf_journal.specs.Histories.{BeginsWith};
@@ -11,8 +11,8 @@ use crate::published_count::PublishedCount;
 use crate::seen_steps::SeenSteps;
 use std::marker::Model;
 
-/// The right to count the batches of a journal as published, one by one. Each journal gives one, and
-/// it can't be copied. Contracts see it as the batches that are counted.
+/// The right to count the batches of a journal as published, one by one. Each journal gives one such
+/// right, and it can't be copied. Contracts see the right as the batches that were counted.
 #[derive(Drop)]
 pub struct RightToCount {
     known: Known,
@@ -35,7 +35,7 @@ impl Model for RightToCount {
 }
 
 impl RightToCount {
-    /// The right to count what comes after these batches.
+    /// The right to count the batches that come after these batches.
     pub(crate) fn new(known: Known, steps: SeenSteps) -> RightToCount
         requires source { steps.source ≡ known.source }
         requires count { count_of steps.steps ≡ length known.batches }
@@ -45,15 +45,15 @@ impl RightToCount {
         RightToCount { known, steps }
     }
 
-    /// The batches that are counted.
+    /// The batches that were counted.
     pub(crate) fn known(&self) -> Known
         ensures { result ≡ self.now }
     {
         self.known.copy()
     }
 
-    /// Counts one more batch as published: the last of these, which is recorded. Returns whether it
-    /// did. It did not where the word has another count than this right has, which no run shows.
+    /// Counts the last batch of `published` as published. Returns whether it did. The call doesn't
+    /// count if the counter has another count than this right, which happens in no run.
     pub fn count(&mut self, word: &PublishedCount, published: &Known) -> bool
         requires word { word.now ≡ self.old.source }
         requires next { (b : NumberedChanges)
@@ -70,8 +70,7 @@ impl RightToCount {
         true
     }
 
-    /// The steps up to the last count, after which the word had this count: that of the published
-    /// batches. They record these.
+    /// The steps up to the last count. These steps record the published batches, and count as many.
     pub fn steps(&self) -> SeenSteps
         ensures source { result.source ≡ self.now.source }
         ensures count { count_of result.steps ≡ length self.now.batches }
@@ -81,8 +80,9 @@ impl RightToCount {
     }
 }
 
-/// The right to keep one copy of the table of a journal's batches. Each journal gives two, and they
-/// can't be copied. Contracts see it as its journal's source. It takes no room.
+/// The right to keep one copy of the table of a journal's batches. Each journal gives two such rights,
+/// and they can't be copied. Contracts see the right as its journal's source. The right takes no
+/// memory.
 #[derive(Drop)]
 pub struct CopyRight {
     steps: SeenSteps,
@@ -99,7 +99,7 @@ impl Model for CopyRight {
 }
 
 impl CopyRight {
-    /// A right of the source of these steps.
+    /// The right of the source of these steps.
     pub(crate) fn new(steps: SeenSteps) -> CopyRight
         ensures { result ≡ steps.source }
     {
@@ -107,7 +107,8 @@ impl CopyRight {
     }
 }
 
-/// The right to show the batches of a journal. Each journal gives one, and it can't be copied.
+/// The right to show the batches of a journal. Each journal gives one such right, and it can't be
+/// copied.
 #[derive(Drop)]
 pub struct RightToShow {
     right: RightToCount,
@@ -130,7 +131,8 @@ impl Model for RightToShow {
 }
 
 impl RightToShow {
-    /// The right, the count that it moves, and the rights of two copies.
+    /// The right to show the batches. It holds the right to count them, the count that this right
+    /// raises, and two `CopyRight`s.
     pub(crate) fn new(right: RightToCount, count: PublishedCount) -> RightToShow
         requires { count ≡ right.source }
         ensures { result ≡ right }
@@ -145,14 +147,15 @@ impl RightToShow {
         }
     }
 
-    /// What is known of the journal's list when it is new: no batch.
+    /// The known batches of the new journal: none.
     pub fn known(&self) -> Known
         ensures { result ≡ self.now }
     {
         self.right.known()
     }
 
-    /// The right to count what is shown, the count that it moves, and the rights of the two copies.
+    /// The right to count the shown batches, the count that this right raises, and the two
+    /// `CopyRight`s.
     pub fn split(self) -> (RightToCount, PublishedCount, CopyRight, CopyRight)
         ensures right { result.0 ≡ self }
         ensures count { result.1 ≡ self.source }

@@ -1,4 +1,4 @@
-//! The known first steps of a journal.
+//! The first steps of a journal, as far as they are known.
 ghost use Rattle.std.specs.Prelude.{◌≡◌, ◌≤◌};
 ghost use mathlib.Core.List.{IsPrefix};
 ghost use Rattle.cspf_journal.specs.Histories.{BeginsWith};
@@ -9,7 +9,7 @@ use crate::log_step::LogStep;
 use logbook::Seen;
 use std::marker::Model;
 
-/// The steps of a journal, from the first one up to one that was seen. It takes no room.
+/// The steps of a journal, from the first step up to a step that was seen. The value takes no memory.
 #[derive(Drop)]
 pub struct SeenSteps {
     seen: Seen<LogStep, u64, History>,
@@ -26,7 +26,7 @@ impl Model for SeenSteps {
 }
 
 impl SeenSteps {
-    /// The steps that are seen.
+    /// The steps that were seen.
     pub(crate) fn new(seen: Seen<LogStep, u64, History>) -> SeenSteps
         requires { AreJournalSteps seen.log }
         ensures { result ≡ record { steps = seen.log; source = seen.book } }
@@ -34,14 +34,14 @@ impl SeenSteps {
         SeenSteps { seen }
     }
 
-    /// The seen steps, for the next one.
+    /// The seen steps, as they are given to the next step.
     pub(crate) fn seen(&self) -> Seen<LogStep, u64, History>
         ensures { (result.log ≡ self.now.steps) × (result.book ≡ self.now.source) }
     {
         self.seen.again()
     }
 
-    /// A copy.
+    /// A copy of the known steps.
     pub fn copy(&self) -> SeenSteps
         ensures copy { result ≡ self.now }
         ensures journal { AreJournalSteps self.now.steps }
@@ -51,8 +51,7 @@ impl SeenSteps {
         }
     }
 
-    /// Knows both its own steps and the other's from now on. A reading after them finds no less than
-    /// was counted by either.
+    /// Adds the steps of `other` to the known steps. A later reading finds at least the count of each.
     pub fn learn(&mut self, other: &SeenSteps)
         requires { other.now.source ≡ self.old.source }
         ensures source { self.new.source ≡ self.old.source }

@@ -1,4 +1,4 @@
--- The lines of an audit of a journal, requests and replies, and the status.
+-- The lines and the status of an audit of a journal, requests and replies.
 use Rattle.std.specs.Prelude.{◌≡◌, ℕ, ◌⊎◌, ◌++◌, ◌==◌, if◌then◌else◌, List, length, codes, Option, IfSome}
 use Rattle.std.specs.Fmt.{decimal}
 use Rattle.std.specs.List.{flat_map}
@@ -17,23 +17,23 @@ use Rattle.cspf_judge.specs.Inputs.{torn_line, IsFaultLine}
 abbrev pub fault_line : AuditFault → List ℕ
 fault_line fault = fault_words fault ++ codes "\n"
 
--- the last line: how many lines are good, and how many faults there are
+-- the last line: how many lines are good, and the count of faults
 abbrev pub audited_line : ℕ → ℕ → List ℕ
 audited_line good faults = codes "good=" ++ decimal good ++ codes " faults=" ++ decimal faults ++ codes "\n"
 
--- the line of the request row with this number, which has the id of an earlier one
+-- the line that refuses the request row with this number, since an earlier row has the same id
 abbrev pub same_id_line : ℕ → List ℕ
 same_id_line row = codes "request row " ++ decimal row ++ codes " refused: same-id\n"
 
--- the lines of an audit: one for each fault, and the last one
+-- the lines of an audit: one line for each fault, and the last line
 abbrev pub audit_lines : Audit → List ℕ
 audit_lines audit = flat_map fault_line audit.faults.items ++ audited_line audit.good (length audit.faults.items)
 
--- 0 where there is no fault, and else 2
+-- the status is 0 if there are no faults, and 2 otherwise
 abbrev pub audit_status : Audit → ℕ
 audit_status audit = if length audit.faults.items == 0 then 0 else 2
 
--- the line by which streams are refused that aren't audited: memory and a device have none
+-- the line that refuses streams which can't be audited. If memory or a device fails, there is no line.
 abbrev pub IsAuditErrorLine : AuditError → List ℕ → Type 0
 IsAuditErrorLine error.Memory line = ⊥
 IsAuditErrorLine error.Device line = ⊥
@@ -43,7 +43,7 @@ IsAuditErrorLine (error.Batch number why) line = line ≡ refused_batch_line num
 IsAuditErrorLine (error.Requests why) line = IsFaultLine why line
 IsAuditErrorLine (error.SameId row) line = line ≡ same_id_line row
 
--- The lines of the audit, or the line by which the streams are refused.
+-- The lines are those of the audit, or the line that refuses the streams.
 abbrev pub IsAuditRun : Option (List ℕ) → Option (List ℕ) → Option (List ℕ) → List ℕ → ℕ → Type 0
 IsAuditRun journal requests replies lines status =
     ((audit : Audit) × (lines ≡ audit_lines audit) × (status ≡ audit_status audit)

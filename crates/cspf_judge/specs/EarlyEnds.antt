@@ -1,4 +1,4 @@
--- What holds where a run over a journal or requests ends early.
+-- How a run over a journal or requests may end early: with a line that refuses an input, or with an error.
 use Rattle.std.specs.Prelude.{◌≡◌, ◌⊎◌, ℕ, Option, List, ◌++◌}
 use Rattle.std.specs.Io.KnownBytes.{Appends, Keeps}
 use Rattle.cspf_audit.specs.declared.audit_error.AuditError.{AuditError}
@@ -18,63 +18,63 @@ use Rattle.cspf_judge.specs.declared.early_end.JudgeError.TheVariants.{Memory, D
 use Rattle.cspf_judge.specs.declared.line.JudgeLine.TheVariants as line
 use Rattle.cspf_judge.specs.LineTexts.{judge_line_text}
 
--- where something is refused, this holds of the line that says so
+-- if an input is refused, `Holds` is true of the line that says so
 abbrev pub IfRefused : EarlyEnd → (List ℕ → Type 0) → Type 0
 IfRefused (early_end.Refused line) Holds = Holds (judge_line_text line)
 IfRefused (early_end.Failed error) Holds = Unit {0}
 
--- where memory is refused or a device fails, this holds of the error
+-- if memory is refused or a device fails, `Holds` is true of the error
 abbrev pub IfFailed : EarlyEnd → (JudgeError → Type 0) → Type 0
 IfFailed (early_end.Refused line) Holds = Unit {0}
 IfFailed (early_end.Failed error) Holds = Holds error
 
--- the line was written by which something is refused
+-- an input is refused, and the line that says so was written
 abbrev pub IsRefusalWritten : EarlyEnd → Option (List ℕ) → Option (List ℕ) → Type 0
 IsRefusalWritten (early_end.Refused line) old new = Appends old new (judge_line_text line)
 IsRefusalWritten (early_end.Failed error) old new = ⊥
 
--- the error that ends a run: any where the line of what is refused isn't written, and else the one before
+-- the error of the whole run: that of the early end, or any error if writing the line of a refusal failed
 abbrev pub IsLastError : EarlyEnd → JudgeError → Type 0
 IsLastError (early_end.Refused line) e = Unit {0}
 IsLastError (early_end.Failed error) e = e ≡ error
 
--- the beginning of a text was written: nothing, a part, or all of it
+-- a prefix of the text was written: nothing, a part, or the whole text
 pub record WritesFront (old new : Option (List ℕ)) (text : List ℕ) : Type 0 where
   pub front : List ℕ
   pub rest : List ℕ
   pub split : text ≡ front ++ rest
   pub written : Appends old new front
 
--- nothing was written, or the beginning of lines of which this holds
+-- nothing was written, or a prefix of lines for which `Holds` is true
 abbrev pub HasBegun : Option (List ℕ) → Option (List ℕ) → (List ℕ → Type 0) → Type 0
 HasBegun old new Holds = Keeps old new ⊎ ((lines : List ℕ) × Holds lines × WritesFront old new lines)
 
--- the beginning of the line was written by which something is refused, or nothing
+-- a prefix of the line that refuses an input was written. After an error nothing was written.
 abbrev pub IsRefusalBegun : EarlyEnd → Option (List ℕ) → Option (List ℕ) → Type 0
 IsRefusalBegun (early_end.Refused line) old new = WritesFront old new (judge_line_text line)
 IsRefusalBegun (early_end.Failed error) old new = Keeps old new
 
--- lines were written of which this holds
+-- lines were written for which `Holds` is true
 abbrev pub Writes : Option (List ℕ) → Option (List ℕ) → (List ℕ → Type 0) → Type 0
 Writes old new Holds = (lines : List ℕ) × Holds lines × Appends old new lines
 
--- a run ends by the line of a batch that doesn't fit
+-- the run ends with the line that refuses a batch which doesn't fit
 abbrev pub unfit_end : UnfitBatch → EarlyEnd
 unfit_end unfit = early_end.Refused (line.Stream (stream_line.RefusedBatch unfit.number (refusal.Unfit unfit.refusal)))
 
--- the line of a journal that can't be read: memory and a device have none
+-- the line of a journal that can't be read. If memory or a device fails, there is no line.
 abbrev pub IsJournalLine : ReadError → List ℕ → Type 0
 IsJournalLine read_error.Memory line = ⊥
 IsJournalLine read_error.Device line = ⊥
 IsJournalLine read_error.TooManyRows line = line ≡ too_many_line
 
--- the error of a run whose journal can't be read: a fault with a line has no error
+-- the error of a run whose journal can't be read. A fault that has a line is no error.
 abbrev pub IsJournalError : ReadError → JudgeError → Type 0
 IsJournalError read_error.Memory e = e ≡ Memory
 IsJournalError read_error.Device e = e ≡ Device
 IsJournalError read_error.TooManyRows e = ⊥
 
--- the error of a run whose requests can't be read: a fault with a line has no error
+-- the error of a run whose requests can't be read. A fault that has a line is no error.
 abbrev pub IsRequestsError : RequestsError → JudgeError → Type 0
 IsRequestsError requests_error.Memory e = e ≡ Memory
 IsRequestsError requests_error.Device e = e ≡ Device
@@ -82,7 +82,7 @@ IsRequestsError requests_error.TooManyRows e = ⊥
 IsRequestsError (requests_error.Bad row why) e = ⊥
 IsRequestsError (requests_error.NotAsk row) e = ⊥
 
--- the error of a run whose streams aren't audited: a fault with a line has no error
+-- the error of a run whose streams can't be audited. A fault that has a line is no error.
 abbrev pub IsAuditFailure : AuditError → JudgeError → Type 0
 IsAuditFailure audit_error.Memory e = e ≡ Memory
 IsAuditFailure audit_error.Device e = e ≡ Device

@@ -1,4 +1,4 @@
--- How a journal and a stream of requests are read, and the lines by which they are refused.
+-- How a journal and a stream of requests are read, and the lines that refuse them.
 use Rattle.std.specs.Prelude.{◌≡◌, ℕ, ◌<◌, ◌≤◌, ◌⊎◌, Bool, true, false, List, ◌++◌, length, codes}
 use Rattle.std.specs.Fmt.{decimal}
 use Rattle.cspf_rows.specs.Records.{Records}
@@ -15,25 +15,25 @@ use Rattle.cspf_rows.specs.Requests.{AreRequests, IsRequestsFault}
 use Rattle.cspf_rows.specs.Words.{words}
 use Rattle.cspf_stream.specs.Lines.{too_many_line}
 
--- the line of a journal that has this many batches, and rows after them
+-- the line of a journal that has this many batches and is torn
 abbrev pub torn_line : ℕ → List ℕ
 torn_line count = codes "journal torn after " ++ decimal count ++ codes "\n"
 
--- the line of the request row with this number, which is refused
+-- the line that refuses the request row with this number
 abbrev pub refused_request_line : ℕ → RowError → List ℕ
 refused_request_line row error =
     codes "request row " ++ decimal row ++ codes " refused: " ++ words error ++ codes "\n"
 
--- The records of a journal, of which there are at most 1,000,000, read as these batches; rows after
--- them are skipped where that is asked for.
+-- A journal of at most 1,000,000 records has these batches. Records after the last whole batch are skipped if
+-- `accept_torn` is set, and otherwise there are none.
 pub record AreBatchesOf (accept_torn : Bool) (records : Records)
     (batches : List NumberedChanges) : Type 0 where
   pub few : length records ≤ MOST_ROWS
   pub journal : IsJournal records batches rest.Clean
       ⊎ (IsJournal records batches rest.Torn × (accept_torn ≡ true))
 
--- The records of a journal are refused by this line: there are too many, or some are left after its
--- batches.
+-- This line refuses the records of a journal: there are too many of them, or the journal is torn and
+-- `accept_torn` isn't set.
 abbrev pub IsJournalRefused : Bool → Records → List ℕ → Type 0
 IsJournalRefused accept_torn records line =
     ((MOST_ROWS < length records) × (line ≡ too_many_line))
@@ -41,13 +41,13 @@ IsJournalRefused accept_torn records line =
     × ((batches : List NumberedChanges) × IsJournal records batches rest.Torn
     × (line ≡ torn_line (length batches))))
 
--- the records of a stream of requests, of which there are at most 1,000,000, ask for these
+-- a stream of at most 1,000,000 records has these requests
 pub record AreRequestsOf (records : Records) (requests : List Request) : Type 0 where
   pub few : length records ≤ MOST_ROWS
   pub asked : AreRequests records requests
 
--- The line that a stream of requests is refused by. A row that is no request is refused with the
--- words for an unknown kind.
+-- The line that refuses a stream of requests. A row that isn't a request is refused with the words for an unknown
+-- kind of row.
 abbrev pub IsFaultLine : RequestsError → List ℕ → Type 0
 IsFaultLine fault.Memory line = ⊥
 IsFaultLine fault.Device line = ⊥
@@ -55,7 +55,7 @@ IsFaultLine fault.TooManyRows line = line ≡ too_many_line
 IsFaultLine (fault.Bad row error) line = line ≡ refused_request_line row error
 IsFaultLine (fault.NotAsk row) line = line ≡ refused_request_line row row_error.Kind
 
--- the records of a stream of requests are refused by this line
+-- this line refuses the records of a stream of requests
 abbrev pub AreRequestsRefused : Records → List ℕ → Type 0
 AreRequestsRefused records line =
     (why : RequestsError) × IsRequestsFault records why × IsFaultLine why line

@@ -1,4 +1,4 @@
-//! The run of `audit`: three streams in, a line for each fault and the count of good lines out.
+//! The run of `audit`: it reads three streams, and writes a line for each fault and the count of good lines.
 
 ghost use Rattle.std.specs.Prelude.{◌≡◌, ℕ, IfOk, OnOk, OnErr};
 ghost use Rattle.std.specs.Io.KnownBytes.{Appends};
@@ -12,10 +12,10 @@ use cspf_stream::{BatchRefusal, StreamLine};
 use std::alloc::Global;
 use std::io::{Read, Write};
 
-/// Audits replies to the requests of a stream by a journal, and writes a line for each fault and
-/// then how many lines are good: `IsAuditRun`. Streams that aren't audited are refused by one line.
-/// The status is 0 where no line was written for a fault or a refusal, and else 2. After an error
-/// the writer has nothing more, or the beginning of those lines. The writer isn't flushed.
+/// Audits replies by a journal and requests. Writes a line for each fault, and then how many lines are good:
+/// `IsAuditRun`. Streams that can't be audited are refused with one line. Returns the status: 0 if there is
+/// no fault and no refusal, and 2 otherwise. After an error the writer has a prefix of these lines, or none of
+/// them. The writer isn't flushed.
 pub fn run_audit<W: Write, R: Read + Drop, Q: Read + Drop, P: Read + Drop>(
     alloc: Global,
     journal: R,
@@ -36,7 +36,7 @@ pub fn run_audit<W: Write, R: Read + Drop, Q: Read + Drop, P: Read + Drop>(
     }
 }
 
-/// How a run ends if its streams aren't audited.
+/// How a run ends if its streams can't be audited.
 fn audit_end_of(error: AuditError) -> EarlyEnd
     ensures refused { IfRefused result (IsAuditErrorLine error) }
     ensures failed { IfFailed result (IsAuditFailure error) }

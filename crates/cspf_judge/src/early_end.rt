@@ -1,4 +1,4 @@
-//! Why a run ends before its streams are judged, by a line or by an error.
+//! Why a run ends before its streams are judged: a line refuses an input, or there is an error.
 
 ghost use Rattle.std.specs.Prelude.{◌≡◌};
 ghost use Rattle.cspf_judge.specs.EarlyEnds.{unfit_end};
@@ -11,7 +11,7 @@ use cspf_stream::{BatchRefusal, StreamLine};
 use std::alloc::AllocError;
 use thiserror::Error;
 
-/// Why a journal, requests or replies aren't judged.
+/// The error of a run that can't judge a journal, requests or replies.
 #[derive(Clone, Copy, Debug, PartialEq, Eq, Error)]
 pub enum JudgeError {
     /// Memory was refused.
@@ -30,10 +30,10 @@ impl From<AllocError> for JudgeError {
     }
 }
 
-/// Why a run over a journal or requests ends early.
+/// How a run over a journal or requests ends early.
 #[derive(Clone, Copy)]
 pub enum EarlyEnd {
-    /// Something was refused, as the line says.
+    /// An input is refused with this line.
     Refused(JudgeLine),
     /// Memory was refused, or a device failed.
     Failed(JudgeError),

@@ -1,4 +1,4 @@
-//! Reads the journal and the requests of a run, and makes the line of the first refusal.
+//! Reads the journal and the requests of a run, or makes the line that refuses them.
 
 ghost use Rattle.std.specs.Prelude.{◌≡◌, ◌≤◌, List, ℕ, true, false, length, IfOk, IfErr, OnOk, OnErr, IfSome};
 ghost use Rattle.cspf_rows.specs.Records.{rows_of};
@@ -15,7 +15,8 @@ use cspf_stream::StreamLine;
 use std::alloc::Global;
 use std::io::Read;
 
-/// The batches of a journal. Rows after them are skipped where that is asked for, and else refused.
+/// The batches of a journal. Rows after the last whole batch are skipped if `accept_torn` is set. Otherwise
+/// they refuse the journal.
 pub fn batches_of<R: Read + Drop>(
     alloc: Global,
     journal: R,
@@ -46,7 +47,7 @@ pub fn journal_end_of(error: ReadError) -> EarlyEnd
     }
 }
 
-/// The batches of a journal that was read, unless rows after them are refused.
+/// The batches of a journal that was read. If it is torn, it is refused unless `accept_torn` is set.
 fn whole_batches(journal: Journal, accept_torn: bool) -> Result<Vec<Batch>, EarlyEnd>
     ensures ok { IfOk result (λ batches. (batches.items ≡ journal.batches.items)
         × (journal.rest ≡ IsTorn → accept_torn ≡ true)) }
@@ -58,7 +59,7 @@ fn whole_batches(journal: Journal, accept_torn: bool) -> Result<Vec<Batch>, Earl
     Ok(journal.batches)
 }
 
-/// Refuses rows after this many batches of a journal, unless they are to be skipped.
+/// Refuses a torn journal of `count` batches, unless `accept_torn` is set.
 pub fn accept_rest(rest: Rest, count: usize, accept_torn: bool) -> Result<(), EarlyEnd>
     ensures ok { OnOk result (rest ≡ IsTorn → accept_torn ≡ true) }
     ensures err { IfErr result (λ end. IfRefused end (λ line. (rest ≡ IsTorn)

@@ -1,12 +1,11 @@
-//! The judge of journals, requests and replies, by one thread and without a publisher.
+//! The judge of journals, requests and replies. It works in one thread and without a publisher.
 //!
-//! `run_audit` judges replies by a journal and requests: `specs/AuditRun.antt` says what is written
-//! of them. `run_snapshot` writes the batches that make a journal's last database from nothing:
-//! `specs/SnapshotRun.antt` says what is written of a journal.
+//! `run_audit` judges replies by a journal and requests, and `specs/AuditRun.antt` defines its output.
+//! `run_snapshot` writes the batches that make a journal's last database from the empty one, and
+//! `specs/SnapshotRun.antt` defines its output.
 //!
-//! What all runs over a journal and requests share is here, too. `specs/Inputs.antt` says how the
-//! two are read, and by which line they are refused. `specs/EarlyEnds.antt` says what holds where a
-//! run ends early.
+//! The crate also has what all runs over a journal and requests share. `specs/Inputs.antt` defines how the
+//! two are read, and the lines that refuse them. `specs/EarlyEnds.antt` defines how a run ends early.
 #![tactic(auto)]
 
 mod audit_run;

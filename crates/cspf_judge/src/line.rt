@@ -1,4 +1,4 @@
-//! The lines of a run over a journal, requests or replies, all but the replies.
+//! The lines of a run over a journal, requests or replies, except reply lines.
 
 use cspf_audit::AuditFault;
 use cspf_rows::RowError;
@@ -6,20 +6,20 @@ use cspf_stream::StreamLine;
 use std::alloc::{AllocError, Global};
 use std::fmt;
 
-/// A line of a run over a journal, requests or replies, unless it is a reply.
+/// A line of a run over a journal, requests or replies that isn't a reply line.
 #[derive(Clone, Copy)]
 pub enum JudgeLine {
-    /// A line that streams of rows have, too.
+    /// A line that streams of rows can have, too.
     Stream(StreamLine),
-    /// A journal has this many batches, and rows after them.
+    /// The journal has this many batches and is torn.
     Torn { count: usize },
     /// The request row with this number is refused.
     RefusedRequest { row: u32, error: RowError },
-    /// The request row with this number has the id of an earlier one.
+    /// The request row with this number has the same id as an earlier row.
     SameId { row: u32 },
-    /// An audit found this fault.
+    /// The audit found this fault.
     Fault { fault: AuditFault },
-    /// An audit found this many good lines and faults.
+    /// The audit found this many good lines and this many faults.
     Audited { good: u32, faults: usize },
 }
 
@@ -48,7 +48,7 @@ impl JudgeLine {
     ghost use Rattle.std.specs.Prelude.{◌≡◌, IfOk};
     ghost use Rattle.cspf_judge.specs.LineTexts.{judge_line_text};
 
-    /// Its bytes, the line feed too.
+    /// The bytes of the line, with its line feed.
     pub(crate) fn bytes(self, alloc: Global) -> Result<Vec<u8>, AllocError>
         ensures { IfOk result (λ bytes. bytes.items ≡ judge_line_text self) }
     {

@@ -1,4 +1,4 @@
-//! The run of `snapshot`: a journal in, the few batches that make its last database out.
+//! The run of `snapshot`: it reads a journal, and writes the few batches that make its last database.
 
 ghost use Rattle.std.specs.Prelude.{◌≡◌, IfOk, IfErr, IfSome, OnOk, OnErr};
 ghost use Rattle.std.specs.Io.KnownBytes.{Appends};
@@ -15,10 +15,10 @@ use cspf_snapshot::snapshot;
 use std::alloc::Global;
 use std::io::{Read, Write};
 
-/// Writes the batches that make the last database of a journal from nothing: `IsSnapshotRun`. A
-/// journal that gives no database is refused by one line. The status is 2 where it was refused, and
-/// else 0. After an error the writer has nothing more, or the beginning of those lines. The writer
-/// isn't flushed.
+/// Writes the batches that make the journal's last database from the empty one: `IsSnapshotRun`. A journal
+/// is refused with one line if it is too long, if it is torn and `accept_torn` isn't set, or if a batch
+/// doesn't fit. Returns the status: 2 if the journal is refused, and 0 otherwise. After an error the writer
+/// has a prefix of these lines, or none of them. The writer isn't flushed.
 pub fn run_snapshot<R: Read + Drop, W: Write>(
     alloc: Global,
     journal: R,
@@ -39,7 +39,7 @@ pub fn run_snapshot<R: Read + Drop, W: Write>(
     }
 }
 
-/// The batches that make the last database of a journal.
+/// The batches that make the last database of the journal.
 fn snapshot_of<R: Read + Drop>(
     alloc: Global,
     accept_torn: bool,

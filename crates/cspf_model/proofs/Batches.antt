@@ -1,4 +1,4 @@
--- Lemmas of batches: which fit, and why others do not.
+-- Lemmas on batches: which batches fit a database, and why others don't.
 pub mod RouterSets
 pub mod LeastReasons
 pub mod LawfulBatches

@@ -1,4 +1,4 @@
--- Lemmas of databases: keys, changes and counts.
+-- Lemmas on databases: keys, changes and counts.
 pub mod Keys
 pub mod LinksOfRows
 pub mod FoundLinks

@@ -1,4 +1,4 @@
--- Lemmas of the small networks of `specs/NetworkLaws`.
+-- Lemmas on the small networks of `specs/NetworkLaws`.
 pub mod NetworkLinks
 pub mod Reverses
 pub mod Marks

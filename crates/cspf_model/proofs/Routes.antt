@@ -1,4 +1,4 @@
--- Lemmas of walks, routes and what requests say.
+-- Lemmas on walks, on routes and on the fields of requests.
 pub mod WalkOrder
 pub mod WorkedExamples
 pub mod RoutesWithoutHops

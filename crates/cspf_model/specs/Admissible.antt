@@ -1,33 +1,33 @@
--- Which links of a database a request may take, and from which routers it may go on.
+-- Which links of a database a request may use, and which routers its walks may leave.
 use Rattle.std.specs.Prelude.{◌≡◌, ◌≢◌, ◌≤◌, ◌⊎◌, ℕ, bit_and, bit_xor, slice_index}
 use Rattle.cspf_model.specs.declared.link.Link.{Link}
 use Rattle.cspf_model.specs.declared.request.Request.{Request}
 use Rattle.cspf_model.specs.Database.{Database, IsLinkOf, HasReverse, HasTransit}
 
--- A link passes the affinities of a request where it passes all three tests of RFC 3209 4.7.4.
+-- A link passes the affinities of a request if it passes all three tests of RFC 3209 4.7.4.
 pub record HasAffinity (q : Request) (l : Link) : Type 0 where
   pub exclude_any : bit_and l.group q.exclude_any ≡ 0
   pub include_any : (q.include_any ≡ 0) ⊎ (bit_and l.group q.include_any ≢ 0)
   pub include_all :
       (q.include_all ≡ 0) ⊎ (bit_xor (bit_and l.group q.include_all) q.include_all ≡ 0)
 
--- it has the affinity, and the bandwidth is unreserved at the setup priority
+-- The link passes the affinities, and the request's bandwidth is unreserved on it at the setup
+-- priority.
 pub record IsAdmitted (q : Request) (l : Link) : Type 0 where
   pub affinity : HasAffinity q l
   pub room : q.bandwidth ≤ slice_index l.free q.setup
 
--- The link is admitted, and the database has its reverse: a link that runs one way alone is no
--- adjacency (RFC 2328 16.1, step 2b).
+-- The request admits the link, and the database has the link's reverse. A link in one direction alone
+-- is no adjacency (RFC 2328 16.1, step 2b).
 pub record IsUsable (d : Database) (q : Request) (l : Link) : Type 0 where
   pub admitted : IsAdmitted q l
   pub reverse : HasReverse d l
 
--- a link of the database that is usable
+-- The link is a link of the database and usable for the request.
 pub record IsAdmissible (d : Database) (q : Request) (l : Link) : Type 0 where
   pub link : IsLinkOf d l
   pub usable : IsUsable d q l
 
--- A walk of this many links may go on from a router where the router has transit, or where the walk
--- has no links yet.
+-- A walk with `links` links may leave the router: the router has transit, or the walk has no links yet.
 abbrev pub MayLeave : Database → ℕ → ℕ → Type 0
 MayLeave d router links = HasTransit d router ⊎ (links ≡ 0)

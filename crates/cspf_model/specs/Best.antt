@@ -7,25 +7,26 @@ use Rattle.cspf_model.specs.Database.{Database, IsRouterOf}
 use Rattle.cspf_model.specs.Walks.{walk_cmp}
 use Rattle.cspf_model.specs.Routes.{IsRoute}
 
--- no other route is before it
+-- The walk is a route, and no other route comes before it.
 pub record IsBestRoute (d : Database) (q : Request) (walk : List Link) : Type 0 where
   pub is_route : IsRoute d q walk
   pub least : (other : List Link) → IsRoute d q other → walk_cmp other walk ≢ Less
 
--- what a request is answered
+-- The answer to a request.
 pub data Answer : Type 0 where
   unknown_from : Answer
   unknown_to : Answer
   no_route : Answer
   route : List Link → Answer
 
--- the database has both ends of the request
+-- The database has the head-end and the tail-end of the request.
 pub record HasEnds (d : Database) (q : Request) : Type 0 where
   pub from : IsRouterOf d q.from
   pub to : IsRouterOf d q.to
 
--- The best answer: an unknown head-end comes first, then an unknown tail-end, then the route that
--- is before all others, and no route only where no walk is one.
+-- The best answer is `unknown_from` if the head-end isn't in the database. Otherwise it is `unknown_to`
+-- if the tail-end isn't in the database. Otherwise it is the best route, or `no_route` if no walk is a
+-- route.
 abbrev pub IsBestAnswer : Database → Request → Answer → Type 0
 IsBestAnswer d q unknown_from = ¬ IsRouterOf d q.from
 IsBestAnswer d q unknown_to = IsRouterOf d q.from × ¬ IsRouterOf d q.to

@@ -1,4 +1,4 @@
--- What changes make of a database, which batches fit it, and which lists of batches are lawful.
+-- How changes act on a database, which batches fit it, and which lists of batches are lawful.
 use Rattle.std.specs.Prelude.{◌≡◌, ◌≤◌, ℕ, Bool, false, not, cond, Option, Some, None, IsSome, List, [], ◌∷◌, All, length, map, reverse, find}
 use Rattle.std.specs.declared.cmp.Ordering.{Ordering}
 use Rattle.std.specs.Ordering.{nat_cmp, eq_by_cmp, ordering_then}
@@ -13,99 +13,103 @@ use Rattle.cspf_model.specs.Numbered.{NumberedChanges}
 use Rattle.cspf_model.specs.Database.{Database, Key, key_of, link_at, link_count, router_count, mark_count}
 use Rattle.cspf_model.specs.declared.limits.TheConstants.{MOST_CHANGES, MOST_LINKS, MOST_ROUTERS, MOST_MARKS}
 
--- what a change is about: a router with the interface of one of its links, or a router alone, which is
--- marked or not
+-- What a change is about: a router and the interface of one of its links, or a router alone, whose
+-- transit changes.
 abbrev pub ChangeKey : Type 0
 ChangeKey = ℕ × Option ℕ
 
--- what is about the link with this key
+-- The key of a change to the link with this key.
 abbrev pub link_key : Key → ChangeKey
 link_key k = (k.0, Some k.1)
 
--- what is about the mark of this router
+-- The key of a change to the transit of this router.
 abbrev pub mark_key : ℕ → ChangeKey
 mark_key router = (router, None)
 
--- by the router, and then the router alone before its interfaces
+-- The order of these keys: by the router, then the router alone before its interfaces, then by the
+-- interface.
 abbrev pub change_key_cmp : ChangeKey → ChangeKey → Ordering
 change_key_cmp a b = ordering_then (nat_cmp a.0 b.0) (option_cmp nat_cmp a.1 b.1)
 
--- the key that a change is about
+-- The key of a change.
 abbrev pub key_changed : Change → ChangeKey
 key_changed (Put l) = link_key (key_of l)
 key_changed (Remove from local) = link_key (from, local)
 key_changed (Node router transit) = mark_key router
 
--- what a change leaves at the key of a link
+-- The link that a change leaves at its key, if any.
 abbrev pub link_left : Change → Option Link
 link_left (Put l) = Some l
 link_left (Remove from local) = None
 link_left (Node router transit) = None
 
--- whether a change leaves its router marked
+-- Whether a change leaves its router marked as without transit.
 abbrev pub mark_left : Change → Bool
 mark_left (Put l) = false
 mark_left (Remove from local) = false
 mark_left (Node router transit) = not transit
 
--- the last change on a key
+-- The last change of a key, if there is one.
 abbrev pub last_on : ChangeKey → List Change → Option Change
 last_on k changes = find (λ c. eq_by_cmp change_key_cmp k (key_changed c)) (reverse changes)
 
--- what is at a key after the last change on it, where before was there
+-- The link at a key after the last change of this key. `before` is the link that was there before all
+-- changes.
 abbrev pub link_after : Option Change → Option Link → Option Link
 link_after None before = before
 link_after (Some c) before = link_left c
 
--- whether a router is marked after the last change on it, where before says whether it was
+-- Whether a router is marked after the last change of its transit. `before` says whether it was marked
+-- before all changes.
 abbrev pub mark_after : Option Change → Bool → Bool
 mark_after None before = before
 mark_after (Some c) before = mark_left c
 
--- the changes of a list of batches, in one list
+-- The changes of a list of batches as one list.
 abbrev pub changes_of : List NumberedChanges → List Change
 changes_of batches = flat_map (λ b. b.changes) batches
 
--- A key is in the database of a list of batches, with a link, exactly where the last change on it
--- puts this link. A router is marked exactly where the last change on it alone takes its transit
+-- The database that a list of batches makes. It has a link at a key exactly if the last change of this
+-- key puts that link. A router is marked exactly if the last change of its transit takes the transit
 -- away.
 pub record IsDatabaseOf (d : Database) (batches : List NumberedChanges) : Type 0 where
   pub at : (k : Key) → link_at d k ≡ link_after (last_on (link_key k) (changes_of batches)) None
   pub marked : (router : ℕ)
       → set.contains d.marks router ≡ mark_after (last_on (mark_key router) (changes_of batches)) false
 
--- no links and no marks
+-- The database without links and without marks.
 abbrev pub no_links : Database
 no_links = record { links = empty; marks = set.empty }
 
--- the marks after a change on a router
+-- The marks after a change of a router's transit.
 abbrev pub marks_after : set.FinSet nat_cmp → ℕ → Bool → set.FinSet nat_cmp
 marks_after marks router transit = cond transit (set.remove marks router) (set.insert marks router)
 
--- the database after one change
+-- The database after one change.
 abbrev pub after_change : Database → Change → Database
 after_change d (Put l) = record { links = insert d.links (key_of l) l; marks = d.marks }
 after_change d (Remove from local) = record { links = remove d.links (from, local); marks = d.marks }
 after_change d (Node router transit) =
     record { links = d.links; marks = marks_after d.marks router transit }
 
--- the database after some changes, in order
+-- The database after these changes, in order.
 abbrev pub after_changes : Database → List Change → Database
 after_changes d [] = d
 after_changes d (c ∷ cs) = after_changes (after_change d c) cs
 
--- the database after a list of batches
+-- The database after a list of batches.
 abbrev pub database_after : List NumberedChanges → Database
 database_after batches = after_changes no_links (changes_of batches)
 
--- a removal's key is in the database
+-- If the change is a removal, the database has a link with its key.
 abbrev pub IsPresent : Database → Change → Type 0
 IsPresent d (Put l) = Unit {0}
 IsPresent d (Remove from local) = IsSome (link_at d (from, local))
 IsPresent d (Node router transit) = Unit {0}
 
--- A batch fits a database where it has at most 4,096 changes, no two of them on one key, and each
--- removal's key is there. At most 16,384 links, 1,024 routers and 1,024 marks may be left.
+-- A batch fits a database if five rules hold. It has at most 4,096 changes. No two changes have the
+-- same key. Each removal's key is in the database. The database has at most 16,384 links and 1,024
+-- routers after the batch. It has at most 1,024 marks after the batch.
 pub record Fits (d : Database) (batch : NumberedChanges) : Type 0 where
   pub short : length batch.changes ≤ MOST_CHANGES
   pub once : IsDistinct (eq_by_cmp change_key_cmp) (map key_changed batch.changes)
@@ -114,11 +118,12 @@ pub record Fits (d : Database) (batch : NumberedChanges) : Type 0 where
   pub routers : router_count (after_changes d batch.changes) ≤ MOST_ROUTERS
   pub marks : mark_count (after_changes d batch.changes) ≤ MOST_MARKS
 
--- each batch fits the database of those before it
+-- Each batch fits the database that `d` and the batches before it make.
 abbrev pub AreLawfulAfter : Database → List NumberedChanges → Type 0
 AreLawfulAfter d [] = Unit {0}
 AreLawfulAfter d (b ∷ bs) = Fits d b × AreLawfulAfter (after_changes d b.changes) bs
 
--- each batch fits the database of those before it, from no links and no marks on
+-- The list of batches is lawful: each batch fits the database that the batches before it make. The
+-- first batch changes the database without links and marks.
 abbrev pub AreLawful : List NumberedChanges → Type 0
 AreLawful batches = AreLawfulAfter no_links batches

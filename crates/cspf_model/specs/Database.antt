@@ -1,4 +1,4 @@
--- Traffic engineering databases: links by their keys, the routers at their ends, and which of these
+-- Traffic engineering databases: links by their keys, the routers at their ends, and the routers that
 -- are marked as without transit.
 use Rattle.std.specs.Prelude.{◌≡◌, ℕ, ◌⊎◌, IsTrue, Option, Some, List, [], ◌∷◌, All, Contains, map}
 use Rattle.std.specs.Ordering.{nat_cmp, eq_by_cmp, ordering_then}
@@ -8,90 +8,91 @@ use Rattle.std.specs.FinMap as map
 use Rattle.std.specs.FinSet as set
 use Rattle.cspf_model.specs.declared.link.Link.{Link}
 
--- the key of a link in a database: the router that it runs from, and its interface there
+-- The key of a link in a database: the router at which the link begins, and the address of its
+-- interface there.
 abbrev pub Key : Type 0
 Key = ℕ × ℕ
 
--- the key of a link
+-- The key of this link.
 abbrev pub key_of : Link → Key
 key_of l = (l.from, l.local)
 
--- by the router, then by the interface
+-- The order of keys: by the router, then by the interface.
 abbrev pub key_cmp : Key → Key → Ordering
 key_cmp a b = ordering_then (nat_cmp a.0 b.0) (nat_cmp a.1 b.1)
 
--- a traffic engineering database: links by their keys, and the addresses that are marked as those of
--- routers without transit
+-- A traffic engineering database: links by their keys, and marked addresses, which are those of routers
+-- without transit.
 pub record Database : Type 0 where
   pub links : map.FinMap key_cmp Link
   pub marks : set.FinSet nat_cmp
 
--- the link with this key, if there is one
+-- The link with this key, if the database has one.
 abbrev pub link_at : Database → Key → Option Link
 link_at d k = map.get d.links k
 
--- The router is marked as one without transit: no route may pass through it (RFC 6987's stub router).
--- A mark makes no router.
+-- The router is marked as without transit, so no route may pass through it (a stub router of RFC 6987).
+-- A mark alone makes no router.
 abbrev pub IsMarked : Database → ℕ → Type 0
 IsMarked d router = IsTrue (set.contains d.marks router)
 
--- the router is not marked
+-- The router isn't marked.
 abbrev pub HasTransit : Database → ℕ → Type 0
 HasTransit d router = ¬ IsMarked d router
 
--- how many marks the database has
+-- How many marks the database has.
 abbrev pub mark_count : Database → ℕ
 mark_count d = set.len d.marks
 
--- the link is in the database
+-- The database has the link.
 abbrev pub IsLinkOf : Database → Link → Type 0
 IsLinkOf d l = link_at d (key_of l) ≡ Some l
 
--- One link runs back over the same two interfaces as the other. It begins where that one ends, by
--- the address that is remote there, and ends where that one begins.
+-- `r` is the reverse of `l`: it joins the same two interfaces in the other direction. `r` begins at the
+-- router and the interface where `l` ends, and ends where `l` begins.
 pub record IsReverse (l r : Link) : Type 0 where
   pub from : r.from ≡ l.to
   pub local : r.local ≡ l.remote
   pub to : r.to ≡ l.from
   pub remote : r.remote ≡ l.local
 
--- the database has the reverse of the link, with any attributes
+-- The database has the reverse of the link, with any attributes.
 abbrev pub HasReverse : Database → Link → Type 0
 HasReverse d l = (r : Link) × IsLinkOf d r × IsReverse l r
 
--- how many links the database has
+-- How many links the database has.
 abbrev pub link_count : Database → ℕ
 link_count d = map.len d.links
 
--- each link of the database is at its own key
+-- The database has each link at the link's own key.
 abbrev pub AreAtTheirKeys : Database → Type 0
 AreAtTheirKeys d = (k : Key) (l : Link) → link_at d k ≡ Some l → key_of l ≡ k
 
--- the rows are the links of the database, and no others
+-- The rows are exactly the links of the database.
 pub record AreLinksOf (d : Database) (rows : List Link) : Type 0 where
   pub each : All (IsLinkOf d) rows
   pub whole : (l : Link) → IsLinkOf d l → Contains rows l
 
--- no two links share a key
+-- No two links have the same key.
 abbrev pub HaveOwnKeys : List Link → Type 0
 HaveOwnKeys rows = IsDistinct (eq_by_cmp key_cmp) (map key_of rows)
 
--- the link begins or ends at the router
+-- The link begins or ends at the router.
 abbrev pub EndsAt : ℕ → Link → Type 0
 EndsAt router l = (l.from ≡ router) ⊎ (l.to ≡ router)
 
--- the routers of a database are both ends of each of its links
+-- The router is one of the database: some link begins or ends there.
 abbrev pub IsRouterOf : Database → ℕ → Type 0
 IsRouterOf d router = (l : Link) × IsLinkOf d l × EndsAt router l
 
--- both ends of each link
+-- The routers at both ends of each link, in the order of the links.
 abbrev pub ends_of : List Link → List ℕ
 ends_of links = flat_map (λ l. l.from ∷ l.to ∷ []) links
 
--- the set of the ends of all links
+-- The set of the routers at the ends of all links of the database.
 abbrev pub all_routers : Database → set.FinSet nat_cmp
 all_routers d = set.from_list (ends_of (map.values d.links))
 
--- how many routers the database has
+-- How many routers the database has.
 abbrev pub router_count : Database → ℕ
 router_count d = set.len (all_routers d)

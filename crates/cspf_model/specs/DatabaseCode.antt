@@ -1,5 +1,5 @@
--- How a database is coded by its links and marks. The `Model` of a type that is viewed as a
--- database needs it.
+-- How a database is coded as its links and its marks. A type whose view is a database needs this code
+-- in its `Model`.
 use Rattle.std.specs.Prelude.{refl}
 use Rattle.std.specs.Coded.{Coded, code_by, coded×, coded_ℕ}
 use Rattle.std.specs.Ordering.{nat_cmp}
@@ -9,7 +9,7 @@ use Rattle.cspf_model.specs.declared.link.Link.{Link}
 use Rattle.cspf_model.specs.contracts.link.Link.{the_row}
 use Rattle.cspf_model.specs.Database.{Database, key_cmp}
 
--- a database is stored as its links and its marks
+-- The code of a database: its links and its marks.
 abbrev pub database_code : Coded Database
 database_code =
     code_by (map.FinMap key_cmp Link × set.FinSet nat_cmp)

@@ -1,4 +1,4 @@
--- Small networks, and which of their walks are routes.
+-- Two small networks, and which of their walks are routes.
 use Rattle.std.specs.Prelude.{◌≡◌, ◌≢◌, ℕ, ◌+◌, ◌*◌, Bool, true, false, List, [], ◌∷◌, ◌++◌, eqb, map, replicate, refl}
 use Rattle.std.specs.declared.cmp.Ordering.TheVariants.{Less}
 use Rattle.std.proofs.Common.{sym}
@@ -13,19 +13,19 @@ use Rattle.cspf_model.specs.Walks.{walk_cmp}
 use Rattle.cspf_model.specs.Routes.{IsRoute}
 use Rattle.cspf_model.specs.Fields.{RequestFields, HasRequestFields}
 
--- the address with these four bytes
+-- The address with these four bytes.
 abbrev pub address : ℕ → ℕ → ℕ → ℕ → ℕ
 address a b c d = ((a * 256 + b) * 256 + c) * 256 + d
 
--- the routers 1.1.1.1, 2.2.2.2 and so on
+-- The routers 1.1.1.1, 2.2.2.2 and so on.
 abbrev pub router : ℕ → ℕ
 router n = address n n n n
 
--- the routers 10.9.0.1 and 10.9.0.2
+-- The routers 10.9.0.1 and 10.9.0.2.
 abbrev pub inner : ℕ → ℕ
 inner n = address 10 9 0 n
 
--- a link with the same unreserved bandwidth at each priority
+-- A link with the same unreserved bandwidth at each priority.
 abbrev pub link : (from local to remote metric bandwidth : ℕ) → from ≢ to → Link
 link from local to remote metric bandwidth apart = record {
   from = from;
@@ -39,7 +39,7 @@ link from local to remote metric bandwidth apart = record {
   two_ends = apart;
 }
 
--- a request of 1.1.1.1 for a bandwidth of 1 at the highest priority, on links of any groups
+-- A request from 1.1.1.1 for 1 byte per second at the highest setup priority, without affinities.
 abbrev pub asked_fields : ℕ → List Hop → RequestFields
 asked_fields to hops = record {
   id = 1;
@@ -53,140 +53,144 @@ asked_fields to hops = record {
   hops = hops;
 }
 
--- a hop to the routers of this prefix
+-- A hop to the routers in this prefix.
 abbrev pub hop : ℕ → ℕ → Bool → Hop
 hop first length loose =
     record { prefix = record { address = first; length = length }; loose = loose }
 
--- a link of the metric between two routers with the addresses 10.0.n.x and 10.0.n.y there
+-- A link of this metric between two routers, with the interface addresses 10.0.n.x and 10.0.n.y.
 abbrev pub link_by : (from to metric n x y : ℕ) → eqb from to ≡ false → Link
 link_by from to metric n x y apart =
     link from (address 10 0 n x) to (address 10 0 n y) metric 1000 (eqb-false from to apart)
 
--- the link back over the same two interfaces, with no bandwidth: no test of admission is made of a
--- reverse
+-- The reverse of a link, without unreserved bandwidth. A reverse needn't be admitted.
 abbrev pub back : Link → Link
 back l = link l.to l.remote l.from l.local l.metric 0 (λ same. l.two_ends (sym same))
 
--- links, and the links back
+-- These links, and the reverse of each.
 abbrev pub both_ways : List Link → List Link
 both_ways links = links ++ map back links
 
--- First network: from 1.1.1.1 the ways to 4.4.4.4 lead to 10.9.0.1 first, straight or by 3.3.3.3 or
--- by 10.9.0.2. from 1.1.1.1 to 10.9.0.1, of metric 10
+-- The first network has three ways from 1.1.1.1 to 4.4.4.4. Each leads to 10.9.0.1 first: by one link,
+-- by 3.3.3.3, or by 10.9.0.2.
+-- This link leads from 1.1.1.1 to 10.9.0.1, and its metric is 10.
 abbrev pub from_1_to_inner_1 : Link
 from_1_to_inner_1 = link_by (router 1) (inner 1) 10 2 1 2 refl
 
--- from 10.9.0.1 to 4.4.4.4, of metric 1
+-- The link from 10.9.0.1 to 4.4.4.4, of metric 1.
 abbrev pub from_inner_1_to_4 : Link
 from_inner_1_to_4 = link_by (inner 1) (router 4) 1 5 1 4 refl
 
--- from 1.1.1.1 to 3.3.3.3, of metric 1
+-- The link from 1.1.1.1 to 3.3.3.3, of metric 1.
 abbrev pub from_1_to_3 : Link
 from_1_to_3 = link_by (router 1) (router 3) 1 1 1 3 refl
 
--- from 3.3.3.3 to 10.9.0.1, of metric 1
+-- The link from 3.3.3.3 to 10.9.0.1, of metric 1.
 abbrev pub from_3_to_inner_1 : Link
 from_3_to_inner_1 = link_by (router 3) (inner 1) 1 4 3 1 refl
 
--- the way by 3.3.3.3
+-- The way over 3.3.3.3, which is outside of 10.9.0.0/16.
 abbrev pub way_outside : List Link
 way_outside = from_1_to_3 ∷ from_3_to_inner_1 ∷ from_inner_1_to_4 ∷ []
 
--- from 1.1.1.1 to 10.9.0.2, of metric 2
+-- The link from 1.1.1.1 to 10.9.0.2, of metric 2.
 abbrev pub from_1_to_inner_2 : Link
 from_1_to_inner_2 = link_by (router 1) (inner 2) 2 3 1 2 refl
 
--- from 10.9.0.2 to 10.9.0.1, of metric 3
+-- The link from 10.9.0.2 to 10.9.0.1, of metric 3.
 abbrev pub from_inner_2_to_inner_1 : Link
 from_inner_2_to_inner_1 = link_by (inner 2) (inner 1) 3 6 2 1 refl
 
--- the links of the first network
+-- The links of the first network, without their reverses.
 abbrev pub six_links : List Link
 six_links =
     from_1_to_3 ∷ from_1_to_inner_1 ∷ from_1_to_inner_2 ∷ from_3_to_inner_1
     ∷ from_inner_1_to_4 ∷ from_inner_2_to_inner_1 ∷ []
 
--- the way by 10.9.0.2
+-- The way over 10.9.0.2, which is inside 10.9.0.0/16.
 abbrev pub way_inside : List Link
 way_inside = from_1_to_inner_2 ∷ from_inner_2_to_inner_1 ∷ from_inner_1_to_4 ∷ []
 
--- the strict hop to 10.9.0.0/16
+-- The strict hop to 10.9.0.0/16.
 abbrev pub inner_hop : Hop
 inner_hop = hop (address 10 9 0 0) 16 false
 
--- the loose hop to 10.9.0.0/16
+-- The loose hop to 10.9.0.0/16.
 abbrev pub loose_inner_hop : Hop
 loose_inner_hop = hop (address 10 9 0 0) 16 true
 
--- the strict hop to 1.1.1.1/32
+-- The strict hop to 1.1.1.1/32.
 abbrev pub first_router_hop : Hop
 first_router_hop = hop (router 1) 32 false
 
--- Second network: from 1.1.1.1 a way leads by 2.2.2.2 to 3.3.3.3. A further link from 2.2.2.2 has
--- no bandwidth left. from 1.1.1.1 to 2.2.2.2
+-- The second network has one way from 1.1.1.1 over 2.2.2.2 to 3.3.3.3. Another link from 2.2.2.2 has no
+-- unreserved bandwidth.
+-- This link leads from 1.1.1.1 to 2.2.2.2.
 abbrev pub from_1_to_2 : Link
 from_1_to_2 = link_by (router 1) (router 2) 10 12 1 2 refl
 
--- from 2.2.2.2 to 3.3.3.3
+-- The link from 2.2.2.2 to 3.3.3.3.
 abbrev pub from_2_to_3 : Link
 from_2_to_3 = link_by (router 2) (router 3) 10 23 2 3 refl
 
--- from 2.2.2.2 by 172.16.0.2 to 4.4.4.4, with no bandwidth
+-- The link from 2.2.2.2 to 4.4.4.4 without unreserved bandwidth. Its interface at 2.2.2.2 is
+-- 172.16.0.2.
 abbrev pub from_2_to_4 : Link
 from_2_to_4 =
     link (router 2) (address 172 16 0 2) (router 4) (address 172 16 0 4) 10 0
     (eqb-false (router 2) (router 4) refl)
 
--- the links of the second network
+-- The links of the second network, without their reverses.
 abbrev pub three_links : List Link
 three_links = from_1_to_2 ∷ from_2_to_3 ∷ from_2_to_4 ∷ []
 
--- the strict hop to 172.16.0.0/12, which covers the interface on the link with no bandwidth
+-- The strict hop to 172.16.0.0/12. This prefix covers an interface of 2.2.2.2: that of the link without
+-- unreserved bandwidth.
 abbrev pub interface_hop : Hop
 interface_hop = hop (address 172 16 0 0) 12 false
 
--- these are the links of the database, and it has no marks
+-- The database has exactly these links, and no marks.
 pub record IsNetwork (d : Database) (links : List Link) : Type 0 where
   pub listed : AreLinksOf d links
   pub unmarked : d.marks ≡ set.empty
 
--- it holds of each database with exactly these links and no marks, and of each request of 1.1.1.1
--- with this tail-end and these hops
+-- `P` holds of each database with exactly these links and no marks, and each request from 1.1.1.1 with
+-- this tail-end and these hops.
 abbrev pub Holds : List Link → ℕ → List Hop → (Database → Request → Type 0) → Type 0
 Holds links to hops P =
     (d : Database) (q : Request)
     → IsNetwork d links → HasRequestFields q (asked_fields to hops) → P d q
 
--- there are such a database and, with any hops, such a request
+-- There is a database with exactly these links and no marks, and for any hops there is a request from
+-- 1.1.1.1 with them. So a law of the form `Holds` isn't empty.
 pub record AreFound (links : List Link) (to : ℕ) : Type 0 where
   pub database : (d : Database) × IsNetwork d links
   pub request : (hops : List Hop) → (q : Request) × HasRequestFields q (asked_fields to hops)
 
--- a strict leg to 10.9.0.0/16 may visit both of its routers
+-- A strict leg to 10.9.0.0/16 may visit both routers of this prefix.
 abbrev pub MayStandAtOwners : Type 0
 MayStandAtOwners = Holds (both_ways six_links) (router 4) (inner_hop ∷ []) (λ d q. IsRoute d q way_inside)
 
--- it may not visit 3.3.3.3
+-- A strict leg to 10.9.0.0/16 may not visit 3.3.3.3.
 abbrev pub MayNotStandElsewhere : Type 0
 MayNotStandElsewhere =
     Holds (both_ways six_links) (router 4) (inner_hop ∷ []) (λ d q. ¬ IsRoute d q way_outside)
 
--- a loose leg to 10.9.0.0/16 may visit 3.3.3.3
+-- A loose leg to 10.9.0.0/16 may visit 3.3.3.3.
 abbrev pub MayStandAnywhere : Type 0
 MayStandAnywhere =
     Holds (both_ways six_links) (router 4) (loose_inner_hop ∷ []) (λ d q. IsRoute d q way_outside)
 
--- and the way by 3.3.3.3 is before the other
+-- The way over 3.3.3.3 comes before the way over 10.9.0.2.
 abbrev pub IsOutsideBeforeInside : Type 0
 IsOutsideBeforeInside = walk_cmp way_outside way_inside ≡ Less
 
--- the leg to a hop that the head-end owns may be empty
+-- The leg to a hop that the head-end owns may be empty.
 abbrev pub MayBeEmpty : Type 0
 MayBeEmpty =
     Holds (both_ways six_links) (router 4) (first_router_hop ∷ inner_hop ∷ []) (λ d q. IsRoute d q way_inside)
 
--- a hop may be met by the address of an interface on a link that isn't admissible
+-- A route may meet a hop by the address of an interface whose link isn't admissible.
 abbrev pub MayBeMetByAnyLink : Type 0
 MayBeMetByAnyLink =
     Holds (both_ways three_links) (router 3) (interface_hop ∷ [])

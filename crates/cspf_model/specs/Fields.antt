@@ -1,4 +1,4 @@
--- What links and requests say, and which requests are refused.
+-- The fields of links and requests, and the faults for which requests are refused.
 use Rattle.std.specs.Prelude.{◌≡◌, ◌<◌, ◌≤◌, ◌↔◌, ℕ, List}
 use Rattle.cspf_addr.specs.declared.hop.Hop.{Hop}
 use Rattle.cspf_model.specs.declared.link.Link.{Link}
@@ -6,7 +6,7 @@ use Rattle.cspf_model.specs.declared.request.Request.{Request}
 use Rattle.cspf_model.specs.declared.request.RequestError.{RequestError}
 use Rattle.cspf_model.specs.declared.request.RequestError.TheVariants.{Priority, SameEnds}
 
--- the attributes of a link, without the facts that each link keeps
+-- The attributes of a link, without the facts that hold of each link.
 pub record LinkFields : Type 0 where
   pub from : ℕ
   pub local : ℕ
@@ -16,7 +16,7 @@ pub record LinkFields : Type 0 where
   pub group : ℕ
   pub free : List ℕ
 
--- the link has these attributes
+-- The link has these attributes.
 pub record HasLinkFields (link : Link) (fields : LinkFields) : Type 0 where
   pub from : link.from ≡ fields.from
   pub local : link.local ≡ fields.local
@@ -26,7 +26,7 @@ pub record HasLinkFields (link : Link) (fields : LinkFields) : Type 0 where
   pub group : link.group ≡ fields.group
   pub free : link.free ≡ fields.free
 
--- the attributes of this link
+-- The attributes of this link.
 abbrev pub fields_of_link : Link → LinkFields
 fields_of_link l = record {
   from = l.from;
@@ -38,12 +38,12 @@ fields_of_link l = record {
   free = l.free;
 }
 
--- a link has the attributes that are read off it, and no others
+-- Each link has exactly the attributes that `fields_of_link` gives.
 abbrev pub AreFieldsOfLinks : Type 0
 AreFieldsOfLinks =
     (l : Link) (fields : LinkFields) → HasLinkFields l fields ↔ (fields_of_link l ≡ fields)
 
--- what a request says, without the facts that each request keeps
+-- The fields of a request, without the facts that hold of each request.
 pub record RequestFields : Type 0 where
   pub id : ℕ
   pub from : ℕ
@@ -55,7 +55,7 @@ pub record RequestFields : Type 0 where
   pub include_all : ℕ
   pub hops : List Hop
 
--- what a request is to say, in the order of `Request::new`
+-- The fields of a request, given in the order of `Request::new`.
 abbrev pub request_fields : ℕ → ℕ → ℕ → ℕ → ℕ → ℕ → ℕ → ℕ → List Hop → RequestFields
 request_fields id from to setup bandwidth exclude_any include_any include_all hops = record {
   id = id;
@@ -69,7 +69,7 @@ request_fields id from to setup bandwidth exclude_any include_any include_all ho
   hops = hops;
 }
 
--- the request says this
+-- The request has these fields.
 pub record HasRequestFields (q : Request) (fields : RequestFields) : Type 0 where
   pub id : q.id ≡ fields.id
   pub from : q.from ≡ fields.from
@@ -81,17 +81,17 @@ pub record HasRequestFields (q : Request) (fields : RequestFields) : Type 0 wher
   pub include_all : q.include_all ≡ fields.include_all
   pub hops : q.hops ≡ fields.hops
 
--- what this request says
+-- The fields of this request.
 abbrev pub fields_of_request : Request → RequestFields
 fields_of_request q =
     request_fields q.id q.from q.to q.setup q.bandwidth q.exclude_any q.include_any q.include_all q.hops
 
--- a request says what is read off it, and nothing else
+-- Each request has exactly the fields that `fields_of_request` gives.
 abbrev pub AreFieldsOfRequests : Type 0
 AreFieldsOfRequests =
     (q : Request) (fields : RequestFields) → HasRequestFields q fields ↔ (fields_of_request q ≡ fields)
 
--- why fields make no request: a setup priority above 7 comes first, then equal ends
+-- Why no request has these fields. The setup priority is above 7, or else the head-end is the tail-end.
 abbrev pub IsRequestFault : RequestFields → RequestError → Type 0
 IsRequestFault fields Priority = 7 < fields.setup
 IsRequestFault fields SameEnds = (fields.setup ≤ 7) × (fields.from ≡ fields.to)

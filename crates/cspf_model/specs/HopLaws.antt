@@ -1,4 +1,4 @@
--- What the hops of a request say of its routes.
+-- A law of requests without hops.
 use Rattle.std.specs.Prelude.{◌≡◌, ◌↔◌, List, []}
 use Rattle.cspf_model.specs.declared.link.Link.{Link}
 use Rattle.cspf_model.specs.declared.request.Request.{Request}
@@ -6,12 +6,12 @@ use Rattle.cspf_model.specs.Database.{Database}
 use Rattle.cspf_model.specs.Walks.{IsWalk, end_of}
 use Rattle.cspf_model.specs.Routes.{IsRoute}
 
--- a walk that ends at the tail-end of the request
+-- The links are a walk that ends at the tail-end of the request.
 pub record IsWalkToEnd (d : Database) (q : Request) (walk : List Link) : Type 0 where
   pub is_walk : IsWalk d q walk
   pub arrives : end_of q.from walk ≡ q.to
 
--- without hops the routes are the walks to the tail-end
+-- Without hops, the routes are exactly the walks that end at the tail-end.
 abbrev pub AreRoutesWithoutHops : Type 0
 AreRoutesWithoutHops =
     (d : Database) (q : Request) (walk : List Link)

@@ -17,97 +17,97 @@ use Rattle.cspf_model.specs.Routes.{IsRoute}
 use Rattle.cspf_model.specs.Best.{Answer, IsBestAnswer}
 use Rattle.cspf_model.specs.Examples.{address}
 
--- walks of one request with the same local addresses are one walk
+-- Two walks of the same request with the same local addresses are equal.
 abbrev pub WalksAreTold : Type 0
 WalksAreTold =
     (d : Database) (q : Request) (v w : List Link)
     → IsWalk d q v → IsWalk d q w → locals_of v ≡ locals_of w → v ≡ w
 
--- only equal routes of one request tie
+-- Two routes of the same request that tie are equal.
 abbrev pub RoutesAreRanked : Type 0
 RoutesAreRanked =
     (d : Database) (q : Request) (v w : List Link)
     → IsRoute d q v → IsRoute d q w → walk_cmp v w ≡ Equal → v ≡ w
 
--- a request has one best answer at most
+-- A request has at most one best answer.
 abbrev pub OneBestAnswer : Type 0
 OneBestAnswer =
     (d : Database) (q : Request) (a b : Answer) → IsBestAnswer d q a → IsBestAnswer d q b → a ≡ b
 
--- the database after batches has at each key what the last change on it left
+-- The database after a list of batches has at each key what the last change of this key left there.
 abbrev pub LastChangeDecides : Type 0
 LastChangeDecides = (batches : List NumberedChanges) → IsDatabaseOf (database_after batches) batches
 
--- a list of batches has one database at most
+-- A list of batches has at most one database.
 abbrev pub OneDatabase : Type 0
 OneDatabase =
     (batches : List NumberedChanges) (d e : Database)
     → IsDatabaseOf d batches → IsDatabaseOf e batches → d ≡ e
 
--- one more batch makes its changes in the database of those before it
+-- One more batch changes the database that the batches before it made.
 abbrev pub OneMoreBatch : Type 0
 OneMoreBatch =
     (batches : List NumberedChanges) (b : NumberedChanges)
     → database_after (batches ++ b ∷ []) ≡ after_changes (database_after batches) b.changes
 
--- a list of batches with one more is lawful exactly where the list is lawful and the batch fits its
--- database
+-- A list of batches with one more is lawful exactly if the list is lawful, and the new batch fits the
+-- list's database.
 abbrev pub LawfulByOneMore : Type 0
 LawfulByOneMore =
     (batches : List NumberedChanges) (b : NumberedChanges)
     → AreLawful (batches ++ b ∷ []) ↔ (AreLawful batches × Fits (database_after batches) b)
 
--- a prefix of a lawful list of batches is lawful
+-- A prefix of a lawful list of batches is lawful.
 abbrev pub FirstBatchesAreLawful : Type 0
 FirstBatchesAreLawful =
     (batches more : List NumberedChanges) → AreLawful (batches ++ more) → AreLawful batches
 
--- the set whose items are counted is that of the routers
+-- `all_routers` has exactly the routers of the database, if each link is at its own key.
 abbrev pub RoutersAreCounted : Type 0
 RoutersAreCounted =
     (d : Database) → AreAtTheirKeys d → (router : ℕ)
     → IsTrue (set.contains (all_routers d) router) ↔ IsRouterOf d router
 
--- each link is at its own key after any list of batches
+-- After any list of batches each link is at its own key.
 abbrev pub LinksAreAtTheirKeys : Type 0
 LinksAreAtTheirKeys =
     (batches : List NumberedChanges) → AreAtTheirKeys (database_after batches)
 
--- a list of different routers of a database is at most as long as its count of routers
+-- A list of different routers of a database has at most `router_count` items.
 abbrev pub NoRouterIsLeftOut : Type 0
 NoRouterIsLeftOut =
     (d : Database) (routers : List ℕ) → IsDistinct nat_eq routers
     → AllByRecursion (IsRouterOf d) routers → length routers ≤ router_count d
 
--- a batch is refused for one reason at most
+-- A batch is refused for at most one reason.
 abbrev pub OneRefusal : Type 0
 OneRefusal =
     (d : Database) (b : NumberedChanges) (e f : Refusal) → IsRefusal d b e → IsRefusal d b f → e ≡ f
 
--- a batch that is refused doesn't fit
+-- A batch that is refused doesn't fit.
 abbrev pub RefusedIsUnfit : Type 0
 RefusedIsUnfit = (d : Database) (b : NumberedChanges) (e : Refusal) → IsRefusal d b e → ¬ Fits d b
 
--- 10.0.0.9 comes before 10.0.0.10
+-- The local address 10.0.0.9 comes before 10.0.0.10.
 abbrev pub AddressesCompareAsNumbers : Type 0
 AddressesCompareAsNumbers =
     (l m : Link) → l.metric ≡ m.metric → l.local ≡ 167772169 → m.local ≡ 167772170
     → walk_cmp (l ∷ []) (m ∷ []) ≡ Less
 
--- one link comes before two of the same cost, whatever their addresses
+-- A walk of one link comes before a walk of two links with the same cost, whatever their addresses.
 abbrev pub FewerLinksComeFirst : Type 0
 FewerLinksComeFirst =
     (l m n : Link) → l.metric ≡ 20 → m.metric ≡ 10 → n.metric ≡ 10
     → walk_cmp (l ∷ []) (m ∷ n ∷ []) ≡ Less
 
--- two links come before one that costs more
+-- A walk of two links comes before a walk of one link that costs more.
 abbrev pub CheaperLinksComeFirst : Type 0
 CheaperLinksComeFirst =
     (l m n : Link) → l.metric ≡ 1 → m.metric ≡ 1 → n.metric ≡ 3
     → walk_cmp (l ∷ m ∷ []) (n ∷ []) ≡ Less
 
--- Of walks of the same cost and number of links the first local addresses that differ decide,
--- whatever the last ones are. 10.0.0.1 and then 10.0.0.9 come before 10.0.0.2 and then 10.0.0.3.
+-- Two walks of the same cost and number of links are ordered by their first local addresses that
+-- differ, whatever the later addresses are. So 10.0.0.1, 10.0.0.9 comes before 10.0.0.2, 10.0.0.3.
 abbrev pub FirstAddressDecides : Type 0
 FirstAddressDecides =
     (l m n o : Link) → cost_of (l ∷ m ∷ []) ≡ cost_of (n ∷ o ∷ [])
@@ -115,57 +115,58 @@ FirstAddressDecides =
     → n.local ≡ address 10 0 0 2 → o.local ≡ address 10 0 0 3
     → walk_cmp (l ∷ m ∷ []) (n ∷ o ∷ []) ≡ Less
 
--- where the first local addresses are the same, the next ones decide
+-- If the first local addresses are equal, the next local addresses decide.
 abbrev pub NextAddressDecides : Type 0
 NextAddressDecides =
     (l m n o : Link) → cost_of (l ∷ m ∷ []) ≡ cost_of (n ∷ o ∷ [])
     → l.local ≡ n.local → m.local ≡ address 10 0 0 2 → o.local ≡ address 10 0 0 3
     → walk_cmp (l ∷ m ∷ []) (n ∷ o ∷ []) ≡ Less
 
--- a link that is put, taken out and put again is there as it was put last
+-- A link is put, removed, and put once more with other attributes. The database then has the link of
+-- the last change.
 abbrev pub LastPutStands : Type 0
 LastPutStands =
     (l m : Link) → key_of l ≡ key_of m
     → link_after (last_on (link_key (key_of l)) (Put l ∷ Remove l.from l.local ∷ Put m ∷ [])) None ≡ Some m
 
--- a link that is put twice and taken out isn't there
+-- A link is put twice and then removed. The database then doesn't have the link.
 abbrev pub LastRemovalStands : Type 0
 LastRemovalStands =
     (l m : Link) → key_of l ≡ key_of m
     → link_after (last_on (link_key (key_of l)) (Put l ∷ Put m ∷ Remove l.from l.local ∷ [])) None ≡ None
 
--- the request asks for no groups
+-- The request has no affinities.
 pub record AsksNoGroups (q : Request) : Type 0 where
   pub exclude_any : q.exclude_any ≡ 0
   pub include_any : q.include_any ≡ 0
   pub include_all : q.include_all ≡ 0
 
--- bandwidth that is exactly met is enough
+-- A link with exactly the bandwidth that the request asks for is admitted.
 abbrev pub ExactBandwidthIsEnough : Type 0
 ExactBandwidthIsEnough =
     (q : Request) (l : Link) → AsksNoGroups q
     → slice_index l.free q.setup ≡ 1000 → q.bandwidth ≡ 1000 → IsAdmitted q l
 
--- one byte per second less is too little
+-- A link with 1 byte per second less than the request asks for isn't admitted.
 abbrev pub LessBandwidthIsNot : Type 0
 LessBandwidthIsNot =
     (q : Request) (l : Link)
     → slice_index l.free q.setup ≡ 1000 → q.bandwidth ≡ 1001 → ¬ IsAdmitted q l
 
--- the request has these affinities, and asks for no bandwidth
+-- The request has these affinities, and asks for no bandwidth.
 pub record AsksForGroups (q : Request) (excluded any all : ℕ) : Type 0 where
   pub exclude_any : q.exclude_any ≡ excluded
   pub include_any : q.include_any ≡ any
   pub include_all : q.include_all ≡ all
   pub bandwidth : q.bandwidth ≡ 0
 
--- a link of these groups is admitted for requests with these affinities
+-- A link of these groups is admitted for every request with these affinities and without bandwidth.
 abbrev pub AreAdmittedWith : (group exclude_any include_any include_all : ℕ) → Type 0
 AreAdmittedWith group exclude_any include_any include_all =
     (q : Request) (l : Link)
     → l.group ≡ group → AsksForGroups q exclude_any include_any include_all → IsAdmitted q l
 
--- a link of these groups is not admitted for them
+-- A link of these groups isn't admitted for any request with these affinities and without bandwidth.
 abbrev pub AreRefusedWith : (group exclude_any include_any include_all : ℕ) → Type 0
 AreRefusedWith group exclude_any include_any include_all =
     (q : Request) (l : Link)

@@ -1,4 +1,4 @@
--- Private: the words of the lemmas: rows that make a database, and what changes make of them.
+-- Private: definitions for lemmas, on rows that make a database and on the effect of changes on rows.
 pub mod LinkRows
 pub mod LinkChanges
 pub mod MarkChanges

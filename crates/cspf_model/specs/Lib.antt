@@ -1,4 +1,4 @@
--- The definitions that contracts cite, from a database to the best answer, and their laws.
+-- The definitions that contracts cite, from the database to the best answer, and their laws.
 pub mod Numbered
 pub mod Database
 pub mod DatabaseCode

@@ -1,4 +1,4 @@
--- What the definitions say of small networks: reverses, marks, unknown ends, and routers at one end alone.
+-- Laws of small networks: on reverses, marks, unknown ends, and routers at which no link begins.
 use Rattle.std.specs.Prelude.{◌≡◌, ℕ, ◌↔◌, true, false, List, [], ◌∷◌, ◌++◌, length, map, refl}
 use Rattle.cspf_model.specs.declared.link.Link.{Link}
 use Rattle.cspf_model.specs.declared.request.Request.{Request}
@@ -12,107 +12,108 @@ use Rattle.cspf_model.specs.Best.{Answer, IsBestAnswer}
 use Rattle.cspf_model.specs.Fields.{HasRequestFields}
 use Rattle.cspf_model.specs.Examples.{router, link_by, back, asked_fields, from_1_to_2, from_1_to_3, from_2_to_3}
 
--- the batch that puts these links and takes the transit of these routers away
+-- The batch that puts these links and marks these routers as without transit.
 abbrev pub network_batch : List Link → List ℕ → NumberedChanges
 network_batch links marks = record {
   number = 1;
   changes = map (λ l. Put l) links ++ map (λ r. Node r false) marks;
 }
 
--- the database with these links and these marks
+-- The database with these links and these marks.
 abbrev pub network : List Link → List ℕ → Database
 network links marks = database_after (network_batch links marks ∷ [])
 
--- the reverse of the link from 1.1.1.1 by 10.0.12.1 to 2.2.2.2 at 10.0.12.2
+-- The reverse of the link from 1.1.1.1, interface 10.0.12.1, to 2.2.2.2, interface 10.0.12.2.
 abbrev pub from_2_to_1 : Link
 from_2_to_1 = link_by (router 2) (router 1) 10 12 2 1 refl
 
--- it would be the reverse, but its remote address is 10.0.12.9
+-- Not the reverse: its remote address is 10.0.12.9 in place of 10.0.12.1.
 abbrev pub back_to_other_address : Link
 back_to_other_address = link_by (router 2) (router 1) 10 12 2 9 refl
 
--- it would be, but its local address is 10.0.12.9
+-- Not the reverse: its local address is 10.0.12.9 in place of 10.0.12.2.
 abbrev pub back_from_other_address : Link
 back_from_other_address = link_by (router 2) (router 1) 10 12 9 1 refl
 
--- it would be, but it runs to 3.3.3.3
+-- Not the reverse: it ends at 3.3.3.3 in place of 1.1.1.1.
 abbrev pub back_to_other_router : Link
 back_to_other_router = link_by (router 2) (router 3) 10 12 2 1 refl
 
--- it would be, but it runs from 3.3.3.3
+-- Not the reverse: it begins at 3.3.3.3 in place of 2.2.2.2.
 abbrev pub back_from_other_router : Link
 back_from_other_router = link_by (router 3) (router 1) 10 12 2 1 refl
 
--- with these links no request may use the one from 1.1.1.1 to 2.2.2.2
+-- In a network of these links the link from 1.1.1.1 to 2.2.2.2 isn't usable for any request.
 abbrev pub IsUnusableAmong : List Link → Type 0
 IsUnusableAmong links = (q : Request) → ¬ IsUsable (network links []) q from_1_to_2
 
--- with these links each request that the link is admitted for may use it
+-- In a network of these links the link from 1.1.1.1 to 2.2.2.2 is usable for each request that admits
+-- it.
 abbrev pub IsUsableAmong : List Link → Type 0
 IsUsableAmong links =
     (q : Request) → IsAdmitted q from_1_to_2 → IsUsable (network links []) q from_1_to_2
 
--- there is such a request
+-- Some request admits the link.
 abbrev pub MayBeAdmitted : Link → Type 0
 MayBeAdmitted l = (q : Request) × IsAdmitted q l
 
--- links between each two of 1.1.1.1, 2.2.2.2 and 3.3.3.3, with their reverses
+-- Links between each two of 1.1.1.1, 2.2.2.2 and 3.3.3.3, in both directions.
 abbrev pub triangle : List Link
 triangle =
     from_1_to_2 ∷ from_2_to_1 ∷ from_2_to_3 ∷ back from_2_to_3 ∷ from_1_to_3 ∷ back from_1_to_3 ∷ []
 
--- from 1.1.1.1 by 2.2.2.2 to 3.3.3.3
+-- The walk from 1.1.1.1 over 2.2.2.2 to 3.3.3.3.
 abbrev pub way_by_2 : List Link
 way_by_2 = from_1_to_2 ∷ from_2_to_3 ∷ []
 
--- from 1.1.1.1 to 2.2.2.2 and back
+-- The walk from 1.1.1.1 to 2.2.2.2 and back.
 abbrev pub way_and_back : List Link
 way_and_back = from_1_to_2 ∷ from_2_to_1 ∷ []
 
--- from 1.1.1.1 to 2.2.2.2, back, and on to 3.3.3.3
+-- The walk from 1.1.1.1 to 2.2.2.2, back to 1.1.1.1, and on to 3.3.3.3.
 abbrev pub way_by_1_again : List Link
 way_by_1_again = from_1_to_2 ∷ from_2_to_1 ∷ from_1_to_3 ∷ []
 
--- it holds of the triangle with these marks, and of each request of 1.1.1.1 to 3.3.3.3 without hops
+-- `P` holds of the triangle with these marks, and each request from 1.1.1.1 to 3.3.3.3 without hops.
 abbrev pub HoldsWithMarks : List ℕ → (Database → Request → Type 0) → Type 0
 HoldsWithMarks marks P =
     (q : Request) → HasRequestFields q (asked_fields (router 3) []) → P (network triangle marks) q
 
--- with these marks the links are a walk
+-- In the triangle with these marks the links are a walk.
 abbrev pub IsWalkWithMarks : List ℕ → List Link → Type 0
 IsWalkWithMarks marks walk = HoldsWithMarks marks (λ d q. IsWalk d q walk)
 
--- with these marks they are none
+-- In the triangle with these marks the links aren't a walk.
 abbrev pub IsNoWalkWithMarks : List ℕ → List Link → Type 0
 IsNoWalkWithMarks marks walk = HoldsWithMarks marks (λ d q. ¬ IsWalk d q walk)
 
--- there is a request of 1.1.1.1 to 3.3.3.3 without hops
+-- There is a request from 1.1.1.1 to 3.3.3.3 without hops.
 abbrev pub MayBeAsked : Type 0
 MayBeAsked = (q : Request) × HasRequestFields q (asked_fields (router 3) [])
 
--- a change that takes a router's transit away marks it
+-- A change that takes a router's transit away marks the router.
 abbrev pub IsMarkedByChange : Type 0
 IsMarkedByChange = (d : Database) (r : ℕ) → IsMarked (after_change d (Node r false)) r
 
--- a change that gives a router transit takes its mark away
+-- A change that gives a router transit removes its mark.
 abbrev pub IsUnmarkedByChange : Type 0
 IsUnmarkedByChange = (d : Database) (r : ℕ) → HasTransit (after_change d (Node r true)) r
 
--- the link may come after the walk: it is admissible, and begins where the walk ends, at a router
--- that a walk of that many links may leave
+-- The walk may be continued by the link. The link is admissible and begins where the walk ends, and the
+-- walk may leave that router.
 pub record MayComeNext (d : Database) (q : Request) (walk : List Link) (l : Link) : Type 0 where
   pub admissible : IsAdmissible d q l
   pub joined : l.from ≡ end_of q.from walk
   pub leaves : MayLeave d l.from (length walk)
 
--- a walk with one more link is a walk exactly where the link may come next
+-- A walk with one more link is a walk exactly if the link may come next.
 abbrev pub WalksGrowByOneLink : Type 0
 WalksGrowByOneLink =
     (d : Database) (q : Request) (walk : List Link) (l : Link)
     → IsWalk d q walk → IsWalk d q (walk ++ l ∷ []) ↔ MayComeNext d q walk l
 
--- with one link and its reverse between 1.1.1.1 and 2.2.2.2, requests between these ends have this best
--- answer alone
+-- The network has one link between 1.1.1.1 and 2.2.2.2, and its reverse. There, requests between these
+-- two ends have this best answer and no other.
 abbrev pub IsAnswerBetween : ℕ → ℕ → Answer → Type 0
 IsAnswerBetween from to answer =
     (q : Request) → q.from ≡ from → q.to ≡ to → (other : Answer)

@@ -1,9 +1,9 @@
--- The answer of each outcome of `best`.
+-- The answer that each outcome of `best` stands for.
 use Rattle.cspf_model.specs.Best.{Answer, unknown_from, unknown_to, no_route, route}
 use Rattle.cspf_model.specs.declared.outcome.Outcome.{Outcome}
 use Rattle.cspf_model.specs.declared.outcome.Outcome.TheVariants.{Route, NoRoute, UnknownFrom, UnknownTo}
 
--- the answer that an outcome gives
+-- The answer that an outcome stands for.
 abbrev pub answer_of : Outcome → Answer
 answer_of (Route links) = route links
 answer_of NoRoute = no_route

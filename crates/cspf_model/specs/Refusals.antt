@@ -11,12 +11,12 @@ use Rattle.cspf_model.specs.Database.{Database, link_at, link_count, router_coun
 use Rattle.cspf_model.specs.Changes.{change_key_cmp, key_changed, after_changes, database_after, IsPresent, AreLawful}
 use Rattle.cspf_model.specs.declared.limits.TheConstants.{MOST_CHANGES, MOST_LINKS, MOST_ROUTERS, MOST_MARKS}
 
--- the change at a place, where places count from 1
+-- The change at a place. The first change has place 1.
 abbrev pub change_at : List Change → ℕ → Option Change
 change_at changes zero = None
 change_at changes (suc before) = slice_get changes before
 
--- the change at this place is on the key of an earlier one
+-- The change at this place has the key of an earlier change.
 pub record RepeatsAt (changes : List Change) (place : ℕ) : Type 0 where
   pub earlier : ℕ
   pub is_earlier : earlier < place
@@ -26,42 +26,43 @@ pub record RepeatsAt (changes : List Change) (place : ℕ) : Type 0 where
   pub is_second : change_at changes place ≡ Some second
   pub one_key : key_changed first ≡ key_changed second
 
--- a removal of a link that the database doesn't have
+-- The change removes a link that the database doesn't have.
 abbrev pub RemovesNothing : Database → Change → Type 0
 RemovesNothing d (Put l) = ⊥
 RemovesNothing d (Remove from local) = link_at d (from, local) ≡ None
 RemovesNothing d (Node router transit) = ⊥
 
--- the change at this place removes a link that the database doesn't have
+-- The change at this place removes a link that the database doesn't have.
 pub record RemovesNothingAt (d : Database) (changes : List Change) (place : ℕ) : Type 0 where
   pub change : Change
   pub is_change : change_at changes place ≡ Some change
   pub removes_nothing : RemovesNothing d change
 
--- it holds at this place, and at none before
+-- `P` holds at this place, and at no earlier place.
 pub record IsLeastPlace (P : ℕ → Type 0) (place : ℕ) : Type 0 where
   pub here : P place
   pub none_before : (before : ℕ) → before < place → ¬ P before
 
--- at most 4,096 changes
+-- The list has at most 4,096 changes.
 abbrev pub IsShort : List Change → Type 0
 IsShort changes = length changes ≤ MOST_CHANGES
 
--- no two changes are on one key
+-- No two changes have the same key.
 abbrev pub AreOnceEach : List Change → Type 0
 AreOnceEach changes = IsDistinct (eq_by_cmp change_key_cmp) (map key_changed changes)
 
--- each removal's key is in the database
+-- For each removal, the database has a link with its key.
 abbrev pub ArePresent : Database → List Change → Type 0
 ArePresent d changes = All (IsPresent d) changes
 
--- at most 4,096 changes on different keys, and each removal's key is in the database
+-- The list has at most 4,096 changes, all with different keys, and the database has the key of each
+-- removal.
 pub record AreInOrder (d : Database) (changes : List Change) : Type 0 where
   pub short : IsShort changes
   pub once : AreOnceEach changes
   pub present : ArePresent d changes
 
--- Why a batch doesn't fit a database: the first of these that applies.
+-- Why a batch doesn't fit a database. Of several reasons only the first in this order is the refusal.
 abbrev pub IsRefusal : Database → NumberedChanges → Refusal → Type 0
 IsRefusal d batch TooLong = MOST_CHANGES < length batch.changes
 IsRefusal d batch (Duplicate at) =
@@ -79,8 +80,8 @@ IsRefusal d batch TooManyMarks =
     × (router_count (after_changes d batch.changes) ≤ MOST_ROUTERS)
     × (MOST_MARKS < mark_count (after_changes d batch.changes))
 
--- the first of the batches that doesn't fit the database of those before it has this number, and
--- this is why
+-- The first batch of the list that doesn't fit has the number `number`, and is refused for the reason
+-- `why`. It doesn't fit the database that the batches before it make.
 pub record IsFirstUnfit (batches : List NumberedChanges) (number : ℕ) (why : Refusal) : Type 0 where
   pub before : List NumberedChanges
   pub batch : NumberedChanges

@@ -1,25 +1,25 @@
--- What holds of the links of a route, and when it visits a router again.
+-- What holds of the links of a route, and when a route visits a router twice.
 use Rattle.std.specs.Prelude.{◌≡◌, ℕ, ◌<◌, ◌≤◌, ◌^◌, List, [], ◌∷◌, length, nat_eq}
 use Rattle.std.specs.List.{IsDistinct}
 use Rattle.cspf_model.specs.declared.limits.TheConstants.{MOST_ROUTE_LINKS}
 use Rattle.cspf_model.specs.declared.link.Link.{Link}
 use Rattle.cspf_model.specs.Walks.{AreJoined, cost_of, routers_of}
 
--- each link runs from where the one before ended
+-- Each link begins where the link before it ends.
 abbrev pub AreLinked : List Link → Type 0
 AreLinked [] = Unit {0}
 AreLinked (l ∷ ls) = AreJoined l.from (l ∷ ls)
 
--- the router that the first link runs from, and the ends of all links
+-- The router at which the first link begins, and the routers at which the links end.
 abbrev pub routers_on : List Link → List ℕ
 routers_on [] = []
 routers_on (l ∷ ls) = routers_of l.from (l ∷ ls)
 
--- a router is twice among them
+-- Some router is twice among the routers on the links.
 abbrev pub VisitsTwice : List Link → Type 0
 VisitsTwice links = ¬ IsDistinct nat_eq (routers_on links)
 
--- 1 to `MOST_ROUTE_LINKS` joined links, and their cost, which is below 2^45
+-- These are 1 to `MOST_ROUTE_LINKS` joined links. `kept` is their cost, which is below 2^45.
 pub record IsKept (links : List Link) (kept : ℕ) : Type 0 where
   pub some : 0 < length links
   pub most : length links ≤ MOST_ROUTE_LINKS

@@ -1,4 +1,4 @@
--- Where the legs of a route end, and which routers they pass (RFC 3209 4.3.3).
+-- At which routers the legs of a route end, and which routers they may visit (RFC 3209 4.3.3).
 use Rattle.std.specs.Prelude.{◌≡◌, ℕ, zero, suc, ◌⊎◌, Option, Some, None, IsTrue, slice_get}
 use Rattle.cspf_addr.specs.PrefixParts.{PrefixParts}
 use Rattle.cspf_addr.specs.Prefixes.{Covers}
@@ -7,41 +7,43 @@ use Rattle.cspf_model.specs.declared.link.Link.{Link}
 use Rattle.cspf_model.specs.declared.request.Request.{Request}
 use Rattle.cspf_model.specs.Database.{Database, IsLinkOf, IsRouterOf}
 
--- the link begins at the router, by an interface with an address that the prefix covers
+-- The link begins at the router, and the prefix covers the address of its interface there.
 pub record BeginsWithin (prefix : PrefixParts) (router : ℕ) (l : Link) : Type 0 where
   pub from : l.from ≡ router
   pub local : Covers prefix l.local
 
--- The prefix covers an address of the router: its own, or that of its interface on a link of the
--- database from it, whether or not the link is admissible.
+-- The prefix covers an address of the router: the Router ID, or the address of an interface of one of
+-- its links. The link is one of the database that begins there, whether or not it is admissible.
 abbrev pub CoversAddressOf : Database → PrefixParts → ℕ → Type 0
 CoversAddressOf d prefix router =
     Covers prefix router ⊎ ((l : Link) × IsLinkOf d l × BeginsWithin prefix router l)
 
--- A router of the database owns a prefix where the prefix covers one of the router's addresses.
+-- The router owns the prefix: it is a router of the database, and the prefix covers one of its
+-- addresses.
 pub record Owns (d : Database) (prefix : PrefixParts) (router : ℕ) : Type 0 where
   pub known : IsRouterOf d router
   pub covered : CoversAddressOf d prefix router
 
--- a leg to a hop ends at a router that owns the hop's prefix, and the leg after the last hop ends
--- at the tail-end
+-- The router is a target of the leg to a hop if it owns the hop's prefix. The only target of the leg
+-- after the last hop is the tail-end.
 abbrev pub IsTargetOf : Database → ℕ → Option Hop → ℕ → Type 0
 IsTargetOf d to (Some hop) router = Owns d hop.prefix router
 IsTargetOf d to None router = router ≡ to
 
--- The targets of a leg. Leg 0, before the first hop, has the head-end alone. Leg i has the routers
--- that own the prefix of hop i. The leg after the last hop has the tail-end alone.
+-- The router is a target of a leg. The only target of leg 0, before the first hop, is the head-end. The
+-- targets of leg i are the routers that own the prefix of hop i, where the first hop is hop 1. The only
+-- target of the leg after the last hop is the tail-end.
 abbrev pub IsTarget : Database → Request → ℕ → ℕ → Type 0
 IsTarget d q zero router = router ≡ q.from
 IsTarget d q (suc i) router = IsTargetOf d q.to (slice_get q.hops i) router
 
--- the leg to a hop is loose where the hop is, and the leg after the last hop is loose
+-- The leg is loose: it leads to a loose hop, or it is the leg after the last hop.
 abbrev pub IsLoose : Option Hop → Type 0
 IsLoose (Some hop) = IsTrue hop.loose
 IsLoose None = Unit {0}
 
--- The routers that a leg may visit: any if it is loose, and if it is strict the targets of the leg
--- before it and its own targets.
+-- The router is inside the leg, so the leg may visit it. All routers are inside a loose leg. The
+-- routers inside a strict leg are its own targets and the targets of the leg before it.
 abbrev pub IsInside : Database → Request → ℕ → ℕ → Type 0
 IsInside d q zero router = ⊥
 IsInside d q (suc i) router =

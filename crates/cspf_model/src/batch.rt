@@ -7,19 +7,19 @@ use cspf_addr::Addr;
 use std::alloc::{AllocError, Global};
 use std::marker::Model;
 
-/// A change to the link of one key, or to whether one router has transit.
+/// A change to the link at one key, or to whether one router has transit.
 #[derive(Clone, Copy, Debug, PartialEq, Eq)]
 pub enum Change {
-    /// Puts the link, in place of the one with its key where there is one.
+    /// Puts the link at its key. A link that already has this key is replaced.
     Put(Link),
-    /// Takes out the link with this key.
+    /// Removes the link with this key.
     Remove {
-        /// The router that the link runs from.
+        /// The router at which the link begins.
         from: Addr,
-        /// The address of its interface there.
+        /// The address of the link's interface at that router.
         local: Addr,
     },
-    /// Sets whether a router with this Router ID has transit. There need not be such a router now.
+    /// Sets whether the router with this Router ID has transit. The database may lack this router.
     Node {
         /// The Router ID.
         router: Addr,
@@ -31,8 +31,8 @@ pub enum Change {
 impl Change {
     ghost use Rattle.cspf_model.specs.Changes.{key_changed};
 
-    /// The key that is changed: the router that a link runs from and the address of its interface
-    /// there, or a router alone.
+    /// The key of the link that is put or removed: its router and the address of its interface
+    /// there. For a change of a router's transit, the key is the router without an address.
     pub fn key(&self) -> (Addr, Option<Addr>)
         ensures { result ≡ key_changed self.now }
     {
@@ -47,7 +47,7 @@ impl Change {
 /// A numbered list of changes that take effect together.
 #[derive(Debug, Drop)]
 pub struct Batch {
-    /// The version that the batch makes.
+    /// The version that the batch makes, as a number from 1.
     pub number: u32,
     /// The changes, in order.
     pub changes: Vec<Change>,

@@ -1,6 +1,6 @@
-//! The definitions that every crate above cites: databases, batches, admissible links, walks,
-//! routes, their order and the best answer, with their types. `specs/` has the definitions, `laws`
-//! what follows from them.
+//! The types and definitions that the other crates cite: databases, batches, admissible links,
+//! walks, routes, their order and the best answer. `specs/` has the definitions, and `laws` what
+//! follows from them.
 #![tactic(auto)]
 
 mod batch;

@@ -1,23 +1,23 @@
-//! How much a database, a batch, a route and a journal hold at most.
+//! The limits of a database, a batch, a route and a journal.
 use cspf_addr::MOST_HOPS;
 
-/// How many links a database has at most.
+/// The most links of a database.
 pub const MOST_LINKS: usize = 16384;
 
-/// How many routers a database has at most: the ends of its links.
+/// The most routers of a database. Its routers are those at which its links begin or end.
 pub const MOST_ROUTERS: usize = 1024;
 
-/// How many addresses are marked as those of routers without transit at most.
+/// The most addresses that are marked as those of routers without transit.
 pub const MOST_MARKS: usize = 1024;
 
-/// How many changes a batch has at most.
+/// The most changes of a batch.
 pub const MOST_CHANGES: usize = 4096;
 
-/// The greatest version: how many batches are published at most.
+/// The greatest version, and so the most batches that are published.
 pub const MOST_VERSIONS: u32 = 1_000_000;
 
-/// How many legs a route has at most: one to each hop, and one to the tail-end.
+/// The most legs of a route: one to each hop, and one to the tail-end.
 pub const MOST_LEGS: usize = MOST_HOPS + 1;
 
-/// How many links a route has at most: in each leg fewer than a database has routers.
+/// The most links of a route. Each leg has fewer links than a database has routers.
 pub const MOST_ROUTE_LINKS: usize = MOST_LEGS * (MOST_ROUTERS - 1);

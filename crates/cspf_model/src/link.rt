@@ -1,4 +1,4 @@
-//! A link with its traffic engineering attributes, and why one is refused.
+//! A link with its traffic engineering attributes, and the reason why a link is refused.
 
 ghost use Rattle.std.specs.Prelude.{◌≡◌, ◌≢◌, length, IfOk, OnErr};
 
@@ -8,11 +8,12 @@ use thiserror::Error;
 /// A one-way, numbered, point-to-point link with its traffic engineering attributes (RFC 3630 2.5).
 #[derive(Clone, Copy, Debug, PartialEq, Eq)]
 pub struct Link {
-    /// The router that the link runs from.
+    /// The router at which the link begins.
     pub from: Addr,
-    /// The address of the interface at that router (RFC 3630 2.5.3). With `from` it is the key.
+    /// The address of the link's interface at that router (RFC 3630 2.5.3). Together with `from` it
+    /// is the link's key.
     pub local: Addr,
-    /// The Router ID of the neighbor that the link runs to (RFC 3630 2.5.2).
+    /// The Router ID of the neighbor, at which the link ends (RFC 3630 2.5.2).
     pub to: Addr,
     /// The address of the neighbor's interface (RFC 3630 2.5.4).
     pub remote: Addr,
@@ -20,17 +21,17 @@ pub struct Link {
     pub metric: u32,
     /// The administrative groups that the link belongs to (RFC 3630 2.5.9).
     pub group: Mask,
-    /// The unreserved bandwidth at each priority, 0 (the highest) first, in bytes per second
-    /// (RFC 3630 2.5.8).
+    /// The unreserved bandwidth at each of the eight priorities, in bytes per second (RFC 3630
+    /// 2.5.8). Priority 0, the highest, comes first.
     pub free: [u64; 8],
     ghost eight: { length free ≡ 8 },
     ghost two_ends: { from ≢ to },
 }
 
-/// Why a link is refused.
+/// The reason why a link is refused.
 #[derive(Clone, Copy, Debug, PartialEq, Eq, Error)]
 pub enum LinkError {
-    /// The link would run from a router to itself.
+    /// The link begins and ends at the same router.
     #[error("a link from a router to itself")]
     SelfLink,
 }
@@ -38,7 +39,7 @@ pub enum LinkError {
 impl Link {
     ghost use Rattle.cspf_model.specs.Fields.{HasLinkFields};
 
-    /// The link with these attributes. It is refused where it would run from a router to itself.
+    /// The link with these attributes. A link from a router to itself is refused.
     pub fn new(
         from: Addr,
         local: Addr,

@@ -1,4 +1,4 @@
-//! A request for an explicit route, and why one is refused.
+//! A request for an explicit route, and the reason why a request is refused.
 
 ghost use Rattle.std.specs.Prelude.{◌≢◌, ◌<◌, IfOk, IfErr};
 
@@ -8,36 +8,37 @@ use thiserror::Error;
 /// A request for an explicit route (RFC 2702 7).
 #[derive(Clone, Copy, Debug, PartialEq, Eq)]
 pub struct Request {
-    /// The asker's name for the request, which the answer repeats.
+    /// The number that the client gave the request. The answer repeats it.
     pub id: u64,
-    /// The head-end.
+    /// The head-end: the router at which a route begins.
     pub from: Addr,
-    /// The tail-end.
+    /// The tail-end: the router at which a route ends.
     pub to: Addr,
     /// The setup priority, 0 (the highest) to 7 (RFC 3209 4.7.1).
     pub setup: u8,
-    /// The bandwidth that each link has to have unreserved at the setup priority, in bytes per
-    /// second.
+    /// The bandwidth, in bytes per second, that each link of a route must have unreserved at the
+    /// setup priority.
     pub bandwidth: u64,
-    /// Links of any of these groups are left out (RFC 3209 4.7.4).
+    /// A link of any of these groups isn't admitted (RFC 3209 4.7.4).
     pub exclude_any: Mask,
-    /// Where it isn't 0, only links of one of these groups are taken (RFC 3209 4.7.4).
+    /// Unless this mask is 0, only links of at least one of these groups are admitted (RFC 3209
+    /// 4.7.4).
     pub include_any: Mask,
-    /// Only links of all of these groups are taken (RFC 3209 4.7.4).
+    /// Only links of all these groups are admitted (RFC 3209 4.7.4).
     pub include_all: Mask,
-    /// The hops that a route has to follow, in their order (RFC 3209 4.3.3).
+    /// The hops that a route has to follow, in this order (RFC 3209 4.3.3).
     pub hops: Hops,
     ghost priority: { setup < 8 },
     ghost two_ends: { from ≢ to },
 }
 
-/// Why a request is refused.
+/// The reason why a request is refused.
 #[derive(Clone, Copy, Debug, PartialEq, Eq, Error)]
 pub enum RequestError {
     /// The setup priority is above 7.
     #[error("a setup priority above 7")]
     Priority,
-    /// The head-end is the tail-end.
+    /// The head-end and the tail-end are the same router.
     #[error("a request from a router to itself")]
     SameEnds,
 }
@@ -45,8 +46,8 @@ pub enum RequestError {
 impl Request {
     ghost use Rattle.cspf_model.specs.Fields.{request_fields, HasRequestFields, IsRequestFault};
 
-    /// The request with these fields. A setup priority above 7 is refused first, then a request
-    /// from a router to itself.
+    /// The request with these fields. A setup priority above 7 is refused. Otherwise a request from
+    /// a router to itself is refused.
     pub fn new(
         id: u64,
         from: Addr,

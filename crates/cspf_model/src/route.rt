@@ -1,4 +1,4 @@
-//! An explicit route: links that follow each other, and their cost.
+//! An explicit route: links of which each begins where the previous link ends, and their cost.
 
 ghost use Rattle.cspf_model.specs.declared.limits.TheConstants.{MOST_ROUTE_LINKS};
 ghost use Rattle.std.specs.Prelude.{◌≡◌, ◌<◌, ◌≤◌, ◌^◌, ◌↔◌, IsTrue, length, map, nat_eq};
@@ -10,7 +10,7 @@ use crate::Link;
 use cspf_addr::Addr;
 use std::marker::Model;
 
-/// An explicit route: 1 to `MOST_ROUTE_LINKS` links, each from where the one before ended.
+/// An explicit route: 1 to `MOST_ROUTE_LINKS` links. Each link begins where the previous link ends.
 #[derive(Debug, Drop)]
 pub struct Route {
     links: Vec<Link>,
@@ -52,7 +52,7 @@ impl Route {
         self.links.as_slice()
     }
 
-    /// The sum of the metrics, below 2^45.
+    /// The sum of the links' metrics. It is below 2^45.
     pub fn cost(&self) -> u64
         ensures value { result ≡ cost_of self.now }
         ensures small { result < 2 ^ 45 }
@@ -60,7 +60,7 @@ impl Route {
         self.cost
     }
 
-    /// Whether the route visits a router twice.
+    /// Whether the route visits some router twice, its head-end included.
     pub fn again(&self) -> bool
         ensures { IsTrue result ↔ VisitsTwice self.now }
     {
@@ -69,14 +69,14 @@ impl Route {
     }
 }
 
-/// Whether one of the links ends at the router.
+/// Whether some link ends at the router.
 fn ends_at(links: &[Link], router: Addr) -> bool
     ensures { result ≡ list_any (λ l. nat_eq router l.to) links.now }
 {
     links.iter().any(|link| router == link.to)
 }
 
-/// Whether two of the links end at one router.
+/// Whether two links end at the same router.
 fn ends_meet(links: &[Link]) -> bool
     ensures { IsTrue result ↔ (¬ IsDistinct nat_eq (map (λ l. l.to) links.now)) }
 {

@@ -1,4 +1,4 @@
--- The answer to an asker.
+-- An asker's answer to a request.
 use Rattle.std.specs.Prelude.{◌≡◌, List, length}
 use Rattle.cspf_model.specs.declared.request.Request.{Request}
 use Rattle.cspf_model.specs.Numbered.{NumberedChanges}
@@ -12,8 +12,8 @@ use Rattle.cspf_publish.specs.declared.answer.Answer.{Answer}
 abbrev pub IsBestAfter : List NumberedChanges → Request → Outcome → Type 0
 IsBestAfter batches q outcome = IsBestAnswer (database_after batches) q (answer_of outcome)
 
--- The answer repeats the request's id, its version is the number of these batches, and its outcome is
--- the best answer in their database.
+-- The answer has the request's id, and its version is the number of these batches. Its outcome is the
+-- best answer in their database.
 pub record IsAnswerAfter (batches : List NumberedChanges) (q : Request) (a : Answer) : Type 0 where
   pub id : a.id ≡ q.id
   pub version : a.version ≡ length batches

@@ -1,4 +1,4 @@
--- When a batch is refused, by the first reason that applies, and the publisher's state then.
+-- The first reason for which a batch is refused, and the publisher's state after the refusal.
 use Rattle.std.specs.Prelude.{◌≡◌, ◌≢◌, ℕ, ◌+◌, ◌<◌, ◌≤◌, false, List, length, take, Option}
 use Rattle.std.specs.Io.KnownBytes.{Appends}
 use Rattle.cspf_model.specs.Numbered.{NumberedChanges}
@@ -11,19 +11,19 @@ use Rattle.cspf_model.specs.declared.limits.TheConstants.{MOST_VERSIONS}
 use Rattle.cspf_publish.specs.declared.errors.ApplyError.{ApplyError}
 use Rattle.cspf_publish.specs.declared.errors.ApplyError.TheVariants.{Stopped, Exhausted, WrongNumber, Refused, Memory, Journal}
 
--- no fault of the journal came before, and the batch may come next
+-- the journal hasn't failed, and the batch may come next
 pub record IsNextBatch {W : Type 0} (p : PublisherState W) (b : NumberedChanges) : Type 0 where
   pub going : p.stopped ≡ false
   pub follows : MayFollow p.batches b
 
--- not stopped, and fewer than 1,000,000 batches are published
+-- the journal hasn't failed, and fewer than 1,000,000 batches are published
 pub record HasRoom {W : Type 0} (p : PublisherState W) : Type 0 where
   pub going : p.stopped ≡ false
   pub room : length p.batches < MOST_VERSIONS
 
--- Why the batch isn't published, by the first of these that applies, and the publisher's state
--- then. Only a fault of the journal changes anything: a strict prefix of the batch's text is
--- written, and the publisher is stopped for good.
+-- Why the batch isn't published: the first of these reasons that applies. `p` is the publisher before
+-- the call and `p'` after the call. Only a failed journal changes the publisher: a strict prefix of the
+-- batch's text is written, and the publisher is stopped for good.
 abbrev pub IsApplyError : {W : Type 0} → (W → Option (List ℕ)) → PublisherState W → PublisherState W → NumberedChanges → ApplyError → Type 0
 IsApplyError contents p p' b Stopped = IsStopped p × (p' ≡ p)
 IsApplyError contents p p' b Exhausted = (p.stopped ≡ false) × (MOST_VERSIONS ≤ length p.batches) × (p' ≡ p)

@@ -5,8 +5,8 @@ use Rattle.cspf_journal.specs.KnownBatches.{KnownBatches}
 use Rattle.cspf_publish.specs.declared.asker_seat.AskerSeat.{AskerSeat}
 use Rattle.cspf_publish.specs.declared.seat_view.SeatView.TheVariants.{Asker}
 
--- The seat is an asker's. Its trees, if it has any, are of batches of the list that it reads, and at most
--- as many as it may have.
+-- The seat is an asker's. Its trees, if it has any, are of the source that the asker reads. They have
+-- room for as many trees as the seat may have.
 pub record IsAskerSeat (seat : AskerSeat) : Type 0 where
   pub entered : KnownBatches
   pub is : view seat.reader.place ≡ Asker entered

@@ -10,18 +10,18 @@ use Rattle.cspf_model.specs.Numbered.{NumberedChanges}
 use Rattle.cspf_model.specs.Database.{Database, link_at, link_count, router_count, mark_count}
 use Rattle.cspf_model.specs.Changes.{ChangeKey, change_key_cmp, key_changed, after_changes}
 
--- whether no key is there twice
+-- whether no two of the keys are the same
 abbrev pub are_distinct : List ChangeKey → Bool
 are_distinct [] = true
 are_distinct (k ∷ ks) = list_all (λ j. not (eq_by_cmp change_key_cmp k j)) ks && are_distinct ks
 
--- false where the change removes a link that isn't there, and else true
+-- true, unless the change removes a link that the database doesn't have
 abbrev pub is_present : Database → Change → Bool
 is_present d (Put l) = true
 is_present d (Remove from local) = is_some (link_at d (from, local))
 is_present d (Node router transit) = true
 
--- whether the batch fits, as a test
+-- the test whether the batch fits
 abbrev pub is_fitting : Database → NumberedChanges → Bool
 is_fitting d b =
     nat_le (length b.changes) MOST_CHANGES
@@ -31,6 +31,6 @@ is_fitting d b =
     && (nat_le (router_count (after_changes d b.changes)) MOST_ROUTERS
     && nat_le (mark_count (after_changes d b.changes)) MOST_MARKS))))
 
--- the database with the batch's changes where it fits, and as it was where it doesn't
+-- the database with the batch's changes if the batch fits, or else the database as it was
 abbrev pub database_with : Database → NumberedChanges → Database
 database_with d b = cond (is_fitting d b) (after_changes d b.changes) d

@@ -1,21 +1,21 @@
--- The value of a publisher in clauses, and how many askers it has.
+-- How clauses see a publisher, and how many askers it may have.
 use Rattle.std.specs.Prelude.{◌≡◌, ◌<◌, ◌≤◌, ℕ, Bool, true, List}
 use Rattle.logbook.specs.Pages.{Book}
 use Rattle.cspf_model.specs.Numbered.{NumberedChanges}
 use Rattle.cspf_publish.specs.declared.limits.TheConstants.{MOST_ASKERS}
 
--- The batches that are published, in order, which publisher's they are, whether a fault of the journal
--- came before, and the journal's writer.
+-- The published batches in order, their source, whether the journal has failed, and the journal's
+-- writer.
 pub record PublisherState (W : Type 0) : Type 0 where
   pub batches : List NumberedChanges
   pub source : Book
   pub stopped : Bool
   pub journal : W
 
--- a fault of the journal came before
+-- the journal has failed
 abbrev pub IsStopped : {W : Type 0} → PublisherState W → Type 0
 IsStopped p = p.stopped ≡ true
 
--- 1 to 64 askers
+-- a publisher may have this many askers: 1 to 64
 abbrev pub IsAskerCount : ℕ → Type 0
 IsAskerCount askers = (0 < askers) × (askers ≤ MOST_ASKERS)

@@ -1,5 +1,5 @@
--- The rule between any two steps on the replicas, and how each kind of step changes the view of the
--- seat that takes it. The batches of the replica that askers enter are those that are published.
+-- The rule that holds between any two steps on the replicas, and how each kind of step changes the view
+-- of its seat. The published batches are the batches of the replica that askers enter.
 use Rattle.std.specs.Prelude.{◌≡◌, ℕ, true, List, [], ◌∷◌, ◌++◌}
 use mathlib.Core.Option.{some}
 use lib.ListN.{get_elem?}
@@ -16,12 +16,12 @@ use Rattle.cspf_publish.specs.declared.seat_view.SeatView.TheVariants.{New, Aske
 abbrev pub HasItsDatabase : ReplicaState → Type 0
 HasItsDatabase s = s.database ≡ database_after s.known.batches
 
--- the replica counts those of its batches that change the shape
+-- `shape_changes` is the number of the replica's batches that change the shape of the database
 abbrev pub CountsShapeChanges : ReplicaState → Type 0
 CountsShapeChanges s = HasShapeChanges s.known.batches s.shape_changes
 
--- What a seat knows: a new one nothing, an asker's a prefix of the batches that are published, and the
--- publisher's all of them.
+-- What a seat knows. A new seat knows nothing, an asker's seat knows a prefix of the published batches,
+-- and the publisher's seat knows all of them.
 abbrev pub Knows : ReplicaState → SeatView → Type 0
 Knows s New = Unit {0}
 Knows s (Asker known) = AreFirstOf s.known known
@@ -33,7 +33,7 @@ IsPublisher New = ⊥
 IsPublisher (Asker known) = ⊥
 IsPublisher (Publisher known) = Unit {0}
 
--- the replica is one of the two copies of its batches' source
+-- the replica holds a `CopyRight` of its batches' source
 abbrev pub IsCopyByRight : ReplicaState → Type 0
 IsCopyByRight s = s.right ≡ s.known.source
 
@@ -43,9 +43,10 @@ HasOnePublisher views =
     (i j : ℕ) (v w : SeatView) → get_elem? views i ≡ some v → get_elem? views j ≡ some w
     → IsPublisher v → IsPublisher w → i ≡ j
 
--- The rule: the published batches are a history, and the replica that askers enter has their
--- database and counts their changes of its shape. It is one of the two copies of their source. Each seat
--- knows a prefix of them, the publisher's all, and there is one publisher at most.
+-- By the rule of the replicas, the published batches are a history. The replica that askers enter has
+-- their database, and the number of batches that change its shape. The replica holds a `CopyRight` of
+-- their source. Each asker's seat knows a prefix of the published batches. At most one seat is a
+-- publisher's, and it knows all of them.
 pub record HoldsBetweenSteps (s : ReplicaState) (views : List SeatView) : Type 0 where
   pub history : IsHistory s.known.batches
   pub database : HasItsDatabase s
@@ -54,14 +55,15 @@ pub record HoldsBetweenSteps (s : ReplicaState) (views : List SeatView) : Type 0
   pub seats : (seat : ℕ) (v : SeatView) → get_elem? views seat ≡ some v → Knows s v
   pub one_publisher : HasOnePublisher views
 
--- The publisher's first step, which changes no batches: from now on its seat knows those that are
--- published.
+-- The publisher's first step changes no batches. After it the seat knows the published batches. In this
+-- record and the next two, `x` and `y` are the replica before and after the step. `v` and `w` are the
+-- seat's view before and after the step.
 pub record Opens (v : SeatView) (x y : ReplicaState) (w : SeatView) : Type 0 where
   pub same : y.known ≡ x.known
   pub after : w ≡ Publisher y.known
 
--- The publisher publishes: the batches are those before and one more, which may follow them. The
--- publisher's view was all of those before, and is all of these.
+-- The publisher publishes one more batch, which may follow the batches before it. The publisher's seat
+-- knew all earlier batches. After the step it knows the new batch as well.
 pub record Publishes (v : SeatView) (x y : ReplicaState) (w : SeatView) : Type 0 where
   pub batch : NumberedChanges
   pub follows : MayFollow x.known.batches batch
@@ -70,8 +72,9 @@ pub record Publishes (v : SeatView) (x y : ReplicaState) (w : SeatView) : Type 0
   pub before : v ≡ Publisher x.known
   pub after : w ≡ Publisher y.known
 
--- An asker enters a replica, which has the database of its batches and counts their changes of its
--- shape. From now on it knows these, and those that it knew from its last entry are a prefix of them.
+-- An asker enters a replica. The replica has the database of its batches, and the number of batches
+-- that change its shape. After the step the asker's seat knows the replica's batches. The batches of
+-- the seat's last entry are a prefix of these batches.
 pub record Enters (v : SeatView) (x y : ReplicaState) (w : SeatView) : Type 0 where
   pub same : y ≡ x
   pub database : HasItsDatabase y
@@ -85,14 +88,14 @@ note_of New = New
 note_of (Asker known) = Asker known
 note_of (Publisher known) = Asker known
 
--- The view of a seat that takes in a note: a new one knows the batches of the note, and one that
--- knows something keeps it.
+-- The view of a seat that takes in a note. A new seat then knows the batches of the note. A seat that
+-- knows batches already keeps its view.
 abbrev pub view_with_note : SeatView → SeatView → SeatView
 view_with_note New told = note_of told
 view_with_note (Asker known) told = Asker known
 view_with_note (Publisher known) told = Publisher known
 
--- The seat is an asker's, which knows at least what it knew at its last entry.
+-- The seat is an asker's, and the asker knows at least the batches of its last entry.
 pub record KnowsItsEntry (v : SeatView) (known : KnownBatches) : Type 0 where
   pub entered : KnownBatches
   pub seat : v ≡ Asker entered

@@ -1,4 +1,4 @@
--- The value of a replica of the table in the rule between steps.
+-- How the rule between steps sees a replica of the table.
 use Rattle.std.specs.Prelude.{ℕ, Bool, true}
 use Rattle.logbook.specs.Pages.{Book}
 use Rattle.cspf_model.specs.Numbered.{NumberedChanges}
@@ -7,8 +7,9 @@ use Rattle.cspf_model.specs.Changes.{database_after}
 use Rattle.cspf_journal.specs.KnownBatches.{KnownBatches}
 use Rattle.cspf_publish.specs.BatchAbsorption.{database_with}
 
--- Of which source it is a copy by right, the database, the batches that it is known by, how many of them
--- change its shape, and whether a publisher's seat knows them: from the publisher's first step on.
+-- `right` is the source whose `CopyRight` the replica holds. `known` are the replica's batches, and
+-- `shape_changes` is how many of them change the shape of the database. `is_open` is true from the
+-- publisher's first step on: then a publisher's seat knows the batches.
 pub record ReplicaState : Type 0 where
   pub right : Book
   pub database : Database
@@ -16,7 +17,8 @@ pub record ReplicaState : Type 0 where
   pub shape_changes : ℕ
   pub is_open : Bool
 
--- a replica that a publisher's seat knows, which has the database of its batches, by right of their source
+-- a replica after the publisher's first step: it has the database of its batches, and a `CopyRight` of
+-- their source
 abbrev pub published_state : KnownBatches → ℕ → ReplicaState
 published_state known shape_changes = record {
   right = known.source;
@@ -26,7 +28,8 @@ published_state known shape_changes = record {
   is_open = true;
 }
 
--- the replica with one more batch, which ends these batches, where it fits
+-- The replica after it absorbs a batch. `known` are its batches then, and this batch is their last. A
+-- batch that doesn't fit leaves the database as it was.
 abbrev pub state_with : ReplicaState → NumberedChanges → KnownBatches → ℕ → ReplicaState
 state_with s b known shape_changes = record {
   right = s.right;

@@ -5,7 +5,8 @@ use Rattle.cspf_model.specs.Database.{Database}
 use Rattle.cspf_model.specs.Changes.{no_links, after_changes}
 use Rattle.cspf_db.specs.Shapes.{HaveOneShape}
 
--- From this database on so many of the batches change more than unreserved bandwidths.
+-- When the batches are applied to this database in order, `count` of them change more than unreserved
+-- bandwidths.
 abbrev pub HasShapeChangesAfter : Database → List NumberedChanges → ℕ → Type 0
 HasShapeChangesAfter d [] count = count ≡ 0
 HasShapeChangesAfter d (b ∷ bs) count =
@@ -13,6 +14,7 @@ HasShapeChangesAfter d (b ∷ bs) count =
     ⊎ ((¬ HaveOneShape d (after_changes d b.changes))
     × (rest : ℕ) × (count ≡ rest + 1) × HasShapeChangesAfter (after_changes d b.changes) bs rest)
 
--- From no links on so many of the batches change more than unreserved bandwidths.
+-- When the batches are applied in order to a database without links, `count` of them change more than
+-- unreserved bandwidths.
 abbrev pub HasShapeChanges : List NumberedChanges → ℕ → Type 0
 HasShapeChanges batches count = HasShapeChangesAfter no_links batches count

@@ -5,8 +5,8 @@ use cspf_model::Outcome;
 pub struct Answer {
     /// The request's id.
     pub id: u64,
-    /// The version of the database in which the outcome is the best answer: how many batches it
-    /// has.
+    /// The version of the database: how many batches the database has. The outcome is the best answer
+    /// in that database.
     pub version: u32,
     /// The outcome.
     pub outcome: Outcome,

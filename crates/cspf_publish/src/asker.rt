@@ -20,8 +20,9 @@ use std::alloc::Global;
 use std::marker::Model;
 use std::sync::Arc;
 
-/// An asker answers requests, and knows the batches up to the last version that it saw or learnt.
-/// One thread uses it at a time, and it may be moved to another thread. Its calls never block.
+/// An asker answers requests, and knows the batches up to the last version that it saw or learnt. One
+/// thread uses an asker at a time, and the asker may be moved to another thread. The calls of an asker
+/// never block.
 #[derive(Drop)]
 pub struct Asker {
     seat: AskerSeat,
@@ -65,11 +66,11 @@ impl Asker {
         Asker { seat, known, count }
     }
 
-    /// The best answer in the database of the last published version. After it the batches of that
-    /// version are known. On `NoEntry` nothing changed. On `Memory` only the known batches may have
-    /// changed.
-    // The entered version is never below that of an earlier entry. A version below what was learnt
-    // is `NoEntry`, too, which no run shows.
+    /// The best answer in the database of the last published version. After the call the asker knows
+    /// the batches of that version. On `NoEntry` nothing has changed. On `Memory` only the known
+    /// batches may have changed.
+    // The entered version is never below that of an earlier entry. If it is below a version that the
+    // asker learnt, the call returns `NoEntry`. This happens in no run.
     pub fn ask(&mut self, alloc: Global, request: &Request) -> Result<Answer, AskError>
         ensures source { self.new.source ≡ self.old.source }
         ensures later { BeginsWith self.new.batches self.old.batches }
@@ -94,7 +95,7 @@ impl Asker {
         }
     }
 
-    /// Knows the batches of the token from now on, if they are more than the known ones.
+    /// Learns the batches of the token, if they are more than the asker knows.
     pub fn learn(&mut self, told: Told)
         requires { told.source ≡ self.old.source }
         ensures source { self.new.source ≡ self.old.source }
@@ -106,14 +107,14 @@ impl Asker {
         let _raised = self.known.raise(told.known());
     }
 
-    /// What the asker knows of the list: batches that the journal has recorded.
+    /// The batches that the asker knows. The journal has recorded them all.
     pub fn known(&self) -> &Known
         ensures { result.now ≡ known_of self.now }
     {
         &self.known
     }
 
-    /// The version up to which the batches are known.
+    /// The version up to which the asker knows the batches.
     pub fn seen(&self) -> u32
         ensures version { result ≡ length self.now.batches }
         ensures history { IsHistory self.now.batches }
@@ -121,7 +122,8 @@ impl Asker {
         self.known.version()
     }
 
-    /// Learns the batches of the token, and returns the version up to which batches are then known.
+    /// Learns the batches of the token, and returns the version up to which the asker then knows
+    /// batches.
     pub fn meet(&mut self, told: Told) -> u32
         requires { told.source ≡ self.old.source }
         ensures source { self.new.source ≡ self.old.source }
@@ -135,9 +137,9 @@ impl Asker {
         self.seen()
     }
 
-    /// Reads the count of published batches for a row, by one step, and knows at least as many from
-    /// now on. The publisher moves the count once a batch is published. The steps end in the reading.
-    /// It takes no memory, and never blocks.
+    /// Reads the count of published batches in one step, for a row of a reader. From then on the asker
+    /// knows at least as many batches. The reading is the last of `steps` after the call. The publisher
+    /// moves the count once a batch is published. The call takes no memory, and never blocks.
     pub fn catch_up(&mut self, steps: &mut SeenSteps, row: RowOfReader) -> u32
         requires { steps.old.source ≡ self.old.source }
         ensures caught_up { CatchesUp (known_of self.old) (known_of self.new) steps.old steps.new row.reader row.place result }

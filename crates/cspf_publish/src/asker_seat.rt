@@ -24,15 +24,16 @@ pub(crate) type ReplicaReader = Reader<Replica, SeatView, ReplicaRule>;
 /// The seat of an asker.
 #[derive(Drop)]
 pub(crate) struct AskerSeat {
-    /// Its reader.
+    /// The reader of the published replica.
     pub(crate) reader: ReplicaReader,
-    /// Trees of the database that it entered last, once it has entered one.
+    /// Trees of the database that the asker entered last. The field is `None` before the first entry.
     pub(crate) trees: Option<KnownTrees>,
-    /// How many trees it has at most.
+    /// How many trees the asker keeps at most.
     pub(crate) most_trees: usize,
 }
 
-// The trees for the database of a replica, new ones with room for at most so many.
+// The trees for the database of a replica. If there are no trees yet, there is room for at most `most`
+// trees.
 fn trees_at(alloc: Global, replica: &Replica, most: usize, trees: Option<KnownTrees>) -> KnownTrees
     requires shapes { CountsShapeChanges replica.now }
     requires source { IfSome trees (λ old. replica.now.known.source ≡ old.source) }
@@ -49,7 +50,7 @@ fn trees_at(alloc: Global, replica: &Replica, most: usize, trees: Option<KnownTr
     }
 }
 
-// The result of the search in a replica, and the trees of its database.
+// Searches a replica. Returns the trees of its database, and the result of the search.
 fn search(
     alloc: Global,
     replica: &Replica,
@@ -69,8 +70,8 @@ fn search(
     (trees, outcome)
 }
 
-// One entry: the batches of the replica that was entered, and the result of the search in its
-// table. Those of the last entry are a prefix of them.
+// Enters a replica and searches its table. Returns the replica's batches, and the result of the search.
+// The batches of the last entry are a prefix of these batches.
 pub(crate) fn enter_and_search(
     seat: AskerSeat,
     ask: (Global, Request),

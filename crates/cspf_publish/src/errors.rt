@@ -18,7 +18,8 @@ pub enum OpenError {
     /// Out of memory.
     #[error("out of memory")]
     Memory,
-    /// There was no place for a reader. No run shows it, since `open` makes a place for each.
+    /// There was no place for a reader. This error happens in no run, since `open` makes a place for
+    /// each asker's reader.
     #[error("no place for a reader")]
     Places,
 }
@@ -31,10 +32,10 @@ impl From<AllocError> for OpenError {
     }
 }
 
-/// Why a batch isn't published. Only `Journal` changes anything.
+/// Why a batch isn't published. Every error but `Journal` leaves the publisher as it was.
 #[derive(Clone, Copy, Debug, PartialEq, Eq, Error)]
 pub enum ApplyError {
-    /// A fault of the journal came before.
+    /// The journal has failed at an earlier batch.
     #[error("stopped by a fault of the journal")]
     Stopped,
     /// 1,000,000 batches are published.
@@ -66,7 +67,7 @@ pub enum AskError {
     /// The published replica couldn't be entered. Nothing changed.
     #[error("no entry")]
     NoEntry,
-    /// Out of memory. More batches may be known than before.
+    /// Out of memory. The asker may know more batches than before.
     #[error("out of memory")]
     Memory,
 }

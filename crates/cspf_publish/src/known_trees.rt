@@ -13,7 +13,8 @@ use cspf_trees::{Trees, trees_outlast_bandwidth};
 use std::alloc::{AllocError, Global};
 use std::marker::Model;
 
-/// Trees, the batches whose database they are of, and how many of these change its shape.
+/// Trees, the batches that make their database, and how many of these batches change the shape of the
+/// database.
 #[derive(Drop)]
 pub(crate) struct KnownTrees {
     trees: Trees,
@@ -37,7 +38,7 @@ impl Model for KnownTrees {
 }
 
 impl KnownTrees {
-    /// No trees yet, for the database of a replica, and at most this many.
+    /// Room for at most `most` trees of a replica's database. There are no trees yet.
     pub(crate) fn new(alloc: Global, replica: &Replica, most: usize) -> KnownTrees
         requires { CountsShapeChanges replica.now }
         ensures { result ≡ asker_with replica.now.known most }
@@ -49,14 +50,14 @@ impl KnownTrees {
         }
     }
 
-    /// Goes on with the database of a replica of the same list. The trees are kept where no batch
-    /// between changes more than unreserved bandwidths.
+    /// Moves on to the database of a replica of the same source. The trees are kept if no batch between
+    /// the two databases changes more than unreserved bandwidths.
     pub(crate) fn enter(&mut self, replica: &Replica)
         requires source { replica.now.known.source ≡ self.old.source }
         requires shapes { CountsShapeChanges replica.now }
         ensures { self.new ≡ asker_with replica.now.known self.old.most_trees }
     {
-        // Law: a tree of a database is one of each with the same shape.
+        // Law: a tree of a database is also a tree of each database with the same shape.
         trees_outlast_bandwidth();
         if self.shape_changes == replica.shape_changes && self.known.raise(&replica.known) {
             return;
@@ -66,7 +67,8 @@ impl KnownTrees {
         self.shape_changes = replica.shape_changes;
     }
 
-    /// The best answer to a request in a replica's database, which is that of the batches.
+    /// The best answer to a request in the database of a replica. The replica has the same batches as
+    /// these trees.
     pub(crate) fn best(
         &mut self,
         alloc: Global,

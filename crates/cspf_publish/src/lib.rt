@@ -1,11 +1,13 @@
-//! Published copies of the database: one publisher applies batches. Askers, each in its thread, are
-//! answered from the last published version without waiting.
+//! Publishes copies of the database. One publisher applies batches. Askers, each in a thread, answer
+//! requests from the last published version without waiting.
 //!
-//! A batch takes effect at one step, the swap of two replicas of the table, and an ask at one step,
-//! the entering of a replica. The journal and the list of batches are those of `cspf_journal`, where
-//! `specs/Histories.antt` says which lists may be published, and `specs/KnownBatches.antt` which
-//! batches of one a publisher, an asker or a `Told` token knows. Here `specs/ReplicaRule.antt` has
-//! the rule that holds between any two steps, and the effect of each kind of step.
+//! A batch takes effect in one step: the swap of the two replicas of the table. An ask takes effect in
+//! one step, too: the asker's entry into a replica.
+//!
+//! The journal and the list of batches are those of `cspf_journal`. There `specs/Histories.antt` says
+//! which lists may be published. `specs/KnownBatches.antt` says which batches of a list a publisher, an
+//! asker or a `Told` token knows. In this crate `specs/ReplicaRule.antt` has the rule that holds
+//! between any two steps, and the effect of each kind of step.
 #![tactic(auto)]
 
 mod answer;

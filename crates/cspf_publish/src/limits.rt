@@ -4,7 +4,7 @@ ghost use Rattle.std.specs.Prelude.{◌*◌, ◌≤◌};
 /// How many askers a publisher has at most.
 pub const MOST_ASKERS: usize = 64;
 
-/// How many of these trees each of some askers keeps at most.
+/// How many trees each asker may keep, if all askers together keep at most `trees`.
 pub(crate) fn trees_of_each(trees: usize, askers: usize) -> usize
     ensures { askers * result ≤ trees }
 {

@@ -23,8 +23,8 @@ use std::io::Write;
 use std::marker::Model;
 use std::sync::Wait;
 
-/// Publishes batches. Each is written to the journal before it is published. A publisher is not
-/// `Drop`: end it by `close`.
+/// Publishes batches, each after its text is written to the journal. A publisher isn't `Drop`: end it
+/// by `close`.
 pub struct Publisher<W> {
     replicas: Replicas,
     journal: JournalWriter<W>,
@@ -43,14 +43,14 @@ impl<W> Model for Publisher<W> {
       journal = p.journal.writer;
     } };
 
-    // What is recorded is published.
+    // The journal has recorded exactly the published batches.
     ghost invariant = { λ p. (p.journal.source ≡ p.replicas.source)
         × (p.journal.batches ≡ p.replicas.batches) };
 }
 
-/// A publisher of the empty database, version 0, and 1 to 64 askers. It owns the writer of the
-/// journal. The trees of the askers take at most `TREE_MEGABYTES` of bounds. Each error gives the
-/// writer back untouched.
+/// Opens a publisher of the empty database, version 0, with 1 to 64 askers. The publisher owns the
+/// journal's writer. The bounds of all trees of the askers take at most `TREE_MEGABYTES` megabytes.
+/// Each error gives the writer back untouched.
 pub fn open<W: Write, R: Wait>(
     rt: &R,
     alloc: Global,
@@ -74,9 +74,9 @@ pub fn open<W: Write, R: Wait>(
     open_over(rt, alloc, NewJournal::new(journal), askers, trees)
 }
 
-/// The same as `open`, over a new journal, with at most `trees` trees of all askers together, in
-/// equal parts. The publisher and its askers are of the journal's source, so the journal has recorded
-/// the batches that they know.
+/// Does what `open` does, over a new journal. All askers together keep at most `trees` trees, in equal
+/// parts. The publisher and its askers have the journal's source, so the journal has recorded all
+/// batches that they know.
 pub fn open_over<W: Write, R: Wait>(
     rt: &R,
     alloc: Global,
@@ -127,14 +127,14 @@ impl<W: Write> Publisher<W> {
         self.replicas.version()
     }
 
-    /// Whether a fault of the journal came before. If so, no more batches are published.
+    /// Whether the journal has failed. If so, no more batches are published.
     pub fn is_stopped(&self) -> bool
         ensures { result ≡ self.now.stopped }
     {
         self.journal.is_stopped()
     }
 
-    /// The best answer in the database of the published version. It never blocks.
+    /// The best answer in the database of the published version. The call never blocks.
     pub fn answer(&self, alloc: Global, request: &Request) -> Result<Answer, AllocError>
         ensures { IfOk result (IsAnswerAfter self.now.batches request.now) }
     {
@@ -146,7 +146,7 @@ impl<W: Write> Publisher<W> {
         })
     }
 
-    /// Returns a token of the published batches. It never blocks.
+    /// Returns a token of the published batches. The call never blocks.
     pub fn tell(&mut self) -> Told
         ensures batches { result.batches ≡ self.old.batches }
         ensures source { result.source ≡ self.old.source }
@@ -155,8 +155,8 @@ impl<W: Write> Publisher<W> {
         self.replicas.tell()
     }
 
-    /// Returns the steps of the journal up to the last count of published batches. The count was
-    /// then this publisher's version, so an asker that reads it later reads no less.
+    /// Returns the steps of the journal up to the last count of published batches. That count was this
+    /// publisher's version, so an asker that reads the count later reads at least this version.
     pub fn steps(&self) -> SeenSteps
         ensures source { result.source ≡ self.now.source }
         ensures count { count_of result.steps ≡ length self.now.batches }
@@ -165,9 +165,9 @@ impl<W: Write> Publisher<W> {
         self.replicas.steps()
     }
 
-    /// Publishes a batch and returns the new version. The batch's text is first written whole to
-    /// the journal. Once the batch is published, the count that askers read is the new version. May
-    /// wait for askers that are inside a call. The errors are checked in their order.
+    /// Publishes a batch and returns the new version. The batch's text is first written whole to the
+    /// journal. Once the batch is published, the count that askers read is the new version. The call
+    /// may wait for askers that are inside a call. Errors are checked in the order of `ApplyError`.
     pub fn apply<R: Wait>(
         &mut self,
         rt: &R,
@@ -205,7 +205,7 @@ impl<W: Write> Publisher<W> {
         let Ok(copy) = batch.copy(alloc) else {
             return Err(ApplyError::Memory);
         };
-        // Nothing but the publisher takes a step on the journal's list, so no run shows `Lost`.
+        // Only the publisher takes steps on the journal's list, so `Lost` happens in no run.
         match self.journal.record(batch, text.as_slice()) {
             Ok(recorded) => Ok(self.replicas.publish(rt, copy, recorded)),
             Err(NotRecorded::Writer { written }) => Err(ApplyError::Journal { written }),
@@ -213,7 +213,8 @@ impl<W: Write> Publisher<W> {
         }
     }
 
-    /// The journal's writer, as the last call left it. May wait for askers that are inside a call.
+    /// Ends the publisher, and returns the journal's writer as the last call left it. The call may wait
+    /// for askers that are inside a call.
     pub fn close<R: Wait>(self, rt: &R) -> W
         ensures { result ≡ self.journal }
     {

@@ -12,29 +12,31 @@ use left_right::Absorb;
 use std::alloc::AllocError;
 use std::marker::Model;
 
-/// A batch, and the batches that it ends.
+/// A batch, and the list of batches up to this batch.
 #[derive(Drop)]
 pub struct PendingBatch {
     /// The batch.
     pub batch: Batch,
-    /// The batches up to it.
+    /// The list of batches that ends with this batch.
     pub known: Known,
-    /// How many of these change more than unreserved bandwidths.
+    /// How many batches of the list change more than unreserved bandwidths.
     pub shape_changes: u32,
 }
 
-/// A table, and the batches whose database it has. It is one of the two copies of a journal's table.
+/// A table, and the batches that make its database. The table is one of the two copies of a journal's
+/// table.
 #[derive(Drop)]
 pub struct Replica {
-    /// The right to be one of these.
+    /// The right to be one of the two copies.
     pub right: CopyRight,
     /// The table.
     pub table: Table,
-    /// The batches that it has absorbed.
+    /// The batches that the table has absorbed.
     pub known: Known,
-    /// How many of these changed more than unreserved bandwidths.
+    /// How many of these batches changed more than unreserved bandwidths.
     pub shape_changes: u32,
-    /// Whether it has absorbed an operation. If so, a publisher's seat knows its batches.
+    /// Whether the replica has absorbed an operation. If so, a publisher's seat knows the replica's
+    /// batches.
     pub is_open: bool,
 }
 
@@ -57,7 +59,8 @@ impl Model for Replica {
 }
 
 impl Replica {
-    /// How many of its batches and this one change more than unreserved bandwidths.
+    /// How many of the replica's batches, together with this batch, change more than unreserved
+    /// bandwidths.
     pub(crate) fn shape_changes_with(&self, batch: &Batch) -> u32
         requires database { HasItsDatabase self.now }
         requires shapes { CountsShapeChanges self.now }
@@ -72,7 +75,7 @@ impl Replica {
     }
 }
 
-// Absorbs a batch. One that doesn't fit changes nothing.
+// Absorbs a batch. A batch that doesn't fit changes nothing.
 fn absorb(table: &mut Table, batch: &Batch)
     ensures { table.new ≡ database_with table.old batch.now }
 {

@@ -36,9 +36,9 @@ use std::sync::{Arc, Wait};
 
 type ReplicaWriter = Writer<Replica, PendingBatch, SeatView, ReplicaRule>;
 
-/// A pair of replicas, and the count of the batches that they show. It holds the one right to count
-/// its source's batches, and its replicas hold the two rights of their source, so a source has one pair.
-/// It is not `Drop`: end it by `close`.
+/// A pair of replicas, and the count of the batches that they show. The pair holds the only right to
+/// count its source's batches. Its replicas hold the two `CopyRight`s of the source, so a source has
+/// only one pair. A pair isn't `Drop`: end it by `close`.
 pub(crate) struct Replicas {
     writer: ReplicaWriter,
     right: RightToCount,
@@ -67,8 +67,7 @@ impl Model for Replicas {
         × (arc_value r.count ≡ r.writer.desk.shown.value.known.source) };
 }
 
-// The first step, which changes no table. From now on the writer's seat knows the published
-// batches.
+// Takes the first step, which changes no table. After it the writer's seat knows the published batches.
 fn open_writer<R: Wait>(writer: ReplicaWriter, rt: &R) -> ReplicaWriter
     requires empty { writer.desk.shown.value ≡ record {
       right = writer.desk.shown.value.known.source;
@@ -88,7 +87,7 @@ fn open_writer<R: Wait>(writer: ReplicaWriter, rt: &R) -> ReplicaWriter
     writer
 }
 
-// One step: the pending batch is published. The result is the new version.
+// Publishes the pending batch in one step, and returns the new version.
 fn swap_replicas<R: Wait>(writer: ReplicaWriter, rt: &R) -> (ReplicaWriter, u32)
     requires shown { writer.desk.shown.value
         ≡ published_state writer.desk.shown.value.known writer.desk.shown.value.shape_changes }
@@ -111,8 +110,8 @@ fn swap_replicas<R: Wait>(writer: ReplicaWriter, rt: &R) -> (ReplicaWriter, u32)
         → result.0.desk.shown.value.known ≡ p.known }
     ensures version { result.1 ≡ length result.0.desk.shown.value.known.batches }
 {
-    // Laws: one more batch makes its changes in the database of those before it, and keeps the
-    // list lawful.
+    // Laws: the next batch makes its changes in the database of the batches before it. The list stays
+    // lawful with this batch.
     absorbing();
     lawful_batches();
     let (writer, published) = writer.publish_as::<Swap, R>(rt);
@@ -154,7 +153,7 @@ fn empty_replica(alloc: Global, known: &Known, right: CopyRight) -> Result<Repli
     })
 }
 
-// Appends two operations that change nothing, so that the log has room for two.
+// Appends two operations that change nothing, so that the log has memory for two operations.
 fn append_idle(writer: &mut ReplicaWriter, alloc: Global, known: &Known) -> Result<(), AllocError>
     ensures desk { writer.new.desk ≡ writer.old.desk }
     ensures pending { IfOk result (λ _. drop writer.new.behind writer.new.log.items
@@ -170,7 +169,8 @@ fn append_idle(writer: &mut ReplicaWriter, alloc: Global, known: &Known) -> Resu
     Ok(())
 }
 
-// The writer of two empty replicas, by the rights of their source, after its first step.
+// The writer of two empty replicas, after its first step. The replicas hold the two `CopyRight`s of
+// their source.
 fn new_writer<R: Wait>(
     rt: &R,
     alloc: Global,
@@ -196,8 +196,8 @@ fn new_writer<R: Wait>(
     Ok(open_writer(writer, rt))
 }
 
-// Appends an operation. The log has had room for it since the replicas were made, so the first turn
-// of the loop is the last one.
+// Appends an operation. The log has had room for it since the replicas were made, so the loop runs only
+// once.
 fn append<R: Wait>(writer: &mut ReplicaWriter, rt: &R, operation: PendingBatch)
     ensures desk { writer.new.desk ≡ writer.old.desk }
     ensures pending { drop writer.new.behind writer.new.log.items
@@ -213,7 +213,7 @@ fn append<R: Wait>(writer: &mut ReplicaWriter, rt: &R, operation: PendingBatch)
     unreachable!()
 }
 
-// A new reader. The replicas were made with a place for each.
+// A new reader. The replicas were made with a place for each asker's reader.
 fn new_reader(writer: &ReplicaWriter) -> Result<ReplicaReader, OpenError>
     ensures view { IfOk result (λ reader. view reader.place ≡ IsNew) }
     ensures table { IfOk result (λ reader. reader.place.table_id ≡ writer.now.desk.place.table_id) }
@@ -225,8 +225,8 @@ fn new_reader(writer: &ReplicaWriter) -> Result<ReplicaReader, OpenError>
     }
 }
 
-// A reference to the count for one more asker. There are far fewer than an `Arc` may have, so the
-// first turn of the loop is the last one.
+// A reference to the count for one more asker. There are far fewer references than an `Arc` may have,
+// so the loop runs only once.
 fn share<R: Wait>(count: &Arc<PublishedCount>, rt: &R) -> Arc<PublishedCount>
     ensures { arc_value result ≡ arc_value count.now }
 {
@@ -238,8 +238,8 @@ fn share<R: Wait>(count: &Arc<PublishedCount>, rt: &R) -> Arc<PublishedCount>
     unreachable!()
 }
 
-// Counts a batch as published: the last one of the replica that askers enter. Nothing else moves
-// the count, so the first turn of the loop is the last one.
+// Counts as published the last batch of the replica that askers enter. Nothing else moves the count, so
+// the loop runs only once.
 fn count_shown<R: Wait>(
     right: &mut RightToCount,
     rt: &R,
@@ -260,8 +260,8 @@ fn count_shown<R: Wait>(
 }
 
 impl Replicas {
-    /// Two empty replicas. The writer's log grows only here. Later it never has more than two
-    /// operations.
+    /// Two empty replicas. The writer's log takes memory only here. Later the log never has more than
+    /// two operations.
     pub(crate) fn new<R: Wait>(
         rt: &R,
         alloc: Global,
@@ -282,9 +282,9 @@ impl Replicas {
         })
     }
 
-    /// Makes `count` askers, with `room` as their memory. They know the published batches. Together
-    /// they have at most `trees` trees, in equal parts. It fails only where there is no place for a
-    /// reader.
+    /// Makes `count` askers, with `room` as their memory. The askers know the published batches.
+    /// Together they keep at most `trees` trees, in equal parts. The call fails only if there is no
+    /// place for a reader.
     pub(crate) fn askers<R: Wait>(
         &mut self,
         rt: &R,
@@ -317,7 +317,7 @@ impl Replicas {
         Ok(Asker::new(reader, self.known(), share(&self.count, rt), trees))
     }
 
-    // The batches that are published.
+    // The published batches.
     fn known(&self) -> Known
         ensures { result ≡ self.now }
     {
@@ -348,7 +348,7 @@ impl Replicas {
         best(alloc, &self.writer.published().table, request)
     }
 
-    /// Publishes a batch that is recorded, counts it as published, and returns the new version.
+    /// Publishes a recorded batch, counts it as published, and returns the new version.
     pub(crate) fn publish<R: Wait>(&mut self, rt: &R, batch: Batch, recorded: Known) -> u32
         requires next { MayFollow self.old.batches batch }
         requires recorded { recorded ≡ known_with self.old.batches self.old.source batch }
@@ -367,7 +367,7 @@ impl Replicas {
         version
     }
 
-    /// The steps of the journal up to the last count, which is that of the published batches.
+    /// The steps of the journal up to the last count, which is the number of published batches.
     pub(crate) fn steps(&self) -> SeenSteps
         ensures source { result.source ≡ self.now.source }
         ensures count { count_of result.steps ≡ length self.now.batches }
@@ -383,7 +383,7 @@ impl Replicas {
         Told::new(self.known())
     }
 
-    /// Drops both replicas, and returns the batches of the one that was published last.
+    /// Drops both replicas, and returns the batches of the replica that was published last.
     pub(crate) fn close<R: Wait>(self, rt: &R) -> Known
         ensures { result ≡ self }
     {

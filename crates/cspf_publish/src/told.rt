@@ -4,7 +4,7 @@ ghost use Rattle.cspf_journal.specs.Histories.{IsHistory};
 use cspf_journal::Known;
 use std::marker::Model;
 
-/// A token of the batches that a publisher had published.
+/// A token of the batches that a publisher had published when it made the token.
 #[derive(Drop)]
 pub struct Told {
     known: Known,
@@ -25,7 +25,7 @@ impl Told {
         Told { known }
     }
 
-    /// What the token knows of the list: batches that the journal has recorded.
+    /// The batches of the token. The journal has recorded them all.
     pub fn known(&self) -> &Known
         ensures { result.now ≡ self.now }
     {

@@ -1,4 +1,4 @@
--- The records of batches, as they are written, are read as their rows.
+-- The records that are written for batches are read as the rows of these batches.
 use Rattle.std.proofs.Common.{◌≡◌, ℕ, ◌+◌, ◌^◌, ◌<◌, ◌≤◌, List, [], ◌∷◌, ◌++◌, map, length, Result, Ok, Bool, true, false, refl, sym, ap, append-nil, arith}
 use Rattle.std.proofs.lemmas.Grind.{flat_map-append}
 use Rattle.std.proofs.lemmas.List.{map-append, length-append, length-map}
@@ -24,7 +24,7 @@ use Rattle.cspf_rows.proofs.Lines.{line_text-cons}
 use Rattle.cspf_rows.proofs.PlainFields.{IsUnquoted, decimal_unquoted, decimals_unquoted, address_unquoted, mask_unquoted}
 use Rattle.cspf_rows.proofs.CutLines.{AreUnquotedRecords, rows_of-lines}
 
--- the laws of the rows that a journal has
+-- the laws of reading back the rows that a journal has: changes and end rows
 pub record AreRowsReadBack : Type 0 where
   pub puts : ArePutsReadBack
   pub drops : AreDropsReadBack
@@ -33,7 +33,7 @@ pub record AreRowsReadBack : Type 0 where
   pub masks : AreMasksRead
   pub back : AreMasksReadBack
 
--- records are lines with no quotes, and are read as these rows
+-- the records need no quotes, and they are read as `rows`
 pub record AreRead (records : List (List (List ℕ))) (rows : List Row) : Type 0 where
   pub plain : AreUnquotedRecords records
   pub read : map row_of records ≡ map Ok rows
@@ -48,7 +48,7 @@ AreRead-append rs ss xs ys a b = record {
     plain_append [] ss a b = b
     plain_append (r ∷ rs) ss a b = (a.0, plain_append rs ss a.1 b)
 
--- what is written for a flag needs no quotes
+-- the text of a flag needs no quotes
 flag_unquoted : (flag : Bool) → IsUnquoted (decimal (flag_number flag))
 flag_unquoted true = decimal_unquoted 1 (omega arith)
 flag_unquoted false = decimal_unquoted 0 (omega arith)
@@ -118,7 +118,7 @@ journal_text-lines : (batches : List NumberedChanges) → journal_text batches �
 journal_text-lines [] = refl
 journal_text-lines (b ∷ bs) = rw (flat_map-append record_line (batch_records b) (flat_map batch_records bs)) (ap (λ more. batch_text b ++ more) (journal_text-lines bs))
 
--- a line that begins with these three bytes has no byte order mark in front
+-- a line whose first three bytes aren't a byte order mark has no byte order mark to skip
 no_mark_line : (a b c : ℕ) (x : List ℕ) (xs : List (List ℕ)) (tail : List ℕ) → is_bom a b c ≡ false
     → strip_bom (record_line ((a ∷ b ∷ c ∷ x) ∷ xs) ++ tail) ≡ record_line ((a ∷ b ∷ c ∷ x) ∷ xs) ++ tail
 unfolding strip_bom

@@ -1,4 +1,4 @@
--- Lines of fields that need no quotes are cut into those fields.
+-- Lines of fields that need no quotes are cut into these fields.
 use Rattle.std.proofs.Common.{◌≡◌, ℕ, zero, suc, ◌≤◌, List, [], ◌∷◌, ◌++◌, length, refl, sym, ap, ◌∙◌, append_assoc, arith}
 use Rattle.std.proofs.lemmas.List.{length-append}
 use Rattle.std.specs.List.{flat_map}
@@ -12,7 +12,7 @@ use Rattle.cspf_rows.specs.Records.{rows_of}
 use Rattle.cspf_rows.proofs.Lines.{line_text-cons}
 use Rattle.cspf_rows.proofs.PlainFields.{AreUnquoted}
 
--- two fields or more that need no quotes
+-- a record of two fields or more, none of which needs quotes
 abbrev pub IsUnquotedRecord : List (List ℕ) → Type 0
 IsUnquotedRecord [] = ⊥
 IsUnquotedRecord (x ∷ []) = ⊥
@@ -27,14 +27,14 @@ unfolding fields_text
 fields_text-unquoted [] h = refl
 fields_text-unquoted (x ∷ xs) h = rw h.0 (ap (λ rest. 44 ∷ (x ++ rest)) (fields_text-unquoted xs h.1))
 
--- the line is what csv writes for these fields
+-- `record_line` of such a record is the text that `csv` writes for its fields
 line_text-row_text : (x y : List ℕ) (ys : List (List ℕ)) → AreUnquoted (x ∷ y ∷ ys) → record_line (x ∷ y ∷ ys) ≡ row_text default_writer (x ∷ y ∷ ys)
 unfolding is_blank
 line_text-row_text x y ys h =
     line_text-cons x (y ∷ ys)
     ∙ rw (h.0, fields_text-unquoted (y ∷ ys) h.1) (sym (append_assoc x (fields_after (y ∷ ys)) (10 ∷ [])))
 
--- no bytes are no records
+-- a stream with no bytes left has no records left
 none_left : (n : ℕ) → records_from default_config n st.StartRecord [] ≡ []
 unfolding records_from next_record
 none_left zero = refl
@@ -61,7 +61,7 @@ lines_enough : (rs : List (List (List ℕ))) → length rs ≤ length (flat_map 
 lines_enough [] = omega arith
 lines_enough (r ∷ rs) = omega (arith, line_text-some r (flat_map record_line rs), lines_enough rs)
 
--- lines of fields are cut into them, where no byte order mark is in front
+-- lines of such records are cut into these records, if the lines begin with no byte order mark
 pub rows_of-lines : (rs : List (List (List ℕ))) → AreUnquotedRecords rs → strip_bom (flat_map record_line rs) ≡ flat_map record_line rs → rows_of (flat_map record_line rs) ≡ rs
 unfolding rows_of
 rows_of-lines rs h no_mark = rw no_mark (cut_lines _ rs (omega (arith, lines_enough rs)) h)

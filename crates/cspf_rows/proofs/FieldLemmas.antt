@@ -1,4 +1,4 @@
--- A field is read as a value exactly where it spells that value.
+-- A field is read as a value exactly if its text spells that value.
 use Rattle.std.proofs.Common.{◌≡◌, ℕ, zero, suc, ltb, ◌^◌, ◌<◌, Bool, true, false, cond, eqb, inl, inr, List, ◌++◌, codes, drop, ap, Option, Some, None, Result, Ok, Err, refl, arith}
 use Rattle.std.proofs.lemmas.Bool.{ltb-true, lt-ltb, false_from_ne_true}
 use Rattle.std.proofs.lemmas.Bool.Decides.{Decides-eqb}
@@ -22,28 +22,28 @@ use Rattle.cspf_rows.specs.FieldValues.{field, number_at, small_number_at, prior
 use Rattle.cspf_rows.specs.FieldTexts.{AreTextsRead}
 use Rattle.cspf_rows.specs.Says.{SpellsNumber, SpellsFlag, SpellsAddress, SpellsHops}
 
--- the first step of two that gave a value
+-- if two steps gave a value, the first step gave a value, and the second gave `y` for it
 pub first_step : {A B : Type 0} (r : Result A RowError) (f : A → Result B RowError) (y : B) → (r >>= f) ≡ Ok y → (x : A) × (r ≡ Ok x) × (f x ≡ Ok y)
 first_step (Ok x) f y found = (x, refl, found)
 first_step (Err e) f y found = absurd (cc)
 
--- the value of `ok_or` is the one that the option had
+-- if `ok_or` gives a value, the option had that value
 found : {A : Type 0} (o : Option A) (e : RowError) (x : A) → ok_or o e ≡ Ok x → o ≡ Some x
 found None e x same = absurd (cc)
 found (Some y) e x same = cc
 
--- a test that was passed
+-- if a test led to a value and not to the error, the test was true
 passed : {A : Type 0} (b : Bool) (v n : A) (e : RowError) → cond b (Ok v) (Err e) ≡ Ok n → (b ≡ true) × (v ≡ n)
 passed true v n e same = (refl, cc)
 passed false v n e same = absurd (cc)
 
--- a number below 2 is that of the flag that says whether it's 1
+-- a number below 2 is the number of the flag that says whether it is 1
 small_flag : (n : ℕ) (flag : Bool) → n < 2 → eqb n 1 ≡ flag → n ≡ flag_number flag
 small_flag zero flag small is = rw (← is) refl
 small_flag (suc zero) flag small is = rw (← is) refl
 small_flag (suc (suc n)) flag small is = absurd (omega arith)
 
--- a flag that was read off a number has that number
+-- if a number is read as a flag, it is the number of that flag
 flag_passed : (n : ℕ) (flag : Bool) (e : RowError) → cond (ltb n 2) (Ok (eqb n 1)) (Err e) ≡ Ok flag → n ≡ flag_number flag
 flag_passed n flag e same = let test = passed _ _ _ _ same in small_flag n flag (ltb-true n 2 test.0) test.1
 
@@ -123,17 +123,17 @@ module _ (texts : AreTextsRead) (fields : List (List ℕ)) (place : ℕ) where
   unfolding mask_at
   spelled-mask_at n read = (texts.masks (field fields place) n).0 (found _ _ n read)
 
--- a value is kept where only the error of a result is mapped
+-- mapping the errors of a result keeps its value
 kept : {A B : Type 0} (r : Result (List Hop) A) (f : A → B) (hops : List Hop) → result_map_both (λ (h : List Hop). h) f r ≡ Ok hops → r ≡ Ok hops
 kept (Ok h) f hops same = cc
 kept (Err e) f hops same = absurd (cc)
 
--- whether a text begins with `ero:`, which an object follows
+-- the test `starts_with` says whether a text is `ero:` and other bytes after it
 pub begins : (text : List ℕ) (test : Bool) → test ≡ starts_with eqb text (codes "ero:")
     → (test ≡ true → text ≡ codes "ero:" ++ drop 4 text) × ((rest : List ℕ) → text ≡ codes "ero:" ++ rest → test ≡ true)
 begins text test is = starts_is Decides-eqb text (codes "ero:") test is
 
--- an object that is read
+-- the digits of bytes that spell hops are read as these hops
 hex_hops_of-spelled : AreObjectsRead → (digits : List ℕ) (bytes : List ℕ) (hops : List Hop) → decode_of digits ≡ Ok bytes → Spells bytes hops → hex_hops_of digits ≡ Ok hops
 unfolding hex_hops_of
 hex_hops_of-spelled objects digits bytes hops found spelled = rw (found, (objects bytes hops (decode_of-ok digits bytes found).3).1 spelled) refl
@@ -146,7 +146,7 @@ spelled-hex_hops_of objects digits hops read = cases (decode_of digits) refl rea
     cases (Ok bytes) found read = (bytes, found, (objects bytes hops (decode_of-ok digits bytes found).3).0 (kept _ _ hops read))
     cases (Err e) found read = absurd (cc)
 
--- a text that spells hops is read as those
+-- a text that spells hops is read as these hops
 either-spelled : AreObjectsRead → (text : List ℕ) (hops : List Hop) → SpellsHops text hops → either_hops_of text ≡ Ok hops
 unfolding either_hops_of
 either-spelled objects text hops (inl list) = rw (no_object, list.read) refl

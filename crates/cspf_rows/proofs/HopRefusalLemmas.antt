@@ -13,17 +13,17 @@ use Rattle.cspf_rows.specs.FieldValues.{object_hops_of, hex_hops_of, either_hops
 use Rattle.cspf_rows.specs.RowRefusals.{IsHopsFault}
 use Rattle.cspf_rows.proofs.FieldLemmas.{begins}
 
--- a mapped error comes from an error
+-- a result with its errors mapped has an error only if the result had one
 pub mapped_error : {A B : Type 0} (r : Result (List Hop) A) (f : A → B) (e : B) → result_map_both (λ (h : List Hop). h) f r ≡ Err e → (why : A) × (r ≡ Err why) × (f why ≡ e)
 mapped_error (Ok h) f e same = absurd (cc)
 mapped_error (Err why) f e same = (why, refl, cc)
 
--- digits that are refused decode to no bytes
+-- digits that the decoder refuses decode to no bytes
 no_bytes : (r : Result (List ℕ) FromHexError) (e : FromHexError) (bytes : List ℕ) → r ≡ Err e → r ≡ Ok bytes → ⊥
 no_bytes (Ok b) e bytes bad good = cc bad
 no_bytes (Err f) e bytes bad good = cc good
 
--- why an object in digits is refused
+-- if an object in digits is refused for `why`, the text has that fault
 hex_told : (text digits : List ℕ) (why : HopsFault) → text ≡ codes "ero:" ++ digits → hex_hops_of digits ≡ Err why → IsHopsFault text why
 unfolding hex_hops_of
 hex_told text digits why whole read = cases (decode_of digits) refl read
@@ -36,7 +36,7 @@ hex_told text digits why whole read = cases (decode_of digits) refl read
         let is : fault.Hex ≡ why = cc same in
         subst (IsHopsFault text) is (digits, whole, λ bytes other. no_bytes (decode_of digits) e bytes found other)
 
--- a text that is refused has that fault
+-- if a text is refused for `why`, it has that fault
 pub fault_told : (text : List ℕ) (why : HopsFault) → either_hops_of text ≡ Err why → IsHopsFault text why
 unfolding either_hops_of
 fault_told text why read = cases (starts_with eqb text (codes "ero:")) refl read
@@ -48,7 +48,7 @@ fault_told text why read = cases (starts_with eqb text (codes "ero:")) refl read
         let (e, bad, same_fault) = mapped_error _ fault.Text why same in
         subst (IsHopsFault text) same_fault (λ rest whole. let told = (begins text false is).1 rest whole in absurd (cc), bad)
 
--- an object that has a fault is refused for it
+-- digits that decode to no bytes are refused as `Hex`
 hex_fault : (digits : List ℕ) → ((bytes : List ℕ) → decode_of digits ≢ Ok bytes) → hex_hops_of digits ≡ Err fault.Hex
 unfolding hex_hops_of
 hex_fault digits none = cases (decode_of digits) refl
@@ -57,7 +57,7 @@ hex_fault digits none = cases (decode_of digits) refl
     cases (Ok bytes) found = absurd (none bytes found)
     cases (Err e) found = refl
 
--- a text that has a fault is refused for it
+-- a text with a fault is refused for that fault
 pub told_fault : (text : List ℕ) (why : HopsFault) → IsHopsFault text why → either_hops_of text ≡ Err why
 unfolding either_hops_of hex_hops_of
 told_fault text (fault.Text why) (other, bad) = rw (false_from_ne_true _ (λ test. other (drop 4 text) ((begins text _ refl).0 test)), bad) refl

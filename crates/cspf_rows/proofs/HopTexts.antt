@@ -10,14 +10,15 @@ use Rattle.cspf_addr.specs.HopText.{hop_text}
 use Rattle.cspf_addr.specs.HopLists.{hops_text}
 use Rattle.cspf_addr.specs.declared.hop.Hop.{Hop}
 
--- a text begins with a decimal digit
+-- the first byte of a text is a decimal digit
 record BeginsWithDigit (text : List ℕ) : Type 0 where
   first : ℕ
   behind : List ℕ
   whole : text ≡ first ∷ behind
   digit : digit_value first < 10
 
--- a conjunction that was passed: of a plain start, of digits and of the size
+-- if a number is read, its first byte is a digit: `cond` tests a plain start, the digits and the
+-- size
 first_passed : (plain first others small : Bool) (v n : ℕ) → cond ((plain && (first && others)) && small) (Some v) None ≡ Some n → first ≡ true
 first_passed true true others small v n read = refl
 first_passed true false others small v n read = absurd (cc)
@@ -49,7 +50,7 @@ other text rest begins whole =
     let digit : digit_value 101 < 10 = subst (λ byte. digit_value byte < 10) letter begins.digit in
     omega (arith, digit)
 
--- no list of hops begins as an object does
+-- the text of a hop list never begins with `ero:`, as an object does
 pub no_object : AreSpelledOnce → (hops : List Hop) (rest : List ℕ) → hops_text hops ≢ codes "ero:" ++ rest
 unfolding hops_text
 no_object numbers [] rest whole = cc whole

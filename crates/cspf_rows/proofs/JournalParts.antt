@@ -1,4 +1,5 @@
--- The parts of a journal, one record after the other.
+-- How the parts of a journal grow by one record: whole batches, open changes, and the records after
+-- them.
 use Rattle.std.proofs.Common.{◌≡◌, ◌≢◌, ℕ, ◌+◌, ◌≤◌, Bool, true, false, List, [], ◌∷◌, ◌++◌, map, length, Result, Ok, refl, sym, ap, ◌∙◌, append_assoc, append-nil, arith}
 use Rattle.std.proofs.lemmas.Grind.{flat_map-append}
 use Rattle.std.proofs.lemmas.List.{map-append, length-append, length-map}
@@ -37,7 +38,7 @@ module _ (bs : List NumberedChanges) (cs : List Change) (seen : List (List (List
   seen_more : seen ++ (fields ∷ []) ≡ h.whole ++ (h.open_ones ++ (fields ∷ []))
   seen_more = ap (λ (s : Records). s ++ (fields ∷ [])) h.split ∙ one_more h.whole h.open_ones h.behind fields h.ended
 
-  -- one more open change
+  -- the next record is one more open change
   pub parts_change : (change : Change) → row_of fields ≡ Ok (change_row change) → AreJournalParts bs (cs ++ (change ∷ [])) false (seen ++ (fields ∷ []))
   parts_change change row = record {
     numbers = h.numbers;
@@ -55,7 +56,7 @@ module _ (bs : List NumberedChanges) (cs : List Change) (seen : List (List (List
   numbered-push first [] b numbers next = (omega (arith, next), tt)
   numbered-push first (x ∷ xs) b numbers next = (numbers.0, numbered-push (first + 1) xs b numbers.1 (omega (arith, next)))
 
-  -- one more batch
+  -- the next record ends a batch
   pub parts_batch : (batch : NumberedChanges) → batch.number ≡ 1 + length bs → batch.changes ≡ cs
       → row_of fields ≡ Ok (row.End batch.number (length batch.changes)) → AreJournalParts (bs ++ (batch ∷ [])) [] false (seen ++ (fields ∷ []))
   parts_batch batch number same row = record {
@@ -76,7 +77,7 @@ module _ (bs : List NumberedChanges) (cs : List Change) (seen : List (List (List
   some_one : (fields ∷ []) ≢ []
   some_one e = cc
 
-  -- a row comes that is in no batch
+  -- the next record is the first that is in no batch
   pub parts_end : EndsBatches (1 + length bs) (length cs) (row_of fields) → AreJournalParts bs cs true (seen ++ (fields ∷ []))
   parts_end last = record {
     numbers = h.numbers;
@@ -98,7 +99,7 @@ some_more : (more : Records) (fields : List (List ℕ)) → more ++ (fields ∷ 
 some_more [] fields e = cc
 some_more (r ∷ more) fields e = cc
 
--- one more record after a row that is in no batch
+-- the next record comes after a record that is in no batch
 pub parts_behind : (bs : List NumberedChanges) (cs : List Change) (seen : List (List (List ℕ))) (fields : List (List ℕ)) → AreJournalParts bs cs true seen
     → AreJournalParts bs cs true (seen ++ (fields ∷ []))
 parts_behind bs cs seen fields h = record {
@@ -113,7 +114,7 @@ parts_behind bs cs seen fields h = record {
   ended = some_more h.behind fields;
 }
 
--- the rows so far
+-- records are read as the rows of those in `whole`, and then as what those in `left` are read as
 said : (whole left seen : Records) (rows : List Row) → seen ≡ whole ++ left → map row_of whole ≡ read_rows rows → map row_of seen ≡ read_rows rows ++ map row_of left
 said whole left seen rows split read = rw (split, map-append row_of whole left, read) refl
 
@@ -128,7 +129,7 @@ module _ (bs : List NumberedChanges) (cs : List Change) (ended : Bool) (seen : L
       (open_no_batch cs (1 + length bs) (map row_of h.behind) h.ends) in
       omega (arith, less, length-map more row_of, length-map (h.open_ones ++ h.behind) row_of, ap length opens)
 
-  -- the journal, where no more records come
+  -- if no more records come, the records are a journal of these batches, with this rest
   journal_of_parts : (rest : Rest) → IsRest (h.open_ones ++ h.behind) rest → IsJournal seen bs rest
   journal_of_parts rest is_rest = record {
     left = h.open_ones ++ h.behind;
@@ -150,11 +151,11 @@ some_open [] behind [] rows some e = some refl
 some_open [] behind (c ∷ cs) rows some e = cc
 some_open (o ∷ opens) behind cs rows some e = cc
 
--- no record is left where no change is open and each row was in a batch
+-- a journal with no open changes, and no record that is in no batch, is clean
 pub journal_clean : (bs : List NumberedChanges) (seen : List (List (List ℕ))) → AreJournalParts bs [] false seen → IsJournal seen bs rest.Clean
 journal_clean bs seen h = journal_of_parts bs [] false seen h rest.Clean (rw (h.ended, no_records h.open_ones h.open_rows) refl)
 
--- open changes are left
+-- a journal that ends with open changes is torn
 pub journal_open : (bs : List NumberedChanges) (cs : List Change) (seen : List (List (List ℕ))) → AreJournalParts bs cs false seen → cs ≢ [] → IsJournal seen bs rest.Torn
 journal_open bs cs seen h some = journal_of_parts bs cs false seen h rest.Torn (some_open h.open_ones h.behind cs h.open_rows some)
 
@@ -172,7 +173,7 @@ same_rest (l ∷ left) [] one two count a b = absurd (omega arith)
 same_rest (l ∷ left) (m ∷ more) rest.Clean rest.Torn count a b = absurd (cc)
 same_rest (l ∷ left) (m ∷ more) rest.Torn rest.Clean count a b = absurd (cc)
 
--- records are one journal at most
+-- no records are two different lists of batches, or have two different rests
 pub one_journal : (records : List (List (List ℕ))) (batches others : List NumberedChanges) (rest other : Rest)
     → IsJournal records batches rest → IsJournal records others other → (batches ≡ others) × (rest ≡ other)
 one_journal records batches others rest other a b =

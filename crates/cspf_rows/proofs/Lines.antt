@@ -1,4 +1,4 @@
--- The lines of a batch's text.
+-- The text of a batch, line by line.
 use Rattle.std.proofs.Common.{◌≡◌, ℕ, refl, List, [], ◌∷◌, ◌++◌, map, length, codes, sym, ap, append_assoc, append-nil}
 use Rattle.std.proofs.lemmas.Grind.{flat_map-append}
 use Rattle.std.proofs.lemmas.List.Folds.{flat_map-map}
@@ -10,7 +10,7 @@ use Rattle.cspf_model.specs.Numbered.{NumberedChanges}
 use Rattle.cspf_rows.specs.Written.{put_fields, end_fields}
 use Rattle.cspf_rows.specs.BatchText.{record_line, batch_text, change_fields, fields_after, attributes}
 
--- the first field, and each next one after a comma
+-- joined fields are the first field, and each other field after a comma
 join_with_byte-cons : (x : List ℕ) (xs : List (List ℕ)) → join_with_byte 44 (x ∷ xs) ≡ x ++ fields_after xs
 join_with_byte-cons x [] = sym (append-nil x)
 join_with_byte-cons x (y ∷ ys) = ap (λ rest. x ++ (44 ∷ rest)) (join_with_byte-cons y ys)
@@ -19,15 +19,15 @@ pub line_text-cons : (x : List ℕ) (xs : List (List ℕ)) → record_line (x �
 unfolding record_line
 line_text-cons x xs = rw (join_with_byte-cons x xs, append_assoc x (fields_after xs) (10 ∷ [])) refl
 
--- the line of a word and two fields, which are written one after the other
+-- the first field and two others, each appended after a comma, make a line
 pub line_of_three : (old x a b : List ℕ) → (((old ++ x) ++ (44 ∷ a)) ++ (44 ∷ b)) ++ (10 ∷ []) ≡ old ++ record_line (x ∷ a ∷ b ∷ [])
 line_of_three old x a b = rw (line_text-cons x (a ∷ b ∷ [])) (simp (append_assoc))
 
--- a line that is written in two pieces
+-- fields that are appended in two parts make one line
 line_text-append : (old x : List ℕ) (xs ys : List (List ℕ)) → ((old ++ (x ++ fields_after xs)) ++ fields_after ys) ++ (10 ∷ []) ≡ old ++ record_line (x ∷ (xs ++ ys))
 line_text-append old x xs ys = simp (line_text-cons, flat_map-append, append_assoc)
 
--- the line of a link, its bandwidths after its other fields
+-- the line of a link: the bandwidths are appended after the other fields
 pub line_text-put : (old mid new : List ℕ) (link : Link) → mid ≡ old ++ (codes "put" ++ fields_after (attributes link))
     → new ≡ mid ++ fields_after (map decimal link.free) → new ++ (10 ∷ []) ≡ old ++ record_line (put_fields link (mask_text link.group))
 line_text-put old mid new link a b = rw (b, a) (line_text-append old (codes "put") (attributes link) (map decimal link.free))

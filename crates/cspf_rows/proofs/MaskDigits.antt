@@ -1,4 +1,4 @@
--- The digits that `hex` writes are those of a mask's text.
+-- The digits that `hex` writes are the digits of a mask's text.
 use Rattle.std.proofs.Common.{◌≡◌, ℕ, zero, suc, ◌/◌, ◌%◌, ◌<◌, ◌==◌, ◌&&◌, inl, inr, Bool, true, false, refl, codes, ◌++◌, append_assoc, List, [], ◌∷◌, slice_index, arith}
 use Rattle.std.proofs.lemmas.Bool.{and_parts, cases_lt, eqb-true}
 use Rattle.std.specs.Int.{w32, to_be_bytes}
@@ -7,7 +7,7 @@ use Rattle.std.specs.List.{flat_map, AllByRecursion}
 use Rattle.hex.specs.Hex.{encode_with, encode_lower, lower_digits}
 use Rattle.cspf_addr.specs.MaskText.{byte_digits, mask_text}
 
--- the test that the digits below n are alike, which computes
+-- a test that can be computed: for each number below `n`, both digits are the same
 abbrev are_alike : ℕ → Bool
 are_alike zero = true
 are_alike (suc n) = (slice_index lower_digits n == digit_glyph false n) && are_alike n
@@ -29,7 +29,7 @@ bytes_digits [] small = refl
 bytes_digits (byte ∷ bytes) small =
     rw (are_alike-at 16 (byte / 16) refl (omega (arith, small.0)), are_alike-at 16 (byte % 16) refl (omega arith), bytes_digits bytes small.1) refl
 
--- the text of a mask after a comma, as it is written
+-- a comma, `0x` and the digits that are appended make the text of a mask after a comma
 pub mask_digits : (bits : ℕ) (old mid new digits : List ℕ) → digits ≡ encode_lower (to_be_bytes w32 bits) → mid ≡ old ++ codes ",0x"
     → new ≡ mid ++ digits → new ≡ old ++ (44 ∷ mask_text bits)
 unfolding mask_text

@@ -13,12 +13,13 @@ use Rattle.hex.proofs.HexLemmas.{decode_of-digits, decode_of-even, decode_of-ok,
 use Rattle.cspf_rows.specs.declared.row_error.HopsFault.TheVariants as fault
 use Rattle.cspf_rows.specs.FieldValues.{object_hops_of, hex_hops_of}
 
--- both steps gave a value
+-- if two steps gave a value, each of them gave one
 both_decoded : {A B : Type 0} (r : Result A FromHexError) (more : A → Result B FromHexError) (b : B) → (r >>= more) ≡ Ok b → (a : A) × (r ≡ Ok a) × (more a ≡ Ok b)
 both_decoded (Ok a) more b same = (a, refl, same)
 both_decoded (Err e) more b same = absurd (cc)
 
--- one more byte of the prefix
+-- if the byte of the first two digits is decoded, and `count` bytes after it, then `count + 1`
+-- bytes are decoded
 pair_more : (at count high low byte : ℕ) (digits rest : List ℕ) → pair_value high low at ≡ Ok byte → decode_pairs (at + 2) (take (2 * count) digits) ≡ Ok (take count rest)
     → decode_pairs at (take (2 * suc count) (high ∷ low ∷ digits)) ≡ Ok (take (suc count) (byte ∷ rest))
 unfolding decode_pairs
@@ -26,7 +27,7 @@ pair_more at count high low byte digits rest first later =
     let two : 2 * suc count ≡ suc (suc (2 * count)) = omega arith in
     rw (two, first, later) refl
 
--- the first digits decode to the first bytes
+-- the first `2 * count` digits decode to the first `count` bytes
 decode_pairs-take : (at count : ℕ) (digits bytes : List ℕ) → decode_pairs at digits ≡ Ok bytes → decode_pairs at (take (2 * count) digits) ≡ Ok (take count bytes)
 unfolding decode_pairs
 decode_pairs-take at zero digits bytes found = refl
@@ -40,7 +41,7 @@ decode_pairs-take at (suc count) (high ∷ low ∷ digits) bytes found =
     let whole : byte ∷ rest ≡ bytes = cc all in
     pair_more at count high low byte digits rest first (decode_pairs-take (at + 2) count digits rest later) ∙ ap (λ all_bytes. Ok (take (suc count) all_bytes)) whole
 
--- the digits of the first bytes are decoded into room for those
+-- the digits of the first `count` bytes are decoded into a buffer of `count` bytes
 pub front_decoded : (count : ℕ) (digits bytes : List ℕ) → decode_of digits ≡ Ok bytes → 2 * count ≤ length digits → decode_sized (take (2 * count) digits) count ≡ Ok (take count bytes)
 front_decoded count digits bytes found within =
     let parts = decode_of-ok digits bytes found in
@@ -50,7 +51,7 @@ front_decoded count digits bytes found within =
     ∙ (decode_of-even (take (2 * count) digits) (omega arith)
     ∙ decode_pairs-take 0 count digits bytes (sym (decode_of-even digits parts.0) ∙ found))
 
--- a text that isn't pairs of digits is refused
+-- a text that isn't pairs of hexadecimal digits is refused as `Hex`
 pub not_pairs : (digits : List ℕ) → ((length digits % 2 ≡ 0) × AllPass is_hex_digit digits → ⊥) → hex_hops_of digits ≡ Err fault.Hex
 unfolding hex_hops_of
 not_pairs digits other = refused (decode_of digits) refl
@@ -59,13 +60,13 @@ not_pairs digits other = refused (decode_of digits) refl
     refused (Ok bytes) found = let parts = decode_of-ok digits bytes found in absurd (other (parts.0, parts.1))
     refused (Err e) found = refl
 
--- pairs of digits decode to half as many bytes
+-- pairs of hexadecimal digits decode to half as many bytes as there are digits
 pub pairs_decoded : (digits : List ℕ) → (length digits % 2 ≡ 0) × AllPass is_hex_digit digits → (bytes : List ℕ) × (decode_of digits ≡ Ok bytes) × (length digits ≡ 2 * length bytes)
 pairs_decoded digits pairs =
     let (bytes, found) = decode_of-digits digits pairs.0 pairs.1 in
     (bytes, found, (decode_of-ok digits bytes found).2)
 
--- the prefix to decode has as many bytes as the object and the room allow
+-- the first `count` bytes are decoded: all bytes of the object, or 64 if the object is longer
 pub front_taken : (size count : ℕ) (bytes : List ℕ) → length bytes ≡ size → count ≡ min size 64 → take 64 bytes ≡ take count bytes
 front_taken size count bytes same least =
     elim (cases_lt 64 (length bytes)) [
@@ -80,7 +81,7 @@ pub no_error : {A E : Type 0} (r : Result A E) (x : A) → r ≡ Ok x → false 
 no_error (Ok y) x same told = cc
 no_error (Err e) x same told = cc
 
--- pairs of digits spell the hops that their bytes spell
+-- digits are read as the hops that their bytes spell
 pub hex_hops_of-pairs : (digits : List ℕ) (read : Result (List Hop) EroError) → (length digits % 2 ≡ 0) × AllPass is_hex_digit digits
     → ((bytes : List ℕ) → decode_of digits ≡ Ok bytes → read ≡ ero_of bytes) → hex_hops_of digits ≡ result_map_both (λ hops. hops) fault.Ero read
 unfolding hex_hops_of
@@ -88,7 +89,7 @@ hex_hops_of-pairs digits read pairs each =
     let (bytes, found, size) = pairs_decoded digits pairs in
     ap object_hops_of found ∙ sym (ap (λ r. result_map_both (λ (hops : List Hop). hops) fault.Ero r) (each bytes found))
 
--- the prefix that was decoded is at the start of its buffer
+-- the decoded bytes are at the start of their buffer
 pub front_placed : (count : ℕ) (bytes front place back : List ℕ) → count ≤ length place → count ≤ length bytes → front ≡ take (length (take count place)) bytes
     → take count (front ++ back) ≡ take count bytes
 front_placed count bytes front place back room within written =

@@ -1,4 +1,4 @@
--- Fields that are written for numbers, addresses and masks have no byte that csv would quote.
+-- The texts of numbers, addresses and masks have no byte for which `csv` would write quotes.
 use Rattle.std.proofs.Common.{◌≡◌, ℕ, ◌^◌, ◌<◌, ◌≤◌, Bool, true, false, ◌||◌, ◌&&◌, ◌==◌, List, [], ◌∷◌, ◌++◌, map, length, codes, slice_index, suc, refl, inl, inr, arith}
 use Rattle.std.proofs.lemmas.Bool.{cases_Bool, eqb-true, ltb-true}
 use Rattle.std.proofs.lemmas.Fmt.{decimal_is_IsNumeral}
@@ -22,14 +22,14 @@ abbrev pub AreUnquoted : List (List ℕ) → Type 0
 AreUnquoted [] = Unit {0}
 AreUnquoted (x ∷ xs) = IsUnquoted x × AreUnquoted xs
 
--- a byte that is no digit differs from each digit
+-- a byte that is no digit or letter differs from each digit and letter
 other_byte : (b k : ℕ) → 36 ≤ digit_value k → digit_value b < 36 → (b == k) ≡ false
 other_byte b k none some = elim (cases_Bool (b == k)) [
   | inl same ↦ absurd (let h : digit_value k < 36 = rw (eqb-true b k same) at some in omega arith)
   | inr other ↦ other
 ]
 
--- a digit or a letter calls for no quotes
+-- a digit or a letter needs no quotes
 digit_unquoted : (b : ℕ) → digit_value b < 36 → needs_byte default_writer b ≡ false
 digit_unquoted b h = rw (other_byte b 44 (omega arith) h, other_byte b 34 (omega arith) h, other_byte b 13 (omega arith) h, other_byte b 10 (omega arith) h) refl
 

@@ -1,4 +1,4 @@
--- The records that are written for rows are read back.
+-- The records that are written for rows are read as these rows.
 use Rattle.std.proofs.Common.{◌≡◌, ℕ, zero, suc, ◌<◌, ◌^◌, List, [], ◌∷◌, map, length, slice_index, unwrap_or, inl, refl, lit<, arith}
 use Rattle.std.proofs.lemmas.List.{length-map}
 use Rattle.std.specs.Fmt.{decimal}
@@ -12,14 +12,14 @@ use Rattle.cspf_rows.specs.FieldTexts.{AreTextsRead}
 use Rattle.cspf_rows.proofs.HopTexts.{no_object}
 use Rattle.cspf_rows.proofs.RowLaws.{row_of-said}
 
--- a field that is written for a number of a list
+-- in a list of written numbers, the field at a place is the text of the number at that place
 decimal_at : (xs : List ℕ) (place : ℕ) → place < length xs → unwrap_or (field_at (map decimal xs) place) [] ≡ decimal (slice_index xs place)
 unfolding field_at
 decimal_at [] place within = absurd (omega (arith, within))
 decimal_at (x ∷ xs) zero within = refl
 decimal_at (x ∷ xs) (suc place) within = decimal_at xs place (omega (arith, within))
 
--- the text that is written for a number or an address spells it
+-- the text that is written for a value spells that value
 number_written : {bound : ℕ} (n : ℕ) → n < bound → SpellsNumber bound (decimal n) n
 number_written n small = record { small = small; written = refl }
 

@@ -10,13 +10,13 @@ use Rattle.cspf_model.specs.declared.link.Link.{Link}
 use Rattle.cspf_model.specs.Numbered.{NumberedChanges}
 use Rattle.cspf_rows.specs.Written.{put_fields, drop_fields, node_fields, end_fields}
 
--- the fields of a change, the group of a link with eight digits
+-- the fields of a change; the group of a link is written with eight digits
 abbrev pub change_fields : Change → List (List ℕ)
 change_fields (change.Put link) = put_fields link (mask_text link.group)
 change_fields (change.Remove from local) = drop_fields from local
 change_fields (change.Node router transit) = node_fields router transit
 
--- fields as a line: a comma between each two, and a line feed after the last
+-- the line of a record: commas between its fields, and a line feed after the last field
 unfoldable pub record_line : List (List ℕ) → List ℕ
 record_line fields = join_with_byte 44 fields ++ (10 ∷ [])
 
@@ -28,11 +28,11 @@ batch_records batch = map change_fields batch.changes ++ (end_fields batch.numbe
 abbrev pub batch_text : NumberedChanges → List ℕ
 batch_text batch = flat_map record_line (batch_records batch)
 
--- private: fields with a comma before each
+-- private: the fields, each after a comma
 abbrev pub fields_after : List (List ℕ) → List ℕ
 fields_after fields = flat_map (λ field. 44 ∷ field) fields
 
--- private: the fields of a link that is put, between the word and the unreserved bandwidths
+-- private: the fields of a `put` row after its first field and before its unreserved bandwidths
 abbrev pub attributes : Link → List (List ℕ)
 attributes link =
     address_text link.from ∷ address_text link.local ∷ address_text link.to ∷ address_text link.remote ∷ decimal link.metric ∷ mask_text link.group ∷ []

@@ -1,12 +1,12 @@
--- Private: the laws that rows are read by.
+-- Private: the laws of fields on which reading rows rests.
 use Rattle.cspf_addr.specs.Numbers.{AreSpelledOnce}
 use Rattle.cspf_addr.specs.AddressText.{AreAddressesSpelledOnce}
 use Rattle.cspf_addr.specs.MaskText.{AreMasksRead}
 use Rattle.cspf_model.specs.Fields.{AreFieldsOfLinks}
 use Rattle.cspf_ero.specs.Laws.{AreObjectsRead}
 
--- numbers, addresses, masks and objects are read exactly where they are spelled, and a link has the
--- attributes that are read off it and no others
+-- A number, address, mask or object is read from exactly the texts that spell it. A link has the
+-- attributes that were read, and no others.
 pub record AreTextsRead : Type 0 where
   pub numbers : AreSpelledOnce
   pub addresses : AreAddressesSpelledOnce

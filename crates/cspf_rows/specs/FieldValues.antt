@@ -1,4 +1,5 @@
--- What the fields of a record spell. Fields count from 1, the word of the kind being field 1.
+-- What the fields of a record spell. Fields count from 1: field 1 is the word that names the row's
+-- kind.
 use Rattle.std.specs.Prelude.{ℕ, ◌-◌, ◌^◌, nat_lt, nat_eq, Bool, true, false, ◌==◌, if◌then◌else◌, List, [], drop, codes, unwrap_or, Result, Ok, Err}
 use Rattle.std.specs.List.{starts_with}
 use Rattle.std.specs.Option.{ok_or}
@@ -18,61 +19,62 @@ use Rattle.cspf_rows.specs.declared.row_error.HopsFault.TheVariants as fault
 use Rattle.cspf_rows.specs.declared.row_error.RowError.{RowError}
 use Rattle.cspf_rows.specs.declared.row_error.RowError.TheVariants as error
 
--- the field with this number, empty past the last
+-- the field with this number; a field past the last one is empty
 abbrev pub field : List (List ℕ) → ℕ → List ℕ
 field fields place = unwrap_or (field_at fields (place - 1)) []
 
--- a number below 2^64
+-- the number below 2^64 that the field spells
 unfoldable pub number_at : List (List ℕ) → ℕ → Result ℕ RowError
 number_at fields place = ok_or (number_of (field fields place)) (error.Number place)
 
--- a number below 2^32
+-- the number below 2^32 that the field spells
 unfoldable pub small_number_at : List (List ℕ) → ℕ → Result ℕ RowError
 small_number_at fields place = do
   n ← number_at fields place
   if nat_lt n (2 ^ 32) then Ok n else Err (error.Number place)
 
--- a number below 2^32, and of those 0 to 7
+-- the setup priority, 0 to 7, that the field spells; a number from 8 to 2^32 - 1 is refused as
+-- `Priority`
 unfoldable pub priority_at : List (List ℕ) → ℕ → Result ℕ RowError
 priority_at fields place = do
   n ← small_number_at fields place
   if nat_lt n 8 then Ok n else Err error.Priority
 
--- the number of a flag: 0 where it's false, and 1 where it's true
+-- the number of a flag: 0 for false, and 1 for true
 abbrev pub flag_number : Bool → ℕ
 flag_number false = 0
 flag_number true = 1
 
--- a number below 2^32, and of those the number of a flag
+-- the flag that the field spells; a number other than 0 and 1 is refused as `Number`
 unfoldable pub flag_at : List (List ℕ) → ℕ → Result Bool RowError
 flag_at fields place = do
   n ← small_number_at fields place
   if nat_lt n 2 then Ok (n == 1) else Err (error.Number place)
 
--- an address
+-- the address that the field spells
 unfoldable pub address_at : List (List ℕ) → ℕ → Result ℕ RowError
 address_at fields place = ok_or (address_of (field fields place)) (error.Address place)
 
--- a mask
+-- the mask that the field spells
 unfoldable pub mask_at : List (List ℕ) → ℕ → Result ℕ RowError
 mask_at fields place = ok_or (mask_of (field fields place)) (error.Mask place)
 
--- the hops of an object, if its digits were decoded
+-- the hops of an object whose digits were decoded, or the fault of its digits
 abbrev pub object_hops_of : Result (List ℕ) FromHexError → Result (List Hop) HopsFault
 object_hops_of (Ok bytes) = result_map_both (λ hops. hops) fault.Ero (ero_of bytes)
 object_hops_of (Err e) = Err fault.Hex
 
--- the hops of an object in hexadecimal digits
+-- the hops of an object that is written in hexadecimal digits
 unfoldable pub hex_hops_of : List ℕ → Result (List Hop) HopsFault
 hex_hops_of digits = object_hops_of (decode_of digits)
 
--- the hops of a text: of an object after `ero:`, or else of a hop list
+-- the hops that a text spells: as an object after `ero:`, or else as a hop list
 unfoldable pub either_hops_of : List ℕ → Result (List Hop) HopsFault
 either_hops_of text =
     if starts_with nat_eq text (codes "ero:")
     then hex_hops_of (drop 4 text)
     else result_map_both (λ hops. hops) fault.Text (hops_of text)
 
--- a list of hops
+-- the hops that the field spells
 unfoldable pub hops_at : List (List ℕ) → ℕ → Result (List Hop) RowError
 hops_at fields place = result_map_both (λ hops. hops) error.Hops (either_hops_of (field fields place))

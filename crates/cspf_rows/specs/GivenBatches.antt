@@ -11,18 +11,19 @@ use Rattle.cspf_rows.specs.Records.{IsPlain}
 abbrev pub rows_read : {R : Type 0} → JournalReader R → ℕ
 rows_read reader = reader.rows
 
--- A reader can be asked for a batch: it hasn't failed, nor come to the end of its batches.
+-- A reader can be asked for the next batch: it hasn't failed, and it hasn't come to the end of its
+-- batches.
 pub record CanRead {R : Type 0} (reader : JournalReader R) : Type 0 where
   pub plain : IsPlain reader.records
   pub rows : rows_read reader ≤ MOST_ROWS
   pub count : reader.count ≤ rows_read reader
 
--- a read below failed
+-- a read from the stream below the reader failed
 abbrev pub HasFailed : {R : Type 0} → JournalReader R → Type 0
 HasFailed reader = has_failed reader.records ≡ true
 
--- A reader has returned these batches of a journal with these records, where the records are known.
--- The batches have the numbers 1, 2, 3 and so on. The reader is right after their rows.
+-- The reader has returned these batches, and it is right after their rows. The batches have the
+-- numbers 1, 2, 3 and so on. `all` has the records of the journal, if they are known.
 pub record HasGiven {R : Type 0} (rem : R → Option (List ℕ)) (all : Option (List (List (List ℕ))))
     (reader : JournalReader R) (batches : List NumberedChanges) : Type 0 where
   pub numbers : AreNumberedFrom 1 batches

@@ -1,4 +1,4 @@
--- Which batches the rows of a journal are, and whether rows are left after them.
+-- The batches of a journal, and whether rows are left after them.
 use Rattle.std.specs.Prelude.{◌≡◌, ◌≢◌, ◌+◌, ◌≤◌, ℕ, List, [], ◌∷◌, ◌++◌, map, length, Ok}
 use Rattle.std.specs.List.{flat_map}
 use Rattle.cspf_model.specs.declared.batch.Change.{Change}
@@ -16,7 +16,8 @@ change_row (change.Put link) = row.Put link
 change_row (change.Remove from local) = row.Remove from local
 change_row (change.Node router transit) = row.Node router transit
 
--- a whole batch: a row for each of its changes, in order, and an end row with their number
+-- the rows of a whole batch: a row for each change, in order, and an end row with the count of the
+-- changes
 abbrev pub batch_rows : NumberedChanges → List Row
 batch_rows batch = map change_row batch.changes ++ (row.End batch.number (length batch.changes) ∷ [])
 
@@ -24,21 +25,22 @@ batch_rows batch = map change_row batch.changes ++ (row.End batch.number (length
 abbrev pub journal_rows : List NumberedChanges → List Row
 journal_rows batches = flat_map batch_rows batches
 
--- A prefix of the records is whole batches with the numbers 1, 2, 3 and so on, and these are the
--- records after it. A record that is no row is in no batch, and neither is a request.
+-- A prefix of the records is whole batches with the numbers 1, 2, 3 and so on, and `left` are the
+-- records after them. A record that is no row is in no batch, and a request isn't in a batch
+-- either.
 pub record BeginsWithBatches (records : List (List (List ℕ))) (batches : List NumberedChanges) (left : List (List (List ℕ))) : Type 0 where
   pub numbers : AreNumberedFrom 1 batches
   pub front : List (List (List ℕ))
   pub split : records ≡ front ++ left
   pub rows : map row_of front ≡ map Ok (journal_rows batches)
 
--- a journal is clean where no record is left after its batches, else torn
+-- a journal is clean if no record is left after its batches, and torn otherwise
 abbrev pub IsRest : List (List (List ℕ)) → Rest → Type 0
 IsRest left rest.Clean = left ≡ []
 IsRest left rest.Torn = left ≢ []
 
 -- The batches of a journal are the longest prefix of its records that is whole batches with the
--- numbers 1, 2, 3 and on. No other such prefix leaves fewer records. A batch need not fit a
+-- numbers 1, 2, 3 and so on. No other such prefix leaves fewer records. A batch need not fit a
 -- database.
 pub record IsJournal (records : List (List (List ℕ))) (batches : List NumberedChanges) (rest : Rest) : Type 0 where
   pub left : List (List (List ℕ))

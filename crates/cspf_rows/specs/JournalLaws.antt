@@ -1,4 +1,4 @@
--- Laws of journals: what is written for batches is read as these batches.
+-- Laws of journals: the text that is written for batches is read as these batches.
 use Rattle.std.specs.Prelude.{◌≡◌, ◌≤◌, ◌<◌, ◌^◌, ℕ, List, length}
 use Rattle.std.specs.List.{flat_map, AllByRecursion}
 use Rattle.cspf_model.specs.declared.batch.Change.{Change}
@@ -12,13 +12,13 @@ use Rattle.cspf_rows.specs.Records.{rows_of}
 use Rattle.cspf_rows.specs.BatchText.{batch_text, batch_records}
 use Rattle.cspf_rows.specs.Journal.{journal_rows, IsJournal}
 
--- the numbers of a change are those of its types
+-- the numbers of a change are in the ranges of their types
 abbrev pub IsChangeInRange : Change → Type 0
 IsChangeInRange (change.Put link) = IsLinkInRange link × (link.group < 2 ^ 32)
 IsChangeInRange (change.Remove from local) = (from < 2 ^ 32) × (local < 2 ^ 32)
 IsChangeInRange (change.Node router transit) = router < 2 ^ 32
 
--- the numbers of each change are those of its types
+-- the numbers of each change are in the ranges of their types
 abbrev pub AreInRange : List NumberedChanges → Type 0
 AreInRange batches = AllByRecursion (λ batch. AllByRecursion IsChangeInRange batch.changes) batches
 
@@ -26,13 +26,13 @@ AreInRange batches = AllByRecursion (λ batch. AllByRecursion IsChangeInRange ba
 abbrev pub journal_text : List NumberedChanges → List ℕ
 journal_text batches = flat_map batch_text batches
 
--- Batches that are numbered from 1 on, of at most `MOST_ROWS` rows in all.
+-- The batches are numbered 1, 2, 3 and so on, and have at most `MOST_ROWS` rows in all.
 pub record AreWritable (batches : List NumberedChanges) : Type 0 where
   pub in_range : AreInRange batches
   pub numbers : AreNumberedFrom 1 batches
   pub few : length (journal_rows batches) ≤ MOST_ROWS
 
--- the text of batches is cut into their records
+-- the text of batches is cut into the records of these batches
 abbrev pub AreTextsCut : Type 0
 AreTextsCut = (batches : List NumberedChanges) → AreWritable batches → rows_of (journal_text batches) ≡ flat_map batch_records batches
 
@@ -40,7 +40,7 @@ AreTextsCut = (batches : List NumberedChanges) → AreWritable batches → rows_
 abbrev pub AreJournalsReadBack : Type 0
 AreJournalsReadBack = (batches : List NumberedChanges) → AreWritable batches → IsJournal (rows_of (journal_text batches)) batches rest.Clean
 
--- records are at most one journal
+-- no records are two different lists of batches, or have two different rests
 abbrev pub IsOneJournal : Type 0
 IsOneJournal =
     (records : List (List (List ℕ))) (batches others : List NumberedChanges) (rest other : Rest)

@@ -1,4 +1,4 @@
--- Private: the state of a reader of a journal: which rows were read, and as what.
+-- Private: which rows a reader of a journal has read, and which batches and changes they are.
 use Rattle.std.specs.Prelude.{◌≡◌, ◌≢◌, ◌+◌, ◌≤◌, ℕ, Bool, false, Option, IfSome, List, [], ◌∷◌, ◌++◌, map, length, Result, Ok, Err}
 use Rattle.std.specs.Bool.{MatchBool}
 use Rattle.cspf_model.specs.declared.batch.Change.{Change}
@@ -17,7 +17,7 @@ use Rattle.cspf_rows.specs.Records.{rows_left}
 use Rattle.cspf_rows.specs.Journal.{IsJournal, journal_rows, change_row}
 use Rattle.cspf_rows.specs.Progress.{HasSeen}
 
--- a row that is neither a change nor the end of the batch with this number and this many changes
+-- the row isn't a change, and it doesn't end the batch with this number and this many changes
 abbrev pub EndsBatches : ℕ → ℕ → Result Row RowError → Type 0
 EndsBatches number count (Ok (row.Put link)) = ⊥
 EndsBatches number count (Ok (row.Remove from local)) = ⊥
@@ -26,12 +26,13 @@ EndsBatches number count (Ok (row.End n k)) = ¬ ((n ≡ number) × (k ≡ count
 EndsBatches number count (Ok (row.Ask request)) = Unit {0}
 EndsBatches number count (Err error) = Unit {0}
 
--- the first of these rows, if there is one, is such a row
+-- there are no rows, or the first of them is in no batch
 abbrev pub AreBehind : ℕ → ℕ → List (Result Row RowError) → Type 0
 AreBehind number count [] = Unit {0}
 AreBehind number count (row ∷ rows) = EndsBatches number count row
 
--- how a row is taken after the open changes of the batch with the next number
+-- how a row changes the batch that is read: `old` has the open changes before the row, and `new`
+-- those after it
 abbrev pub IsTaken : Result Row RowError → ℕ → NumberedChanges → NumberedChanges → Taken → Type 0
 IsTaken read next old new taken.Change =
     (change : Change) × (read ≡ Ok (change_row change)) × (new.changes ≡ old.changes ++ change ∷ [])
@@ -40,8 +41,8 @@ IsTaken read next old new taken.Batch =
 IsTaken read next old new taken.Behind =
     EndsBatches next (length old.changes) read × (new.changes ≡ old.changes)
 
--- Records are those of whole batches, then those of open changes, and then, after a row that is in
--- no batch, any others.
+-- The records are those of whole batches, and then those of open changes. If a row in no batch
+-- follows, any records may come after it.
 pub record AreJournalParts (batches : List NumberedChanges) (changes : List Change) (has_ended : Bool)
     (seen : List (List (List ℕ))) : Type 0 where
   pub numbers : AreNumberedFrom 1 batches
@@ -54,15 +55,15 @@ pub record AreJournalParts (batches : List NumberedChanges) (changes : List Chan
   pub ends : AreBehind (1 + length batches) (length changes) (map row_of behind)
   pub ended : MatchBool has_ended (behind ≢ []) (behind ≡ [])
 
--- A reader has read the records of these batches and of these open changes, and others after a row
--- that is in no batch.
+-- A reader has read the records of these batches, and of these open changes. If a row in no batch
+-- followed, it has also read records after that row.
 pub record HasRead {R : Type 0} (rem : R → Option (List ℕ)) (all : Option (List (List (List ℕ))))
     (reader : JournalReader R) (batches : List NumberedChanges) (changes : List Change)
     (has_ended : Bool) : Type 0 where
   pub count : reader.count ≡ length batches
   pub seen : HasSeen (AreJournalParts batches changes has_ended) all (rows_left rem reader.records) reader.rows
 
--- what a reader finds after batches: one more batch, or the end
+-- what a reader finds after the batches: one more batch, or the end
 abbrev pub ComesTo : {R : Type 0} → (R → Option (List ℕ)) → Option (List (List (List ℕ))) → JournalReader R
     → List NumberedChanges → NumberedChanges → JournalStep → Type 0
 ComesTo rem all reader batches batch step.Batch = HasRead rem all reader (batches ++ batch ∷ []) [] false

@@ -4,8 +4,8 @@ use Rattle.csv.specs.declared.error.ErrorKind.TheVariants as kind
 use Rattle.cspf_rows.specs.declared.record_error.RecordError.{RecordError}
 use Rattle.cspf_rows.specs.declared.record_error.RecordError.TheVariants as error
 
--- Refused memory keeps its name. Any other fault is the reader's: with no header and any number of
--- fields, nothing else can be wrong with the bytes.
+-- Refused memory stays refused memory. Any other error is a failed read: the reader takes records
+-- with no header and with any number of fields, so no bytes can be wrong.
 abbrev pub fault_of : ErrorKind → RecordError
 fault_of kind.OutOfMemory = error.Memory
 fault_of (kind.Io why) = error.Device

@@ -6,26 +6,26 @@ use Rattle.csv.specs.declared.parser.State.{State}
 use Rattle.csv.specs.declared.reader.Reader.{Reader}
 use Rattle.csv.specs.declared.reader.Trim.TheVariants as trim
 
--- the records of a stream: each is a list of fields, which are bytes
+-- the records of a stream: a record is a list of fields, and a field is a list of bytes
 abbrev pub Records : Type 0
 Records = List (List (List ℕ))
 
 -- The rows of a stream are the records that `csv` finds in its bytes, with the settings of its
--- default reader and no header. Fields are cut at commas and may be in double quotes. A row ends
--- with its line, an empty line is no row, and a byte order mark at the very start is skipped.
+-- default reader and no header. Fields are cut at commas and may be in double quotes. A row ends at
+-- the end of its line, and an empty line is no row. A byte order mark at the very start is skipped.
 unfoldable pub rows_of : List ℕ → List (List (List ℕ))
 rows_of bytes = records default_config (strip_bom bytes)
 
--- the rows of the bytes from a state of the machine on
+-- the rows of the bytes that are left, if the reader is in state `s`
 unfoldable pub rest_of : State → List ℕ → List (List (List ℕ))
 rest_of s bytes = records_from default_config (length bytes + 1) s bytes
 
--- the rows that a reader has left, where the bytes of the reader underneath are known
+-- the rows that a reader has left, if the bytes of the reader underneath are known
 abbrev pub rows_left : {R : Type 0} → (R → Option (List ℕ)) → Reader R → Option (List (List (List ℕ)))
 rows_left rem r = option_map (λ bytes. rest_of (reader_state r) bytes) (source_of rem r)
 
--- a reader with the default settings, of records with no header and of any number of fields, that
--- hasn't failed
+-- The reader has the default settings and hasn't failed. It reads records with no header and with
+-- any number of fields.
 pub record IsPlain {R : Type 0} (r : Reader R) : Type 0 where
   pub trim : reader_trim r ≡ trim.None
   pub ready : Ready r
@@ -33,7 +33,7 @@ pub record IsPlain {R : Type 0} (r : Reader R) : Type 0 where
   pub flexible : is_flexible r ≡ true
   pub going : has_failed r ≡ false
 
--- a read took the first of the rows, or there was none
+-- a read took the first of the rows, or there was no row
 abbrev pub Takes : Option (List (List (List ℕ))) → Option (List (List (List ℕ))) → Bool → List (List ℕ) → Type 0
 Takes None after found fields = Unit {0}
 Takes (Some rows) after false fields = rows ≡ []

@@ -6,7 +6,7 @@ use Rattle.cspf_rows.specs.declared.requests_error.RequestsError.{RequestsError}
 use Rattle.cspf_rows.specs.declared.requests_error.RequestsError.TheVariants as fault
 use Rattle.cspf_rows.specs.Requests.{IsNoRequest}
 
--- the result of reading the row at a place refuses the stream with this fault
+-- the row at this place, read as `read`, refuses the stream with this fault
 abbrev pub IsRefusedAt : ℕ → Result Row RowError → RequestsError → Type 0
 IsRefusedAt place read fault.Memory = ⊥
 IsRefusedAt place read fault.Device = ⊥

@@ -9,11 +9,11 @@ use Rattle.cspf_rows.specs.declared.requests_error.RequestsError.{RequestsError}
 use Rattle.cspf_rows.specs.declared.requests_error.RequestsError.TheVariants as fault
 use Rattle.cspf_rows.specs.Rows.{row_of}
 
--- each record asks for the request at its place
+-- each record asks for the request at its place in the list
 abbrev pub AreRequests : List (List (List ℕ)) → List Request → Type 0
 AreRequests records requests = map row_of records ≡ map (λ request. Ok (row.Ask request)) requests
 
--- a row that asks for nothing
+-- a row that isn't a request
 abbrev pub IsNoRequest : Row → Type 0
 IsNoRequest (row.Put link) = Unit {0}
 IsNoRequest (row.Remove from local) = Unit {0}
@@ -21,7 +21,7 @@ IsNoRequest (row.Node router transit) = Unit {0}
 IsNoRequest (row.End number count) = Unit {0}
 IsNoRequest (row.Ask request) = ⊥
 
--- the first `count` records ask for requests, and this record follows them
+-- the first `count` records are requests, and the next record has these fields
 pub record HasRequestsBefore (records : List (List (List ℕ))) (count : ℕ) (fields : List (List ℕ)) : Type 0 where
   pub before : List (List (List ℕ))
   pub requests : List Request
@@ -30,8 +30,8 @@ pub record HasRequestsBefore (records : List (List (List ℕ))) (count : ℕ) (f
   pub are_requests : AreRequests before requests
   pub counted : length before ≡ count
 
--- The record at this place, which counts from 1, is the first that is no request, and is read as
--- this.
+-- The record at this place is the first that is no request, and `read` is the result of reading it.
+-- Places count from 1.
 pub record IsFirstOther (records : List (List (List ℕ))) (place : ℕ) (read : Result Row RowError) : Type 0 where
   pub count : ℕ
   pub fields : List (List ℕ)
@@ -40,12 +40,12 @@ pub record IsFirstOther (records : List (List (List ℕ))) (place : ℕ) (read :
   pub is_read : row_of fields ≡ read
   pub within : place ≤ MOST_ROWS
 
--- There are more than `MOST_ROWS` records, of which the first `MOST_ROWS` ask.
+-- There are more than `MOST_ROWS` records, and the first `MOST_ROWS` of them are requests.
 pub record AreTooMany (records : List (List (List ℕ))) : Type 0 where
   pub fields : List (List ℕ)
   pub asked : HasRequestsBefore records MOST_ROWS fields
 
--- what each refusal means for the records
+-- what each error says of the records
 abbrev pub IsRequestsFault : List (List (List ℕ)) → RequestsError → Type 0
 IsRequestsFault records fault.Memory = Unit {0}
 IsRequestsFault records fault.Device = Unit {0}

@@ -1,4 +1,4 @@
--- Why a record is refused, in the order of the formats: the first of these that applies.
+-- Why a record is refused: the first reason that applies, in the order of the formats.
 use Rattle.std.specs.Prelude.{◌≡◌, ◌≢◌, ℕ, Bool, ◌+◌, ◌^◌, ◌↔◌, ◌⊎◌, List, [], ◌∷◌, ◌++◌, length, codes, Ok, Err}
 use Rattle.hex.specs.Hex.{decode_of}
 use Rattle.cspf_addr.specs.MaskText.{SpellsMask}
@@ -13,7 +13,7 @@ use Rattle.cspf_rows.specs.FieldValues.{field}
 use Rattle.cspf_rows.specs.Rows.{row_of}
 use Rattle.cspf_rows.specs.Says.{SpellsNumber, SpellsFlag, SpellsAddress, SpellsHops}
 
--- the kinds of rows
+-- the kinds of rows: a change of a link or a router, the end of a batch, or a request
 pub data Kind : Type 0 where
   put_kind : Kind
   drop_kind : Kind
@@ -21,7 +21,7 @@ pub data Kind : Type 0 where
   end_kind : Kind
   ask_kind : Kind
 
--- the sorts of fields
+-- the sorts of fields: what a field's text has to spell
 pub data Sort : Type 0 where
   address : Sort
   number : Sort
@@ -31,7 +31,7 @@ pub data Sort : Type 0 where
   mask : Sort
   hops : Sort
 
--- the first field of a kind
+-- the word that is the first field of a row of this kind
 abbrev pub word_of : Kind → List ℕ
 word_of put_kind = codes "put"
 word_of drop_kind = codes "drop"
@@ -39,7 +39,7 @@ word_of node_kind = codes "node"
 word_of end_kind = codes "end"
 word_of ask_kind = codes "ask"
 
--- the sorts of its other fields
+-- the sorts of the fields after the first
 abbrev pub sorts_of : Kind → List Sort
 sorts_of put_kind = address ∷ address ∷ address ∷ address ∷ small_number ∷ mask ∷ number ∷ number ∷ number ∷ number ∷ number ∷ number ∷ number ∷ number ∷ []
 sorts_of drop_kind = address ∷ address ∷ []
@@ -47,7 +47,7 @@ sorts_of node_kind = address ∷ flag ∷ []
 sorts_of end_kind = small_number ∷ small_number ∷ []
 sorts_of ask_kind = number ∷ address ∷ address ∷ priority ∷ number ∷ mask ∷ mask ∷ mask ∷ hops ∷ []
 
--- a text spells a value of the sort
+-- the text spells a value of the sort
 abbrev pub SpellsSort : Sort → List ℕ → Type 0
 SpellsSort address text = (n : ℕ) × SpellsAddress text n
 SpellsSort number text = (n : ℕ) × SpellsNumber (2 ^ 64) text n
@@ -57,7 +57,7 @@ SpellsSort flag text = (b : Bool) × SpellsFlag text b
 SpellsSort mask text = (n : ℕ) × SpellsMask text n
 SpellsSort hops text = (list : List Hop) × SpellsHops text list
 
--- why a text spells no hops: as a list of hops, or after `ero:` by its digits or by their bytes
+-- why a text spells no hops: as a hop list, or after `ero:` by its digits or by their bytes
 abbrev pub IsHopsFault : List ℕ → HopsFault → Type 0
 IsHopsFault text (fault.Text why) = ((rest : List ℕ) → text ≢ codes "ero:" ++ rest) × (hops_of text ≡ Err why)
 IsHopsFault text fault.Hex = (digits : List ℕ) × (text ≡ codes "ero:" ++ digits) × ((bytes : List ℕ) → decode_of digits ≢ Ok bytes)
@@ -76,11 +76,11 @@ IsFieldRefused flag place text e = (e ≡ error.Number place) × ¬ SpellsSort f
 IsFieldRefused mask place text e = (e ≡ error.Mask place) × ¬ SpellsSort mask text
 IsFieldRefused hops place text e = (why : HopsFault) × (e ≡ error.Hops why) × IsHopsFault text why
 
--- two texts spell one address
+-- both texts spell the same address
 abbrev pub SpellOneAddress : List ℕ → List ℕ → Type 0
 SpellOneAddress text other = (n : ℕ) × SpellsAddress text n × SpellsAddress other n
 
--- the refusal of a record whose fields all spell values: by its two ends
+-- the refusal of a record whose fields all spell values: its two ends are the same router
 abbrev pub AreEndsRefused : Kind → List (List ℕ) → RowError → Type 0
 AreEndsRefused put_kind fields e = (e ≡ error.SelfLink) × SpellOneAddress (field fields 2) (field fields 4)
 AreEndsRefused drop_kind fields e = ⊥
@@ -88,22 +88,21 @@ AreEndsRefused node_kind fields e = ⊥
 AreEndsRefused end_kind fields e = ⊥
 AreEndsRefused ask_kind fields e = (e ≡ error.SameEnds) × SpellOneAddress (field fields 3) (field fields 4)
 
--- From the field with this number on, the first field that spells no value of its sort is refused.
--- Where there is none the ends are refused.
+-- The first field from `place` on that spells no value of its sort is refused. If each field spells
+-- a value, the ends are refused.
 abbrev pub AreFieldsRefused : Kind → ℕ → List Sort → List (List ℕ) → RowError → Type 0
 AreFieldsRefused kind place [] fields e = AreEndsRefused kind fields e
 AreFieldsRefused kind place (sort ∷ sorts) fields e =
     IsFieldRefused sort place (field fields place) e
     ⊎ (SpellsSort sort (field fields place) × AreFieldsRefused kind (place + 1) sorts fields e)
 
--- the refusal of a record of this kind: by the number of its fields, or by its fields
+-- the refusal of a record of this kind: for the number of its fields, or for one of its fields
 abbrev pub IsRefusedAs : Kind → List (List ℕ) → RowError → Type 0
 IsRefusedAs kind fields e =
     ((e ≡ error.Fields) × (length fields ≢ 1 + length (sorts_of kind)))
     ⊎ ((length fields ≡ 1 + length (sorts_of kind)) × AreFieldsRefused kind 2 (sorts_of kind) fields e)
 
--- Why a record is refused: its first field is no kind's word, or it is refused as a record of its
--- kind.
+-- Why a record is refused: its first field names no kind, or it is refused as a record of its kind.
 abbrev pub IsRefused : List (List ℕ) → RowError → Type 0
 IsRefused fields e =
     ((e ≡ error.Kind) × ((kind : Kind) → field fields 1 ≢ word_of kind))
@@ -113,6 +112,6 @@ IsRefused fields e =
 abbrev pub AreRowsRefused : Type 0
 AreRowsRefused = (fields : List (List ℕ)) (e : RowError) → (row_of fields ≡ Err e) ↔ IsRefused fields e
 
--- a record is refused for one reason at most
+-- a record is refused for only one reason
 abbrev pub IsRefusedOnce : Type 0
 IsRefusedOnce = (fields : List (List ℕ)) (e other : RowError) → IsRefused fields e → IsRefused fields other → e ≡ other

@@ -1,4 +1,4 @@
--- The row that a record says, or the first refusal.
+-- The row that a record says, or the first reason why it is refused.
 use Rattle.std.specs.Prelude.{◌≡◌, ◌≢◌, ◌<◌, ℕ, suc, Bool, ◌==◌, if◌then◌else◌, List, [], ◌∷◌, length, codes, refl, Result, Ok, Err}
 use Rattle.std.specs.Str.{bytes_eq}
 use Rattle.std.proofs.Math.Decide.{ℕ_discrete, dec_le}
@@ -12,38 +12,41 @@ use Rattle.cspf_rows.specs.declared.row_error.RowError.TheVariants as error
 use Rattle.cspf_addr.specs.ResultSteps.{◌>>=◌}
 use Rattle.cspf_rows.specs.FieldValues.{field, number_at, small_number_at, priority_at, flag_at, address_at, mask_at, hops_at}
 
--- the link with these attributes, whose ends are two routers
+-- the link with these attributes, whose two ends are different routers
 abbrev pub link_with : (link : LinkFields) → length link.free ≡ 8 → link.from ≢ link.to → Link
 link_with link eight apart =
     record { from = link.from; local = link.local; to = link.to; remote = link.remote; metric = link.metric; group = link.group; free = link.free; eight = eight; two_ends = apart }
 
--- a row that puts the link with these attributes, if its ends are two routers
+-- the row that puts the link with these attributes, if its two ends are different routers
 abbrev pub put_between : (link : LinkFields) → length link.free ≡ 8 → Dec (link.from ≡ link.to) → Result Row RowError
 put_between link eight (yes same) = Err error.SelfLink
 put_between link eight (no apart) =
     Ok (row.Put (link_with link eight apart))
 
--- a row that puts the link with these attributes; a link from a router to itself is refused
+-- the row that puts the link with these attributes; a link from a router to itself is refused
 unfoldable pub put : (link : LinkFields) → length link.free ≡ 8 → Result Row RowError
 put link eight = put_between link eight (ℕ_discrete link.from link.to)
 
--- the request with these fields, whose setup priority is below 8 and whose ends are two routers
+-- the request with these fields: its setup priority is below 8, and its two ends are different
+-- routers
 abbrev pub request_with : (request : RequestFields) → request.setup < 8 → request.from ≢ request.to → Request
 request_with request below apart =
     record { id = request.id; from = request.from; to = request.to; setup = request.setup; bandwidth = request.bandwidth; exclude_any = request.exclude_any; include_any = request.include_any; include_all = request.include_all; hops = request.hops; priority = below; two_ends = apart }
 
--- a row that asks for this, if the priority is below 8 and the ends are two routers
+-- the row that asks for this request, if its priority is below 8 and its two ends are different
+-- routers
 abbrev pub ask_between : (request : RequestFields) → Dec (request.setup < 8) → Dec (request.from ≡ request.to) → Result Row RowError
 ask_between request (no above) ends = Err error.Priority
 ask_between request (yes below) (yes same) = Err error.SameEnds
 ask_between request (yes below) (no apart) =
     Ok (row.Ask (request_with request below apart))
 
--- a row that asks for this; a priority above 7 is refused, and a request from a router to itself
+-- the row that asks for this request; a priority above 7 is refused, and so is a request from a
+-- router to itself
 unfoldable pub ask : RequestFields → Result Row RowError
 ask request = ask_between request (dec_le (suc request.setup) 8) (ℕ_discrete request.from request.to)
 
--- the row of 15 fields that puts a link
+-- the row of 15 fields that puts a link in the database
 unfoldable pub put_row_of : List (List ℕ) → Result Row RowError
 put_row_of fields = do
   from ← address_at fields 2
@@ -62,7 +65,7 @@ put_row_of fields = do
   u7 ← number_at fields 15
   put (record { from = from; local = local; to = to; remote = remote; metric = metric; group = group; free = u0 ∷ u1 ∷ u2 ∷ u3 ∷ u4 ∷ u5 ∷ u6 ∷ u7 ∷ [] }) refl
 
--- the row that two fields after the word make
+-- the row that `make` makes of the values of two fields
 abbrev pub row_of_two : {A B : Type 0} → Result A RowError → Result B RowError → (A → B → Row) → Result Row RowError
 row_of_two first second make = do
   one ← first
@@ -95,7 +98,7 @@ ask_row_of fields = do
   hops ← hops_at fields 10
   ask (record { id = id; from = from; to = to; setup = setup; bandwidth = bandwidth; exclude_any = exclude_any; include_any = include_any; include_all = include_all; hops = hops })
 
--- a record of this many fields is read, and another is refused
+-- a record with `count` fields is read, and any other record is refused
 abbrev pub of_count : ℕ → (List (List ℕ) → Result Row RowError) → List (List ℕ) → Result Row RowError
 of_count count read fields = if length fields == count then read fields else Err error.Fields
 
@@ -103,7 +106,7 @@ of_count count read fields = if length fields == count then read fields else Err
 abbrev pub is_kind : List (List ℕ) → List ℕ → Bool
 is_kind fields word = bytes_eq (field fields 1) word
 
--- the row that a record says, or the first refusal
+-- the row that a record says, or the first reason why it is refused
 unfoldable pub row_of : List (List ℕ) → Result Row RowError
 row_of fields =
     if is_kind fields (codes "put")

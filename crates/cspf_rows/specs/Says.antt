@@ -1,4 +1,4 @@
--- What a record says, field by field, as it is written.
+-- What the fields of a record have to be so that the record says a row.
 use Rattle.std.specs.Prelude.{◌≡◌, ◌≢◌, ℕ, Bool, ◌^◌, ◌<◌, ◌↔◌, ◌⊎◌, List, ◌++◌, length, slice_index, codes, Ok}
 use Rattle.std.specs.Fmt.{decimal}
 use Rattle.cspf_addr.specs.AddressText.{address_text}
@@ -14,26 +14,27 @@ use Rattle.cspf_rows.specs.declared.row.Row.TheVariants as row
 use Rattle.cspf_rows.specs.FieldValues.{field, flag_number}
 use Rattle.cspf_rows.specs.Rows.{row_of}
 
--- a text is what is written for a number below a bound, at most 2^64
+-- the text is the decimal text of the number `n`, which is below `bound`; a bound is at most 2^64
 pub record SpellsNumber (bound : ℕ) (text : List ℕ) (n : ℕ) : Type 0 where
   pub small : n < bound
   pub written : text ≡ decimal n
 
--- a text is what is written for a flag: `0` for false, and `1` for true
+-- the text is the text of a flag: `0` for false, and `1` for true
 abbrev pub SpellsFlag : List ℕ → Bool → Type 0
 SpellsFlag text flag = text ≡ decimal (flag_number flag)
 
--- a text is what is written for an address
+-- the text is the dotted text of the address `n`
 pub record SpellsAddress (text : List ℕ) (n : ℕ) : Type 0 where
   pub small : n < 2 ^ 32
   pub written : text ≡ address_text n
 
--- a text is a list of hops; none begins with `ero:`
+-- the text is a hop list, which never begins with `ero:`
 pub record SpellsHopList (text : List ℕ) (hops : List Hop) : Type 0 where
   pub other : (rest : List ℕ) → text ≢ codes "ero:" ++ rest
   pub read : hops_of text ≡ Ok hops
 
--- a text is `ero:` and the hexadecimal digits, of either case, of an object that spells the hops
+-- the text is `ero:` and then the hexadecimal digits, of either case, of an object that spells the
+-- hops
 pub record SpellsObject (text : List ℕ) (hops : List Hop) : Type 0 where
   pub digits : List ℕ
   pub bytes : List ℕ
@@ -41,12 +42,12 @@ pub record SpellsObject (text : List ℕ) (hops : List Hop) : Type 0 where
   pub decoded : decode_of digits ≡ Ok bytes
   pub spelled : Spells bytes hops
 
--- hops are spelled as a list or as an object
+-- the text spells the hops as a hop list or as an object
 abbrev pub SpellsHops : List ℕ → List Hop → Type 0
 SpellsHops text hops = SpellsHopList text hops ⊎ SpellsObject text hops
 
--- `put`, the router, the local address, the neighbor, the remote address, the metric, the group, and the
--- unreserved bandwidths at the priorities 0 to 7
+-- The fields of a `put` row: the word, the router, the local address, the neighbor, the remote
+-- address, the metric and the group. The unreserved bandwidths at the priorities 0 to 7 follow.
 pub record SaysPut (fields : List (List ℕ)) (link : Link) : Type 0 where
   pub count : length fields ≡ 15
   pub kind : field fields 1 ≡ codes "put"
@@ -65,29 +66,29 @@ pub record SaysPut (fields : List (List ℕ)) (link : Link) : Type 0 where
   pub free_6 : SpellsNumber (2 ^ 64) (field fields 14) (slice_index link.free 6)
   pub free_7 : SpellsNumber (2 ^ 64) (field fields 15) (slice_index link.free 7)
 
--- `drop`, and the router and the local address of the link that is taken out
+-- the fields of a `drop` row: the word, and the router and the local address of the link to remove
 pub record SaysRemove (fields : List (List ℕ)) (router address : ℕ) : Type 0 where
   pub count : length fields ≡ 3
   pub kind : field fields 1 ≡ codes "drop"
   pub from : SpellsAddress (field fields 2) router
   pub local : SpellsAddress (field fields 3) address
 
--- `node`, a router, and whether it has transit
+-- the fields of a `node` row: the word, the router, and whether it has transit
 pub record SaysNode (fields : List (List ℕ)) (address : ℕ) (flag : Bool) : Type 0 where
   pub count : length fields ≡ 3
   pub kind : field fields 1 ≡ codes "node"
   pub router : SpellsAddress (field fields 2) address
   pub transit : SpellsFlag (field fields 3) flag
 
--- `end`, the number of the batch, and how many changes it has
+-- the fields of an `end` row: the word, the number of the batch, and the count of its changes
 pub record SaysEnd (fields : List (List ℕ)) (version changes : ℕ) : Type 0 where
   pub count : length fields ≡ 3
   pub kind : field fields 1 ≡ codes "end"
   pub number : SpellsNumber (2 ^ 32) (field fields 2) version
   pub has : SpellsNumber (2 ^ 32) (field fields 3) changes
 
--- `ask`, the id, the head-end, the tail-end, the setup priority, the bandwidth, the three affinities, and the
--- hops, which may be spelled in more than one way
+-- The fields of an `ask` row: the word, the id, the head-end, the tail-end, the setup priority, the
+-- bandwidth, the three affinities, and the hops. Hops may be spelled in more than one way.
 pub record SaysAsk (fields : List (List ℕ)) (request : Request) : Type 0 where
   pub count : length fields ≡ 10
   pub kind : field fields 1 ≡ codes "ask"
@@ -109,10 +110,10 @@ Says fields (row.Node router transit) = SaysNode fields router transit
 Says fields (row.End number count) = SaysEnd fields number count
 Says fields (row.Ask request) = SaysAsk fields request
 
--- a record is read as a row exactly where it says that row
+-- a record is read as a row exactly if it says that row
 abbrev pub AreRowsRead : Type 0
 AreRowsRead = (fields : List (List ℕ)) (row : Row) → (row_of fields ≡ Ok row) ↔ Says fields row
 
--- a record says one row at most
+-- a record says only one row
 abbrev pub SaysOneRow : Type 0
 SaysOneRow = (fields : List (List ℕ)) (row other : Row) → Says fields row → Says fields other → row ≡ other

@@ -1,4 +1,4 @@
--- The words of the answer to a refused row.
+-- The words that name the reason for which a row is refused.
 use Rattle.std.specs.Prelude.{ℕ, List, ◌++◌, codes}
 use Rattle.std.specs.Fmt.{decimal}
 use Rattle.cspf_addr.specs.declared.hop_reader.HopsError.TheVariants as hops
@@ -9,7 +9,7 @@ use Rattle.cspf_rows.specs.declared.row_error.HopsFault.TheVariants as fault
 use Rattle.cspf_rows.specs.declared.row_error.RowError.{RowError}
 use Rattle.cspf_rows.specs.declared.row_error.RowError.TheVariants as error
 
--- the words for the bytes of an object
+-- the words for an object whose bytes spell no hops
 abbrev pub ero_words : EroError → List ℕ
 ero_words ero.Short = codes "short"
 ero_words ero.Length = codes "length"
@@ -20,14 +20,15 @@ ero_words (ero.Unsupported at kind) = codes "unsupported"
 ero_words (ero.Sublength at) = codes "sublength"
 ero_words (ero.PrefixLength at) = codes "prefix-length"
 
--- which part of the field is no hop, that there are too many, or why an object is refused
+-- the words for hops: the place of the bad hop, or that there are too many hops, or why an object
+-- is refused
 abbrev pub hops_words : HopsFault → List ℕ
 hops_words (fault.Text (hops.BadHop at)) = decimal at
 hops_words (fault.Text hops.TooManyHops) = codes "count"
 hops_words fault.Hex = codes "hex"
 hops_words (fault.Ero why) = codes "ero " ++ ero_words why
 
--- the words of a refusal
+-- the words for each reason
 abbrev pub words : RowError → List ℕ
 words error.Kind = codes "kind"
 words error.Fields = codes "fields"

@@ -1,4 +1,4 @@
--- The records that are written for rows, and that they are read back.
+-- The records that are written for rows, and the laws that these are read as the same rows.
 use Rattle.std.specs.Prelude.{◌≡◌, ℕ, Bool, ◌^◌, ◌<◌, ◌≤◌, List, [], ◌∷◌, map, length, slice_index, codes, Ok}
 use Rattle.std.specs.Fmt.{decimal}
 use Rattle.std.specs.List.{AllByRecursion}
@@ -13,7 +13,7 @@ use Rattle.cspf_rows.specs.declared.row.Row.TheVariants as row
 use Rattle.cspf_rows.specs.FieldValues.{flag_number}
 use Rattle.cspf_rows.specs.Rows.{row_of}
 
--- the numbers of a link are those of its types
+-- the numbers of a link are in the ranges of their types
 pub record IsLinkInRange (link : Link) : Type 0 where
   pub from : link.from < 2 ^ 32
   pub local : link.local < 2 ^ 32
@@ -22,7 +22,7 @@ pub record IsLinkInRange (link : Link) : Type 0 where
   pub metric : link.metric < 2 ^ 32
   pub free : (priority : ℕ) → priority < 8 → slice_index link.free priority < 2 ^ 64
 
--- the numbers of a request are those of its types, and it has at most `MOST_HOPS` hops
+-- the numbers of a request are in the ranges of their types, and it has at most `MOST_HOPS` hops
 pub record IsRequestInRange (request : Request) : Type 0 where
   pub id : request.id < 2 ^ 64
   pub from : request.from < 2 ^ 32
@@ -31,24 +31,24 @@ pub record IsRequestInRange (request : Request) : Type 0 where
   pub few : length request.hops ≤ MOST_HOPS
   pub hops : AllByRecursion (λ hop. IsPrefix hop.prefix) request.hops
 
--- the record that is written for a link, its group by a text that spells it
+-- the record of a link; `group` is a text that spells its group
 abbrev pub put_fields : Link → List ℕ → List (List ℕ)
 put_fields link group =
     codes "put" ∷ address_text link.from ∷ address_text link.local ∷ address_text link.to ∷ address_text link.remote ∷ decimal link.metric ∷ group ∷ map decimal link.free
 
--- the record that is written for the removal of a link
+-- the record of the removal of a link
 abbrev pub drop_fields : ℕ → ℕ → List (List ℕ)
 drop_fields from local = codes "drop" ∷ address_text from ∷ address_text local ∷ []
 
--- the record that is written for whether a router has transit
+-- the record that says whether a router has transit
 abbrev pub node_fields : ℕ → Bool → List (List ℕ)
 node_fields router transit = codes "node" ∷ address_text router ∷ decimal (flag_number transit) ∷ []
 
--- the record that is written for the end of a batch
+-- the record of the end of a batch
 abbrev pub end_fields : ℕ → ℕ → List (List ℕ)
 end_fields number count = codes "end" ∷ decimal number ∷ decimal count ∷ []
 
--- the record that is written for a request, its affinities by texts that spell them
+-- the record of a request; each affinity is given by a text that spells it
 abbrev pub ask_fields : Request → List ℕ → List ℕ → List ℕ → List (List ℕ)
 ask_fields request exclude_any include_any include_all =
     codes "ask" ∷ decimal request.id ∷ address_text request.from ∷ address_text request.to ∷ decimal request.setup ∷ decimal request.bandwidth

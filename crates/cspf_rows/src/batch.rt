@@ -1,4 +1,4 @@
-//! The text of a batch: a line for each change, and its end row.
+//! Writes the text of a batch: a line for each change, and its end row.
 
 ghost use Rattle.std.specs.Prelude.{◌≡◌, ◌++◌, ◌∷◌, [], ℕ, List, ◌^◌, ◌<◌, map, codes, IfOk, OnOk};
 ghost use Rattle.std.specs.Fmt.{decimal};
@@ -41,7 +41,7 @@ fn write_changes(text: &mut Vec<u8>, changes: &[Change]) -> Result<(), AllocErro
     Ok(())
 }
 
-/// Writes the line of a link that is put.
+/// Writes the line of a `put` change.
 fn write_put(text: &mut Vec<u8>, link: &Link) -> Result<(), AllocError>
     ensures { OnOk result (text.new.items
         ≡ text.old.items ++ record_line (change_fields (change.Put link.now))) }
@@ -51,7 +51,7 @@ fn write_put(text: &mut Vec<u8>, link: &Link) -> Result<(), AllocError>
     text.extend_from_slice(b"\n")
 }
 
-/// Writes the fields of a link that is put, except for its unreserved bandwidths.
+/// Writes the fields of a `put` change, except for the unreserved bandwidths.
 fn write_attributes(text: &mut Vec<u8>, link: &Link) -> Result<(), AllocError>
     ensures { OnOk result (text.new.items
         ≡ text.old.items ++ (codes "put" ++ fields_after (attributes link.now))) }
@@ -93,7 +93,7 @@ fn write_address(text: &mut Vec<u8>, address: Addr) -> Result<(), AllocError>
     write_octet(text, d)
 }
 
-/// Writes a point and a number.
+/// Writes a point and the octet of an address.
 fn write_octet(text: &mut Vec<u8>, octet: u8) -> Result<(), AllocError>
     ensures { OnOk result (text.new.items ≡ text.old.items ++ (46 ∷ decimal octet)) }
 {
@@ -101,13 +101,13 @@ fn write_octet(text: &mut Vec<u8>, octet: u8) -> Result<(), AllocError>
     write_digits(text, u64::from(octet))
 }
 
-/// Writes a comma and a mask with eight digits.
+/// Writes a comma and a mask, as `0x` and eight hexadecimal digits.
 fn write_mask(text: &mut Vec<u8>, mask: Mask) -> Result<(), AllocError>
     ensures { OnOk result (text.new.items ≡ text.old.items ++ (44 ∷ mask_text mask)) }
 {
     let mut digits = [0; 8];
     let Ok(()) = hex::encode_to_slice(mask.bits().to_be_bytes(), &mut digits) else {
-        // There is room for two digits of each of the four bytes.
+        // The buffer has room for two digits of each of the four bytes.
         unreachable!()
     };
     text.extend_from_slice(b",0x")?;
@@ -125,7 +125,7 @@ fn write_bandwidths(text: &mut Vec<u8>, free: &[u64]) -> Result<(), AllocError>
     Ok(())
 }
 
-/// Writes the line of a link that is taken out.
+/// Writes the line of a `drop` change, which removes a link.
 #[tactic(auto, using(crate::proofs::Lines::line_of_three))]
 fn write_drop(text: &mut Vec<u8>, from: Addr, local: Addr) -> Result<(), AllocError>
     ensures { OnOk result (text.new.items
@@ -137,7 +137,7 @@ fn write_drop(text: &mut Vec<u8>, from: Addr, local: Addr) -> Result<(), AllocEr
     text.extend_from_slice(b"\n")
 }
 
-/// Writes the line of a router with transit, 1, or without, 0.
+/// Writes the line of a `node` change: 1 for a router with transit, and 0 for a router without.
 #[tactic(auto, using(crate::proofs::Lines::line_of_three))]
 fn write_node(text: &mut Vec<u8>, router: Addr, transit: bool) -> Result<(), AllocError>
     ensures { OnOk result (text.new.items

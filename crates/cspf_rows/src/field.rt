@@ -1,4 +1,5 @@
-//! The fields of a record: which number, address, mask, flag or list of hops one spells.
+//! Reads the fields of a record: the number, address, mask, flag or list of hops that a field
+//! spells.
 
 ghost use Rattle.std.specs.Prelude.{◌≡◌, ◌≢◌, ◌<◌, ◌≤◌, length, IfOk, IfErr, OnOk};
 ghost use Rattle.csv.specs.Records.{fields_of};
@@ -9,7 +10,7 @@ use crate::row_error::{HopsFault, RowError};
 use cspf_addr::{Addr, Hops, Mask};
 use csv::ByteRecord;
 
-/// Refuses a record of another number of fields.
+/// Refuses a record that doesn't have `count` fields.
 pub(crate) fn expect_count(fields: &ByteRecord, count: usize) -> Result<(), RowError>
     ensures ok { OnOk result (length (fields_of fields.now) ≡ count) }
     ensures err { IfErr result
@@ -22,7 +23,8 @@ pub(crate) fn expect_count(fields: &ByteRecord, count: usize) -> Result<(), RowE
     }
 }
 
-/// The bytes of the field with this number, from 1 on; none past the last field.
+/// The bytes of the field with this number; fields count from 1. A field past the last one is
+/// empty.
 pub(crate) fn text(fields: &ByteRecord, place: usize) -> &[u8]
     requires { 1 ≤ place }
     ensures { result.now ≡ field (fields_of fields.now) place }

@@ -1,5 +1,5 @@
-//! Journals: the longest prefix of a stream of rows that is whole batches with the numbers 1, 2, 3
-//! and so on, and whether rows follow it.
+//! Journals. A journal's batches are the longest prefix of its rows that is whole batches with the
+//! numbers 1, 2, 3 and so on. Rows may follow them.
 
 mod laws;
 mod reader;
@@ -16,16 +16,16 @@ pub use whole::read_journal;
 pub enum Rest {
     /// No row.
     Clean,
-    /// A row or more that are no whole batch with the next number.
+    /// One row or more, which don't begin with a whole batch of the next number.
     Torn,
 }
 
-/// The result of reading on in a journal.
+/// The result of reading on in a journal: a batch, or the end.
 #[derive(Clone, Copy, Debug, PartialEq, Eq)]
 pub enum JournalStep {
     /// One more whole batch.
     Batch,
-    /// The end: there are no more batches, and this follows them.
+    /// No batch is left. The value is what follows the last batch.
     End(Rest),
 }
 
@@ -34,6 +34,6 @@ pub enum JournalStep {
 pub struct Journal {
     /// The batches, in order.
     pub batches: Vec<Batch>,
-    /// What follows them.
+    /// What follows the batches.
     pub rest: Rest,
 }

@@ -10,7 +10,7 @@ use cspf_addr::{
 use cspf_ero::objects_are_read;
 use cspf_model::fields_of_links_and_requests;
 
-/// The laws that reading rows rests on (`AreTextsRead`).
+/// The laws of fields on which reading rows rests (`AreTextsRead`).
 fn texts_are_read()
     ensures { AreTextsRead }
 {
@@ -21,7 +21,7 @@ fn texts_are_read()
     fields_of_links_and_requests();
 }
 
-/// Law: a record is read as a row exactly where it says that row, and it says one row at most.
+/// Law: a record is read as a row exactly if it says that row, and it says only one row.
 pub fn rows_are_read()
     ensures read { AreRowsRead }
     ensures one { SaysOneRow }
@@ -41,8 +41,8 @@ pub fn rows_are_read_back()
     hop_lists_are_read_back();
 }
 
-/// Law: a record is refused by the reader exactly for the first reason that applies, and for one at
-/// most.
+/// Law: the reader refuses a record exactly for the first reason that applies, and for only one
+/// reason.
 pub fn rows_are_refused()
     ensures refused { AreRowsRefused }
     ensures one { IsRefusedOnce }

@@ -1,16 +1,15 @@
-//! Rows of the text formats: which row the fields of a `csv` record say, or why they say none.
+//! Rows of the text formats: which row a `csv` record says, or why it says none.
 //!
-//! `specs/Rows.antt` defines the row of a record by `specs/FieldValues.antt`, which defines what a
-//! field spells, and `specs/Words.antt` the words of a refusal. `specs/Says.antt` has the formats of
-//! the rows, and `specs/RowRefusals.antt` why a record is refused. Reading a row takes no memory.
+//! `specs/Rows.antt` defines the row of a record, `specs/FieldValues.antt` what a field spells, and
+//! `specs/Words.antt` the words of a refusal. `specs/Says.antt` has the formats of the rows, and
+//! `specs/RowRefusals.antt` the reasons why a record is refused. Reading a row takes no memory.
 //!
-//! `specs/Records.antt` defines how a stream of bytes is cut into records. `put_all` writes every
-//! text of this repository to its writer.
+//! `specs/Records.antt` defines how a stream of bytes is cut into records. `put_all` writes a whole
+//! text to a writer; all texts of this repository are written by it.
 //!
-//! `specs/BatchText.antt` defines the text of a batch, `specs/Journal.antt` which batches the
-//! records of a journal are, and `specs/Requests.antt` which requests the records of a stream ask
-//! for. `specs/GivenBatches.antt` defines which batches of a journal a reader has returned, and
-//! `specs/JournalLaws.antt` has the laws of journals.
+//! `specs/BatchText.antt` defines the text of a batch, `specs/Journal.antt` the batches of a
+//! journal, and `specs/Requests.antt` the requests of a stream. `specs/GivenBatches.antt` defines
+//! which batches a reader has returned, and `specs/JournalLaws.antt` has the laws of journals.
 #![tactic(auto)]
 
 mod batch;

@@ -1,4 +1,4 @@
-//! The limit of the rows of a stream.
+//! The limit on the rows of a stream.
 
-/// How many rows a stream has at most.
+/// The most rows that a stream may have.
 pub const MOST_ROWS: u32 = 1_000_000;

@@ -1,4 +1,4 @@
-//! Reads the hops of an object that a field has in hexadecimal digits, without taking memory.
+//! Reads the hops of an object that a field spells in hexadecimal digits, without taking memory.
 
 ghost use Rattle.std.specs.Prelude.{◌≡◌, ◌*◌, ◌%◌, ◌≤◌, ◌↔◌, IsTrue, ℕ, List, length, take};
 ghost use Rattle.std.specs.List.{AllPass};
@@ -10,8 +10,8 @@ use crate::row_error::HopsFault;
 use cspf_addr::Hops;
 use cspf_ero::{EroError, FIRST_BYTES, read_ero_front};
 
-/// The hops of an object in hexadecimal digits of either case. A buffer on the stack holds the
-/// bytes that decide.
+/// The hops of an object in hexadecimal digits of either case. Only the first bytes are decoded,
+/// into a buffer on the stack: these and the object's size decide which hops it spells.
 pub(crate) fn read_object(digits: &[u8]) -> Result<Hops, HopsFault>
     ensures { result ≡ hex_hops_of digits.now }
 {
@@ -36,7 +36,7 @@ fn read_pairs(digits: &[u8]) -> Result<Hops, EroError>
     read_ero_front(&front[..count], size)
 }
 
-/// Decodes the digits of the first bytes into a buffer for these.
+/// Decodes the digits of the first bytes into `front`, which has room for exactly these bytes.
 fn decode_first_bytes(digits: &[u8], front: &mut [u8])
     requires pairs { (length digits.now % 2 ≡ 0) × AllPass is_hex_digit digits.now }
     requires within { 2 * length front.old ≤ length digits.now }
@@ -48,7 +48,7 @@ fn decode_first_bytes(digits: &[u8], front: &mut [u8])
     prove!(decoded.is_ok());
 }
 
-/// Whether there is an even number of hexadecimal digits and nothing else.
+/// Whether the text is an even number of hexadecimal digits.
 fn are_pairs(digits: &[u8]) -> bool
     ensures { IsTrue result ↔ ((length digits.now % 2 ≡ 0) × AllPass is_hex_digit digits.now) }
 {

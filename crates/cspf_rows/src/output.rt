@@ -1,4 +1,4 @@
-//! Whole texts, written to any writer.
+//! Writes whole texts to any writer.
 
 mod open_writer;
 
@@ -8,8 +8,8 @@ ghost use Rattle.std.specs.Io.KnownBytes.{Appends};
 use crate::output::open_writer::OpenWriter;
 use std::io::Write;
 
-/// Writes the whole text, unless a write fails in any way or takes no byte: the error is how many
-/// bytes of the text were taken before. Takes no memory, and doesn't flush.
+/// Writes the whole text. If a write fails in any way or takes no byte, the error is how many bytes
+/// of the text were taken before. It takes no memory, and doesn't flush.
 pub fn put_all<W: Write>(to: &mut W, text: &[u8]) -> Result<(), usize>
     ensures all { OnOk result (Appends (W.contents to.old) (W.contents to.new) text.now) }
     ensures front { IfErr result (λ n.
@@ -19,8 +19,8 @@ pub fn put_all<W: Write>(to: &mut W, text: &[u8]) -> Result<(), usize>
     put_through(&mut OpenWriter::new(to), text)
 }
 
-/// Writes the whole text, or returns how many bytes of it were taken. It can do nothing else with
-/// the writer, and nothing at all after a write that takes nothing.
+/// Writes the whole text, or returns how many bytes of it were taken. With `to` it can only write,
+/// and after a failed write it can't write again.
 fn put_through<W: Write>(to: &mut OpenWriter<W>, text: &[u8]) -> Result<(), usize>
     requires { to.old.has_failed ≡ false }
     ensures writer { to.new.to.ghost_name ≡ to.old.to.ghost_name }

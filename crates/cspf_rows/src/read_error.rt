@@ -9,7 +9,7 @@ pub enum ReadError {
     /// A read failed.
     #[error("a read failed")]
     Device,
-    /// There is a row past `MOST_ROWS` rows.
+    /// The journal has more than `MOST_ROWS` rows.
     #[error("too many rows")]
     TooManyRows,
 }

@@ -18,7 +18,8 @@ pub enum RecordError {
 }
 
 impl RecordError {
-    /// The fault of a stream: `memory` for refused memory, and `device` for a failed read.
+    /// The error of a stream of type `E`: `memory` for refused memory, and `device` for a failed
+    /// read.
     pub fn of_stream<E: Copy>(self, memory: E, device: E) -> E
         ensures { result ≡ stream_fault_of memory device self }
     {

@@ -9,7 +9,7 @@ use csv::{ByteRecord, Reader, ReaderBuilder};
 use std::alloc::Global;
 use std::io::Read;
 
-/// A reader of the rows of a stream: records with no header, of any number of fields.
+/// Opens a reader of the rows of a stream: records with no header, of any number of fields.
 pub fn open_records<R: Read>(alloc: Global, reader: R) -> Reader<R>
     ensures plain { IsPlain result }
     ensures rows { rows_left R.remaining result ≡ option_map rows_of (R.remaining reader) }
@@ -20,7 +20,7 @@ pub fn open_records<R: Read>(alloc: Global, reader: R) -> Reader<R>
         .from_reader(alloc, reader)
 }
 
-/// Reads the fields of the next row, and returns whether there was one. A reader that has failed
+/// Reads the fields of the next row, and returns whether there was one. After an error a reader
 /// gives no more rows.
 pub fn next_record<R: Read>(
     rows: &mut Reader<R>,

@@ -18,8 +18,8 @@ use csv::{ByteRecord, Reader};
 use std::alloc::{AllocError, Global};
 use std::io::Read;
 
-/// Reads a stream of requests, one in each row. Reading ends with an error at the first row that is
-/// refused or is no request, and at the row after `MOST_ROWS`.
+/// Reads a stream of requests, one in each row. The first row that is refused, or is no request, is
+/// an error, and so is a stream of more than `MOST_ROWS` rows.
 pub fn read_requests<R: Read + Drop>(
     alloc: Global,
     reader: R,
@@ -88,7 +88,7 @@ fn read_all<R: Read>(
     Ok(())
 }
 
-/// One more request.
+/// Adds a request.
 fn add(requests: &mut Vec<Request>, request: Request) -> Result<(), AllocError>
     ensures { OnOk result (requests.new.items ≡ requests.old.items ++ request ∷ []) }
 {

@@ -10,21 +10,21 @@ pub enum RequestsError {
     /// A read failed.
     #[error("a read failed")]
     Device,
-    /// There is a row past `MOST_ROWS` rows.
+    /// The stream has more than `MOST_ROWS` rows.
     #[error("too many rows")]
     TooManyRows,
     /// A record is no row.
     #[error("row {row}: {error}")]
     Bad {
-        /// Which row it is.
+        /// The number of the record.
         row: u32,
-        /// Why it is none.
+        /// Why the record is no row.
         error: RowError,
     },
     /// A row is no request.
     #[error("row {row} asks for nothing")]
     NotAsk {
-        /// Which row it is.
+        /// The number of the row.
         row: u32,
     },
 }

@@ -12,25 +12,25 @@ use csv::ByteRecord;
 /// What a record says.
 #[derive(Clone, Copy, Debug, PartialEq, Eq)]
 pub enum Row {
-    /// One more change, which puts the link.
+    /// A change that puts the link.
     Put(Link),
-    /// One more change, which takes out the link with this key.
+    /// A change that removes the link with this key.
     Remove {
         /// The router that the link runs from.
         from: Addr,
-        /// The address of its interface there.
+        /// The address of the link's interface at that router.
         local: Addr,
     },
-    /// One more change, which says whether a router has transit.
+    /// A change that says whether a router has transit.
     Node {
         /// The Router ID.
         router: Addr,
         /// Whether routes may pass through the router.
         transit: bool,
     },
-    /// The changes since the last such row are a batch.
+    /// The end of a batch: the changes since the last `end` row are the batch.
     End {
-        /// The version that the batch makes.
+        /// The version of the database that the batch makes.
         number: u32,
         /// How many changes the batch has.
         count: u32,
@@ -42,8 +42,9 @@ pub enum Row {
 impl Row {
     ghost use Rattle.cspf_rows.specs.Rows.{row_of, put_row_of, drop_row_of, node_row_of, end_row_of, ask_row_of};
 
-    /// The row that the fields of a record say, or the first refusal. The kind is looked at first,
-    /// then the number of fields, the fields in their order, and whether both ends are one router.
+    /// The row that the fields of a record say, or the first refusal. The checks come in this
+    /// order: the kind, the number of fields, each field, and whether both ends are the same
+    /// router.
     #[tactic(auto, unfolding(crate::specs::Rows::row_of))]
     pub fn read(fields: &ByteRecord) -> Result<Row, RowError>
         ensures { result ≡ row_of (fields_of fields.now) }
@@ -127,8 +128,8 @@ impl Row {
         Ok(Row::End { number, count })
     }
 
-    /// The row of 10 fields that asks for a route, whatever the first field says. So another format can
-    /// have rows with these fields.
+    /// The row of 10 fields that asks for a route. The first field isn't checked, so another format
+    /// can have rows with these fields after another word.
     #[tactic(auto, using(crate::proofs::AttributeLemmas::refused_ends), unfolding(crate::specs::Rows::ask_row_of))]
     pub fn ask(fields: &ByteRecord) -> Result<Row, RowError>
         ensures { result ≡ ask_row_of (fields_of fields.now) }

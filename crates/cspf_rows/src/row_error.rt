@@ -7,46 +7,46 @@ use cspf_ero::EroError;
 use std::error::Error;
 use std::fmt;
 
-/// Why a record is no row. Fields count from 1, the word of the kind being field 1.
+/// Why a record is no row. Fields count from 1: field 1 is the word that names the row's kind.
 #[derive(Clone, Copy, Debug, PartialEq, Eq)]
 pub enum RowError {
-    /// The first field isn't the word of a kind.
+    /// The first field names no kind of row.
     Kind,
-    /// Another number of fields than the kind has.
+    /// The record doesn't have the number of fields of its kind.
     Fields,
-    /// A field that is no number of its range.
+    /// A field isn't a number in its range.
     Number {
-        /// Which field it is.
+        /// The number of the field.
         field: usize,
     },
-    /// A field that is no address.
+    /// A field isn't an address.
     Address {
-        /// Which field it is.
+        /// The number of the field.
         field: usize,
     },
-    /// A field that is no mask.
+    /// A field isn't a mask.
     Mask {
-        /// Which field it is.
+        /// The number of the field.
         field: usize,
     },
-    /// A setup priority above 7.
+    /// The setup priority is above 7.
     Priority,
-    /// The hops.
+    /// The field of the hops spells no hops.
     Hops(HopsFault),
-    /// A link from a router to itself.
+    /// The link runs from a router to itself.
     SelfLink,
-    /// A request from a router to itself.
+    /// The request is from a router to itself.
     SameEnds,
 }
 
-/// Why a field spells no hops, neither as a list of hops nor as an object.
+/// Why a field spells no hops, neither as a hop list nor as an object.
 #[derive(Clone, Copy, Debug, PartialEq, Eq)]
 pub enum HopsFault {
-    /// The text spells no list of hops.
+    /// The text spells no hop list.
     Text(HopsError),
     /// The text after `ero:` isn't an even number of hexadecimal digits.
     Hex,
-    /// The bytes after `ero:` are no object that spells hops.
+    /// The bytes after `ero:` aren't an object that spells hops.
     Ero(EroError),
 }
 

@@ -1,5 +1,4 @@
-//! The errors of both streams that are read whole: where a record can't be read, and where memory is
-//! refused.
+//! The errors of journals and of requests, for a record that can't be read and for refused memory.
 
 ghost use Rattle.std.specs.Prelude.{◌≡◌};
 ghost use Rattle.cspf_rows.specs.ReadFaults.{stream_fault_of};

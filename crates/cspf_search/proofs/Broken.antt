@@ -1,4 +1,5 @@
--- Where no route can pass a strict leg there is no way from its start, nor from before it.
+-- If no route can pass a strict leg, there is no way to the tail-end from its start routers or from
+-- earlier legs.
 use Rattle.std.proofs.Common.{◌≡◌, ◌⊎◌, inl, inr, ℕ, suc, ◌+◌, ◌*◌, ◌/◌, ◌%◌, ◌<◌, ◌≤◌, List, Contains, length, sym, ap, subst, ◌∙◌, arith}
 use Rattle.std.proofs.lemmas.Bool.{cases_lt}
 use Rattle.cspf_model.specs.declared.request.Request.{Request}
@@ -15,7 +16,7 @@ module _ (d : Database) (q : Request) (listed : AreListed d) (leg : ℕ) (broken
     (bounds : List ℕ) (many : length bounds ≡ (length q.hops + 1) * 1024) (before : (i : ℕ) → i < leg * 1024 → bound_at bounds i ≡ NO_WAY)
     (shut : (p : ℕ) → Contains starts p → bound_at bounds (leg * 1024 + p) ≡ NO_WAY)
     (others : (i : ℕ) → leg * 1024 ≤ i → (bound_at bounds i ≡ 0) ⊎ ((p : ℕ) × Contains starts p × (i ≡ leg * 1024 + p))) where
-  -- a bound is `NO_WAY` or 0
+  -- Each bound is `NO_WAY` or 0.
   either : (i : ℕ) → (bound_at bounds i ≡ NO_WAY) ⊎ (bound_at bounds i ≡ 0)
   either i =
       elim (cases_lt i (leg * 1024)) [
@@ -23,7 +24,7 @@ module _ (d : Database) (q : Request) (listed : AreListed d) (leg : ℕ) (broken
         | inr high ↦ elim (others i high) [ inl zero ↦ inr zero | inr at ↦ inl (ap (bound_at bounds) at.2 ∙ shut at.0 at.1) ]
       ]
 
-  -- the router of a state from whose start the leg is shut
+  -- A state of the leg at one of the start routers that were shut.
   module _ (i p : ℕ) (ix : IsStateIndex d q i) (has : Contains starts p) (is : i ≡ leg * 1024 + p) where
     place : i % 1024 ≡ p
     place = omega (arith, is, ix.place, listed.few, are.within has.0 0 has.1, has.2)
@@ -34,7 +35,7 @@ module _ (d : Database) (q : Request) (listed : AreListed d) (leg : ℕ) (broken
     begins : IsTarget d q leg (router_at d (i % 1024))
     begins = (are.each (i % 1024) ix.place).0 (subst (Contains starts) (sym place) has)
 
-  -- a state of the leg at a router at which the leg begins
+  -- The bound of a state of the leg is `NO_WAY` if the leg begins at its router.
   shut_there : (i : ℕ) → IsStateIndex d q i → i / 1024 ≡ leg → IsTarget d q leg (router_at d (i % 1024)) → bound_at bounds i ≡ NO_WAY
   shut_there i ix at target =
       let whole : leg * 1024 + i % 1024 ≡ i = omega (arith, at) in

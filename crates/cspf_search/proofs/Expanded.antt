@@ -1,4 +1,4 @@
--- The labels after the turn and the links from one node are offered.
+-- The walks that are offered when one node is expanded: by its turn, and by each of its links.
 use Rattle.std.proofs.Common.{◌≡◌, ◌⊎◌, inl, inr, ℕ, ◌+◌, ◌-◌, ◌/◌, ◌%◌, ◌<◌, ◌≤◌, Bool, true, false, not, nat_eq, Some, None, List, [], ◌∷◌, ◌++◌, filter, length, take, slice_get, slice_index, slice_index_or, refl, sym, ap, subst, ◌∙◌, arith}
 use Rattle.std.specs.List.{All, Contains}
 use Rattle.std.proofs.lemmas.Bool.{cases_lt, eqb-true, eq-eqb}
@@ -20,7 +20,7 @@ use Rattle.cspf_search.specs.Frontier.{state_at, nowhere, IsNodeAt, NodeMayLeave
 use Rattle.cspf_graph.specs.Lists.{IsIndexOf}
 use Rattle.cspf_search.proofs.Scans.{kept_link, new_link, either_link}
 
--- the items of a list that are kept
+-- Lemmas on the items that a filter keeps.
 
 pub filter_short : (p : Link → Bool) (ls : List Link) → length (filter p ls) ≤ length ls
 filter_short p ls = omega (arith, length-filter_both p (λ l. not (p l)) (λ l. refl) ls)
@@ -72,7 +72,7 @@ module _ (d : Database) (q : Request) (nodes : List Node) (at state : ℕ) (is :
   router : (slice_index_or nodes at nowhere).router ≡ slice_index (router_list d) (state % 1024)
   router = ap (λ (s : State). s.router) is.there
 
-  -- the turn
+  -- Lemmas on the walks after the turn was offered.
 
   pub turn_index : state / 1024 < length q.hops → IsStateIndex d q (state + 1024)
   turn_index h =
@@ -125,7 +125,7 @@ module _ (d : Database) (q : Request) (nodes : List Node) (at state : ℕ) (is :
   turn_cases w t (inr (inl x)) = inr x
   turn_cases w t (inr (inr x)) = absurd (no_row 0 w t x)
 
-  -- a link
+  -- Lemmas on the walks after a link was offered.
 
   module _ (row : ℕ) (l : Link) (listed : slice_get (links_from_index d (state % 1024)) row ≡ Some l) (end : ℕ) (ends : IsIndexOf d l.to end) (few : length (router_list d) ≤ 1024) where
     pub link_index : IsStateIndex d q (state - state % 1024 + end)
@@ -172,7 +172,7 @@ module _ (d : Database) (q : Request) (nodes : List Node) (at state : ℕ) (is :
     row_is : l ≡ slice_index_or (links_from_index d (state % 1024)) row l
     row_is = sym (get_or_from_slice_get (links_from_index d (state % 1024)) row l l listed)
 
-    -- what leads on by the links before a row, by this one, and by both
+    -- The walks that continue the node by the links before a row, by the link of this row, and by both.
 
     pub row_kept : (w : List Link) (t : State) → CrossesFrom d q nodes (take row (links_from_index d (state % 1024))) at w t
         → CrossesFrom d q nodes (take (row + 1) (links_from_index d (state % 1024))) at w t
@@ -197,22 +197,22 @@ module _ (d : Database) (q : Request) (nodes : List Node) (at state : ℕ) (is :
     link_cases w t (inl x) = inl (inl x)
     link_cases w t (inr x) = elim (row_cases w t x) [ inl old ↦ inl (inr old) | inr new ↦ inr new ]
 
-  -- no link, where the walk may not leave its router
+  -- The case in which the node's walk may not leave its router, so no link is offered.
 
-  -- then no link crosses
+  -- In this case no walk continues the node by a link.
   pub no_link_crosses : (NodeMayLeave d nodes at state → ⊥) → (l : Link) (w : List Link) (t : State) → CrossesBy d q nodes at l w t → ⊥
   no_link_crosses never l w t x =
       let same : x.node ≡ slice_index_or nodes at nowhere = same_Some x.node (slice_index_or nodes at nowhere) (sym x.there ∙ there) in
       let runs : l.from ≡ slice_index (router_list d) (state % 1024) = x.runs ∙ ap (λ (n : Node). n.router) same ∙ router in
       never (rw runs at x.leaves)
 
-  -- what leads on up to the turn leads on from the first nodes or turns at this one
+  -- A walk of `CrossesUpTo` with no row continues an earlier node, or continues this node by its turn.
   pub turn_below : (w : List Link) (t : State) → CrossesUpTo d q nodes at (state % 1024) 0 w t → CrossesBelow d q nodes (links_of d) (at + 1) w t
   turn_below w t (inl x) = (x.0, omega (arith, x.1), x.2)
   turn_below w t (inr (inl turn)) = (at, omega arith, inl turn)
   turn_below w t (inr (inr x)) = absurd (no_row 0 w t x)
 
-  -- and nothing else does
+  -- There is no other walk from these nodes.
   pub below_turn : (NodeMayLeave d nodes at state → ⊥) → (w : List Link) (t : State) → CrossesBelow d q nodes (links_of d) (at + 1) w t
       → CrossesUpTo d q nodes at (state % 1024) 0 w t
   below_turn never w t x =
@@ -226,7 +226,7 @@ module _ (d : Database) (q : Request) (nodes : List Node) (at state : ℕ) (is :
             ]
       ]
 
-  -- all links
+  -- Lemmas on the walks after all links were offered.
 
   pub here_from : (w : List Link) (t : State) → CrossesFrom d q nodes (take (length (links_from_index d (state % 1024))) (links_from_index d (state % 1024))) at w t
       → CrossesFrom d q nodes (links_of d) at w t

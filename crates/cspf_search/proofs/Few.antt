@@ -1,4 +1,4 @@
--- Nodes at few routers in few legs are few.
+-- Nodes with different states at few routers in few legs are few.
 use Rattle.std.proofs.Common.{◌≡◌, inl, inr, ℕ, zero, suc, ◌*◌, ◌<◌, ◌≤◌, Bool, true, false, not, nat_eq, List, [], ◌∷◌, filter, length, map, slice_index_or, refl, sym, ◌∙◌, arith}
 use Rattle.std.specs.List.{All, AllByRecursion, AllPairs, IsDistinct}
 use Rattle.std.proofs.lemmas.Bool.{and_cases, eqb-true, eqb-false, not-true}
@@ -12,25 +12,25 @@ use Rattle.cspf_search.specs.declared.arena.Node.{Node}
 use Rattle.cspf_search.specs.Arena.{state_of, same_state}
 use Rattle.cspf_search.specs.Frontier.{nowhere}
 
--- a database of at most 1,024 routers
+-- The database has at most 1,024 routers.
 abbrev pub HasFewRouters : Database → Type 0
 HasFewRouters d = (routers : List ℕ) → IsDistinct nat_eq routers → AllByRecursion (IsRouterOf d) routers → length routers ≤ 1024
 
--- two nodes are not at one state
+-- The two nodes have different states.
 abbrev pub AreTold : Node → Node → Type 0
 AreTold m n = same_state (state_of m) (state_of n) ≡ false
 
--- no two nodes are at one state
+-- No two nodes have the same state.
 abbrev pub AreApart : List Node → Type 0
 AreApart nodes = AllPairs AreTold nodes
 
--- the node is at a router of the database, in one of the first legs
+-- The node is at a router of the database, in one of the first `legs` legs.
 pub record IsWithin (d : Database) (legs : ℕ) (n : Node) : Type 0 where
   pub router : IsRouterOf d n.router
   pub low : 1 ≤ n.leg
   pub high : n.leg ≤ legs
 
--- in one leg there are no more nodes than routers
+-- In one leg there are at most as many nodes as routers.
 module _ (d : Database) (few : HasFewRouters d) (leg : ℕ) (nodes : List Node) (apart : AreApart nodes) (routers : All (λ n. IsRouterOf d n.router) nodes)
     (here : All (λ n. nat_eq n.leg leg ≡ true) nodes) where
   routers_apart : (i j : ℕ) (e : Node) → i < j → j < length nodes → nat_eq (slice_index_or nodes i e).router (slice_index_or nodes j e).router ≡ false
@@ -54,7 +54,7 @@ module _ (d : Database) (few : HasFewRouters d) (leg : ℕ) (nodes : List Node) 
       let all = All-map (IsRouterOf d) (λ (n : Node). n.router) nodes routers in
       omega (arith, few (map (λ (n : Node). n.router) nodes) routers_distinct (recursion_from_All (IsRouterOf d) _ all), length-map nodes (λ (n : Node). n.router))
 
--- at routers of the database in the first legs there are at most 1,024 nodes for each leg
+-- At routers of the database in the first legs there are at most 1,024 nodes for each leg.
 pub nodes_few : (d : Database) → HasFewRouters d → (legs : ℕ) (nodes : List Node) → AreApart nodes → All (IsWithin d legs) nodes → length nodes ≤ legs * 1024
 nodes_few d few zero [] apart within = omega arith
 nodes_few d few zero (n ∷ ns) apart within = absurd (let first = within 0 n (omega arith) in omega (arith, first.low, first.high))

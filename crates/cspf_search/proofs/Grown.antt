@@ -1,4 +1,4 @@
--- The walks that cross from nodes, and the node that a round settles.
+-- The walks that cross from nodes to open states, and the node that a round settles.
 use Rattle.std.proofs.Common.{◌≡◌, inl, inr, ℕ, suc, ◌+◌, ◌*◌, ◌<◌, ◌≤◌, false, Some, None, option_map, List, [], ◌∷◌, ◌++◌, zero, length, slice_index_or, refl, sym, ap, subst, ◌∙◌, arith}
 use Rattle.std.specs.Ordering.{is_gt, nat_cmp, ordering_then}
 use Rattle.std.specs.declared.cmp.Ordering.{Ordering}
@@ -23,7 +23,7 @@ use Rattle.cspf_search.specs.Frontier.{nowhere}
 use Rattle.cspf_search.proofs.Labelled.{label_from, label_at, open_index, apart_push, nodes_push, nodes_root, labels_push}
 use Rattle.cspf_search.proofs.Few.{HasFewRouters, AreApart, nodes_few}
 
--- a reached state is at a router of the database
+-- A state that a walk reaches is at a router of the database.
 pub reached_router : (d : Database) (q : Request) → IsRouterOf d q.from → (w : List Link) (s : State) → Reaches d q w s → IsRouterOf d s.router
 reached_router d q from w s starts = from
 reached_router d q from w s (steps r (by_link l a enters leaves)) = (l, a.link, inr refl)
@@ -32,13 +32,13 @@ reached_router d q from w s (steps r (by_turn within target)) = reached_router d
 nothing_before : (cost count : ℕ) (o : Ordering) → 0 < count → is_gt (ordering_then (nat_cmp 0 cost) (ordering_then (nat_cmp 0 count) o)) ≡ false
 nothing_before cost count o some = grind (arith, nat_tests)
 
--- no walk is before the one with no links
+-- No walk comes before the walk without links.
 first_empty : (w : List Link) → IsNoLater [] w
 first_empty [] = refl
 first_empty (l ∷ ls) = nothing_before (cost_of (l ∷ ls)) (length (l ∷ ls)) (locals_cmp [] (l ∷ ls)) (omega arith)
 
 module _ (d : Database) (q : Request) (links : List Link) (listed : AreLinksOf d links) (nodes : List Node) (apart : AreApart nodes) where
-  -- the walk that a link leads to from a node crosses
+  -- A walk that continues a node by a link to a state without a node crosses in the sense of `Crosses`.
   by_link_crosses : (at : ℕ) → at < length nodes → (l : Link) → IsLinkOf d l → (w : List Link) (t : State) → CrossesBy d q nodes at l w t → Crosses d q (labels_of nodes) w t
   by_link_crosses at within l of w t by =
       let is = get_or_from_slice_get nodes at by.node nowhere by.there in
@@ -54,7 +54,7 @@ module _ (d : Database) (q : Request) (links : List Link) (listed : AreLinksOf d
         still_open = ap (option_map (λ i. walk_at (walks nodes) i)) by.still_open;
       }
 
-  -- the walk that the turn to the next leg leads to from a node crosses
+  -- A walk that continues a node by the turn to a state without a node crosses as well.
   by_turn_crosses : (at : ℕ) → at < length nodes → (w : List Link) (t : State) → Turns d q nodes at w t → Crosses d q (labels_of nodes) w t
   by_turn_crosses at within w t turn =
       let is = get_or_from_slice_get nodes at turn.node nowhere turn.there in
@@ -118,11 +118,11 @@ module _ (d : Database) (q : Request) (links : List Link) (listed : AreLinksOf d
         }),
       )
 
-  -- what crosses is what a turn or a link leads to from a node
+  -- Each walk that crosses continues a node by the turn or by a link.
   pub crosses_to : (w : List Link) (t : State) → Crosses d q (labels_of nodes) w t → CrossesBelow d q nodes links (length nodes) w t
   crosses_to w t x = step_from x.front w x.state t x.step x.settled x.still_open
 
-  -- where nothing leads on, nothing crosses
+  -- If no turn and no link leads on from any node, no walk crosses.
   pub nothing_crosses : IsFirst nodes (CrossesBelow d q nodes links (length nodes)) None → IsStuck d q (labels_of nodes)
   nothing_crosses none = record {
     closed = 0;
@@ -148,7 +148,7 @@ module _ (d : Database) (q : Request) (links : List Link) (listed : AreLinksOf d
   }
 
 module _ (d : Database) (q : Request) (nodes : List Node) (apart : AreApart nodes) (settled : AreSettled d q (labels_of nodes)) where
-  -- a settled node's state is reached
+  -- The walk of a node reaches the node's state.
   node_reached : (i : ℕ) (e : Node) → i < length nodes → Reaches d q (walk_at (walks nodes) i) (state_of (slice_index_or nodes i e))
   node_reached i e h = settled.reached (state_of (slice_index_or nodes i e)) _ (label_at nodes apart i e h)
 
@@ -161,7 +161,7 @@ module _ (d : Database) (q : Request) (nodes : List Node) (apart : AreApart node
       let leg = nodes_in_legs i e h in
       record { router = reached_router d q from _ _ (node_reached i e h); low = leg.low; high = leg.high })
 
--- the nodes are still settled with a first crossing appended
+-- The nodes are still settled after the node of a first crossing is appended.
 pub settled_by : (d : Database) (q : Request) → IsRouterOf d q.from → HasFewRouters d → length q.hops + 1 ≤ 8 → (nodes : List Node) → AreNodes nodes
     → AreSettled d q (labels_of nodes) → (n : Node) → IsNext nodes n → IsFirstCrossing d q (labels_of nodes) (walk_of nodes n) (state_of n)
     → AreNodes (nodes ++ (n ∷ [])) × AreSettled d q (labels_of (nodes ++ (n ∷ []))) × (length nodes + 1 ≤ (length q.hops + 1) * 1024)
@@ -172,7 +172,7 @@ settled_by d q from few legs nodes are settled n next crossing =
     let room : length nodes + 1 ≤ (length q.hops + 1) * 1024 = omega (arith, most, length_push nodes n) in
     (nodes_push nodes n are next left (omega arith), after, room)
 
--- so does the first node that a turn or a link leads to
+-- The nodes are still settled after the first node that a turn or a link leads to is appended.
 pub settled_more : (d : Database) (q : Request) (links : List Link) → AreLinksOf d links → IsRouterOf d q.from → HasFewRouters d → length q.hops + 1 ≤ 8
     → (nodes : List Node) → AreNodes nodes → AreSettled d q (labels_of nodes) → (n : Node) → IsFirstOf nodes (CrossesBelow d q nodes links (length nodes)) n
     → AreNodes (nodes ++ (n ∷ [])) × AreSettled d q (labels_of (nodes ++ (n ∷ []))) × (length nodes + 1 ≤ (length q.hops + 1) * 1024)
@@ -184,7 +184,7 @@ only_root : (q : Request) (i : ℕ) (s : State) (w : List Link) → i < 1 → st
 only_root q zero s w h at is = (sym at, sym is)
 only_root q (suc i) s w h at is = absurd (omega arith)
 
--- at first the start alone is settled
+-- At first only the start is settled.
 pub root_nodes : (q : Request) → AreNodes (root_of q ∷ [])
 root_nodes q = nodes_root (root_of q) (record { parent = refl; by = refl }) refl refl
 

@@ -1,4 +1,4 @@
--- The keys that are popped from a heap.
+-- What holds of the keys that are popped from a heap.
 use Rattle.std.proofs.Common.{◌≡◌, ◌⊎◌, inl, inr, ℕ, zero, suc, ◌+◌, ◌<◌, ◌≤◌, false, List, [], ◌∷◌, ◌++◌, length, take, slice_index_or, refl, sym, ap, subst, arith}
 use Rattle.std.specs.List.{All, Contains}
 use Rattle.std.specs.List.Sorted.{IsPermutation}
@@ -33,7 +33,8 @@ no_less k rank j i h =
       | inr ge ↦ let e : k ≡ rank = omega arith in inr (omega arith, no_less_index k rank j i e h)
     ]
 
--- no key of those that a greatest one bounds is less than it in rank and index
+-- If `x` is the greatest of some keys by `heap_key_cmp`, no key has a lower rank, or the same rank and
+-- a lower index.
 pub keys_up_to : (x : HeapKey) (xs : List HeapKey) → IsUpperBound heap_key_cmp x xs → (y : HeapKey) → Contains xs y → IsUpTo x.0.0 x.0.1 y
 keys_up_to x xs upper y at =
     no_less y.0.0 x.0.0 y.0.1 x.0.1 (All-contains (λ z. lt_by_cmp heap_key_cmp x z ≡ false) xs y (All-from_recursion (λ z. lt_by_cmp heap_key_cmp x z ≡ false) xs upper) at)
@@ -42,7 +43,7 @@ only : (x y : HeapKey) → Contains (x ∷ []) y → x ≡ y
 only x y (zero, h, e) = e
 only x y (suc k, h, e) = absurd (omega arith)
 
--- each key is the one that was popped, or is left
+-- Each key is the popped key, or is still in the heap.
 pub others_left : (x : HeapKey) (old new : List HeapKey) → IsPermutation old (x ∷ new) → (y : HeapKey) → Contains old y → (x ≡ y) ⊎ Contains new y
 others_left x old new moved y at =
     elim (Contains-append_cases (x ∷ []) new y (Contains-permutation old (x ∷ new) y moved at)) [
@@ -50,15 +51,15 @@ others_left x old new moved y at =
       | inr there ↦ inr there
     ]
 
--- the key that was popped was there
+-- The popped key was in the heap.
 pub was_there : (x : HeapKey) (old new : List HeapKey) → IsPermutation old (x ∷ new) → Contains old x
 was_there x old new moved = Contains-permutation (x ∷ new) old x (IsPermutation-sym old (x ∷ new) moved) (0, omega arith, refl)
 
--- the rank that was read of labels
+-- The rank of the label at an index within the list.
 pub rank_read : (labels : List Label) (i : ℕ) (e : Label) → i < length labels → (slice_index_or labels i e).rank ≡ (label_at labels i).rank
 rank_read labels i e h = ap (λ (l : Label). l.rank) (get_or_default labels i e no_label h)
 
--- a key that was popped from the keys that are left, and which of them are live
+-- A key was popped from the heap. The lemmas say which of the keys that are left are live.
 module _ (d : Database) (q : Request) (goal : Goal) (labels : List Label) (old heap new : List HeapKey) (x : HeapKey)
     (live : (key : HeapKey) → Contains old key → IsLive goal labels key → Contains heap key) (keyed : All (IsKey d q goal) heap) (moved : IsPermutation heap (x ∷ new)) where
   pub keyed_left : All (IsKey d q goal) new
@@ -67,7 +68,7 @@ module _ (d : Database) (q : Request) (goal : Goal) (labels : List Label) (old h
   pub popped_key : IsKey d q goal x
   popped_key = All-contains (IsKey d q goal) heap x keyed (was_there x heap new moved)
 
-  -- where it isn't live, the live ones are left
+  -- If the popped key isn't live, all live keys are left.
   pub live_left : (IsLive goal labels x → ⊥) → (key : HeapKey) → Contains old key → IsLive goal labels key → Contains new key
   live_left stale key at is =
       elim (others_left x heap new moved key (live key at is)) [
@@ -75,7 +76,7 @@ module _ (d : Database) (q : Request) (goal : Goal) (labels : List Label) (old h
         | inr left ↦ left
       ]
 
-  -- where it is live, it is the least of the live ones
+  -- If the popped key is live, it is the least of the live keys.
   pub popped_least : IsHeap heap_key_cmp heap → PopsGreatest heap_key_cmp heap x new → goal.floor ≤ x.0.1 → (label_at labels x.0.1).rank + lift goal x.0.1 ≡ x.0.0
       → IsLeast d q goal labels old x.0.1 new
   popped_least ordered pops behind is =
@@ -95,11 +96,11 @@ module _ (d : Database) (q : Request) (goal : Goal) (labels : List Label) (old h
             ];
       }
 
--- a default key for the indexes past the end of a list
+-- The key that is read past the end of a list.
 abbrev pub blank : HeapKey
 blank = record { 0 = (0, 0) }
 
--- One more key of a heap was looked at. The keys from a floor on are kept.
+-- One more key of a heap was looked at. A key is kept if the index of its state is at least the floor.
 module _ (floor : ℕ) (items left : List HeapKey) (k : ℕ) (within : k < length items)
     (kept : (key : HeapKey) → Contains (take k items) key → floor ≤ key.0.1 → Contains left key) (none_else : (key : HeapKey) → Contains left key → Contains items key) where
   abbrev pub looked : HeapKey
@@ -108,7 +109,7 @@ module _ (floor : ℕ) (items left : List HeapKey) (k : ℕ) (within : k < lengt
   cases : (key : HeapKey) → Contains (take (k + 1) items) key → Contains (take k items) key ⊎ (looked ≡ key)
   cases key has = let more : take (k + 1) items ≡ take k items ++ looked ∷ [] = take_more items k blank within in Contains-push_cases (take k items) looked key (rw more at has)
 
-  -- it is below the floor
+  -- The case in which the key is below the floor.
   pub key_dropped : looked.0.1 < floor → (key : HeapKey) → Contains (take (k + 1) items) key → floor ≤ key.0.1 → Contains left key
   key_dropped low key has up =
       elim (cases key has) [
@@ -116,7 +117,7 @@ module _ (floor : ℕ) (items left : List HeapKey) (k : ℕ) (within : k < lengt
         | inr is ↦ absurd (omega (arith, low, up, ap (λ (x : HeapKey). x.0.1) is))
       ]
 
-  -- it is kept
+  -- The case in which the key is kept.
   module _ (new : List HeapKey) (moved : IsPermutation (looked ∷ left) new) where
     pub key_kept : (key : HeapKey) → Contains (take (k + 1) items) key → floor ≤ key.0.1 → Contains new key
     key_kept key has up =
@@ -132,7 +133,7 @@ module _ (floor : ℕ) (items left : List HeapKey) (k : ℕ) (within : k < lengt
           | inr there ↦ none_else key there
         ]
 
--- labels go on with the keys of states in legs that aren't closed
+-- The labels are still right after the keys of states in closed legs were dropped.
 pub labels_open : (d : Database) (q : Request) (nodes : List Node) (P : List Link → State → Type 0) (goal : Goal) (labels : List Label) (old new : List HeapKey)
     → AreLabels d q nodes P goal labels old → IsOpenOf goal.floor old new → AreLabels d q nodes P goal labels new
 labels_open d q nodes P goal labels old new are left = record {

@@ -1,4 +1,4 @@
--- The walks and labels of nodes, and how one more node changes them.
+-- The walks of nodes and the settled walks of states, and how one more node changes both.
 use Rattle.std.proofs.Common.{◌≡◌, inl, inr, ℕ, zero, suc, ◌+◌, ◌<◌, Bool, true, false, not, Option, Some, None, option_map, position, List, [], ◌∷◌, ◌++◌, length, slice_index_or, refl, sym, ap, ◌∙◌, arith}
 use Rattle.std.specs.List.{position_or_len, AllPairs}
 use Rattle.std.proofs.lemmas.Bool.{cases_lt, lt-ltb, not-true, not_from_true, not_from_false, eqb-true, eq-eqb, and_parts, and_from}
@@ -11,7 +11,7 @@ use Rattle.cspf_search.specs.States.{State}
 use Rattle.cspf_search.specs.Arena.{walk_with, walk_at, walks_after, walks, walk_of, state_of, same_state, index_of, labels_of, IsRanked, IsRoot, HasLast, AreNodes, IsNext}
 use Rattle.cspf_search.proofs.Settles.{Adds}
 
--- the walks of nodes, and one more node
+-- Lemmas on the walks of nodes, and of one more node.
 
 walks_after-push : (done : List (List Link)) (nodes : List Node) (n : Node)
     → walks_after done (nodes ++ (n ∷ [])) ≡ walks_after done nodes ++ (walk_with (walk_at (walks_after done nodes) n.parent) n.by ∷ [])
@@ -41,7 +41,7 @@ module _ (nodes : List Node) (n : Node) where
   pub walk_of-old : (m : Node) → m.parent < length nodes → walk_of (nodes ++ (n ∷ [])) m ≡ walk_of nodes m
   walk_of-old m h = ap (λ w. walk_with w m.by) (walk_at-old m.parent h)
 
--- indexes
+-- Lemmas on the index of a state among the nodes.
 
 pub position-None : {X : Type 0} (p : X → Bool) (xs : List X) (k : ℕ) (d : X) → position p xs ≡ None → k < length xs → p (slice_index_or xs k d) ≡ false
 position-None p xs k d e h =
@@ -65,9 +65,9 @@ same_state-true s t e =
 same_state-itself : (s : State) → same_state s s ≡ true
 same_state-itself s = and_from _ _ (eq-eqb s.leg s.leg refl) (eq-eqb s.router s.router refl)
 
--- labels
+-- Lemmas on the settled walk of a state.
 
--- a label is the walk of a node
+-- A settled walk is the walk of some node with this state.
 pub label_from : (nodes : List Node) (s : State) (w : List Link) (d : Node) → labels_of nodes s ≡ Some w
     → (i : ℕ) × (i < length nodes) × (state_of (slice_index_or nodes i d) ≡ s) × (walk_at (walks nodes) i ≡ w)
 label_from nodes s w d e =
@@ -79,19 +79,19 @@ label_from nodes s w d e =
       | None ↦ λ at is. absurd (cc)
     ] refl e
 
--- a node's index is that of its state
+-- The index of a node is the index of its state.
 pub index_at : (nodes : List Node) → AllPairs (λ m n. same_state (state_of m) (state_of n) ≡ false) nodes → (i : ℕ) (d : Node) → i < length nodes
     → index_of nodes (state_of (slice_index_or nodes i d)) ≡ Some i
 index_at nodes apart i d h =
     position-first (λ n. same_state (state_of n) (state_of (slice_index_or nodes i d))) nodes i d h
     (same_state-itself (state_of (slice_index_or nodes i d))) (λ k l. apart k i d l h)
 
--- a node's walk is the label of its state
+-- The walk of a node is the settled walk of its state.
 pub label_at : (nodes : List Node) → AllPairs (λ m n. same_state (state_of m) (state_of n) ≡ false) nodes → (i : ℕ) (d : Node) → i < length nodes
     → labels_of nodes (state_of (slice_index_or nodes i d)) ≡ Some (walk_at (walks nodes) i)
 label_at nodes apart i d h = ap (option_map (λ i. walk_at (walks nodes) i)) (index_at nodes apart i d h)
 
--- a state with no label is open: there is no index
+-- A state that isn't settled has no index.
 pub open_index : (nodes : List Node) (s : State) → labels_of nodes s ≡ None → index_of nodes s ≡ None
 open_index nodes s e =
     elim (index_of nodes s) as (λ o. option_map (λ i. walk_at (walks nodes) i) o ≡ None → o ≡ None) [
@@ -105,7 +105,7 @@ apart_push nodes n apart left =
     all_pairs_push (λ m n. same_state (state_of m) (state_of n) ≡ false) nodes n apart
     (λ k d h. position-None (λ m. same_state (state_of m) (state_of n)) nodes k d (open_index nodes (state_of n) left) h)
 
--- one node more
+-- Lemmas on one more node that is appended.
 
 module _ (nodes : List Node) (n : Node) (are : AreNodes nodes) (next : IsNext nodes n) (left : labels_of nodes (state_of n) ≡ None) where
   at_old : (i : ℕ) (d : Node) → i < length nodes → slice_index_or (nodes ++ (n ∷ [])) i d ≡ slice_index_or nodes i d
@@ -114,7 +114,7 @@ module _ (nodes : List Node) (n : Node) (are : AreNodes nodes) (next : IsNext no
   at_new : (i : ℕ) (d : Node) → i ≡ length nodes → slice_index_or (nodes ++ (n ∷ [])) i d ≡ n
   at_new i d e = get_or_push nodes n d i (sym e)
 
-  -- what holds of the old nodes and of the new one
+  -- What holds of the old nodes and of the new node holds of all.
   by_index : (P : ℕ → Node → Type 0) → ((i : ℕ) (d : Node) → i < length nodes → P i (slice_index_or nodes i d)) → P (length nodes) n
       → (i : ℕ) (d : Node) → i < length (nodes ++ (n ∷ [])) → P i (slice_index_or (nodes ++ (n ∷ [])) i d)
   by_index P old new i d h =
@@ -172,7 +172,7 @@ module _ (nodes : List Node) (n : Node) (are : AreNodes nodes) (next : IsNext no
 started : (p : ℕ) (b : Option Link) → p ≡ 0 → b ≡ None → walk_with [] b ≡ walk_with (walk_at (walk_with [] b ∷ []) p) b
 started p b first last = rw (first, last) refl
 
--- the root alone
+-- Lemmas on the root as the only node.
 module _ (n : Node) (root : IsRoot n) where
   only : (P : ℕ → Node → Type 0) → P 0 n → (i : ℕ) (d : Node) → i < 1 → P i (slice_index_or (n ∷ []) i d)
   only P here zero d h = here

@@ -17,11 +17,11 @@ use Rattle.cspf_search.specs.Settled.{IsWithin}
 use Rattle.cspf_search.specs.Bounds.{ArePassed, AreBounds, Falls, IsLegBound, IsRing, IsDeadEnd, AreLooked, bound_at, is_done}
 use Rattle.cspf_graph.proofs.RouterIndexes.{same_or_not}
 
--- where no router is done, nothing has to hold of the links that arrive
+-- If no router is done, `IsRing` holds.
 pub none_done : (d : Database) (q : Request) (leg : ℕ) (ring : Ring) → ((w : ℕ) → is_done ring w ≡ false) → IsRing d q leg ring
 none_done d q leg ring none u w on l admissible enters from to = absurd (false≢true (sym (none w) ∙ on))
 
--- a ring stays one where bounds fall, and where only its heap changes
+-- A ring stays right if bounds fall, or if only its heap changes.
 pub fallen_ring : (d : Database) (q : Request) (leg : ℕ) (old new : Ring) → Falls old new → IsRing d q leg old → IsRing d q leg new
 fallen_ring d q leg old new falls ring u w on l admissible enters from end =
     let kept = falls.kept w on in
@@ -32,7 +32,7 @@ pub same_ring : (d : Database) (q : Request) (leg : ℕ) (old new : Ring) → ne
 same_ring d q leg old new near marks ring u w on l admissible enters from end =
     rw near (ring u w (rw marks at on) l admissible enters from end)
 
--- a router that no link may lead a route to in the leg has none to look at
+-- If no link may lead a route to a router in the leg, the router can be marked as done.
 pub one_shut : (d : Database) (q : Request) (leg to : ℕ) (ring : Ring) → IsRing d q leg ring → ((l : Link) → MayEnter d q (leg + 1) l.to → IsIndexOf d l.to to → ⊥)
     → AreLooked d q leg ring.near.items (set ring.done.items to true)
 one_shut d q leg to ring is shut u w on l admissible enters from end =
@@ -41,7 +41,7 @@ one_shut d q leg to ring is shut u w on l admissible enters from end =
       | inr ne ↦ is u w (sym (get_or-set_other ring.done.items to w true false ne) ∙ on) l admissible enters from end
     ]
 
--- all links that arrive at one more router were looked at
+-- The search has looked at all links that arrive at one more router.
 module _ (d : Database) (q : Request) (leg to base : ℕ) (old new : Ring) (ring : IsRing d q leg old) (falls : Falls old new)
     (passed : ArePassed d q base new to) (same : bound_at new.near.items to ≡ base) where
   pub one_router_more : AreLooked d q leg new.near.items (set new.done.items to true)
@@ -55,12 +55,12 @@ module _ (d : Database) (q : Request) (leg to base : ℕ) (old new : Ring) (ring
             fallen_ring d q leg old new falls ring u w (sym (get_or-set_other new.done.items to w true false ne) ∙ on) l admissible enters from end
       ]
 
--- a link that is read at an index of a list is the one there
+-- A link that was read at an index of a list is the link at this index.
 pub link_read : (all read : List Link) (n index : ℕ) (link l : Link) → link ≡ slice_index_or read n link → read ≡ all → n ≡ index → slice_get all index ≡ Some l → link ≡ l
 link_read all read n index link l is same at here =
     is ∙ ap (λ ls. slice_index_or ls n link) same ∙ ap (λ k. slice_index_or all k link) at ∙ get_or_from_slice_get all index l link here
 
--- bounds may be cut at an edge that no router is beyond but those that are done
+-- Bounds may be cut at an edge, if each router that isn't done has at least this bound.
 pub cut_at_edge : (near : List ℕ) (marks : List Bool) (edge u w metric : ℕ)
     → (slice_index_or marks w false ≡ true → IsWithin (bound_at near u) (bound_at near w) metric)
     → (slice_index_or marks w false ≡ false → edge ≤ bound_at near w)
@@ -77,7 +77,7 @@ cut_at_edge near marks edge u w metric within least =
       | false ↦ λ e. (omega (arith, least e), λ way. omega (arith, way, least e))
     ] refl
 
--- a leg from its ring
+-- The bounds of a leg, made of its ring and its edge.
 pub leg_of_ring : (d : Database) (q : Request) (leg : ℕ) (ring : Ring) (edge : ℕ) → IsRing d q leg ring
     → ((w : ℕ) → w < length (router_list d) → is_done ring w ≡ false → edge ≤ bound_at ring.near.items w) → (ahead : List ℕ)
     → ((p : ℕ) → p < length (router_list d) → MayTurn d q (leg + 1) (slice_index (router_list d) p) → bound_at ring.near.items p ≤ bound_at ahead p)
@@ -88,7 +88,7 @@ leg_of_ring d q leg ring edge links least ahead targets = record {
   targets = λ p h target. omega (arith, targets p h target);
 }
 
--- the roles say which routers are targets
+-- The roles say which routers are targets at which a route may turn.
 pub told_target : (d : Database) (q : Request) (roles : List Role) (leg p : ℕ) → AreListed d → AreRoles d q roles → leg ≤ length q.hops → p < length (router_list d)
     → MayTurn d q (leg + 1) (slice_index (router_list d) p) → IsTrue (slice_index_or roles (leg * 1024 + p) nothing).target
 told_target d q roles leg p listed are within h target =
@@ -98,7 +98,7 @@ told_target d q roles leg p listed are within h target =
     let index : IsStateIndex d q (leg * 1024 + p) = record { low = omega (arith, few, within); place = rw at_place h } in
     (are.each (leg * 1024 + p) nothing index).target.1 (rw (at_leg, at_place) target)
 
--- all bounds are 0
+-- Bounds that are all 0 are lower bounds.
 pub zero_bounds : (d : Database) (q : Request) (bounds : List ℕ) → length bounds ≡ (length q.hops + 1) * 1024 → ((i : ℕ) → bound_at bounds i ≡ 0) → AreBounds d q bounds
 zero_bounds d q bounds many zeros = record {
   many = many;
@@ -116,7 +116,7 @@ zeros_at count i =
       | inr past ↦ get_or_past (replicate count zero) i zero (omega (arith, past, length-replicate count zero))
     ]
 
--- one more leg, from the last leg back
+-- The bounds of one more leg, from the last leg back.
 module _ (d : Database) (q : Request) (leg count : ℕ) (all : count ≡ length (router_list d)) (few : count ≤ 1024) (old new near : List ℕ) (edge : ℕ) (small : edge < 2 ^ 32) (before : AreBounds d q old)
     (zeros : (i : ℕ) → i < (leg + 1) * 1024 → bound_at old i ≡ 0) (is : IsLegBound d q leg near edge (drop (leg * 1024 + 1024) old)) (long : length new ≡ length old)
     (here : (p : ℕ) → p < count → bound_at new (leg * 1024 + p) ≡ min (bound_at near p) edge)
@@ -195,10 +195,10 @@ module _ (d : Database) (q : Request) (leg count : ℕ) (all : count ≡ length 
   pub zeros_below : (i : ℕ) → i < leg * 1024 → bound_at new i ≡ 0
   zeros_below i low = others i (inl low) ∙ zeros i (omega (arith, low))
 
--- where the targets of a leg have no way, there is none from the leg or before it
+-- If the targets of a leg have no way, there is no way from this leg or from an earlier one.
 module _ (d : Database) (q : Request) (leg : ℕ) (old new : List ℕ) (before : AreBounds d q old) (is : IsDeadEnd d q leg (drop (leg * 1024 + 1024) old)) (long : length new ≡ length old)
     (here : (i : ℕ) → i < leg * 1024 + 1024 → bound_at new i ≡ NO_WAY) (others : (i : ℕ) → leg * 1024 + 1024 ≤ i → bound_at new i ≡ bound_at old i) where
-  -- a state is before the end of the leg or after it
+  -- The bound of a state up to this leg is `NO_WAY`, and the bound of a later state stays.
   side : (i : ℕ) → (bound_at new i ≡ NO_WAY) ⊎ (bound_at new i ≡ bound_at old i)
   side i = elim (cases_lt i (leg * 1024 + 1024)) [ inl low ↦ inl (here i low) | inr high ↦ inr (others i high) ]
 

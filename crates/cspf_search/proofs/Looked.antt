@@ -29,25 +29,25 @@ use Rattle.cspf_search.proofs.Ranks.{walk_short}
 use Rattle.cspf_search.proofs.Firsts.{first_both, first_same, left_first}
 use Rattle.cspf_search.proofs.Taken.{end_of_row}
 
--- an open state has no index
+-- A state that isn't settled has no index.
 pub open_at : (o : Option ℕ) → is_some o ≡ false → o ≡ None
 open_at None e = refl
 open_at (Some i) e = absurd (cc)
 
--- a list has an element at each index below its length
+-- A list has an item at each index below its length.
 pub some_at : (xs : List Link) (i : ℕ) → i < length xs → (x : Link) × (slice_get xs i ≡ Some x)
 some_at [] i h = absurd (omega arith)
 some_at (x ∷ xs) zero h = (x, refl)
 some_at (x ∷ xs) (suc i) h = some_at xs i (omega arith)
 
--- the router at the end of a link
+-- The router at the end of a link.
 pub row_end : (d : Database) (s : State) (star : ForwardStar) → IsForwardStar d s star → (row : ℕ) (l : Link) → row < length (links_from_index d (star.state % 1024))
     → slice_get (links_from_index d (star.state % 1024)) row ≡ Some l → (end : ℕ) → end ≡ slice_index star.ends.now row → IsIndexOf d l.to end
 row_end d s star is row l h here end at =
     end_of_row d star.ends.now (links_from_index d (star.state % 1024)) is.within is.each row l end h
     (sym (get_or_from_slice_get (links_from_index d (star.state % 1024)) row l l here)) at
 
--- the node that a link leads to from a node, by what its metric adds to the rank
+-- The node that follows another node by a link.
 abbrev pub along : ℕ → Node → Link → ℕ → Node
 along at from l added = record {
   parent = at;
@@ -60,20 +60,20 @@ along at from l added = record {
 by_rank : (a b m n : ℕ) (o p : Ordering) → a * 16384 + m + 1 < b * 16384 + n + 1 → n < 16384 → is_gt (ordering_then (ordering_then (nat_cmp a b) (ordering_then (nat_cmp m n) o)) p) ≡ false
 by_rank a b m n o p less high = grind (arith, nat_tests)
 
--- a node that ranks before a walk comes before it
+-- If a node's rank is lower than the rank of a walk, the node comes before this walk.
 pub ranked_first : (nodes : List Node) (n : Node) → IsNext nodes n → (w : List Link) (leg : ℕ) → n.rank < walk_rank w → length w < 16384
     → is_gt (state_cmp (n.leg, walk_of nodes n) (leg, w)) ≡ false
 ranked_first nodes n next w leg less short =
     by_rank (cost_of (walk_of nodes n)) (cost_of w) (length (walk_of nodes n)) (length w) (nat_cmp n.leg leg) _ (omega (arith, less, next.ranked.rank)) short
 
 module _ (d : Database) (q : Request) (nodes : List Node) (are : AreNodes nodes) (at state : ℕ) (is : IsNodeAt d q nodes at state) where
-  -- the turn
+  -- The first node after the turn was looked at.
 
   only_turn : (w : List Link) (t : State) → CrossesFrom d q nodes (take 0 (links_from_index d (state % 1024))) at w t → Turns d q nodes at w t
   only_turn w t (inl turn) = turn
   only_turn w t (inr x) = absurd (no_row d q nodes at state is 0 w t x)
 
-  -- where no link leads on, the turn alone does
+  -- If no link leads on, only the turn does.
 
   pub turn_here : (w : List Link) (t : State) → CrossesFrom d q nodes (take 0 (links_from_index d (state % 1024))) at w t → CrossesFrom d q nodes (links_of d) at w t
   turn_here w t x = inl (only_turn w t x)
@@ -83,7 +83,7 @@ module _ (d : Database) (q : Request) (nodes : List Node) (are : AreNodes nodes)
   here_turn never w t (inl turn) = inl turn
   here_turn never w t (inr link) = absurd (no_link_crosses d q nodes at state is never link.0 w t link.2)
 
-  -- there is no next leg, or the router is no target
+  -- The case in which there is no next leg, or the router isn't a target.
   pub no_turn : (state / 1024 < length q.hops → MayTurn d q (state / 1024 + 1) (slice_index (router_list d) (state % 1024)) → ⊥)
       → IsFirst nodes (CrossesFrom d q nodes (take 0 (links_from_index d (state % 1024))) at) None
   no_turn never = λ w t x. let has = turn_within d q nodes at state is w t (only_turn w t x) in never has.0 has.1
@@ -111,7 +111,7 @@ module _ (d : Database) (q : Request) (nodes : List Node) (are : AreNodes nodes)
       (first_same nodes (Turns d q nodes at) (CrossesFrom d q nodes (take 0 (links_from_index d (state % 1024))) at) (λ w t x. inl x) only_turn
       (Some (node_by at (slice_index_or nodes at nowhere) None)) first)
 
-  -- a link
+  -- The first node after a link was looked at.
 
   module _ (a : Option Node) (row : ℕ) (l : Link) (here : slice_get (links_from_index d (state % 1024)) row ≡ Some l) (end : ℕ) (ends : IsIndexOf d l.to end)
       (few : length (router_list d) ≤ 1024) (before : IsFirst nodes (CrossesFrom d q nodes (take row (links_from_index d (state % 1024))) at) a) where
@@ -127,7 +127,7 @@ module _ (d : Database) (q : Request) (nodes : List Node) (are : AreNodes nodes)
         let left : index_of nodes (state_at d (state - state % 1024 + end)) ≡ None = rw same at x.still_open in
         absurd (cc))
 
-    -- where the link ends the leg doesn't go, or the link isn't usable
+    -- The case in which a route may not enter the router at the link's end, or the link isn't usable.
     pub no_link : (IsUsable d q l → MayEnter d q ((state - state % 1024 + end) / 1024 + 1) (slice_index (router_list d) ((state - state % 1024 + end) % 1024)) → ⊥)
         → IsFirst nodes (CrossesFrom d q nodes (take (row + 1) (links_from_index d (state % 1024))) at) a
     no_link never = link_off (λ w t x.
@@ -170,7 +170,7 @@ module _ (d : Database) (q : Request) (nodes : List Node) (are : AreNodes nodes)
         (row_kept d q nodes at state is row l here end ends few) (row_new d q nodes at state is row l here end ends few)
         (row_cases d q nodes at state is row l here end ends few) a (Some (node_by at (slice_index_or nodes at nowhere) (Some l))) before first)
 
--- a row, by the index of the router at its end
+-- The link in a row, with the index of the router at its end.
 module _ (look : Look) (is : IsLook look) (row : ℕ) (within : row < length (links_from_index look.query.table.now (look.star.state % 1024))) (end : ℕ)
     (at : end ≡ slice_index look.star.ends.now row) where
   pub row_link : (l : Link) × (slice_get (links_from_index look.query.table.now (look.star.state % 1024)) row ≡ Some l)
@@ -179,21 +179,21 @@ module _ (look : Look) (is : IsLook look) (row : ℕ) (within : row < length (li
   pub row_is_end : IsIndexOf look.query.table.now row_link.0.to end
   row_is_end = row_end look.query.table.now (state_of (slice_index_or look.nodes.now look.at nowhere)) look.star is.star row row_link.0 within row_link.1 end at
 
-  -- the mark of the state there
+  -- The mark of the state at the end of the link.
   row_mark : slice_index_or look.marks.now (look.star.state - look.star.state % 1024 + end) false
       ≡ is_some (index_of look.nodes.now (state_at look.query.table.now (look.star.state - look.star.state % 1024 + end)))
   row_mark =
       is.marks.each (look.star.state - look.star.state % 1024 + end) false
       (link_index look.query.table.now look.query.request.now look.nodes.now look.at look.star.state is.from row row_link.0 row_link.1 end row_is_end is.query.listed.few)
 
-  -- where something is settled there the first stays
+  -- If that state is settled, the first node stays.
   pub row_settled : slice_index_or look.marks.now (look.star.state - look.star.state % 1024 + end) false ≡ true → (a : Option Node)
       → IsFirst look.nodes.now (LeadsToRow look row) a → IsFirst look.nodes.now (LeadsToRow look (row + 1)) a
   row_settled marked a before =
       link_settled look.query.table.now look.query.request.now look.nodes.now is.arena look.at look.star.state is.from a row row_link.0 row_link.1 end row_is_end is.query.listed.few before
       (sym row_mark ∙ marked)
 
-  -- or nothing is
+  -- If that state isn't settled, no node has it.
   pub row_left : slice_index_or look.marks.now (look.star.state - look.star.state % 1024 + end) false ≡ false
       → index_of look.nodes.now (state_at look.query.table.now (look.star.state - look.star.state % 1024 + end)) ≡ None
   row_left unmarked = open_at _ (sym row_mark ∙ unmarked)

@@ -1,4 +1,5 @@
--- Ranks below which nothing leads on from a node, and the nodes that are passed over by them.
+-- Lower bounds of the ranks of the walks that continue a node, and the nodes that a round skips because
+-- of them.
 use Rattle.std.proofs.Common.{◌≡◌, ◌⊎◌, inl, inr, ℕ, ◌+◌, ◌*◌, ◌<◌, ◌≤◌, false, Option, Some, None, List, [], ◌∷◌, ◌++◌, length, set, refl, sym, subst, ◌∙◌, arith, length-set}
 use Rattle.std.specs.Ordering.{nat_cmp, ordering_then, is_gt}
 use Rattle.std.specs.declared.cmp.Ordering.{Ordering}
@@ -23,13 +24,13 @@ use Rattle.cspf_search.proofs.Looked.{ranked_first}
 use Rattle.cspf_search.proofs.Pushed.{from_old}
 use Rattle.cspf_search.proofs.Ranks.{crossing_short, rank_is, rank_small, walk_short}
 
--- what is no later in the order ranks no higher
+-- A walk that isn't later than another walk has no greater rank.
 ranks_up : (a b m n : ℕ) (o p : Ordering) → m < 16384 → is_gt (ordering_then (ordering_then (nat_cmp a b) (ordering_then (nat_cmp m n) o)) p) ≡ false
     → a * 16384 + m + 1 ≤ b * 16384 + n + 1
 ranks_up a b m n o p low h = grind (arith, nat_tests)
 
 module _ (d : Database) (q : Request) (nodes : List Node) (are : AreNodes nodes) (at : ℕ) (within : at < length nodes) where
-  -- the first that leads on from a node has the least rank
+  -- The first walk that continues a node has the least rank of all these walks.
   pub low_found : (found : Option Node) → IsFirst nodes (CrossesFrom d q nodes (links_of d) at) found → IsLow d q nodes at (low_of found)
   low_found None none w t x = absurd (none w t x)
   low_found (Some n) first w t x =
@@ -52,13 +53,13 @@ module _ (d : Database) (q : Request) (nodes : List Node) (are : AreNodes nodes)
         | inr ge ↦ let e : x.0 ≡ at = omega (arith, x.1) in inr (subst (λ k. CrossesFrom d q nodes (links_of d) k w t) e x.2)
       ]
 
-  -- the first of the nodes up to this one
+  -- The first walk that continues one of the nodes up to this node.
   pub found_kept : (best found : Option Node) → IsFirst nodes (CrossesBelow d q nodes (links_of d) at) best → IsFirst nodes (CrossesFrom d q nodes (links_of d) at) found
       → IsFirst nodes (CrossesBelow d q nodes (links_of d) (at + 1)) (earlier_of nodes best found)
   found_kept =
       first_both nodes (CrossesBelow d q nodes (links_of d) at) (CrossesFrom d q nodes (links_of d) at) (CrossesBelow d q nodes (links_of d) (at + 1)) below_left below_right below_cases
 
-  -- the nodes up to this one, where all that leads on from it comes after the best
+  -- The case in which every walk that continues this node comes after the best walk so far.
   pub passed : (best : Option Node) (low : ℕ) → IsFirst nodes (CrossesBelow d q nodes (links_of d) at) best → IsLow d q nodes at low
       → (low ≡ no_rank) ⊎ (low_of best < low) → IsFirst nodes (CrossesBelow d q nodes (links_of d) (at + 1)) best
   passed None low first is (inl none) = λ w t x. elim (below_cases w t x) [ inl p ↦ first w t p | inr h ↦ let has = is w t h in absurd (omega (arith, none, has.0)) ]
@@ -80,7 +81,7 @@ module _ (d : Database) (q : Request) (nodes : List Node) (are : AreNodes nodes)
         ];
   }
 
--- a node that is new has no low rank yet
+-- A new node has the lower bound 0.
 pub lows_push : (d : Database) (q : Request) (nodes : List Node) (n : Node) → AreApart nodes → AreApart (nodes ++ (n ∷ [])) → (lows : List ℕ) → AreLows d q nodes lows
     → AreLows d q (nodes ++ (n ∷ [])) (lows ++ (0 ∷ []))
 lows_push d q nodes n before apart lows are = record {

@@ -22,7 +22,7 @@ use Rattle.cspf_search.proofs.Pushed.{index_old, index_new, open_new}
 use Rattle.cspf_graph.proofs.RouterIndexes.{same_or_not}
 use Rattle.cspf_search.proofs.Ranks.{state_apart}
 
--- at first nothing is settled
+-- Without nodes there are no forward stars, and no state is marked.
 
 pub no_stars : (d : Database) → AreForwardStars d [] []
 no_stars d = record { many = refl; each = λ i e h. absurd (omega arith) }
@@ -33,7 +33,7 @@ no_marks d q count many = record {
   each = λ i e index. get_or-replicate count i false e (omega (arith, many, index.low));
 }
 
--- the index of a forward star is one of the request
+-- The index in a forward star is the index of a state of the request.
 pub star_index : (d : Database) (q : Request) (n : Node) (star : ForwardStar) → IsInLeg q n → IsForwardStar d (state_of n) star → IsStateIndex d q star.state
 star_index d q n star leg is =
     let same = ap (λ (s : State). s.leg) is.state in
@@ -81,7 +81,7 @@ module _ (d : Database) (q : Request) (listed : AreListed d) (nodes : List Node)
             ];
       }
 
--- the state of the first node that leads on
+-- The state of the first node that leads on.
 module _ (d : Database) (q : Request) (links : AreLinksOf d (links_of d)) (from : IsRouterOf d q.from) (few : HasFewRouters d) (most : length q.hops + 1 ≤ 8)
     (nodes : List Node) (are : AreNodes nodes) (settled : AreSettled d q (labels_of nodes)) (n : Node)
     (first : IsFirstOf nodes (CrossesBelow d q nodes (links_of d) (length nodes)) n) where

@@ -1,4 +1,4 @@
--- After an offer to one state all labels are still right.
+-- After a label was offered to one state, all labels are still right.
 use Rattle.std.proofs.Common.{◌≡◌, ◌≢◌, ◌⊎◌, inl, inr, ℕ, ◌+◌, ◌^◌, ◌<◌, ◌≤◌, List, [], ◌∷◌, None, length, set, refl, sym, ap, subst, ◌∙◌, arith, length-set}
 use Rattle.std.specs.BinaryHeap.{IsHeap}
 use Rattle.std.specs.List.{All, Contains}
@@ -30,7 +30,8 @@ lowered cap lower ahead w h (inr b) = inr (beyond_lower cap lower ahead w h b)
 no_later_itself : (w : List Link) → IsNoLater w w
 no_later_itself w = ap is_gt (tied_itself walks_total w)
 
--- a label that stands for a walk stands for it among walks of another kind too, where it is first there
+-- A label that is right for the walks of one kind is right for another kind too, if its walk is the
+-- first of that kind.
 reached_on : (d : Database) (nodes : List Node) (P R : List Link → State → Type 0) (cap lower ahead : ℕ) (t : State) (label : Label) → IsReached d nodes P cap ahead t label
     → ((w : List Link) (t : State) → P w t → R w t) → ((w : List Link) → R w t → IsNoLater (walk_of nodes (node_of d nodes label)) w ⊎ IsBeyond lower ahead w)
     → IsReached d nodes R lower ahead t label
@@ -44,7 +45,7 @@ reached_on d nodes P R cap lower ahead t label r up first = record {
   first = first;
 }
 
--- labels of which that of one state is set
+-- The labels after the label of one state was set.
 pub labels_set : (d : Database) (q : Request) (old nodes : List Node) (P R : List Link → State → Type 0) (goal : Goal) (labels : List Label) (old_keys keys : List HeapKey)
     → AreLabels d q old P goal labels old_keys → (i : ℕ) → IsStateIndex d q i → (label : Label)
     → IsLabel d nodes R (label_at (set labels i label) goal.at).rank (lift goal i) (state_at d i) label
@@ -77,13 +78,13 @@ labels_set d q old nodes P R goal labels old_keys keys are i index label is othe
           ];
     }
 
--- a walk that a label need not be before: it ranks after the cap, or is no earlier than the label's
--- walk
+-- A walk for which the label needn't change: the rank of the walk exceeds the cap, or the walk isn't
+-- earlier than the label's.
 abbrev pub IsLost : Database → List Node → (List Link → State → Type 0) → ℕ → ℕ → State → Label → List Link → Type 0
 IsLost d nodes P cap ahead t label x =
     IsBeyond cap ahead x ⊎ ((label.rank ≢ no_rank) × (IsReached d nodes P cap ahead t label → IsNoLater (walk_of nodes (node_of d nodes label)) x))
 
--- a label for another walk, which is no later than the one that the state had
+-- A label for another walk, which isn't later than the walk of the old label.
 pub record IsBetter (d : Database) (nodes : List Node) (P : List Link → State → Type 0) (cap ahead : ℕ) (t : State) (old label : Label) (x : List Link) : Type 0 where
   pub offer : IsOffer d nodes label
   pub rank : label.rank ≡ (node_of d nodes label).rank
@@ -100,7 +101,7 @@ module _ (d : Database) (q : Request) (nodes : List Node) (are : AreNodes nodes)
   abbrev cap : ℕ
   cap = (label_at labels goal.at).rank
 
-  -- another state's label stays
+  -- The label of another state stays.
   other : (j : ℕ) → IsStateIndex d q j → j ≢ i → (lower : ℕ) → lower ≤ cap → (label : Label) → IsLabel d nodes P cap (lift goal j) (state_at d j) label
       → IsLabel d nodes R lower (lift goal j) (state_at d j) label
   other j jx ne lower h label (is_settled k none e) = is_settled k none e
@@ -141,7 +142,7 @@ module _ (d : Database) (q : Request) (nodes : List Node) (are : AreNodes nodes)
             ]
       ])
 
-  -- a walk that is lost changes no label
+  -- A walk for which the label needn't change changes no label.
   pub labels_stay : (Q x (state_at d i) → IsLost d nodes P cap (lift goal i) (state_at d i) (label_at labels i) x) → AreLabels d q nodes R goal labels keys
   labels_stay lost = record {
     small = before.small;
@@ -187,7 +188,7 @@ module _ (d : Database) (q : Request) (nodes : List Node) (are : AreNodes nodes)
   gets old label lower h (is_unreached left none first) better passes =
       becomes old label lower better passes left (λ w was. inr (beyond_lower cap lower (lift goal i) w h (first w was)))
 
-  -- a better label replaces the old one, among keys that are no fewer
+  -- A better label replaces the old one, and the new keys contain all old keys.
   labels_over : (label : Label) (new_keys : List HeapKey) → IsBetter d nodes P cap (lift goal i) (state_at d i) (label_at labels i) label x → Q x (state_at d i)
       → IsHeap heap_key_cmp new_keys → All (IsKey d q goal) new_keys → (0 < label.rank → Contains new_keys (key_at (label.rank + lift goal i) i))
       → ((key : HeapKey) → Contains keys key → Contains new_keys key) → AreLabels d q nodes R goal (set labels i label) new_keys
@@ -204,7 +205,7 @@ module _ (d : Database) (q : Request) (nodes : List Node) (are : AreNodes nodes)
       (λ j jx behind ne. other j jx ne (label_at (set labels i label) goal.at).rank lower (label_at labels j) (before.each j jx behind))
       ordered keyed waits (λ j behind ne was. kept (key_at ((label_at labels j).rank + lift goal j) j) was)
 
-  -- a better label replaces the old one
+  -- A better label replaces the old one.
   pub labels_change : (label : Label) (key : ℕ) (new_keys : List HeapKey) → key ≡ label.rank + lift goal i → IsBetter d nodes P cap (lift goal i) (state_at d i) (label_at labels i) label x → Q x (state_at d i)
       → HasKey label.rank (label_at labels i).rank (key_at key i) keys new_keys → AreLabels d q nodes R goal (set labels i label) new_keys
   labels_change label key new_keys is_key better passes (inl tie) =
@@ -225,7 +226,7 @@ module _ (d : Database) (q : Request) (nodes : List Node) (are : AreNodes nodes)
       (λ some. rw (← is_key) (Contains-permutation (key_at key i ∷ keys) new_keys (key_at key i) gains.moved (0, omega arith, refl)))
       (λ k was. Contains-permutation (key_at key i ∷ keys) new_keys k gains.moved (Contains-append_right (key_at key i ∷ []) keys k was))
 
-  -- the labels after an offer
+  -- The labels after an offer.
   pub labels_offered : (label : Label) (key : ℕ) (new : List Label) (new_keys : List HeapKey) → key ≡ label.rank + lift goal i → IsOffer d nodes label → label.rank ≡ (node_of d nodes label).rank
       → state_of (node_of d nodes label) ≡ state_at d i → walk_of nodes (node_of d nodes label) ≡ x → label.rank ≤ (label_at labels i).rank → Q x (state_at d i)
       → StaysAt d nodes i label labels new keys new_keys ⊎ GoesTo d nodes i label key labels new keys new_keys → AreLabels d q nodes R goal new new_keys
@@ -264,7 +265,7 @@ module _ (d : Database) (q : Request) (nodes : List Node) (are : AreNodes nodes)
             ]);
       }) passes go.keys)
 
--- a walk that ranks after the label, or after the cap, is lost
+-- If a walk ranks after the label or after the cap, the label needn't change for it.
 pub lost_by_rank : (d : Database) (nodes : List Node) → AreNodes nodes → (P : List Link → State → Type 0) (cap ahead : ℕ) (t : State) (label : Label) (n : Node)
     → IsNext nodes n → ahead < 2 ^ 46 → (label.rank < n.rank) ⊎ (cap < n.rank + ahead) → IsLost d nodes P cap ahead t label (walk_of nodes n)
 lost_by_rank d nodes are P cap ahead t label n next low (inl late) = inr (
@@ -278,7 +279,8 @@ lost_by_rank d nodes are P cap ahead t label n next low (inr late) = inl (record
   behind = omega (arith, late, rank_is nodes are n next);
 })
 
--- the label of a state that an offer ties with stands for a node of the same rank
+-- If an offered label has the same rank as the label of the state, the nodes of both labels have the
+-- same rank.
 pub tied_label : (d : Database) (nodes : List Node) → AreNodes nodes → (P : List Link → State → Type 0) (cap ahead : ℕ) (t : State) (old label : Label) → IsLabel d nodes P cap ahead t old
     → IsOffer d nodes label → label.rank ≡ (node_of d nodes label).rank → label.rank ≡ old.rank → AreTied d nodes old label
 tied_label d nodes are P cap ahead t old label (is_settled k none e) offer rank tie = absurd (omega (arith, rank, tie, none))
@@ -296,7 +298,7 @@ label_same d nodes P R up down most ahead t label (is_settled k none e) = is_set
 label_same d nodes P R up down most ahead t label (is_reached left r) = is_reached left (reached_on d nodes P R most most ahead t label r up (λ w p. r.first w (down w t p)))
 label_same d nodes P R up down most ahead t label (is_unreached left none first) = is_unreached left none (λ w p. first w (down w t p))
 
--- labels for one kind are labels for a kind that has the same walks
+-- Labels for one kind of walks are labels for another kind that has the same walks.
 pub labels_same : (d : Database) (q : Request) (nodes : List Node) (P R : List Link → State → Type 0) → ((w : List Link) (t : State) → P w t → R w t)
     → ((w : List Link) (t : State) → R w t → P w t) → (goal : Goal) (labels : List Label) (keys : List HeapKey) → AreLabels d q nodes P goal labels keys
     → AreLabels d q nodes R goal labels keys
@@ -314,7 +316,7 @@ labels_same d q nodes P R up down goal labels keys before =
       waiting = before.waiting;
     }
 
--- a state whose label isn't 0 is open
+-- If the rank of a label isn't 0, its state isn't settled.
 pub left_open : (d : Database) (nodes : List Node) (P : List Link → State → Type 0) (cap ahead : ℕ) (t : State) (label : Label) → IsLabel d nodes P cap ahead t label → 0 < label.rank
     → index_of nodes t ≡ None
 left_open d nodes P cap ahead t label (is_settled k none e) some = absurd (omega (arith, none))

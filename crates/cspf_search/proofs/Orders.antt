@@ -14,7 +14,7 @@ use Rattle.cspf_model.specs.Walks.{cost_of, locals_of, walk_cmp}
 use Rattle.cspf_search.specs.States.{State}
 use Rattle.cspf_search.specs.Settled.{IsNoLater, rank_cmp, potential_cmp, RanksNoLater, locals_cmp, state_cmp}
 
--- the orders are total
+-- The orders of walks are total.
 
 pub walks_total : IsTotalOrder walk_cmp
 walks_total = then_total (on_total cost_of nat_cmp_total) (then_total (on_total (λ (w : List Link). length w) nat_cmp_total) (on_total locals_of nat_list_cmp_total))
@@ -32,7 +32,7 @@ potentials_total potential =
 pub states_total : IsTotalOrder state_cmp
 states_total = then_total ranks_total (on_total (λ (a : ℕ × List Link). locals_of a.1) nat_list_cmp_total)
 
--- one comparison after another
+-- Lemmas on one comparison that follows another.
 
 then-equal : (o : Ordering) → ordering_then o Equal ≡ o
 then-equal Less = refl
@@ -44,7 +44,7 @@ then_assoc Less p q = refl
 then_assoc Equal p q = refl
 then_assoc Greater p q = refl
 
--- the second order matters only where the first ties
+-- The second order matters only if the first one ties.
 then_same : (o p q : Ordering) → (o ≡ Equal → p ≡ q) → ordering_then o p ≡ ordering_then o q
 then_same Less p q h = refl
 then_same Equal p q h = h refl
@@ -55,7 +55,7 @@ front_no_later Less p h = refl
 front_no_later Equal p h = refl
 front_no_later Greater p h = h
 
--- where legs tie, the rank decides
+-- If the legs are equal, the cost and the number of links decide.
 
 less_first : (a b d : Ordering) → ordering_then a (ordering_then b Equal) ≡ Less → is_gt (ordering_then a (ordering_then b d)) ≡ false
 less_first Less b d h = refl
@@ -97,7 +97,7 @@ walk_from_state k w x h =
 pub rank_from_state : (s t : State) (w x : List Link) → is_gt (state_cmp (s.leg, w) (t.leg, x)) ≡ false → RanksNoLater (λ _. 0) s w t x
 rank_from_state s t w x h = rw (nat_cmp-potential 0 (cost_of w) (cost_of x)) (front_no_later (rank_cmp (s.leg, w) (t.leg, x)) (locals_cmp w x) h)
 
--- walks with one more link
+-- Lemmas on walks that are continued by one link.
 
 pub cost_of-push : (v : List Link) (l : Link) → cost_of (v ++ (l ∷ [])) ≡ cost_of v + l.metric
 cost_of-push v l = sum_by_push (λ (l : Link). l.metric) v l
@@ -116,14 +116,14 @@ slice_cmp-last (a ∷ xs) [] x y e = absurd (omega arith)
 slice_cmp-last (a ∷ xs) (b ∷ ys) x y e =
     ap (ordering_then (nat_cmp a b)) (slice_cmp-last xs ys x y (omega arith)) ∙ sym (then_assoc (nat_cmp a b) (slice_cmp nat_cmp xs ys) (nat_cmp x y))
 
--- of walks with as many links, the last links are compared last
+-- Of two walks of the same length, the last links are compared last.
 pub locals_cmp-last : (v w : List Link) (l m : Link) → length v ≡ length w
     → locals_cmp (v ++ (l ∷ [])) (w ++ (m ∷ [])) ≡ ordering_then (locals_cmp v w) (nat_cmp l.local m.local)
 locals_cmp-last v w l m e =
     rw (map_push (λ (l : Link). l.local) v l, map_push (λ (l : Link). l.local) w m)
     (slice_cmp-last (locals_of v) (locals_of w) l.local m.local (length-map v (λ (l : Link). l.local) ∙ e ∙ sym (length-map w (λ (l : Link). l.local))))
 
--- the same link appended to both keeps the order of walks
+-- If two walks are continued by the same link, their order stays.
 pub walk_cmp-push : (v w : List Link) (l : Link) → walk_cmp (v ++ (l ∷ [])) (w ++ (l ∷ [])) ≡ walk_cmp v w
 walk_cmp-push v w l =
     rw (cost_of-push v l, cost_of-push w l, length_push v l, length_push w l, nat_cmp-add (cost_of v) (cost_of w) l.metric, nat_cmp-add (length v) (length w) 1)
@@ -134,7 +134,7 @@ walk_cmp-push v w l =
 grows : (a n b k : ℕ) (o : Ordering) → a ≤ b → n < k → ordering_then (nat_cmp a b) (ordering_then (nat_cmp n k) o) ≡ Less
 grows a n b k o up more = grind (arith, nat_tests)
 
--- a walk ranks before itself with one more link
+-- A walk ranks before the same walk continued by one link.
 pub potential_cmp-push : (potential : State → ℕ) (s t : State) (v : List Link) (l : Link) → potential s ≤ potential t + l.metric
     → potential_cmp potential (s, v) (t, v ++ (l ∷ [])) ≡ Less
 potential_cmp-push potential s t v l up =
@@ -144,7 +144,7 @@ potential_cmp-push potential s t v l up =
 turns : (a b n k : ℕ) → a ≤ b → ordering_then (nat_cmp a b) (ordering_then (nat_cmp n n) (nat_cmp k (suc k))) ≡ Less
 turns a b n k up = grind (arith, nat_tests)
 
--- a walk ranks before itself in the next leg
+-- A walk ranks before the same walk in the next leg.
 pub potential_cmp-turn : (potential : State → ℕ) (k router : ℕ) (v : List Link)
     → potential (record { leg = k; router = router }) ≤ potential (record { leg = suc k; router = router })
     → potential_cmp potential (record { leg = k; router = router }, v) (record { leg = suc k; router = router }, v) ≡ Less

@@ -1,4 +1,4 @@
--- The node of the least key is a first crossing, and where no key is left nothing crosses.
+-- The node of the least key is a first crossing. If no key is left, no walk crosses.
 use Rattle.std.proofs.Common.{◌≡◌, ◌≢◌, inl, inr, ℕ, suc, ◌+◌, ◌-◌, ◌*◌, ◌/◌, ◌%◌, ◌<◌, ◌≤◌, true, Some, None, List, [], ◌∷◌, length, set, replicate, slice_index, refl, sym, ap, subst, ◌∙◌, arith, length-set}
 use Rattle.std.specs.List.{Contains}
 use Rattle.std.specs.BinaryHeap.{IsHeap}
@@ -32,21 +32,21 @@ use Rattle.cspf_search.proofs.Grown.{reached_router, crosses_from, crosses_to, r
 use Rattle.cspf_graph.proofs.RouterIndexes.{same_or_not}
 use Rattle.cspf_search.proofs.Ranks.{before_by_rank, rank_before, rank_tied, rank_is, walk_short, rank_small, crossing_short, state_apart, index_for, potential_of, potential_at, lift_is, potential_consistent}
 
--- the label of an open state isn't 0
+-- The label of a state that isn't settled has a rank above 0.
 pub open_rank : (d : Database) (nodes : List Node) (P : List Link → State → Type 0) (cap ahead : ℕ) (t : State) (label : Label) → IsLabel d nodes P cap ahead t label
     → index_of nodes t ≡ None → 0 < label.rank
 open_rank d nodes P cap ahead t label (is_settled k none e) left = absurd (cc)
 open_rank d nodes P cap ahead t label (is_reached o r) left = omega (arith, r.rank)
 open_rank d nodes P cap ahead t label (is_unreached o none first) left = omega (arith, none)
 
--- the label of a state that waits stands for a node
+-- The label of a waiting state describes a node.
 pub reached_of : (d : Database) (nodes : List Node) (P : List Link → State → Type 0) (cap ahead : ℕ) (t : State) (label : Label) → IsLabel d nodes P cap ahead t label
     → 0 < label.rank → label.rank < no_rank → IsReached d nodes P cap ahead t label
 reached_of d nodes P cap ahead t label (is_settled k none e) some most = absurd (omega (arith, none))
 reached_of d nodes P cap ahead t label (is_reached o r) some most = r
 reached_of d nodes P cap ahead t label (is_unreached o none first) some most = absurd (omega (arith, none))
 
--- the bound of the tail-end in the last leg is 0
+-- The bound of the tail-end in the last leg is 0.
 pub goal_bound : (d : Database) (q : Request) (goal : Goal) → AreBounds d q goal.bounds.now → IsStateIndex d q goal.at → state_at d goal.at ≡ end_state q → bound_at goal.bounds.now goal.at ≡ 0
 goal_bound d q goal bounds there end =
     let last : length q.hops + 1 ≡ suc (length q.hops) = omega arith in
@@ -61,7 +61,7 @@ module _ (d : Database) (q : Request) (of : AreLinksOf d (links_of d)) (listed :
   abbrev cap : ℕ
   cap = (label_at labels goal.at).rank
 
-  -- what crosses does so to a state of an index
+  -- Each walk that crosses leads to a state that has an index.
   crossing_index : (w : List Link) (u : State) → Crosses d q (labels_of nodes) w u → (j : ℕ) × IsStateIndex d q j × (u ≡ state_at d j)
   crossing_index w u c =
       let r = steps (settled.reached c.state c.front c.settled) c.step in
@@ -74,7 +74,7 @@ module _ (d : Database) (q : Request) (of : AreLinksOf d (links_of d)) (listed :
   capped : 0 < cap
   capped = open_rank d nodes (CrossesBelow d q nodes (links_of d) (length nodes)) cap (lift goal goal.at) (state_at d goal.at) (label_at labels goal.at) (before.each goal.at there floor.low) left
 
-  -- the goal waits with its rank for a key
+  -- The key of the goal is its rank, because its bound is 0.
   goal_lift : lift goal goal.at ≡ 0
   goal_lift =
       let none = goal_bound d q goal bounds there end in
@@ -83,7 +83,7 @@ module _ (d : Database) (q : Request) (of : AreLinksOf d (links_of d)) (listed :
   goal_waits : cap < no_rank → Contains keys (key_at (cap + lift goal goal.at) goal.at)
   goal_waits known = before.waiting goal.at there floor.low capped known
 
-  -- what crosses after the closed legs does so at an index above the floor
+  -- A walk that crosses into a leg after the closed legs leads to an index from the floor on.
   behind_floor : (u : State) → goal.floor / 1024 < u.leg → (j : ℕ) → u ≡ state_at d j → goal.floor ≤ j
   behind_floor u h j is = omega (arith, h, ap (λ (s : State). s.leg) is, before.whole)
 
@@ -97,7 +97,7 @@ module _ (d : Database) (q : Request) (of : AreLinksOf d (links_of d)) (listed :
     rank : (label_at labels i).rank ≡ walk_rank (walk_of nodes n)
     rank = here.rank ∙ rank_is nodes are n here.next
 
-    -- a walk that ranks after the cap ranks after the least key
+    -- A walk whose rank plus lift exceeds the cap also exceeds the least key.
     behind : (ahead : ℕ) (w : List Link) → IsBeyond cap ahead w → walk_rank (walk_of nodes n) + lift goal i < walk_rank w + ahead
     behind ahead w beyond =
         elim (least.first (key_at (cap + lift goal goal.at) goal.at) (goal_waits beyond.known) (record { behind = floor.low; same = refl })) [
@@ -190,7 +190,7 @@ module _ (d : Database) (q : Request) (of : AreLinksOf d (links_of d)) (listed :
           uncrossed at.0 at.1 ahead w p clear (label_at labels at.0) refl (before.each at.0 at.1 ahead);
     }
 
--- the first labels
+-- Lemmas on the labels at the start of the search.
 
 module _ (d : Database) (q : Request) (listed : AreListed d) (place : ℕ) (at : IsIndexOf d q.from place) where
   start_index : IsStateIndex d q place
@@ -203,7 +203,7 @@ module _ (d : Database) (q : Request) (listed : AreListed d) (place : ℕ) (at :
       let router : q.from ≡ slice_index (router_list d) (place % 1024) = sym (ap (slice_index (router_list d)) same ∙ at.is) in
       λ k. record { leg = leg k; router = router k }
 
-  -- where the bounds say that there is no way from the head-end there is no route
+  -- If the bounds rule out every way from the head-end, there is no route.
   pub shut_start : (goal : Goal) → AreBounds d q goal.bounds.now → IsStateIndex d q goal.at → state_at d goal.at ≡ end_state q → bound_at goal.bounds.now place ≡ NO_WAY
       → (w : List Link) → IsRoute d q w → ⊥
   shut_start goal bounds there end none =
@@ -250,7 +250,7 @@ module _ (d : Database) (q : Request) (listed : AreListed d) (place : ℕ) (at :
             ];
       }
 
--- the goal is the state of the tail-end in the leg after the last hop
+-- The goal is the state of the tail-end in the leg after the last hop.
 pub goal_index : (d : Database) (q : Request) → AreListed d → (to legs : ℕ) → legs ≡ length q.hops + 1 → IsIndexOf d q.to to → IsStateIndex d q ((legs - 1) * 1024 + to)
 goal_index d q listed to legs count end =
     let place : ((legs - 1) * 1024 + to) % 1024 ≡ to = omega (arith, end.within, listed.few) in

@@ -1,4 +1,4 @@
--- How one more node changes what leads on, and the labels.
+-- How one more node changes the labels, and the walks that continue nodes.
 use Rattle.std.proofs.Common.{◌≡◌, ◌≢◌, inl, inr, ℕ, ◌+◌, ◌*◌, ◌^◌, ◌<◌, ◌≤◌, Some, None, List, [], ◌∷◌, ◌++◌, length, set, slice_get, slice_index_or, refl, sym, ap, subst, ◌∙◌, arith}
 use Rattle.std.proofs.lemmas.Bool.{cases_lt}
 use Rattle.std.proofs.lemmas.List.{get_or_append_left, get_or_push, length_push, get_or-set_other}
@@ -30,7 +30,7 @@ module _ (nodes : List Node) (n : Node) (before : AreApart nodes) (apart : AreAp
       slice_get-get_or (nodes ++ (n ∷ [])) i nowhere (omega (arith, length_push nodes n)) ∙ ap Some (get_or_append_left nodes (n ∷ []) nowhere i h)
       ∙ sym (slice_get-get_or nodes i nowhere h)
 
-  -- the index of a state stays
+  -- A state that has an index keeps it.
   pub index_old : (t : State) (i : ℕ) → index_of nodes t ≡ Some i → index_of (nodes ++ (n ∷ [])) t ≡ Some i
   index_old t i e =
       let found = position-Some (λ m. same_state (state_of m) t) nodes i nowhere e in
@@ -127,7 +127,7 @@ module _ (nodes : List Node) (n : Node) (before : AreApart nodes) (apart : AreAp
     below_new : (w : List Link) (t : State) → t ≢ state_of n → CrossesBelow d q nodes links (length nodes) w t → CrossesBelow d q (nodes ++ (n ∷ [])) links (length nodes) w t
     below_new w t ne x = (x.0, x.1, from_new x.0 x.1 w t ne x.2)
 
-    -- what leads on into a state that has a node
+    -- No walk leads on into a state that has a node.
     below_settled : (i : ℕ) (w : List Link) (t : State) → index_of (nodes ++ (n ∷ [])) t ≡ Some i → CrossesBelow d q (nodes ++ (n ∷ [])) links (length nodes) w t → ⊥
     below_settled i w t e x = elim x.2 [ inl turn ↦ let left = turn.still_open in cc | inr by ↦ let left = by.2.still_open in cc ]
 
@@ -148,7 +148,7 @@ module _ (nodes : List Node) (n : Node) (before : AreApart nodes) (apart : AreAp
       }
 
   module _ (d : Database) (q : Request) where
-    -- the label of another state stays
+    -- The label of another state stays.
     label_old : (cap ahead : ℕ) (t : State) → t ≢ state_of n → (label : Label) → IsLabel d nodes (CrossesBelow d q nodes (links_of d) (length nodes)) cap ahead t label
         → IsLabel d (nodes ++ (n ∷ [])) (CrossesBelow d q (nodes ++ (n ∷ [])) (links_of d) (length nodes)) cap ahead t label
     label_old cap ahead t ne label (is_settled k none e) = is_settled k none (index_old t k e)
@@ -173,7 +173,7 @@ module _ (nodes : List Node) (n : Node) (before : AreApart nodes) (apart : AreAp
         })
     label_old cap ahead t ne label (is_unreached left none first) = is_unreached (open_new t ne left) none (λ w p. first w (below_old d q (links_of d) w t p))
 
-    -- to settle the least key's state leaves the labels of the others
+    -- Settling the state of the least key leaves the labels of the other states.
     pub labels_settle : AreListed d → (goal : Goal) (labels : List Label) (keys : List HeapKey)
         → AreLabels d q nodes (CrossesBelow d q nodes (links_of d) (length nodes)) goal labels keys → (i : ℕ) (left : List HeapKey) → IsLeast d q goal labels keys i left
         → state_of n ≡ state_at d i → goal.at ≢ i → (label : Label) → label.rank ≡ 0

@@ -1,4 +1,4 @@
--- The invariant of each round of the search from a heap, and its result at the end.
+-- What holds before each round of the search with a heap, and what holds of its result.
 use Rattle.std.proofs.Common.{◌≡◌, ◌<◌, ◌⊎◌, inl, inr, ℕ, zero, suc, ◌+◌, ◌-◌, ◌*◌, ◌/◌, ◌%◌, ◌≤◌, Some, None, option_map, List, [], ◌∷◌, ◌++◌, length, set, slice_get, slice_index, slice_index_or, refl, sym, ap, subst, ◌∙◌, arith}
 use Rattle.std.specs.List.{Contains}
 use Rattle.std.proofs.lemmas.Bool.{cases_lt}
@@ -34,7 +34,8 @@ use Rattle.cspf_search.proofs.Pushed.{index_new, open_old, open_new, labels_sett
 use Rattle.cspf_search.proofs.Settles.{no_route}
 use Rattle.cspf_search.proofs.Popped.{open_rank, shut_start, first_popped, popped, nothing_left, root_only, goal_index, goal_state}
 
--- the query of the search, with the indexes of both ends in the list of routers, and its goal
+-- The query of the search, with the indexes of the head-end and the tail-end in the list of routers,
+-- and its goal.
 pub record IsAsked (d : Database) (q : Request) (legs from to : ℕ) (goal : Goal) : Type 0 where
   pub links : AreLinksOf d (links_of d)
   pub listed : AreListed d
@@ -46,7 +47,7 @@ pub record IsAsked (d : Database) (q : Request) (legs from to : ℕ) (goal : Goa
   pub at : goal.at ≡ (legs - 1) * 1024 + to
   pub bounds : AreBounds d q goal.bounds.now
 
--- what is settled and what waits, when the tail-end isn't settled in the last of the legs
+-- What is settled and what waits, while the tail-end isn't settled in the last leg.
 pub record IsUnderWay (d : Database) (q : Request) (goal : Goal) (nodes : List Node) (labels : List Label) (keys : List HeapKey) : Type 0 where
   pub arena : AreNodes nodes
   pub settled : AreSettled d q (labels_of nodes)
@@ -54,7 +55,7 @@ pub record IsUnderWay (d : Database) (q : Request) (goal : Goal) (nodes : List N
   pub floor : IsFloor d q (labels_of nodes) goal
   pub labelled : AreLabels d q nodes (CrossesBelow d q nodes (links_of d) (length nodes)) goal labels keys
 
--- the least key, and the node that its label stands for
+-- The least key, and the node that its label describes.
 pub record IsTaken (d : Database) (q : Request) (legs from to : ℕ) (goal : Goal) (nodes : List Node) (labels : List Label) (keys : List HeapKey) (i : ℕ) (rest : List HeapKey) (node : Node) : Type 0 where
   pub asked : IsAsked d q legs from to goal
   pub before : IsUnderWay d q goal nodes labels keys
@@ -89,25 +90,25 @@ module _ (d : Database) (q : Request) (legs from to : ℕ) (goal : Goal) (asked 
       let same : to ≡ from = omega (arith, asked.at, asked.start.within, asked.listed.few) in
       q.two_ends (sym asked.start.is ∙ ap (slice_index (router_list d)) (sym same) ∙ asked.end.is)
 
-  -- at first the tail-end isn't settled
+  -- At first the tail-end isn't settled in the last leg.
   pub first_left : index_of (root_of q ∷ []) (state_at d goal.at) ≡ None
   first_left = root_only d q asked.listed from asked.start goal.at goal_there goal_apart
 
-  -- at first no leg is closed
+  -- At first no leg is closed.
   pub first_floor : goal.floor ≡ 0 → (labels : Labels) → IsFloor d q labels goal
   first_floor none labels = record { low = omega (arith, none); shut = λ low. absurd (omega (arith, low, none)) }
 
-  -- where the bounds say that there is no way from the head-end there is no route
+  -- If the bounds rule out every way from the head-end, there is no route.
   pub no_start : bound_at goal.bounds.now from ≡ NO_WAY → (w : List Link) → IsRoute d q w → ⊥
   no_start = shut_start d q asked.listed from asked.start goal asked.bounds goal_there goal_end
 
   module _ (nodes : List Node) (labels : List Label) (keys : List HeapKey) (before : IsUnderWay d q goal nodes labels keys) where
-    -- where no key is live there is no route
+    -- If no key is live, there is no route.
     pub ended : ((key : HeapKey) → Contains keys key → IsLive goal labels key → ⊥) → labels_of nodes (end_state q) ≡ None → (w : List Link) → IsRoute d q w → ⊥
     ended none =
         no_route d q (labels_of nodes) before.settled (nothing_left d q asked.links asked.listed known nodes before.arena before.settled goal goal_there labels keys before.labelled before.left asked.bounds goal_end before.floor none)
 
-    -- the label of the least key comes from one of the nodes
+    -- The parent of the least key's label is one of the nodes.
     pub parent_there : (i : ℕ) (rest : List HeapKey) → IsLeast d q goal labels keys i rest → (label : Label) → label ≡ slice_index_or labels i label → label.parent < length nodes
     parent_there i rest least label at =
         let reached =
@@ -123,7 +124,7 @@ module _ (d : Database) (q : Request) (legs from to : ℕ) (goal : Goal) (asked 
       state : state_of node ≡ state_at d i
       state = ap state_of is ∙ reached.state
 
-      -- the node of the least key is appended to the others
+      -- The node of the least key is appended. The nodes are still right and settled.
       pub stepped : AreNodes (nodes ++ (node ∷ [])) × AreSettled d q (labels_of (nodes ++ (node ∷ []))) × (length nodes + 1 ≤ (length q.hops + 1) * 1024)
       stepped =
           rw is
@@ -140,7 +141,7 @@ module _ (d : Database) (q : Request) (legs from to : ℕ) (goal : Goal) (asked 
         there = ap state_of (get_or_push nodes node nowhere (length nodes) refl) ∙ state;
       }
 
-      -- at the tail-end in the last of the legs it is settled
+      -- If the node is that of the goal, the tail-end is settled in the last leg.
       pub at_goal : i ≡ goal.at → labels_of (nodes ++ (node ∷ [])) (end_state q) ≡ None → ⊥
       at_goal e none =
           let same : state_of node ≡ end_state q = state ∙ ap (state_at d) e ∙ goal_end in
@@ -148,7 +149,7 @@ module _ (d : Database) (q : Request) (legs from to : ℕ) (goal : Goal) (asked 
           let open_there = open_index (nodes ++ (node ∷ [])) (end_state q) none in
           cc
 
-      -- elsewhere the labels go on
+      -- Otherwise the labels are still right.
       pub settle : (i ≡ goal.at → ⊥) → (label : Label) → label.rank ≡ 0
           → AreLabels d q (nodes ++ (node ∷ [])) (CrossesBelow d q (nodes ++ (node ∷ [])) (links_of d) (length nodes)) goal (set labels i label) rest
       settle off label none =
@@ -159,7 +160,7 @@ module _ (d : Database) (q : Request) (legs from to : ℕ) (goal : Goal) (asked 
           open_new nodes node before.arena.apart stepped.0.apart (state_at d goal.at)
           (λ e. off (sym (state_apart d q asked.listed goal.at i goal_there least.index (e ∙ state)))) before.left
 
-      -- what is closed stays so
+      -- A closed leg stays closed.
       closed_still : (leg : ℕ) → IsClosed d q (labels_of nodes) leg → IsClosed d q (labels_of (nodes ++ (node ∷ []))) leg
       closed_still leg shut low router target none =
           let s : State = record { leg = leg; router = router } in
@@ -176,7 +177,7 @@ module _ (d : Database) (q : Request) (legs from to : ℕ) (goal : Goal) (asked 
             ] target
 
         module _ (P : List Link → State → Type 0) (after : List Label) (left : List HeapKey) (are : AreLabels d q (nodes ++ (node ∷ [])) P goal after left) where
-          -- a target of the last leg is the goal
+          -- The only target of the last leg is the goal.
           last_alone : IsRaised d roles after i floor → i / 1024 ≡ goal.at / 1024 → i ≡ goal.at
           last_alone raised same =
               let leg : i / 1024 + 1 ≡ suc (length q.hops) = omega (arith, same, ap (λ (t : State). t.leg) goal_end) in
@@ -186,7 +187,7 @@ module _ (d : Database) (q : Request) (legs from to : ℕ) (goal : Goal) (asked 
               let place = one_place d asked.listed q.to (i % 1024) to here asked.end in
               omega (arith, same, place, asked.at, asked.end.within, asked.listed.few)
 
-          -- the leg of a state is closed when each of its targets is settled
+          -- The leg of a state is closed when each of its targets is settled.
           closes : IsRaised d roles after i floor → IsClosed d q (labels_of (nodes ++ (node ∷ []))) (floor / 1024)
           closes raised low router target none =
               let s : State = record { leg = floor / 1024; router = router } in
@@ -200,7 +201,7 @@ module _ (d : Database) (q : Request) (legs from to : ℕ) (goal : Goal) (asked 
               let some = open_rank d (nodes ++ (node ∷ [])) P (label_at after goal.at).rank (lift goal at.0) (state_at d at.0) (label_at after at.0) (are.each at.0 at.1 behind) open_there in
               omega (arith, some, zero)
 
-          -- so the floor stays below the goal
+          -- So the floor stays below the goal.
           pub floor_on : (i ≡ goal.at → ⊥) → (floor ≡ goal.floor) ⊎ IsRaised d roles after i floor
               → IsFloor d q (labels_of (nodes ++ (node ∷ []))) (record { at = goal.at; floor = floor; bounds = goal.bounds })
           floor_on off (inl same) = record {
@@ -216,7 +217,7 @@ module _ (d : Database) (q : Request) (legs from to : ℕ) (goal : Goal) (asked 
             shut = closes raised;
           }
 
-          -- and the labels go on above it
+          -- The labels from the new floor on are still right.
           pub labels_on : (floor ≡ goal.floor) ⊎ IsRaised d roles after i floor
               → AreLabels d q (nodes ++ (node ∷ [])) P (record { at = goal.at; floor = floor; bounds = goal.bounds }) after left
           labels_on choice =

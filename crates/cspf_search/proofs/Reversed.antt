@@ -12,13 +12,13 @@ use Rattle.cspf_search.proofs.Expanded.{kept_from}
 use Rattle.cspf_graph.proofs.RouterIndexes.{same_or_not, one_place}
 use Rattle.cspf_search.proofs.Taken.{end_of_row}
 
--- there is one end for each link from a router
+-- For each link from the router there is one index in `ends`.
 pub as_many : (d : Database) (place : ℕ) (ends : List ℕ) → map (λ end. slice_index (router_list d) end) ends ≡ map (λ (l : Link). l.to) (links_from_index d place)
     → length ends ≡ length (links_from_index d place)
 as_many d place ends each =
     sym (length-map ends (λ end. slice_index (router_list d) end)) ∙ ap (λ (ns : List ℕ). length ns) each ∙ length-map (links_from_index d place) (λ (l : Link). l.to)
 
--- the index beside a row is that of its reverse
+-- The index beside a row is the index of the row's reverse.
 pub reverse_of_row : (d : Database) (place : ℕ) (reverses : List ℕ)
     → ((nth : ℕ) (e : Link) → nth < length (links_from_index d place) → IsReverseAt d (slice_index_or (links_from_index d place) nth e) (slice_index_or reverses nth 0))
     → (nth : ℕ) (l : Link) → slice_get (links_from_index d place) nth ≡ Some l → IsReverseAt d l (slice_index reverses nth)
@@ -27,22 +27,22 @@ reverse_of_row d place reverses beside nth l here =
     let within = slice_get_within (links_from_index d place) nth l here in
     subst (λ k. IsReverseAt d k (slice_index reverses nth)) is (beside nth l within)
 
--- each of two links is the reverse of the other
+-- If one link is the reverse of another, the other is the reverse of it.
 reversed : (l r : Link) → IsReverse l r → IsReverse r l
 reversed l r is = record { from = sym is.to; local = sym is.remote; to = sym is.from; remote = sym is.local }
 
--- the links that are the reverse of one link have one key, so they are one
+-- Two links that are the reverse of the same link have the same key, so they are equal.
 one_reverse : (d : Database) (r l m : Link) → IsReverse r l → IsReverse r m → IsLinkOf d l → IsLinkOf d m → m ≡ l
 one_reverse d r l m first second of_l of_m =
     let key : key_of m ≡ key_of l = λ i. ((second.from ∙ sym first.from) i, (second.local ∙ sym first.local) i) in
     same_Some m l (sym of_m ∙ ap (link_at d) key ∙ of_l)
 
 module _ (d : Database) (links : AreLinksOf d (links_of d)) where
-  -- an index that isn't NO_LINK is that of a reverse
+  -- An index other than `NO_LINK` is the index of a reverse.
   pub has_reverse : (l : Link) (n : ℕ) → IsReverseAt d l n → n ≢ NO_LINK → HasReverse d l
   has_reverse l n is some = (slice_index_or (links_of d) n l, links.each n l (is.within some), is.found some)
 
-  -- the link at the index of the reverse of a link's reverse is the link itself
+  -- The reverse of a link's reverse is the link itself.
   back_again : (l r : Link) → IsLinkOf d l → IsReverse l r → (n : ℕ) → IsReverseAt d r n → slice_get (links_of d) n ≡ Some l
   back_again l r of back n is =
       elim (same_or_not n NO_LINK) [
@@ -55,9 +55,9 @@ module _ (d : Database) (links : AreLinksOf d (links_of d)) where
   module _ (listed : AreListed d) (to : ℕ) (ends reverses : List ℕ) (within : All (λ end. end < length (router_list d)) ends)
       (each : map (λ end. slice_index (router_list d) end) ends ≡ map (λ (l : Link). l.to) (links_from_index d to))
       (beside : (nth : ℕ) (e : Link) → nth < length (links_from_index d to) → IsReverseAt d (slice_index_or (links_from_index d to) nth e) (slice_index_or reverses nth 0)) where
-    -- A link that has a reverse is found from where it ends, since its reverse is a row from there.
-    -- Beside that row are the index of the router that the link arrives from, and the link's own
-    -- index.
+    -- A link that has a reverse is found from the router at its end, because its reverse is a row
+    -- there. Beside that row are the index of the router where the link begins, and the index of the
+    -- link.
     pub found_back : (l : Link) → IsLinkOf d l → HasReverse d l → (u : ℕ) → IsIndexOf d l.from u → IsIndexOf d l.to to
         → (nth : ℕ) × (nth < length (links_from_index d to)) × (slice_index ends nth ≡ u) × (slice_get (links_of d) (slice_index reverses nth) ≡ Some l)
     found_back l of has u from end =

@@ -15,13 +15,14 @@ use Rattle.cspf_columns.proofs.SortedEntries.{both_first, both_second, less_from
 use Rattle.cspf_columns.proofs.RowOrder.{by_key-entries, by_key-filter}
 use Rattle.cspf_search.proofs.Expanded.{runs_from}
 
--- a key below all isn't found
+-- A key below all keys of a list isn't found.
 missing : (k : Key) (es : List (Key × Link)) → T (below_all key_cmp k es) → find key_cmp k es ≡ None
 missing k [] h = refl
 missing k (e ∷ es) h =
     ap (λ r. cond (is_eq r) (Some e.1) (find key_cmp k es)) (less_from _ (both_first _ _ h)) ∙ missing k es (both_second _ _ h)
 
--- what is found behind the first entry is found with it, since the first key is below all
+-- A key that is found after the first entry is also found in the whole list, because the first key is
+-- lower.
 found_behind : (k : Key) (l : Link) (e : Key × Link) (es : List (Key × Link)) → T (below_all key_cmp e.0 es) → find key_cmp k es ≡ Some l → find key_cmp k (e ∷ es) ≡ Some l
 found_behind k l e es below found =
     elim (eq_by_cmp key_cmp k e.0) as (λ b. eq_by_cmp key_cmp k e.0 ≡ b → cond b (Some e.1) (find key_cmp k es) ≡ Some l) [
@@ -31,7 +32,7 @@ found_behind k l e es below found =
       | false ↦ λ _. found
     ] refl
 
--- entries in order, each with its link's key, are those of their links
+-- Entries in order, each with its link's key, are the entries of their links.
 entries_keyed : (es : List (Key × Link)) → T (is_sorted key_cmp es) → ((k : Key) (l : Link) → find key_cmp k es ≡ Some l → key_of l ≡ k) → es ≡ map entry_of (map (λ e. e.1) es)
 entries_keyed [] sorted keyed = refl
 entries_keyed (e ∷ es) sorted keyed =
@@ -40,7 +41,7 @@ entries_keyed (e ∷ es) sorted keyed =
     entries_keyed es (both_second _ _ sorted) (λ k l found. keyed k l (found_behind k l e es (both_first _ _ sorted) found)) in
     λ i. (sym head i, e.1) ∷ rest i
 
--- the links of a database are in order of their keys
+-- The links of a database are in order of their keys.
 links_by_key : (d : Database) → AreAtTheirKeys d → AreByKey (links_of d)
 links_by_key d keyed =
     by_key-entries d.links (links_of d) (entries_keyed (entries d.links) (entries_sorted d.links) (λ k l found. keyed k l (get-entries d.links k ∙ found)))
@@ -48,7 +49,7 @@ links_by_key d keyed =
 less_local : (a b i j : ℕ) → a ≡ b → ordering_then (nat_cmp a b) (nat_cmp i j) ≡ Less → i < j
 less_local a b i j same less = grind (arith, nat_tests)
 
--- of the links from a router, a later one has a greater local address
+-- Of the links from a router, a later link has a greater local address.
 pub locals_rise : (d : Database) → AreAtTheirKeys d → (place i j : ℕ) (l m : Link) → slice_get (links_from_index d place) i ≡ Some l → slice_get (links_from_index d place) j ≡ Some m
     → i < j → l.local < m.local
 locals_rise d keyed place i j l m here there less =

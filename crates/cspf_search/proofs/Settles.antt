@@ -1,4 +1,4 @@
--- The walks that are settled by first crossings are least.
+-- The walks that first crossings settle are least.
 use Rattle.std.proofs.Common.{◌≡◌, ◌⊎◌, inl, inr, ℕ, ◌<◌, true, false, Some, None, List, [], ◌∷◌, ◌++◌, length, refl, sym, ap, subst, ◌∙◌, arith}
 use Rattle.std.specs.Ordering.{nat_cmp, is_gt, ordering_reverse, ordering_then}
 use Rattle.std.specs.declared.cmp.Ordering.{Ordering}
@@ -20,7 +20,7 @@ use Rattle.cspf_search.specs.Settled.{Labels, IsNoLater, potential_cmp, RanksNoL
 use Rattle.cspf_search.proofs.Orders.{walks_total, potentials_total, walk_cmp-push, potential_cmp-push, potential_cmp-turn, walk_from_less, rank_from_walk}
 use Rattle.cspf_search.proofs.Cuts.{reached_walk, reached_leg, route_reaches, reaches_route}
 
--- Labels keep their walks and get one more.
+-- All settled walks stay, and the walk `w` of the state `t` is added.
 pub record Adds (old : Labels) (t : State) (w : List Link) (new : Labels) : Type 0 where
   pub keeps : (s : State) (x : List Link) → old s ≡ Some x → new s ≡ Some x
   pub adds : (s : State) (x : List Link) → new s ≡ Some x → (old s ≡ Some x) ⊎ ((s ≡ t) × (x ≡ w))
@@ -28,7 +28,7 @@ pub record Adds (old : Labels) (t : State) (w : List Link) (new : Labels) : Type
 no_later_trans : (u v w : List Link) → IsNoLater u v → IsNoLater v w → IsNoLater u w
 no_later_trans u v w = upto walks_total u v w
 
--- a later label than a lesser one is strictly later
+-- If `a` isn't later than `b`, and `b` is before `c`, then `a` is before `c`.
 before_less : (potential : State → ℕ) (a b c : State × List Link) → is_gt (potential_cmp potential a b) ≡ false → potential_cmp potential b c ≡ Less
     → potential_cmp potential a c ≡ Less
 before_less potential a b c h less =
@@ -38,30 +38,30 @@ before_less potential a b c h less =
       | Greater ↦ λ e g. cc
     ] refl h
 
--- a walk with links isn't before the one with none
+-- A walk with links isn't before the walk without links.
 some_after : (cost count : ℕ) (o : Ordering) → 0 < count → is_gt (ordering_then (nat_cmp cost 0) (ordering_then (nat_cmp count 0) o)) ≡ true
 some_after cost count o some = grind (arith, nat_tests)
 
--- a walk that is no later than one with no links has none
+-- A walk that isn't later than a walk without links has no links.
 none_no_later : (w : List Link) → IsNoLater w [] → length w ≡ 0
 none_no_later [] h = refl
 none_no_later (l ∷ w) h = absurd (let after = some_after (cost_of (l ∷ w)) (length (l ∷ w)) (locals_cmp (l ∷ w) []) (omega arith) in cc)
 
--- where a walk may leave a router, so may one that is no later
+-- If a walk may leave a router, a walk that isn't later may leave it too.
 leaves_no_later : (d : Database) (router : ℕ) (v w : List Link) → MayLeave d router (length v) → IsNoLater w v → MayLeave d router (length w)
 leaves_no_later d router v w (inl transit) h = inl transit
 leaves_no_later d router [] w (inr none) h = inr (none_no_later w h)
 leaves_no_later d router (l ∷ v) w (inr none) h = absurd (omega (arith, none))
 
 module _ (d : Database) (q : Request) where
-  -- an admissible link that leaves where a walk may leads on
+  -- An admissible link from a router that some walk may leave leads on.
   leads_on : (v : List Link) (l : Link) (k : ℕ) → IsAdmissible d q l → MayLeave d l.from (length v) → Reaches d q v (record { leg = k; router = l.from })
       → LeadsOn d q l
   leads_on v l k a (inl transit) r = record { admissible = a; left = inl transit }
   leads_on [] l k a (inr none) r = record { admissible = a; left = inr (sym (reached_walk d q [] (record { leg = k; router = l.from }) r).1) }
   leads_on (m ∷ v) l k a (inr none) r = absurd (omega (arith, none))
 
-  -- a step goes up in rank
+  -- A walk after a step ranks after the walk before the step.
   step_grows : (potential : State → ℕ) → IsConsistent d q potential → (v x : List Link) (s t : State) → Reaches d q v s → IsStep d q v s x t
       → potential_cmp potential (s, v) (t, x) ≡ Less
   step_grows potential up v x s t r (by_link {leg = k} l a enters leaves) =
@@ -70,7 +70,7 @@ module _ (d : Database) (q : Request) where
   step_grows potential up v x s t r (by_turn {leg = k} {router = router} within target) =
       let leg = reached_leg d q v (record { leg = k; router = router }) r in potential_cmp-turn potential k router v (up.turns k router leg.0 within target)
 
-  -- where the potential says that there is a way, it says so along each walk that leads there
+  -- If the potential of a state isn't `NO_WAY`, neither is that of the start of a walk to this state.
   way_back : (potential : State → ℕ) → IsConsistent d q potential → (w : List Link) (s : State) → Reaches d q w s → potential s < NO_WAY
       → potential (start_of q) < NO_WAY
   way_back potential up w s starts way = way
@@ -81,12 +81,12 @@ module _ (d : Database) (q : Request) where
       let leg = reached_leg d q v (record { leg = k; router = router }) r in
       way_back potential up v (record { leg = k; router = router }) r (omega (arith, up.turns k router leg.0 within target, way))
 
-  -- where it says that there is none from the start, no walk is a route
+  -- If the potential of the start is `NO_WAY`, no walk is a route.
   pub no_way : (potential : State → ℕ) → IsConsistent d q potential → potential (end_state q) ≡ 0 → potential (start_of q) ≡ NO_WAY → (w : List Link) → IsRoute d q w → ⊥
   no_way potential up end start w route =
       omega (arith, way_back potential up w (end_state q) (route_reaches d q w route) (omega (arith, end)), start)
 
-  -- a step from an open state into a state after the closed legs is after them
+  -- A step from an open state into a leg after the closed legs begins in a leg after the closed legs.
   step_behind : (labels : Labels) (closed : ℕ) → IsClosed d q labels closed → (v x : List Link) (s t : State) → Reaches d q v s → IsStep d q v s x t
       → labels s ≡ None → closed < t.leg → closed < s.leg
   step_behind labels closed shut v x s t r (by_link {leg = k} l a enters leaves) left h = h
@@ -100,21 +100,21 @@ module _ (d : Database) (q : Request) where
             (subst (λ j. labels (record { leg = j; router = router }) ≡ None) (sym same) left))
       ]
 
-  -- the same step from a walk that is no later ends in a walk that is no later
+  -- The same step from a walk that isn't later leads to a walk that isn't later.
   step_no_later : (v x : List Link) (s t : State) → IsStep d q v s x t → (w : List Link) → IsNoLater w v
       → (y : List Link) × IsStep d q w s y t × IsNoLater y x
   step_no_later v x s t (by_link {leg = k} l a enters leaves) w h = (w ++ (l ∷ []), by_link l a enters (leaves_no_later d l.from v w leaves h), rw (walk_cmp-push w v l) h)
   step_no_later v x s t (by_turn within target) w h = (w, by_turn within target, h)
 
   module _ (labels : Labels) (settled : AreSettled d q labels) where
-    -- a step from a settled state to an open one, taken from the settled walk
+    -- A step from a settled state to an open state, made from the settled walk.
     crossing_from : (v x : List Link) (s u : State) → Reaches d q v s → IsStep d q v s x u → (f : List Link) → labels s ≡ Some f → labels u ≡ None
         → (y : List Link) × Crosses d q labels y u × IsNoLater y x
     crossing_from v x s u r st f here left =
         let same = step_no_later v x s u st f (settled.least s f v here r) in
         (same.0, record { state = s; front = f; settled = here; step = same.1; still_open = left }, same.2)
 
-    -- where nothing crosses after the closed legs, each state there that is reached is settled
+    -- If no walk crosses after the closed legs, each state there that a walk reaches is settled.
     all_settled : (closed : ℕ) → IsClosed d q labels closed → ((y : List Link) (u : State) → Crosses d q labels y u → closed < u.leg → ⊥)
         → (x : List Link) (u : State) → Reaches d q x u → labels u ≡ None → closed < u.leg → ⊥
     all_settled closed shut stuck x u starts left behind = cc (settled.start)
@@ -124,8 +124,8 @@ module _ (d : Database) (q : Request) where
           | None ↦ λ open_there. all_settled closed shut stuck v s r open_there (step_behind labels closed shut v x s u r st open_there behind)
         ] refl
 
-    -- a first crossing ranks before each walk to an open state after the closed legs, and is no
-    -- later than the walks to its own state
+    -- A first crossing ranks before each walk to an open state after the closed legs. It isn't later
+    -- than any walk to its own state.
     pub no_earlier : (w : List Link) (t : State) (first : IsFirstCrossing d q labels w t) (x : List Link) (u : State) → Reaches d q x u → labels u ≡ None
         → first.closed < u.leg → RanksNoLater first.potential t w u x × (u ≡ t → IsNoLater w x)
     no_earlier w t first x u starts left behind = cc (settled.start)
@@ -142,7 +142,7 @@ module _ (d : Database) (q : Request) where
               (rw less refl, λ same. walk_from_less first.potential t w x (rw same at less))
         ] refl
 
-    -- after a first crossing is settled, all settled walks are still least
+    -- After a first crossing is settled, all settled walks are still least.
     pub settled_push : (w : List Link) (t : State) → IsFirstCrossing d q labels w t → (after : Labels) → Adds labels t w after → AreSettled d q after
     settled_push w t first after more = record {
       start = more.keeps _ _ settled.start;
@@ -161,7 +161,7 @@ module _ (d : Database) (q : Request) where
           ];
     }
 
-    -- the walk that is settled at the end state is the best route
+    -- The settled walk of the end state is the best route.
     pub settled_best : (w : List Link) → labels (end_state q) ≡ Some w → IsBestRoute d q w
     settled_best w is = record {
       is_route = reaches_route d q w (settled.reached (end_state q) w is);
@@ -171,7 +171,7 @@ module _ (d : Database) (q : Request) where
           cc (ap ordering_reverse less);
     }
 
-    -- where nothing crosses after the closed legs and the end state is open, there is no route
+    -- If no walk crosses after the closed legs, and the end state isn't settled, there is no route.
     pub no_route : IsStuck d q labels → labels (end_state q) ≡ None → (w : List Link) → IsRoute d q w → ⊥
     no_route stuck left w route =
         all_settled stuck.closed stuck.is_closed stuck.none w (end_state q) (route_reaches d q w route) left (omega (arith, stuck.low))

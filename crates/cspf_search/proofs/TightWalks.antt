@@ -1,4 +1,4 @@
--- The walk over the first tight link of each router is the least route, where it leads to the tail-end.
+-- The walk over the first tight link of each router is the least route, if it leads to the tail-end.
 use Rattle.std.proofs.Common.{◌≡◌, ◌≢◌, inl, inr, ℕ, ◌+◌, ◌^◌, ◌<◌, ◌≤◌, Some, List, [], ◌∷◌, ◌++◌, ◌⊎◌, length, map, slice_get, slice_index, slice_index_or, refl, sym, ap, subst, ◌∙◌, arith, append_assoc, append-nil}
 use Rattle.std.specs.List.{All}
 use Rattle.std.specs.Cmp.{nat_cmp_total}
@@ -41,7 +41,8 @@ use Rattle.cspf_search.proofs.Taken.{end_of_row}
 use Rattle.cspf_search.proofs.Orders.{cost_of-push, walks_total}
 use Rattle.cspf_graph.proofs.RouterIndexes.{one_place}
 
--- a walk that costs more isn't before another, and neither is one that has more links at the same cost
+-- A walk that costs more isn't before another walk. At the same cost, a walk with more links isn't
+-- before another walk.
 
 cost_first : (a b : ℕ) (o : Ordering) → b < a → ordering_then (nat_cmp a b) o ≡ Less → ⊥
 cost_first a b o h less = grind (arith, nat_tests)
@@ -49,7 +50,7 @@ cost_first a b o h less = grind (arith, nat_tests)
 links_first : (a b m n : ℕ) (o : Ordering) → a ≡ b → n < m → ordering_then (nat_cmp a b) (ordering_then (nat_cmp m n) o) ≡ Less → ⊥
 links_first a b m n o e h less = grind (arith, nat_tests)
 
--- where both tie, the local addresses decide
+-- If the cost and the number of links tie, the local addresses decide.
 locals_decide : (a b m n : ℕ) (o : Ordering) → a ≡ b → m ≡ n → o ≡ Greater → ordering_then (nat_cmp a b) (ordering_then (nat_cmp m n) o) ≡ Less → ⊥
 locals_decide a b m n o e same greater less = grind (arith, nat_tests)
 
@@ -61,11 +62,11 @@ parts_greater [] m l rest on later = local_first m.local l.local (locals_cmp res
 parts_greater (k ∷ front) m l rest on later =
     ap (λ o. ordering_then o (locals_cmp (front ++ (m ∷ rest)) (front ++ (l ∷ on)))) (tied_itself nat_cmp_total k.local) ∙ parts_greater front m l rest on later
 
--- a route that leaves a walk by a later link is after it
+-- A route that leaves a walk by a later link comes after it.
 later_greater : (walk route : List Link) → LeavesLater walk route → locals_cmp route walk ≡ Greater
 later_greater walk route b = (λ t. locals_cmp (b.is_route t) (b.is_walk t)) ∙ parts_greater b.front b.other b.taken b.rest b.on b.later
 
--- and after the walk with one more link
+-- Such a route also comes after the walk continued by one link.
 leaves_longer : (walk route : List Link) (l : Link) → LeavesLater walk route → LeavesLater (walk ++ (l ∷ [])) route
 leaves_longer walk route l b = record {
   front = b.front;
@@ -78,26 +79,27 @@ leaves_longer walk route l b = record {
   later = b.later;
 }
 
--- the cost of a link and those after it
+-- The cost of a link and the links after it.
 cost_of-cons : (l : Link) (links : List Link) → cost_of (l ∷ links) ≡ l.metric + cost_of links
 cost_of-cons l links = sum_by-cons (λ (l : Link). l.metric) l links
 
--- a router of the database has an index in the list of routers
+-- A router of the database has an index in the list of routers.
 place_for : (d : Database) → AreListed d → (router : ℕ) → IsRouterOf d router → (place : ℕ) × IsIndexOf d router place
 place_for d listed router known =
     let at = at_from_Contains (router_list d) router ((listed.known router).1 known) in
     (at.0, record { within = at.1; is = at.2 0 })
 
--- the router at the end of an admissible link has an index
+-- The router at the end of an admissible link has an index in the list of routers.
 to_place : (d : Database) (q : Request) → AreListed d → (l : Link) → IsAdmissible d q l → (place : ℕ) × IsIndexOf d l.to place
 to_place d q listed l a = place_for d listed l.to (l, a.link, inr refl)
 
--- an admissible link is in the request's class
+-- An admissible link is in the request's class.
 in_class : (d : Database) (q : Request) (l : Link) → IsAdmissible d q l → IsInClass d q l
 in_class d q l a = record { link = a.link; reverse = a.usable.reverse; affinity = a.usable.admitted.affinity }
 
 module _ (d : Database) (q : Request) (tree : Tree) (listed : AreListed d) (is : IsTree d q tree) where
-  -- a way on costs at least the bound of its router, and has at least its links if it costs no more
+  -- A way to the tail-end costs at least the bound of its router. If it costs just the bound, it has at
+  -- least the tree's number of links.
   at_least : (router place : ℕ) → IsIndexOf d router place → (links : List Link) → IsWayOn d q router links
       → (tree_bound tree place ≤ cost_of links) × (cost_of links ≡ tree_bound tree place → tree_links tree place ≤ length links)
   at_least router place at [] way =
@@ -115,7 +117,8 @@ module _ (d : Database) (q : Request) (tree : Tree) (listed : AreListed d) (is :
             omega (arith, is.fewer place to.0 l class way.over.0 from to.1 falls, rest.1 (omega (arith, falls, cost, cost_of-cons l links))),
       )
 
-  -- where it costs no more and has no more links, its first link is tight, and so is what follows
+  -- If the way costs just the bound and has just this number of links, its first link is tight, and so
+  -- are the links after it.
   module _ (router place : ℕ) (at : IsIndexOf d router place) (l : Link) (links : List Link) (way : IsWayOn d q router (l ∷ links))
       (cost : cost_of (l ∷ links) ≡ tree_bound tree place) (many : length (l ∷ links) ≡ tree_links tree place) where
     cost_after : (end : ℕ) → IsIndexOf d l.to end → (cost_of links ≡ tree_bound tree end) × (length links ≡ tree_links tree end)
@@ -136,7 +139,7 @@ module _ (d : Database) (q : Request) (tree : Tree) (listed : AreListed d) (is :
       fewer = λ end to. omega (arith, (cost_after end to).1, many);
     }
 
-  -- a route is a way on from the head-end
+  -- A route is a way from the head-end to the tail-end.
   route_way : (route : List Link) → IsRoute d q route → IsWayOn d q q.from route
   route_way route is_route =
       let end = (reached_walk d q route (end_state q) (route_reaches d q route is_route)).1 in
@@ -148,7 +151,7 @@ module _ (d : Database) (q : Request) (tree : Tree) (listed : AreListed d) (is :
       }
 
   module _ (from : ℕ) (there : IsIndexOf d q.from from) where
-    -- the walk of no links
+    -- The walk without links.
     pub tight_none : IsTightWalk d q tree from [] from
     tight_none = record {
       within = there.within;
@@ -159,7 +162,7 @@ module _ (d : Database) (q : Request) (tree : Tree) (listed : AreListed d) (is :
       first = λ route is_route cost many. inl (record { rest = route; whole = refl; way = rw there.is (route_way route is_route); cost = cost; many = many });
     }
 
-    -- one more link, the first tight one there
+    -- The walk is continued by the first tight link of its last router.
     module _ (of : AreLinksOf d (links_of d)) (keyed : AreAtTheirKeys d) (loose : length q.hops ≡ 0) (to : ℕ) (end : IsIndexOf d q.to to) (walk : List Link) (place : ℕ)
         (before : IsTightWalk d q tree from walk place) (on : place ≢ to) (edge : Edge) (next : IsNextTight d q tree place edge) where
       abbrev l : Link
@@ -199,7 +202,7 @@ module _ (d : Database) (q : Request) (tree : Tree) (listed : AreListed d) (is :
             | inr e ↦ inr (next.is_edge.end.is ∙ e)
           ]
 
-      -- what a route takes after the walk begins with the link, or with a later one
+      -- The rest of a route after the walk begins with this link, or with a later one.
       goes_on : (rest : List Link) → IsWayOn d q (router_at d place) rest → cost_of rest ≡ tree_bound tree place → length rest ≡ tree_links tree place → (route : List Link) → route ≡ walk ++ rest
           → GoesOn d q tree (walk ++ (l ∷ [])) edge.end route ⊎ LeavesLater (walk ++ (l ∷ [])) route
       goes_on [] way cost many route whole = absurd (not_end way.end)
@@ -251,7 +254,7 @@ module _ (d : Database) (q : Request) (tree : Tree) (listed : AreListed d) (is :
             ];
       }
 
-    -- at the tail-end
+    -- The walk has reached the tail-end.
     module _ (loose : length q.hops ≡ 0) (to : ℕ) (end : IsIndexOf d q.to to) (walk : List Link) (at : IsTightWalk d q tree from walk to) where
       is_route : IsRoute d q walk
       is_route =
@@ -265,7 +268,7 @@ module _ (d : Database) (q : Request) (tree : Tree) (listed : AreListed d) (is :
       many_is : length walk ≡ tree_links tree from
       many_is = omega (arith, at.many, is.end_links to end)
 
-      -- a route that begins with the walk isn't before it
+      -- A longer route that begins with the walk isn't before it.
       longer_later : (rest other : List Link) → other ≡ walk ++ rest → cost_of other ≡ cost_of walk → walk_cmp other walk ≢ Less
       longer_later [] other whole cost less =
           let same : other ≡ walk = whole ∙ append-nil walk in
@@ -305,7 +308,7 @@ module _ (d : Database) (q : Request) (tree : Tree) (listed : AreListed d) (is :
         small = small;
       }
 
--- what the columns tell of a tight link
+-- What the table's columns say of a tight link.
 module _ (d : Database) (q : Request) (tree : Tree) (listed : AreListed d) (of : AreLinksOf d (links_of d)) (place : ℕ) (edge : Edge) (is : IsEdge d place edge) where
   pub tight_is : tree_bound tree place ≡ edge.metric + tree_bound tree edge.end → tree_links tree place ≡ tree_links tree edge.end + 1 → edge.reverse ≢ NO_LINK → IsAdmitted q edge.link.now
       → MayLeadOver d q (slice_index (router_list d) edge.end) → IsTight d q tree place edge.link.now
@@ -321,7 +324,7 @@ module _ (d : Database) (q : Request) (tree : Tree) (listed : AreListed d) (of :
   pub tight_over : IsTight d q tree place edge.link.now → MayLeadOver d q (slice_index (router_list d) edge.end)
   tight_over tight = rw is.end.is tight.over
 
--- a link beside the index of the router at its end and that of its reverse
+-- A link, with the index of the router at its end and the index of its reverse.
 pub beside_row : (d : Database) (place : ℕ) (links : List Link) → links ≡ links_from_index d place → (ends : List ℕ) → All (λ end. end < length (router_list d)) ends
     → map (λ end. slice_index (router_list d) end) ends ≡ map (λ (l : Link). l.to) (links_from_index d place) → (reverses : List ℕ)
     → ((nth : ℕ) (e : Link) → nth < length (links_from_index d place) → IsReverseAt d (slice_index_or (links_from_index d place) nth e) (slice_index_or reverses nth 0))

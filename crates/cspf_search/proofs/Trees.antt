@@ -1,4 +1,4 @@
--- Trees: what requests share, and the bounds of the last leg.
+-- Trees: which requests share them, and how they give the bounds in the last leg.
 use Rattle.std.proofs.Common.{◌≡◌, ◌⊎◌, inl, inr, ℕ, suc, ◌+◌, ◌<◌, ◌≤◌, nat_lt, if◌then◌else◌, Bool, true, false, List, replicate, slice_index_or, length, set, sym, ap, subst, ◌∙◌, refl, arith}
 use Rattle.std.proofs.lemmas.Bool.{cases_lt, false≢true}
 use Rattle.std.proofs.lemmas.Bool.Decides.{nat_tests}
@@ -19,11 +19,12 @@ use Rattle.cspf_search.proofs.Cuts.{last_target}
 use Rattle.cspf_search.proofs.LegBounds.{cut_at_edge}
 use Rattle.cspf_graph.proofs.RouterIndexes.{one_place, same_or_not}
 
--- a link that leads a request on is in its class, whatever bandwidth the request asks for
+-- A link that leads on for a request is in the request's class, whatever bandwidth the request asks
+-- for.
 in_class : (d : Database) (q : Request) (l : Link) → LeadsOn d q l → IsInClass d q l
 in_class d q l leads = record { link = leads.admissible.link; reverse = leads.admissible.usable.reverse; affinity = leads.admissible.usable.admitted.affinity }
 
--- a tree has the bounds of the last leg, after which none are ahead
+-- A tree gives the bounds in the last leg, which has no next leg.
 pub leg_of_tree : (d : Database) (q : Request) (tree : Tree) → IsTree d q tree → (leg : ℕ) → leg ≡ length q.hops → (ahead : List ℕ)
     → IsLegBound d q leg tree.near.items tree.edge ahead
 leg_of_tree d q tree is leg last ahead = record {
@@ -35,7 +36,7 @@ leg_of_tree d q tree is leg last ahead = record {
       omega (arith, is.end p (record { within = within; is = there }));
 }
 
--- a link that passes the affinities of one request passes those of another that shares its trees
+-- If two requests share trees, a link in the class of one is in the class of the other.
 same_class : (d : Database) (q r : Request) → ShareTrees q r → (l : Link) → IsInClass d r l → IsInClass d q l
 same_class d q r share l is = record {
   link = is.link;
@@ -55,7 +56,7 @@ shared_tree d q r tree share is = record {
   end_links = λ place there. is.end_links place (rw share.to at there);
 }
 
--- no router of a new list is marked
+-- No router is marked in a new list.
 pub none_at : (count w : ℕ) → slice_index_or (replicate count false) w false ≡ false
 none_at count w =
     elim (cases_lt w count) [
@@ -63,11 +64,11 @@ none_at count w =
       | inr past ↦ get_or_past (replicate count false) w false (omega (arith, past, length-replicate count false))
     ]
 
--- where no router is done, nothing has to hold of the links that arrive
+-- If no router is done, `IsTreeRing` holds.
 pub none_done_yet : (d : Database) (q : Request) (ring : TreeRing) → ((w : ℕ) → is_settled_there ring w ≡ false) → IsTreeRing d q ring
 none_done_yet d q ring none u w on l in_q over from to = absurd (false≢true (sym (none w) ∙ on))
 
--- it stays the ring of a tree where ranks fall, and where only its heap changes
+-- The ring of a tree stays right if costs and numbers of links fall, or if only its heap changes.
 pub fallen_tree : (d : Database) (q : Request) (old new : TreeRing) → TreeFalls old new → IsTreeRing d q old → IsTreeRing d q new
 fallen_tree d q old new falls ring u w on l in_q over from end =
     let kept = falls.kept w on in
@@ -83,7 +84,7 @@ pub same_tree : (d : Database) (q : Request) (old new : TreeRing) → new.near �
 same_tree d q old new near links marks ring u w on l in_q over from end =
     rw (near, links) (ring u w (rw marks at on) l in_q over from end)
 
--- a router that no way may lead over has no links to look at
+-- If no way may lead over a router, the router can be marked as done.
 pub none_over : (d : Database) (q : Request) (to : ℕ) (ring : TreeRing) → IsTreeRing d q ring → ((router : ℕ) → IsIndexOf d router to → MayLeadOver d q router → ⊥)
     → AreTreeBounds d q ring.near.items ring.links.items (set ring.done.items to true)
 none_over d q to ring is shut u w on l in_q over from end =
@@ -92,7 +93,7 @@ none_over d q to ring is shut u w on l in_q over from end =
       | inr ne ↦ is u w (sym (get_or-set_other ring.done.items to w true false ne) ∙ on) l in_q over from end
     ]
 
--- all links that arrive at one more router were looked at
+-- The search has looked at all links that arrive at one more router.
 pub one_more_done : (d : Database) (q : Request) (to base count : ℕ) (old new : TreeRing) → IsTreeRing d q old → TreeFalls old new → AreLinksPassed d q base count new to
     → bound_at new.near.items to ≡ base → count ≤ bound_at new.links.items to + 1 → AreTreeBounds d q new.near.items new.links.items (set new.done.items to true)
 one_more_done d q to base count old new ring falls passed same more u w on l in_q over from end =
@@ -108,7 +109,7 @@ one_more_done d q to base count old new ring falls passed same more u w on l in_
           fallen_tree d q old new falls ring u w (sym (get_or-set_other new.done.items to w true false ne) ∙ on) l in_q over from end
     ]
 
--- a router is before the edge, or has no number of links
+-- The bound of a router is below the edge, or its number of links is 0.
 links_told : (tree : Tree) (place : ℕ)
     → ((bound_at tree.near.items place < tree.edge) × (tree_links tree place ≡ bound_at tree.links.items place)) ⊎ ((tree.edge ≤ bound_at tree.near.items place) × (tree_links tree place ≡ 0))
 links_told tree place =
@@ -119,7 +120,7 @@ links_told tree place =
       | false ↦ λ e. inr (grind (arith, nat_tests), refl)
     ] refl
 
--- the numbers of links of a tree are within a link to a router that is done, or left out
+-- A tree's numbers of links are right over a link to a router that is done, or that wasn't settled.
 links_within : (tree : Tree) (marks : List Bool) (u w metric : ℕ)
     → (slice_index_or marks w false ≡ true → IsRankWithin (bound_at tree.near.items u) (bound_at tree.links.items u) (bound_at tree.near.items w) (bound_at tree.links.items w + 1) metric)
     → (slice_index_or marks w false ≡ false → tree.edge ≤ bound_at tree.near.items w)
@@ -136,7 +137,7 @@ links_within tree marks u w metric within least just =
       ]
     ]
 
--- a tree from its ring
+-- A tree is made of its ring and its edge.
 pub tree_of_ring : (d : Database) (q : Request) (ring : TreeRing) (tree : Tree) → tree.near ≡ ring.near → tree.links ≡ ring.links → IsTreeRing d q ring
     → ((w : ℕ) → w < length (router_list d) → is_settled_there ring w ≡ false → tree.edge ≤ bound_at ring.near.items w)
     → AreListed d → (to : ℕ) → IsIndexOf d q.to to → bound_at ring.near.items to ≡ 0 → bound_at ring.links.items to ≡ 0 → IsTree d q tree

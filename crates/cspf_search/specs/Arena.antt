@@ -1,4 +1,4 @@
--- Private words of the search: the nodes of settled walks.
+-- Private: the nodes of settled walks.
 use Rattle.std.specs.Prelude.{◌≡◌, ℕ, ◌+◌, ◌*◌, ◌^◌, ◌<◌, ◌≤◌, Bool, false, ◌&&◌, nat_eq, Option, Some, None, IsSome, option_map, position, List, [], ◌∷◌, ◌++◌, length, slice_index_or}
 use Rattle.std.specs.List.{All, AllPairs}
 use Rattle.cspf_model.specs.declared.link.Link.{Link}
@@ -9,66 +9,66 @@ use Rattle.cspf_search.specs.declared.limits.TheConstants.{COST_WEIGHT}
 use Rattle.cspf_search.specs.States.{State}
 use Rattle.cspf_search.specs.Settled.{Labels}
 
--- a walk, with one more link if there is one
+-- The walk, continued by the link if there is one.
 abbrev pub walk_with : List Link → Option Link → List Link
 walk_with walk None = walk
 walk_with walk (Some l) = walk ++ (l ∷ [])
 
--- the walk at an index
+-- The walk at the index `i`.
 abbrev pub walk_at : List (List Link) → ℕ → List Link
 walk_at walks i = slice_index_or walks i []
 
--- the walks of nodes, after those of the nodes before them
+-- The walks `done`, followed by the walks of these nodes.
 abbrev pub walks_after : List (List Link) → List Node → List (List Link)
 walks_after done [] = done
 walks_after done (n ∷ ns) = walks_after (done ++ (walk_with (walk_at done n.parent) n.by ∷ [])) ns
 
--- the walk of each node: that of its parent, with its own link
+-- The walks of the nodes. A node's walk is its parent's walk, continued by the node's link.
 abbrev pub walks : List Node → List (List Link)
 walks nodes = walks_after [] nodes
 
--- the walk of a node whose parent is among the nodes
+-- The walk of a node whose parent is one of the nodes.
 abbrev pub walk_of : List Node → Node → List Link
 walk_of nodes n = walk_with (walk_at (walks nodes) n.parent) n.by
 
--- the state that the walk of a node has reached
+-- The state that the walk of a node has reached.
 abbrev pub state_of : Node → State
 state_of n = record { leg = n.leg; router = n.router }
 
--- whether two states are one
+-- Whether two states are equal.
 abbrev pub same_state : State → State → Bool
 same_state s t = nat_eq s.leg t.leg && nat_eq s.router t.router
 
--- the index of the first node at a state
+-- The index of the first node with this state.
 abbrev pub index_of : List Node → State → Option ℕ
 index_of nodes s = position (λ n. same_state (state_of n) s) nodes
 
--- each state's label is the walk of the first node there
+-- The settled walk of a state is the walk of the first node with this state.
 abbrev pub labels_of : List Node → Labels
 labels_of nodes s = option_map (λ i. walk_at (walks nodes) i) (index_of nodes s)
 
--- by cost, and then by the number of links, as one number above 0
+-- The rank of a walk: its cost and its number of links as one number above 0.
 abbrev pub walk_rank : List Link → ℕ
 walk_rank w = cost_of w * COST_WEIGHT + length w + 1
 
--- The rank that a node has is that of its walk. At its index each link and each turn to a leg took one
--- node, so there are no more links and legs than nodes up to this one.
+-- The rank of a node is the rank of its walk. Each link and each turn before this node took one node,
+-- so its links and legs together are at most its index plus 1.
 pub record IsRanked (n : Node) (walk : List Link) (index : ℕ) : Type 0 where
   pub rank : n.rank ≡ walk_rank walk
   pub few : length walk + n.leg ≤ index + 1
   pub small : cost_of walk ≤ length walk * 2 ^ 32
 
--- a node has a last link where its walk has a link
+-- If a node's walk has a link, the node has a last link.
 abbrev pub HasLast : Node → Type 0
 HasLast n = 1 < n.rank → IsSome n.by
 
--- the first node: it has no link, and is its own parent
+-- The first node: it has no link, and its parent is itself.
 pub record IsRoot (n : Node) : Type 0 where
   pub parent : n.parent ≡ 0
   pub by : n.by ≡ None
 
--- Nodes that grow from a root. The parent of each but the root is before it, no two are at one
--- state, and there are no more than the states of 1,024 routers in eight legs.
+-- The nodes form a tree: each but the root comes after its parent. No two nodes have the same state.
+-- There are at most 8,192 nodes, which are the states of 1,024 routers in eight legs.
 pub record AreNodes (nodes : List Node) : Type 0 where
   pub some : 0 < length nodes
   pub most : length nodes ≤ 8192
@@ -82,21 +82,21 @@ pub record AreNodes (nodes : List Node) : Type 0 where
       → IsRanked (slice_index_or nodes i d) (walk_at (walks nodes) i) i
   pub apart : AllPairs (λ m n. same_state (state_of m) (state_of n) ≡ false) nodes
 
--- a node that may be appended to the others
+-- The node may be appended to these nodes.
 pub record IsNext (nodes : List Node) (n : Node) : Type 0 where
   pub parent : n.parent < length nodes
   pub linked : HasLast n
   pub ranked : IsRanked n (walk_of nodes n) (length nodes)
 
--- the node is in a leg of the request
+-- The node's leg is a leg of the request.
 pub record IsInLeg (q : Request) (n : Node) : Type 0 where
   pub low : 1 ≤ n.leg
   pub high : n.leg ≤ length q.hops + 1
 
--- the nodes are in legs of the request
+-- The leg of each node is a leg of the request.
 abbrev pub AreInLegs : Request → List Node → Type 0
 AreInLegs q nodes = All (IsInLeg q) nodes
 
--- the node of the start
+-- The node at the start: the head-end with a walk without links.
 abbrev pub root_of : Request → Node
 root_of q = record { parent = 0; by = None; leg = 1; router = q.from; rank = 1 }

@@ -1,5 +1,5 @@
--- Private words of the search by rounds: the states of the settled nodes, and which states are
--- settled.
+-- Private: the forward stars of the settled nodes in the search by rounds, and the marks of settled
+-- states.
 use Rattle.std.specs.Prelude.{◌≡◌, ℕ, ◌+◌, ◌*◌, ◌%◌, ◌<◌, Bool, is_some, List, All, length, map, slice_index, slice_index_or}
 use Rattle.cspf_model.specs.declared.limits.TheConstants.{MOST_ROUTERS}
 use Rattle.cspf_model.specs.declared.link.Link.{Link}
@@ -13,8 +13,8 @@ use Rattle.cspf_search.specs.Arena.{state_of, index_of}
 use Rattle.cspf_search.specs.Frontier.{state_at, nowhere}
 use Rattle.cspf_graph.specs.Roles.{IsStateIndex}
 
--- the index of a state, and the links from its router with the index of the router at the end of each
--- and that of its reverse
+-- The star has the index of the state `s`, and the links from its router. For each link it also has the
+-- index of the router at its end, and the index of its reverse.
 pub record IsForwardStar (d : Database) (s : State) (star : ForwardStar) : Type 0 where
   pub state : s ≡ state_at d star.state
   pub place : star.state % MOST_ROUTERS < length (router_list d)
@@ -26,13 +26,13 @@ pub record IsForwardStar (d : Database) (s : State) (star : ForwardStar) : Type 
   pub reverses : (nth : ℕ) (e : Link) → nth < length (links_from_index d (star.state % MOST_ROUTERS))
       → IsReverseAt d (slice_index_or (links_from_index d (star.state % MOST_ROUTERS)) nth e) (slice_index_or star.reverses.now nth 0)
 
--- each node has its forward star
+-- The stars are the forward stars of the nodes, in the same order.
 pub record AreForwardStars (d : Database) (nodes : List Node) (stars : List ForwardStar) : Type 0 where
   pub many : length stars ≡ length nodes
   pub each : (i : ℕ) (e : ForwardStar) → i < length nodes
       → IsForwardStar d (state_of (slice_index_or nodes i nowhere)) (slice_index_or stars i e)
 
--- exactly the states that have a node are marked
+-- The marks are those of exactly the states that have a node.
 pub record AreStateMarks (d : Database) (q : Request) (nodes : List Node) (marks : List Bool) : Type 0 where
   pub many : length marks ≡ (length q.hops + 1) * MOST_ROUTERS
   pub each : (i : ℕ) (e : Bool) → IsStateIndex d q i

@@ -1,4 +1,4 @@
--- Private words of the search: its query, and what leads on in it.
+-- Private: the query of a search, and the walks that continue a settled node by one step.
 use Rattle.std.specs.Prelude.{◌≡◌, ℕ, ◌+◌, ◌%◌, ◌≤◌, List, length, nat_eq}
 use Rattle.std.specs.List.{AllByRecursion, IsDistinct}
 use Rattle.cspf_model.specs.declared.limits.TheConstants.{MOST_LEGS}
@@ -14,8 +14,8 @@ use Rattle.cspf_graph.specs.Lists.{AreListed}
 use Rattle.cspf_graph.specs.Roles.{AreRoles, AreTargets}
 use Rattle.cspf_search.specs.Frontier.{CrossesUpTo}
 
--- The lists of the table are those of its database. For each state the query has what a route may
--- do there, and for each leg to a hop its targets.
+-- The query is right. The table's lists of routers and links are those of its database. The query has
+-- the role of each state, and the targets of the leg to each hop.
 pub record IsQuery (query : Query) : Type 0 where
   pub listed : AreListed query.table.now
   pub links : AreLinksOf query.table.now (links_of query.table.now)
@@ -26,11 +26,11 @@ pub record IsQuery (query : Query) : Type 0 where
   pub roles : AreRoles query.table.now query.request.now query.roles.now
   pub targets : AreTargets query.table.now query.request.now query.targets.now
 
--- the walks that lead on from the nodes before an index
+-- The walks that continue one of the nodes before the index `at` by one step.
 abbrev pub CrossesBefore : Query → List Node → ℕ → List Link → State → Type 0
 CrossesBefore query nodes at = CrossesBelow query.table.now query.request.now nodes (links_of query.table.now) at
 
--- those walks, and the ones by the turn and by the links before a row from the node at the index,
--- at a state
+-- The walks of `CrossesBefore`, and those that continue the node at `at` by the turn or by a link
+-- before the row. `state` is the index of that node's state.
 abbrev pub CrossesToRow : Query → List Node → ℕ → ℕ → ℕ → List Link → State → Type 0
 CrossesToRow query nodes at state row = CrossesUpTo query.table.now query.request.now nodes at (state % MOST_ROUTERS) row

@@ -1,5 +1,5 @@
--- Private words of the search by rounds: the state at the start of a round, and the node that it
--- looks on from.
+-- Private: what holds at the start of a round of the search by rounds, and of the node from which it
+-- looks for the next node.
 use Rattle.std.specs.Prelude.{◌≡◌, ℕ, ◌%◌, ◌<◌, ◌≤◌, Option, Some, None, List, length, take, slice_index_or}
 use Rattle.cspf_model.specs.declared.link.Link.{Link}
 use Rattle.cspf_model.specs.declared.limits.TheConstants.{MOST_ROUTERS}
@@ -16,7 +16,7 @@ use Rattle.cspf_search.specs.Frontier.{IsNodeAt, no_rank, nowhere}
 use Rattle.cspf_search.specs.ForwardStars.{AreForwardStars, AreStateMarks, IsForwardStar}
 use Rattle.cspf_search.specs.Query.{IsQuery}
 
--- the settled nodes, the forward star of each, and the marks of their states
+-- The round has the settled nodes, their forward stars, and the marks of their states.
 pub record IsRound (round : Round) : Type 0 where
   pub query : IsQuery round.query
   pub arena : AreNodes round.nodes.now
@@ -24,7 +24,7 @@ pub record IsRound (round : Round) : Type 0 where
   pub stars : AreForwardStars round.query.table.now round.nodes.now round.stars.now
   pub marks : AreStateMarks round.query.table.now round.query.request.now round.nodes.now round.marks.now
 
--- one of them, with its forward star
+-- `look` has one of the settled nodes, and its forward star.
 pub record IsLook (look : Look) : Type 0 where
   pub query : IsQuery look.query
   pub arena : AreNodes look.nodes.now
@@ -32,24 +32,24 @@ pub record IsLook (look : Look) : Type 0 where
   pub from : IsNodeAt look.query.table.now look.query.request.now look.nodes.now look.at look.star.state
   pub star : IsForwardStar look.query.table.now (state_of (slice_index_or look.nodes.now look.at nowhere)) look.star
 
--- what leads on from the node by the turn, and by its links before a row
+-- The walks that continue this node by the turn, or by one of its links before the row.
 abbrev pub LeadsToRow : Look → ℕ → List Link → State → Type 0
 LeadsToRow look row =
     CrossesFrom look.query.table.now look.query.request.now look.nodes.now
     (take row (links_from_index look.query.table.now (look.star.state % MOST_ROUTERS))) look.at
 
--- the rank of a node, and more than any where there is none
+-- The rank of a node, or a number above all ranks if there is no node.
 abbrev pub low_of : Option Node → ℕ
 low_of None = no_rank
 low_of (Some n) = n.rank
 
--- nothing that leads on from the node at an index ranks below a number, and nothing leads on where
--- that is more than any rank
+-- `low` is a lower bound of the ranks of all walks that continue the node at `at` by one step. It is
+-- above all ranks only if there is no such walk.
 abbrev pub IsLow : Database → Request → List Node → ℕ → ℕ → Type 0
 IsLow d q nodes at low =
     (w : List Link) (t : State) → CrossesFrom d q nodes (links_of d) at w t → (low < no_rank) × (low ≤ walk_rank w)
 
--- each node has such a number
+-- Each node has such a lower bound.
 pub record AreLows (d : Database) (q : Request) (nodes : List Node) (lows : List ℕ) : Type 0 where
   pub many : length lows ≡ length nodes
   pub each : (at : ℕ) → at < length nodes → IsLow d q nodes at (slice_index_or lows at 0)

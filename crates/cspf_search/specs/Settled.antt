@@ -1,4 +1,4 @@
--- Private words of the search: the order in which walks are settled, and which walks are settled.
+-- Private: the order in which walks are settled, and which walks are settled.
 use Rattle.std.specs.Prelude.{◌≡◌, ℕ, suc, ◌+◌, ◌<◌, ◌≤◌, Option, Some, None, List, [], false, length}
 use Rattle.std.specs.Ordering.{nat_cmp, ordering_then, is_gt}
 use Rattle.std.specs.declared.cmp.Ordering.{Ordering}
@@ -11,20 +11,22 @@ use Rattle.cspf_search.specs.declared.limits.TheConstants.{NO_WAY}
 use Rattle.cspf_search.specs.States.{State, LeadsOn, IsStep, Reaches, start_of}
 use Rattle.cspf_graph.specs.Roles.{MayEnter, MayTurn}
 
--- the walk that is settled at each state, if there is one
+-- The settled walk of each state, if the state is settled.
 abbrev pub Labels : Type 0
 Labels = State → Option (List Link)
 
 abbrev pub IsNoLater : List Link → List Link → Type 0
 IsNoLater v w = is_gt (walk_cmp v w) ≡ false
 
--- by cost, then by the number of links, then by leg
+-- The order of walks, each of which is given with its leg: by cost, then by the number of links, then
+-- by the leg.
 abbrev pub rank_cmp : ℕ × List Link → ℕ × List Link → Ordering
 rank_cmp a b =
     ordering_then (nat_cmp (cost_of a.1) (cost_of b.1))
     (ordering_then (nat_cmp (length a.1) (length b.1)) (nat_cmp a.0 b.0))
 
--- by cost and the potential of the state, then by the number of links, then by leg
+-- The order of walks, each of which is given with its state: by cost plus potential, then by the number
+-- of links, then by the leg.
 abbrev pub potential_cmp : (State → ℕ) → State × List Link → State × List Link → Ordering
 potential_cmp potential a b =
     ordering_then (nat_cmp (potential a.0 + cost_of a.1) (potential b.0 + cost_of b.1))
@@ -33,13 +35,13 @@ potential_cmp potential a b =
 abbrev pub RanksNoLater : (State → ℕ) → State → List Link → State → List Link → Type 0
 RanksNoLater potential s v t w = is_gt (potential_cmp potential (s, v) (t, w)) ≡ false
 
--- A potential is no more than the next one plus a metric. It says that there is a way where the
--- next one does.
+-- The potential of a router is at most a link's metric plus `ahead`, the potential of the link's end.
+-- If `ahead` isn't `NO_WAY`, the potential of the router isn't `NO_WAY` either.
 abbrev pub IsWithin : ℕ → ℕ → ℕ → Type 0
 IsWithin potential ahead metric = (potential ≤ ahead + metric) × (ahead < NO_WAY → potential < NO_WAY)
 
--- No link that leads on to a router that it may enter lowers the potential by more than its metric, and
--- no turn to the next leg lowers it.
+-- The potential is consistent. Over a link that leads on, it falls at most by the link's metric. At a
+-- turn to the next leg it doesn't fall.
 pub record IsConsistent (d : Database) (q : Request) (potential : State → ℕ) : Type 0 where
   pub links : (leg : ℕ) (l : Link) → 1 ≤ leg → leg ≤ length q.hops + 1 → LeadsOn d q l → MayEnter d q leg l.to
       → IsWithin (potential (record { leg = leg; router = l.from })) (potential (record { leg = leg; router = l.to })) l.metric
@@ -49,17 +51,20 @@ pub record IsConsistent (d : Database) (q : Request) (potential : State → ℕ)
 abbrev pub locals_cmp : List Link → List Link → Ordering
 locals_cmp v w = slice_cmp nat_cmp (locals_of v) (locals_of w)
 
--- by rank, then by local addresses: the order in which a search settles walks in legs
+-- The order in which a search settles walks: by cost, number of links and leg, then by the local
+-- addresses.
 abbrev pub state_cmp : ℕ × List Link → ℕ × List Link → Ordering
 state_cmp a b = ordering_then (rank_cmp a b) (locals_cmp a.1 b.1)
 
--- The start is settled, each settled walk reaches its state, and none that reaches it is before it.
+-- The start is settled. Each settled walk reaches its state, and no walk that reaches this state comes
+-- before it.
 pub record AreSettled (d : Database) (q : Request) (labels : Labels) : Type 0 where
   pub start : labels (start_of q) ≡ Some []
   pub reached : (s : State) (w : List Link) → labels s ≡ Some w → Reaches d q w s
   pub least : (s : State) (w x : List Link) → labels s ≡ Some w → Reaches d q x s → IsNoLater w x
 
--- one step leads from a settled walk to a walk whose state is open
+-- The walk `w` crosses to the state `t`: it continues a settled walk by one step, and `t` isn't
+-- settled.
 pub record Crosses (d : Database) (q : Request) (labels : Labels) (w : List Link) (t : State) : Type 0 where
   pub state : State
   pub front : List Link
@@ -67,14 +72,14 @@ pub record Crosses (d : Database) (q : Request) (labels : Labels) (w : List Link
   pub step : IsStep d q front state w t
   pub still_open : labels t ≡ None
 
--- Each router at which a route may turn from the leg is settled. So a walk to any later leg goes on
--- from a settled state.
+-- The leg is closed: each router at which a route may turn from this leg to the next one is settled. So
+-- every walk into a later leg continues a settled walk there.
 abbrev pub IsClosed : Database → Request → Labels → ℕ → Type 0
 IsClosed d q labels leg =
     1 ≤ leg → (router : ℕ) → MayTurn d q leg router → labels (record { leg = leg; router = router }) ≡ None → ⊥
 
--- no other walk that crosses into its state is before it, and no walk that crosses after the closed
--- legs ranks before it under a potential of states
+-- The walk is the next that may be settled. No other walk that crosses to its state comes before it. No
+-- walk that crosses to a leg after the closed legs ranks before it by cost plus potential.
 pub record IsFirstCrossing (d : Database) (q : Request) (labels : Labels) (w : List Link) (t : State) : Type 0 where
   pub crosses : Crosses d q labels w t
   pub first_here : (x : List Link) → Crosses d q labels x t → IsNoLater w x
@@ -86,7 +91,7 @@ pub record IsFirstCrossing (d : Database) (q : Request) (labels : Labels) (w : L
   pub first : (x : List Link) (u : State) → Crosses d q labels x u → closed < u.leg
       → RanksNoLater potential t w u x
 
--- nothing crosses after the closed legs
+-- No walk crosses to a state in a leg after the closed legs.
 pub record IsStuck (d : Database) (q : Request) (labels : Labels) : Type 0 where
   pub closed : ℕ
   pub is_closed : IsClosed d q labels closed

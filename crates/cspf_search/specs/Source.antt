@@ -1,4 +1,4 @@
--- Private words of the search from a heap: the node that it goes on from, and the links from there.
+-- Private: the node from which the search with a heap continues, and the links from this node.
 use Rattle.std.specs.Prelude.{◌≡◌, ℕ, ◌≤◌, Some, List, slice_get, slice_index_or}
 use Rattle.cspf_model.specs.Database.{Database}
 use Rattle.cspf_db.specs.Index.{links_from_index, IsReverseAt}
@@ -11,7 +11,7 @@ use Rattle.cspf_graph.specs.Lists.{IsIndexOf}
 use Rattle.cspf_graph.specs.Roles.{IsStateIndex}
 use Rattle.cspf_search.specs.Query.{IsQuery, CrossesBefore, CrossesToRow}
 
--- the node at an index, with its state after the closed legs and its rank
+-- The source is a settled node with its state and its rank. The leg of its state isn't closed.
 pub record IsSource (source : Source) : Type 0 where
   pub query : IsQuery source.query
   pub goal : IsStateIndex source.query.table.now source.query.request.now source.goal.at
@@ -20,20 +20,20 @@ pub record IsSource (source : Source) : Type 0 where
   pub node : IsNodeAt source.query.table.now source.query.request.now source.nodes.now source.at source.state
   pub rank : source.rank ≡ (slice_index_or source.nodes.now source.at nowhere).rank
 
--- a link from the router at an index
+-- The edge is a link from the router at the index `place`.
 pub record IsEdge (d : Database) (place : ℕ) (edge : Edge) : Type 0 where
   pub row : slice_get (links_from_index d place) edge.row ≡ Some edge.link.now
   pub end : IsIndexOf d edge.link.now.to edge.end
   pub reverse : IsReverseAt d edge.link.now edge.reverse
 
--- labels for what leads on from the nodes before a source
+-- The labels and keys are right once every node before the source is expanded.
 abbrev pub AreBefore : Source → List Label → List HeapKey → Type 0
 AreBefore source labels keys =
     AreLabels source.query.table.now source.query.request.now source.nodes.now (CrossesBefore source.query source.nodes.now source.at)
     source.goal labels keys
 
--- labels for what leads on from the nodes before a source, for the turn from it, and for its links
--- before a row
+-- The labels and keys are right once every node before the source is expanded, and the source's turn
+-- and its links before the row were offered.
 abbrev pub AreUpToRow : Source → ℕ → List Label → List HeapKey → Type 0
 AreUpToRow source row labels keys =
     AreLabels source.query.table.now source.query.request.now source.nodes.now

@@ -1,4 +1,4 @@
--- Private words of the search: the state of a walk in the legs of a request, and what leads on.
+-- Private: the state of a walk in the legs of a request, and the steps from one walk to the next.
 use Rattle.std.specs.Prelude.{ℕ, suc, ◌+◌, ◌≤◌, List, [], ◌∷◌, ◌++◌, length}
 use Rattle.cspf_model.specs.declared.link.Link.{Link}
 use Rattle.cspf_model.specs.declared.request.Request.{Request}
@@ -6,19 +6,20 @@ use Rattle.cspf_model.specs.Database.{Database}
 use Rattle.cspf_model.specs.Admissible.{IsAdmissible, MayLeave}
 use Rattle.cspf_graph.specs.Roles.{MayBeLeft, MayEnter, MayTurn}
 
--- the state of a walk: a leg of the request, and a router
+-- The state of a walk: the leg of the request and the router that the walk has reached.
 pub record State : Type 0 where
   pub leg : ℕ
   pub router : ℕ
 
--- an admissible link that some walk may take
+-- The link is admissible, and some walk may leave the router at which it begins.
 pub record LeadsOn (d : Database) (q : Request) (l : Link) : Type 0 where
   pub admissible : IsAdmissible d q l
   pub left : MayBeLeft d q l.from
 
--- A step from a walk and its state to another walk and its state. Where the walk may leave its
--- router, an admissible link to a router that it may enter in the leg is a step. At a target of the
--- leg to a hop, the turn to the next leg, without a link, is a step.
+-- A step from a walk and its state to another walk and its state. A step by a link: the walk may leave
+-- its router, the link is admissible, and a route may enter the link's end in this leg. A step by a
+-- turn: the router is a target of the leg to a hop, and the walk goes on in the next leg without a new
+-- link.
 pub data IsStep (d : Database) (q : Request) : List Link → State → List Link → State → Type 0 where
   by_link : {walk : List Link} {leg : ℕ} (l : Link) → IsAdmissible d q l → MayEnter d q leg l.to
       → MayLeave d l.from (length walk)
@@ -28,15 +29,15 @@ pub data IsStep (d : Database) (q : Request) : List Link → State → List Link
       → IsStep d q walk (record { leg = leg; router = router })
       walk (record { leg = suc leg; router = router })
 
--- the head-end, in the first leg
+-- The state at the start: the head-end in the first leg.
 abbrev pub start_of : Request → State
 start_of q = record { leg = 1; router = q.from }
 
--- the tail-end, in the leg after the last hop
+-- The state at the end: the tail-end in the leg after the last hop.
 abbrev pub end_state : Request → State
 end_state q = record { leg = length q.hops + 1; router = q.to }
 
--- a walk that steps lead to from the start, with its state
+-- Steps lead from the start to this walk and this state.
 pub data Reaches (d : Database) (q : Request) : List Link → State → Type 0 where
   starts : Reaches d q [] (start_of q)
   steps : {v w : List Link} {s t : State} → Reaches d q v s → IsStep d q v s w t → Reaches d q w t

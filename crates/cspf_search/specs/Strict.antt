@@ -1,4 +1,4 @@
--- Private words of the search: strict legs that no route can pass.
+-- Private: strict legs that no route can pass.
 use Rattle.std.specs.Prelude.{◌≡◌, ℕ, ◌+◌, ◌<◌, length, slice_get}
 use Rattle.cspf_model.specs.declared.link.Link.{Link}
 use Rattle.cspf_model.specs.declared.request.Request.{Request}
@@ -9,13 +9,14 @@ use Rattle.cspf_search.specs.States.{LeadsOn}
 use Rattle.cspf_graph.specs.Roles.{MayTurn}
 use Rattle.cspf_graph.specs.Lists.{router_at}
 
--- a route at the router, in the leg to a hop, may turn to the next leg neither there nor after one
--- link
+-- In the leg to a hop, a route at this router can't turn to the next leg, neither here nor after one
+-- link.
 pub record IsApart (d : Database) (q : Request) (leg router : ℕ) : Type 0 where
   pub turns : MayTurn d q (leg + 1) router → ⊥
   pub links : (l : Link) → LeadsOn d q l → l.from ≡ router → MayTurn d q (leg + 1) l.to → ⊥
 
--- the leg to a hop is strict, and each router at which it begins is such a router
+-- No route can pass the leg to a hop: the leg is strict, and `IsApart` holds of each router at which it
+-- begins.
 pub record IsBroken (d : Database) (q : Request) (leg : ℕ) : Type 0 where
   pub hop : leg < length q.hops
   pub strict : IsLoose (slice_get q.hops leg) → ⊥

@@ -1,5 +1,4 @@
--- Private words of the search: a tree of lower bounds, which requests with one tail-end and the same
--- affinities share.
+-- Private: trees of lower bounds. Requests with the same tail-end and the same affinities share a tree.
 use Rattle.std.specs.Prelude.{◌≡◌, ℕ, ◌+◌, ◌≤◌, ◌⊎◌, min, nat_lt, if◌then◌else◌}
 use Rattle.cspf_model.specs.declared.link.Link.{Link}
 use Rattle.cspf_model.specs.declared.request.Request.{Request}
@@ -10,7 +9,7 @@ use Rattle.cspf_graph.specs.Lists.{IsIndexOf}
 use Rattle.cspf_search.specs.Bounds.{bound_at}
 use Rattle.cspf_search.specs.Settled.{IsWithin}
 
--- The requests have one tail-end and the same affinities. Their ids, head-ends, setup priorities,
+-- The requests have the same tail-end and the same affinities. Their ids, head-ends, setup priorities,
 -- bandwidths and hops may differ.
 pub record ShareTrees (q r : Request) : Type 0 where
   pub to : r.to ≡ q.to
@@ -18,32 +17,35 @@ pub record ShareTrees (q r : Request) : Type 0 where
   pub include_any : r.include_any ≡ q.include_any
   pub include_all : r.include_all ≡ q.include_all
 
--- The link is one of the database, which has its reverse, and it passes the affinities of the request.
--- So the request may use it where it asks for no bandwidth.
+-- The link and its reverse are in the database, and the link passes the affinities of the request. So
+-- the link is admissible for the same request without bandwidth.
 pub record IsInClass (d : Database) (q : Request) (l : Link) : Type 0 where
   pub link : IsLinkOf d l
   pub reverse : HasReverse d l
   pub affinity : HasAffinity q l
 
--- A way to the tail-end may lead over the router or end there: it has transit, or it is the tail-end.
+-- A way to the tail-end may lead over the router or end there: the router has transit, or it is the
+-- tail-end.
 abbrev pub MayLeadOver : Database → Request → ℕ → Type 0
 MayLeadOver d q router = HasTransit d router ⊎ (router ≡ q.to)
 
--- the bound that a tree has for the router at an index
+-- The bound that the tree gives the router at the index `place`.
 abbrev pub tree_bound : Tree → ℕ → ℕ
 tree_bound tree place = min (bound_at tree.near.items place) tree.edge
 
--- the least number of links that a tree has for the router at an index, which is 0 where the edge is the
--- bound
+-- The number of links that the tree gives the router at the index `place`. It is 0 if the router's
+-- bound is the edge.
 abbrev pub tree_links : Tree → ℕ → ℕ
 tree_links tree place = if nat_lt (bound_at tree.near.items place) tree.edge then bound_at tree.links.items place else 0
 
--- A tree for the tail-end and the affinities of a request, in a database. No link in the class to a
--- router that a way may lead over lowers the bound by more than its metric, or from `NO_WAY` to a bound
--- that says that there is a way. Where it lowers the bound by just its metric, it lowers the number of
--- links by no more than one. At the tail-end both are 0. So the bound of a router is no more than the cost
--- of any way from there to the tail-end, and `NO_WAY` only where there is none. A way that costs just the
--- bound has at least that number of links.
+-- A tree for the tail-end and the affinities of a request in a database. Take a link in the request's
+-- class whose end a way may lead over. From its router to its end, the bound falls at most by its
+-- metric. If the bound at its end isn't `NO_WAY`, the bound at its router isn't `NO_WAY` either. If the
+-- bound falls by exactly the metric, the number of links falls at most by one. At the tail-end the
+-- bound and the number of links are 0.
+-- So the bound of a router is at most the cost of any way from there to the tail-end, and it is
+-- `NO_WAY` only if there is no way. A way that costs exactly the bound has at least this number of
+-- links.
 pub record IsTree (d : Database) (q : Request) (tree : Tree) : Type 0 where
   pub links : (u w : ℕ) (l : Link) → IsInClass d q l → MayLeadOver d q l.to → IsIndexOf d l.from u → IsIndexOf d l.to w
       → IsWithin (tree_bound tree u) (tree_bound tree w) l.metric
@@ -52,6 +54,6 @@ pub record IsTree (d : Database) (q : Request) (tree : Tree) : Type 0 where
       → tree_bound tree u ≡ tree_bound tree w + l.metric → tree_links tree u ≤ tree_links tree w + 1
   pub end_links : (place : ℕ) → IsIndexOf d q.to place → tree_links tree place ≡ 0
 
--- Law: a tree is one for each request with the same tail-end and the same affinities.
+-- Law: requests with the same tail-end and the same affinities share a tree.
 abbrev pub TreesAreShared : Type 0
 TreesAreShared = (d : Database) (q r : Request) (tree : Tree) → ShareTrees q r → IsTree d q tree → IsTree d r tree

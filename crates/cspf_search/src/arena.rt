@@ -1,5 +1,5 @@
-//! The settled walks of a search. Each node has the last link of its walk and the index of the
-//! node before it, so no walk is copied.
+//! The settled walks of a search. A node keeps the last link of its walk and the index of the node
+//! before that link, so no walk is copied.
 
 ghost use Rattle.cspf_search.specs.declared.limits.TheConstants.{COST_WEIGHT};
 ghost use Rattle.std.specs.Prelude.{◌≡◌, ◌-◌, ◌/◌, ◌%◌, ◌<◌, IfOk, length};
@@ -14,23 +14,23 @@ use cspf_model::Link;
 use std::alloc::{AllocError, Global};
 use std::cmp::Ordering;
 
-/// A walk that the search has settled at its state: its last link, and the node of the walk before
-/// that link. It has 24 bytes.
+/// A walk that the search has settled at its state: the walk's last link, and the node before that
+/// link. A node has 24 bytes.
 #[derive(Drop)]
 pub(crate) struct Node<'a> {
-    /// The rank of the walk: its cost and its number of links as one number above 0.
+    /// The rank of the walk: its cost times `COST_WEIGHT`, plus its number of links, plus 1.
     pub(crate) rank: u64,
-    /// The last link. A walk of no links has none.
+    /// The last link of the walk. A walk without links has none.
     pub(crate) by: Last<'a>,
     /// The router that the walk has reached.
     pub(crate) router: Addr,
-    /// The index of the node whose walk is this one without its last link.
+    /// The index of the node before the last link.
     pub(crate) parent: u16,
-    /// The leg of the request that the walk has reached, from 1.
+    /// The leg of the request that the walk has reached. The first leg is leg 1.
     pub(crate) leg: u16,
 }
 
-/// The number of links in a rank.
+/// The number of links of a walk of this rank.
 fn links_in(rank: u64) -> usize
     requires { 0 < rank }
     ensures { result ≡ (rank - 1) % COST_WEIGHT }
@@ -38,7 +38,7 @@ fn links_in(rank: u64) -> usize
     ((rank - 1) % COST_WEIGHT) as usize
 }
 
-/// The number of links of the walk of the node at an index.
+/// The number of links of the walk of the node `at`.
 pub(crate) fn links_at(nodes: &[Node<'_>], at: usize) -> usize
     requires arena { AreNodes nodes.now }
     requires within { at < length nodes.now }
@@ -47,7 +47,7 @@ pub(crate) fn links_at(nodes: &[Node<'_>], at: usize) -> usize
     links_in(nodes[at].rank)
 }
 
-/// The cost of the walk of the node at an index.
+/// The cost of the walk of the node `at`.
 pub(crate) fn cost_at(nodes: &[Node<'_>], at: usize) -> u64
     requires arena { AreNodes nodes.now }
     requires within { at < length nodes.now }
@@ -56,14 +56,14 @@ pub(crate) fn cost_at(nodes: &[Node<'_>], at: usize) -> u64
     (nodes[at].rank - 1) / COST_WEIGHT
 }
 
-/// The index of the node at a router in a leg, if there is one.
+/// The index of the node of a router in a leg, if that node is settled.
 pub(crate) fn index_of(nodes: &[Node<'_>], leg: usize, router: Addr) -> Option<usize>
     ensures { result ≡ index_of nodes.now (record { leg = leg; router = router }) }
 {
     nodes.iter().position(|node| usize::from(node.leg) == leg && node.router == router)
 }
 
-/// The links of the walk of the node at an index, in order.
+/// The links of the walk of the node `at`, in order.
 pub(crate) fn links_to(
     alloc: Global,
     nodes: &[Node<'_>],
@@ -84,7 +84,7 @@ pub(crate) fn links_to(
 }
 
 /// Compares the local addresses of two walks with the same number of links, from the first link on.
-/// A common prefix isn't looked at.
+/// The comparison goes back from the last links, and stops where both walks have the same parent.
 pub(crate) fn locals<'a>(nodes: &[Node<'a>], a: &Node<'a>, b: &Node<'a>) -> Ordering
     requires arena { AreNodes nodes.now }
     requires first { IsNext nodes.now a.now }

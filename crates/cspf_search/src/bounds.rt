@@ -1,5 +1,5 @@
-//! Lower bounds of the cost to go. A search against the direction of the links computes them, from
-//! the last leg back to the first.
+//! Lower bounds of the cost from each state to the tail-end. A backward search, against the
+//! direction of the links, computes them from the last leg to the first.
 
 ghost use Rattle.std.specs.Prelude.{◌≡◌, ◌≢◌, ◌+◌, ◌-◌, ◌*◌, ◌<◌, ◌≤◌, ◌⊎◌, ◌↔◌, ℕ, min, true, false, IsTrue, IfOk, IfSome, OnOk, length, slice_index, slice_index_or, All, Contains};
 ghost use Rattle.cspf_search.specs.Query.{IsQuery};
@@ -25,11 +25,14 @@ use std::cmp::Reverse;
 /// How many routers the backward search settles in the last leg at most.
 const RING: usize = 24;
 
-/// How many routers it settles in a leg to a hop at most. More is searched before such a leg ends.
+/// How many routers the backward search settles at most in a leg to a hop. This limit is higher
+/// than `RING`, because the search from the head-end looks at more routers before such a leg is
+/// closed.
 const WIDE: usize = 64;
 
-/// Lowers the bound of the router at an index, which the link at another index arrives from. It
-/// does so only if there is such a link, the request admits it, and a walk may leave that router.
+/// Lowers the bound of the router `from`, if its link to a router with the bound `base` makes the
+/// way shorter. `reverse` is the index of that link, or `NO_LINK`. The bound stays if there is no
+/// link, the request doesn't admit it, or no walk may leave the router `from`.
 fn pass(
     query: Query<'_>,
     from: u16,
@@ -59,8 +62,8 @@ fn pass(
     ring.lower(from, ahead)
 }
 
-/// Lowers the bounds of the routers that links arrive from at the router at an index, which has
-/// this bound. A link that may be used is the reverse of one from there.
+/// Lowers the bound of each router with a link that ends at the router `to`. The bound of `to` is
+/// `base`. The links that end at `to` are the reverses of the links from there.
 fn walk(query: Query<'_>, to: usize, base: u32, ring: &mut Ring) -> Result<(), AllocError>
     requires query { IsQuery query }
     ensures falls { OnOk result (Falls ring.old ring.new) }
@@ -78,8 +81,8 @@ fn walk(query: Query<'_>, to: usize, base: u32, ring: &mut Ring) -> Result<(), A
     Ok(())
 }
 
-/// Looks at all links that arrive at the router at an index, unless no link may lead a route there in
-/// the leg.
+/// Looks at all links that arrive at the router `to`, unless no link may lead a route there in the
+/// leg.
 fn take(query: Query<'_>, leg_index: usize, to: usize, ring: &mut Ring) -> Result<(), AllocError>
     requires query { IsQuery query }
     requires leg { leg_index ≤ length query.request.now.hops }
@@ -101,8 +104,8 @@ fn take(query: Query<'_>, leg_index: usize, to: usize, ring: &mut Ring) -> Resul
     Ok(())
 }
 
-/// Settles routers that wait in a leg, nearest first: at most this many, and only those with bounds
-/// less than this.
+/// Settles waiting routers in a leg, nearest first. It settles at most `most` routers, and only
+/// those with bounds below `top`.
 fn grow(
     query: Query<'_>,
     leg_index: usize,
@@ -129,7 +132,7 @@ fn grow(
     Ok(())
 }
 
-/// The bound of the router at an index in the next leg.
+/// The bound of the router `place` in the next leg.
 fn bound_ahead(ahead: &[u32], place: usize) -> u32
     ensures { result ≡ bound_at ahead.now place }
 {
@@ -139,8 +142,8 @@ fn bound_ahead(ahead: &[u32], place: usize) -> u32
     }
 }
 
-/// Whether there is no way from any target of the leg to the hop at an index, by their bounds in the
-/// next leg.
+/// Whether no target of the leg to a hop has a way to the tail-end, by the bounds of the next leg.
+/// `leg_index` is the index of the hop.
 fn is_dead_end(query: Query<'_>, leg_index: usize, ahead: &[u32]) -> bool
     requires query { IsQuery query }
     ensures { result ≡ true
@@ -159,19 +162,19 @@ fn is_dead_end(query: Query<'_>, leg_index: usize, ahead: &[u32]) -> bool
     true
 }
 
-/// The greater of two bounds; `top` where the other is `NO_WAY`.
+/// The greater of two bounds. If `bound` is `NO_WAY`, it is `top`.
 fn farther(top: u32, bound: u32) -> u32 {
     if bound < NO_WAY { bound.max(top) } else { top }
 }
 
-/// The bound from which on looking further is of no use. Where more targets wait than routers are
-/// settled, it is the bound of the farthest one.
+/// The bound at which the backward search may stop. If more than `WIDE` targets wait, it is the
+/// bound of the farthest target.
 fn far_enough(waiting: usize, farthest: u32) -> u32 {
     if waiting > WIDE { farthest } else { NO_WAY }
 }
 
-/// Begins the leg to the hop at an index. No router is done. The targets that have a way wait, each
-/// with its bound in the next leg. Returns the bound from which on looking further is of no use.
+/// Begins the leg to the hop at `leg_index`. No router is done. Each target that has a way waits
+/// with its bound in the next leg. Returns the bound at which the backward search may stop.
 fn begin(
     query: Query<'_>,
     leg_index: usize,
@@ -198,8 +201,8 @@ fn begin(
     Ok(far_enough(ring.heap.len(), top))
 }
 
-/// Begins the leg after the last hop: no router is done, and the tail-end, which is the router at
-/// an index, waits with the bound 0.
+/// Begins the leg after the last hop. No router is done. The tail-end, whose index is `to`, waits
+/// with the bound 0.
 fn begin_last(to: usize, ring: &mut Ring) -> Result<(), AllocError>
     requires { to < MOST_ROUTERS }
     ensures none { OnOk result ((w : ℕ) → is_done ring.new w ≡ false) }
@@ -212,7 +215,7 @@ fn begin_last(to: usize, ring: &mut Ring) -> Result<(), AllocError>
 }
 
 /// Searches back from the targets of a leg. `ahead` has their bounds in the next leg, and is empty
-/// in the last leg. The tail-end is the router at an index.
+/// in the last leg. `to` is the index of the tail-end.
 fn search_back(
     query: Query<'_>,
     to: usize,
@@ -235,8 +238,9 @@ fn search_back(
     grow(query, leg_index, WIDE, top, ring)
 }
 
-/// Computes the bound of each router from a leg on, up to an edge, by the bounds of the next leg.
-/// The tail-end is the router at an index.
+/// Computes the bound of each router in a leg from the bounds of the next leg, and returns the
+/// edge. A router's bound is the lesser of its entry in `ring.near` and the edge. `to` is the index
+/// of the tail-end.
 fn leg_edge(
     query: Query<'_>,
     to: usize,
@@ -254,8 +258,8 @@ fn leg_edge(
     Ok(least_open(&ring.near, &ring.done, query.table.routers().len()))
 }
 
-/// Sets the bound of each router in a leg, up to its edge. The states of the leg begin at an index,
-/// one for each of the routers, which are counted.
+/// Sets the bound of each router in a leg: the lesser of its bound in `near` and the edge. `first`
+/// is the index of the leg's first state, and `count` the number of routers.
 fn set_leg(bounds: &mut [u32], first: usize, count: usize, near: &[u32], edge: u32)
     requires within { first + count ≤ length bounds.old }
     requires near { count ≤ length near.now }
@@ -269,7 +273,7 @@ fn set_leg(bounds: &mut [u32], first: usize, count: usize, near: &[u32], edge: u
     }
 }
 
-/// Sets the bounds before an index to `NO_WAY`.
+/// Sets the bounds of all states before the index `end` to `NO_WAY`.
 fn shut(bounds: &mut [u32], end: usize)
     requires within { end ≤ length bounds.old }
     ensures before { (i : ℕ) → i < end → bound_at bounds.new i ≡ NO_WAY }
@@ -280,8 +284,9 @@ fn shut(bounds: &mut [u32], end: usize)
     }
 }
 
-/// Sets the bound of each router in each of the first legs, from the last of them back to the
-/// first. It stops at a leg whose targets have no way. The tail-end is the router at an index.
+/// Sets the bound of each router in the first `legs` legs, from the last of these legs to the
+/// first. Stops at a leg whose targets have no way, and shuts it and all earlier legs. `to` is the
+/// index of the tail-end.
 fn set_legs(
     query: Query<'_>,
     to: usize,
@@ -311,7 +316,7 @@ fn set_legs(
     Ok(())
 }
 
-/// Sets the bound of each router in the last leg by a tree.
+/// Sets the bound of each router in the last leg from a tree.
 fn set_last_leg(query: Query<'_>, tree: &Tree, bounds: &mut [u32])
     requires query { IsQuery query }
     requires tree { IsTree query.table.now query.request.now tree.now }
@@ -330,8 +335,8 @@ fn set_last_leg(query: Query<'_>, tree: &Tree, bounds: &mut [u32])
     );
 }
 
-/// Sets the bound of each router in each leg, in the last leg by a tree if there is one. The
-/// tail-end is the router at an index.
+/// Sets the bound of each router in each leg. If there is a tree, it gives the bounds in the last
+/// leg. `to` is the index of the tail-end.
 fn set_all(
     alloc: Global,
     query: Query<'_>,
@@ -358,7 +363,8 @@ fn set_all(
     set_legs(query, to, query.legs - 1, &mut ring, bounds)
 }
 
-/// Sets the bounds of some routers in a leg, whose states begin at an index, to `NO_WAY`.
+/// Sets the bounds of the routers `places` in a leg to `NO_WAY`. `first` is the index of the leg's
+/// first state.
 fn shut_at(bounds: &mut [u32], first: usize, places: &[u16])
     requires within { All (λ place. first + place < length bounds.old) places.now }
     ensures shut { (p : ℕ) → Contains places.now p → bound_at bounds.new (first + p) ≡ NO_WAY }
@@ -370,9 +376,9 @@ fn shut_at(bounds: &mut [u32], first: usize, places: &[u16])
     }
 }
 
-/// Looks for a strict leg that no route can pass. If there is one, sets the bounds of its start
-/// routers and of all legs before it to `NO_WAY`. Returns whether there is one. The head-end is the
-/// router at an index.
+/// Looks for a strict leg that no route can pass, and returns whether there is such a leg. If so,
+/// sets the bounds of its start routers and of all earlier legs to `NO_WAY`. `from` is the index of
+/// the head-end.
 fn shut_broken(query: Query<'_>, from: usize, bounds: &mut [u32]) -> bool
     requires query { IsQuery query }
     requires from { IsIndexOf query.table.now query.request.now.from from }
@@ -391,9 +397,9 @@ fn shut_broken(query: Query<'_>, from: usize, bounds: &mut [u32]) -> bool
     true
 }
 
-/// For each state a lower bound of the cost from it to the tail-end. The bound is close to the cost
-/// near the targets of the state's leg, or in the whole last leg where there is a tree. The head-end
-/// and the tail-end are the routers at these indexes.
+/// For each state, a lower bound of the cost from there to the tail-end. The bound is close to the
+/// cost near the targets of the state's leg, and in the whole last leg if there is a tree. `from`
+/// and `to` are the indexes of the head-end and the tail-end.
 pub(crate) fn bounds(
     alloc: Global,
     query: Query<'_>,

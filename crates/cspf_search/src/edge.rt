@@ -4,24 +4,24 @@ ghost use Rattle.std.specs.Prelude.{◌≡◌, ◌*◌, ◌^◌, ◌<◌};
 use crate::limits::COST_WEIGHT;
 use cspf_model::Link;
 
-/// A link from a router, with its row among the links from there, and the index of the router that
-/// it runs to.
+/// A link, with its index among the links from the same router, the index of its reverse, and the
+/// index of the router that it leads to.
 #[derive(Clone, Copy)]
 pub(crate) struct Edge<'a> {
-    /// The index of the link among those from its router.
+    /// The index of the link among the links from the same router.
     pub(crate) row: usize,
     /// The link.
     pub(crate) link: &'a Link,
-    /// Its metric.
+    /// The link's metric.
     pub(crate) metric: u32,
-    /// The index of the router that it runs to, in the list of routers.
+    /// The index of the router that the link leads to, in the list of routers.
     pub(crate) end: usize,
-    /// The index of its reverse among the table's links, or `NO_LINK`.
+    /// The index of the link's reverse among the table's links, or `NO_LINK`.
     pub(crate) reverse: u16,
     ghost same: { metric ≡ link.now.metric },
 }
 
-/// What the metric of a link adds to the rank of a walk.
+/// How much a link's metric adds to the rank of a walk.
 pub(crate) fn weight(link: &Link) -> u64
     ensures value { result ≡ link.now.metric * COST_WEIGHT }
     ensures small { result < 2 ^ 46 }

@@ -6,8 +6,8 @@ use crate::labels::Label;
 use crate::query::Query;
 use cspf_model::MOST_ROUTERS;
 
-/// Whether each target of the leg to a hop that a route may visit is settled. The leg is that of
-/// the state at an index.
+/// Whether all targets that a route may visit are settled in the leg of the state `at`. In the last
+/// leg the result is `false`, because it leads to no hop.
 fn are_settled(query: Query<'_>, labels: &[Label], at: usize) -> bool
     requires query { IsQuery query }
     requires many { length labels.now ≡ length query.roles.now }
@@ -27,8 +27,8 @@ fn are_settled(query: Query<'_>, labels: &[Label], at: usize) -> bool
     true
 }
 
-/// The floor once the state at an index is settled. It is right after the leg of the state if each
-/// target of that leg that a route may visit is settled.
+/// The floor after the state `at` is settled. If all targets of the state's leg that a route may
+/// visit are now settled, the floor is the first index of the next leg. Otherwise the floor stays.
 pub(crate) fn raised(query: Query<'_>, labels: &[Label], floor: usize, at: usize) -> usize
     requires query { IsQuery query }
     requires within { at < length query.roles.now }

@@ -9,16 +9,16 @@ use crate::arena::Node;
 use cspf_db::Table;
 use cspf_model::{Link, MOST_ROUTERS};
 
-/// The forward star of a settled node: its state, and the links from its router.
+/// The forward star of a settled node: the node's state, and the links from its router.
 #[derive(Clone, Copy)]
 pub(crate) struct ForwardStar<'a> {
-    /// The index of its state.
+    /// The index of the node's state.
     pub(crate) state: usize,
-    /// The links from its router.
+    /// The links from the node's router.
     pub(crate) links: &'a [Link],
-    /// For each of them the index of the router that it runs to, in the list of routers.
+    /// For each link, the index of the router that it leads to, in the list of routers.
     pub(crate) ends: &'a [u16],
-    /// For each of them the index of its reverse among the table's links, or `NO_LINK`.
+    /// For each link, the index of its reverse among the table's links, or `NO_LINK`.
     pub(crate) reverses: &'a [u16],
 }
 

@@ -1,4 +1,4 @@
-//! One step of the search with a heap: the states that a settled node leads to are offered labels.
+//! One step of the search with a heap. Each state that a settled node leads to is offered a label.
 
 ghost use Rattle.cspf_model.specs.declared.limits.TheConstants.{MOST_LINKS};
 ghost use Rattle.std.specs.Prelude.{◌≡◌, ◌+◌, ◌*◌, ◌%◌, ◌<◌, ◌≤◌, ◌⊎◌, Some, length, slice_get, slice_index_or, OnOk};
@@ -26,27 +26,27 @@ use std::alloc::{AllocError, Global};
 use std::cmp::Ordering;
 use std::collections::BinaryHeap;
 
-/// The row of a label that a turn to the next leg leads to.
+/// The row of a label whose walk ends with a turn to the next leg.
 const TURN: u16 = u16::MAX;
 
-/// A settled node that the search goes on from.
+/// A settled node that the search continues from.
 #[derive(Clone, Copy)]
 struct Source<'a> {
     query: Query<'a>,
     goal: Goal<'a>,
     /// The settled nodes.
     nodes: &'a [Node<'a>],
-    /// The index of this one among them.
+    /// The index of this node among the settled nodes.
     at: usize,
-    /// The index of its state.
+    /// The index of the node's state.
     state: usize,
-    /// Its rank.
+    /// The rank of the node's walk.
     rank: u64,
 }
 
-/// Compares the local addresses of the walks of two labels of one rank, from the first link on.
-/// From one node their last links decide. Only where one of them is a turn to the next leg are
-/// their nodes made.
+/// Compares the local addresses of the walks of two labels of the same rank, from the first link
+/// on. If both walks continue from the same node, their last links decide. The labels' nodes are
+/// only made if one of the labels is a turn to the next leg.
 fn compare_tied<'a>(table: &'a Table, nodes: &[Node<'a>], a: &Label, b: &Label) -> Ordering
     requires arena { AreNodes nodes.now }
     requires offered { IsOffer table.now nodes.now b.now }
@@ -64,8 +64,9 @@ fn compare_tied<'a>(table: &'a Table, nodes: &[Node<'a>], a: &Label, b: &Label) 
     locals(nodes, x, y).then(l.local.cmp(&m.local))
 }
 
-/// Gives the state at an index this label, and has it wait with this key. Where the label of the
-/// state has the same rank, it waits already, and the first of the two labels stays.
+/// Offers a label to the state `index`. A label of lower rank replaces the old one, and its key
+/// goes into the heap. Of two labels of the same rank the first by local addresses is kept, and the
+/// state's key is already in the heap.
 fn offer<'a>(
     table: &'a Table,
     nodes: &[Node<'a>],
@@ -90,7 +91,7 @@ fn offer<'a>(
     let old = labels[index];
     if label.rank == old.rank {
         if compare_tied(table, nodes, &old, &label).is_gt() {
-            // The key that the state has waits already.
+            // The heap already has this key of the state.
             labels[index] = label;
         }
         return Ok(());
@@ -98,7 +99,7 @@ fn offer<'a>(
     put(labels, heap, index, label, key)
 }
 
-/// Offers a label to the state that the turn to the next leg leads to.
+/// Offers a label to the state that the source's turn to the next leg leads to.
 fn offer_turn(
     source: Source<'_>,
     labels: &mut [Label],
@@ -137,7 +138,7 @@ fn offer_turn(
     offer(query.table, source.nodes, labels, heap, index, label, key)
 }
 
-/// Offers a label to the state that a link leads to from a node whose walk may leave its router.
+/// Offers a label to the state that a link leads to. The source's walk may leave its router.
 fn offer_link(
     source: Source<'_>,
     edge: Edge<'_>,
@@ -181,8 +182,9 @@ fn offer_link(
     offer(query.table, source.nodes, labels, heap, index, label, key)
 }
 
-/// Offers all that leads on from the node at an index: the turn to the next leg, and the links from its
-/// router, if its walk may leave that.
+/// Offers labels to the states that the node `at` leads to. The first is the state of its turn to
+/// the next leg. If its walk may leave its router, the others are the states at the ends of that
+/// router's links. `state` is the index of the node's state.
 pub(crate) fn expand(
     query: Query<'_>,
     nodes: &[Node<'_>],

@@ -4,19 +4,20 @@ ghost use Rattle.cspf_search.specs.Frontier.{lift};
 
 use crate::limits::COST_WEIGHT;
 
-/// The goal of a search, and how far the search is.
+/// The goal of a search, and how far the search has come.
 #[derive(Clone, Copy)]
 pub(crate) struct Goal<'a> {
-    /// The index of the goal's state: the tail-end, in the last of the legs.
+    /// The index of the goal's state: the tail-end in the last leg.
     pub(crate) at: usize,
-    /// The legs of the states below this index are closed: each target of the last of them is
-    /// settled, so their states need not be settled.
+    /// The states below this index are in closed legs. A leg is closed once all of its targets that
+    /// a route may visit are settled, and all earlier legs are then closed too. The other states of
+    /// closed legs needn't be settled.
     pub(crate) floor: usize,
-    /// For each state a lower bound of the cost from it to the tail-end.
+    /// For each state, a lower bound of the cost from there to the tail-end.
     pub(crate) bounds: &'a [u32],
 }
 
-/// How much the key of the state at an index is above its rank: its bound.
+/// How much the key of the state `at` exceeds its rank: the weight of its bound.
 pub(crate) fn lift(goal: Goal<'_>, at: usize) -> u64
     requires within { at < length goal.bounds.now }
     ensures value { result ≡ lift goal.entry at }

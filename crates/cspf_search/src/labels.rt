@@ -1,5 +1,4 @@
-//! The labels of states, the heap of the states that wait, and how the next state to settle is
-//! found.
+//! The labels of states, the heap of waiting states, and how the next state to settle is found.
 
 ghost use Rattle.cspf_model.specs.declared.limits.TheConstants.{MOST_ROUTERS};
 ghost use Rattle.std.specs.Prelude.{◌≡◌, ◌+◌, ◌*◌, ◌<◌, ◌≤◌, ◌↔◌, IsTrue, All, Contains, length, set, slice_get, option_map, IfSome, IfNone, OnOk};
@@ -19,21 +18,22 @@ use std::alloc::{AllocError, Global};
 use std::cmp::Reverse;
 use std::collections::BinaryHeap;
 
-/// The best way to a state that the search has seen.
+/// The best walk to a state that the search has seen so far.
 #[derive(Clone, Copy, Debug)]
 pub(crate) struct Label {
-    /// The cost and the number of links as one number above 0. A settled state has 0.
+    /// The walk's cost and number of links as one number above 0, as in `Node`. A settled state has
+    /// the rank 0.
     pub(crate) rank: u64,
-    /// The index of the node that it leads on from.
+    /// The index of the settled node that the walk continues from.
     pub(crate) parent: u16,
     /// The index of that node's router in the list of routers.
     pub(crate) place: u16,
-    /// The index of the link among the links from there. An index past them means the turn to the
-    /// next leg.
+    /// The index of the last link among the links of that router. An index past those links means
+    /// the turn to the next leg.
     pub(crate) row: u16,
 }
 
-/// The label of a state that nothing led to yet.
+/// The label of a state to which no walk is known yet.
 pub(crate) const OPEN: Label = Label {
     rank: u64::MAX,
     parent: 0,
@@ -49,10 +49,10 @@ pub(crate) const SETTLED: Label = Label {
     row: 0,
 };
 
-/// The key of a state that waits, which is its rank with its lift, and the index of the state.
+/// The key of a waiting state: its rank plus its lift, and then the index of the state.
 pub(crate) type Waiting = Reverse<(u64, u64)>;
 
-/// The last link of the walk that a label describes, unless it is a turn to the next leg.
+/// The last link of a label's walk, or none for a turn to the next leg.
 pub(crate) fn link_of<'a>(table: &'a Table, label: &Label) -> Option<&'a Link>
     requires { label.now.place < length (router_list table.now) }
     ensures { option_map (λ link. link.now) result ≡ slice_get (links_from_index table.now label.now.place) label.now.row }
@@ -88,7 +88,7 @@ pub(crate) fn node_of<'a>(table: &'a Table, nodes: &[Node<'a>], label: &Label) -
     }
 }
 
-/// Gives the state at an index this label, and has it wait with this key.
+/// Gives the state `at` this label, and puts its key into the heap.
 pub(crate) fn put(
     labels: &mut [Label],
     heap: &mut BinaryHeap<Waiting, Global>,
@@ -107,7 +107,8 @@ pub(crate) fn put(
     Ok(())
 }
 
-/// Whether a key is that of the state at an index, in a leg that isn't closed.
+/// Whether the state `at` is in a leg that isn't closed, and the key matches the present label of
+/// the state.
 fn is_live(goal: Goal<'_>, labels: &[Label], key: u64, at: usize) -> bool
     requires within { at < length labels.now }
     requires bounds { length goal.bounds.now ≡ length labels.now }
@@ -117,8 +118,8 @@ fn is_live(goal: Goal<'_>, labels: &[Label], key: u64, at: usize) -> bool
     at >= goal.floor && labels[at].rank == key - lift(goal, at)
 }
 
-/// The index of the state that waits with the least key, if one waits that isn't settled, in a leg
-/// that isn't closed.
+/// The index of the waiting state with the least key. Keys of states in closed legs are skipped,
+/// and so are keys that don't match the present label of their state.
 pub(crate) fn least(
     table: &Table,
     request: &Request,
@@ -145,7 +146,7 @@ pub(crate) fn least(
     None
 }
 
-/// Drops the keys of states in closed legs: those are the states below an index.
+/// Drops the keys of states in closed legs, which are the states below the index `floor`.
 pub(crate) fn drop_closed(
     alloc: Global,
     heap: &mut BinaryHeap<Waiting, Global>,

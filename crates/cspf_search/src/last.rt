@@ -1,11 +1,11 @@
-//! The last link of a walk, as the table has it, so that no link is copied.
+//! The last link of a walk, as a reference into the table, so that no link is copied.
 
 ghost use Rattle.std.specs.Prelude.{◌≡◌, option_map};
 
 use cspf_model::Link;
 use std::marker::Model;
 
-/// The last link of a walk. A walk of no links has none.
+/// The last link of a walk. A walk without links has none.
 #[derive(Drop)]
 pub(crate) struct Last<'a> {
     /// The link, among the table's links.
@@ -33,7 +33,7 @@ impl<'a> Last<'a> {
         self.link
     }
 
-    /// The same last link again.
+    /// The same last link once more.
     pub(crate) fn same(&self) -> Last<'a>
         ensures { result ≡ self.now }
     {

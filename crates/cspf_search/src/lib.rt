@@ -1,6 +1,7 @@
-//! The least route of a request in a table's database, which may begin and end at routers that are marked
-//! as without transit, but passes through none. `best`, which searches from a heap, `best_by_tree`, which
-//! does so by a tree that many requests share, and `best_by_rounds`, which searches round by round, meet
+//! The least route of a request in a table's database. A route may begin or end at a router that is
+//! marked as without transit, but it passes through no such router. Three functions compute it:
+//! `best` searches from a heap. `best_by_tree` searches from a heap too, with a tree that many
+//! requests share. `best_by_rounds` searches round by round. Each gives an answer that meets
 //! `IsBestAnswer` of `cspf_model`.
 #![tactic(auto)]
 

@@ -3,6 +3,8 @@ use cspf_graph::Role;
 use cspf_model::Request;
 
 /// A query: the request, the table, what a route may do at each state, and the targets of the legs.
+/// A state is a router in a leg. Its index is that of the router in the list of routers, plus
+/// `MOST_ROUTERS` for each earlier leg.
 #[derive(Clone, Copy)]
 pub(crate) struct Query<'a> {
     /// The table of the database.
@@ -11,8 +13,9 @@ pub(crate) struct Query<'a> {
     pub(crate) request: &'a Request,
     /// How many legs a route has.
     pub(crate) legs: usize,
-    /// For each state what a route may do there.
+    /// For each state, what a route may do there.
     pub(crate) roles: &'a [Role],
-    /// For each hop the targets of the leg to it, by their index in the list of routers.
+    /// For each hop, the targets of the leg to that hop. Each target is given by its index in the
+    /// list of routers.
     pub(crate) targets: &'a [Vec<u16>],
 }

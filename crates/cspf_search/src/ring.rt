@@ -1,4 +1,4 @@
-//! The state of the backward search in one leg. The bounds come from it.
+//! The state of the backward search in one leg, from which the bounds of the leg are taken.
 
 ghost use Rattle.std.specs.Prelude.{◌≡◌, ◌<◌, ◌≤◌, ℕ, false, IfSome, OnOk, length, set};
 ghost use Rattle.cspf_model.specs.declared.limits.TheConstants.{MOST_ROUTERS};
@@ -9,17 +9,17 @@ use std::alloc::{AllocError, Global};
 use std::cmp::Reverse;
 use std::collections::BinaryHeap;
 
-/// The bound of a router that waits, and its index in the list of routers.
+/// The bound of a waiting router, and its index in the list of routers.
 type WaitingRouter = Reverse<(u32, u16)>;
 
-/// The state of a backward search in a leg.
+/// The state of a backward search in one leg.
 #[derive(Drop)]
 pub(crate) struct Ring {
-    /// For each router the least bound of it that was found.
+    /// For each router, the least bound found so far.
     pub(crate) near: Vec<u32>,
-    /// For each router whether the links that arrive there were all looked at.
+    /// For each router, whether the search has looked at all links that arrive there.
     pub(crate) done: Vec<bool>,
-    /// The routers that wait.
+    /// The waiting routers.
     pub(crate) heap: BinaryHeap<WaitingRouter, Global>,
     ghost bounds: { length near.items ≡ MOST_ROUTERS },
     ghost marks: { length done.items ≡ MOST_ROUTERS },
@@ -28,7 +28,7 @@ pub(crate) struct Ring {
 impl Ring {
     ghost use Rattle.cspf_search.specs.Bounds.{Falls, bound_at, is_done};
 
-    /// A ring in which no router is done and none waits.
+    /// A ring in which no router is done and no router waits.
     pub(crate) fn new(alloc: Global) -> Result<Self, AllocError> {
         Ok(Ring {
             near: Vec::from_elem(alloc, 0u32, MOST_ROUTERS)?,
@@ -37,7 +37,7 @@ impl Ring {
         })
     }
 
-    /// Resets the ring: no router is done, and none waits.
+    /// Resets the ring: no router is done, and no router waits.
     pub(crate) fn clear(&mut self)
         ensures { (w : ℕ) → is_done self.new w ≡ false }
     {
@@ -46,7 +46,7 @@ impl Ring {
         self.heap.clear();
     }
 
-    /// Gives the router at an index this bound. It waits with the bound if there is a way from it.
+    /// Gives the router `at` this bound. The router waits, unless the bound is `NO_WAY`.
     pub(crate) fn begin_at(&mut self, at: u16, least: u32) -> Result<(), AllocError>
         requires within { at < MOST_ROUTERS }
         ensures bounds { OnOk result (self.new.near.items ≡ set self.old.near.items at least) }
@@ -59,7 +59,7 @@ impl Ring {
         Ok(())
     }
 
-    /// Lowers the bound of the router at an index, which then waits, if this is less.
+    /// Lowers the bound of the router `from` to `ahead`, if that is less. The router then waits.
     pub(crate) fn lower(&mut self, from: u16, ahead: u32) -> Result<(), AllocError>
         requires within { from < MOST_ROUTERS }
         ensures falls { OnOk result (Falls self.old self.new) }
@@ -75,7 +75,7 @@ impl Ring {
         Ok(())
     }
 
-    /// The index of the router that waits with the least bound, if one waits.
+    /// The waiting router with the least bound, by its index.
     pub(crate) fn nearest(&mut self) -> Option<usize>
         ensures within { IfSome result (λ at. at < MOST_ROUTERS) }
         ensures bounds { self.new.near ≡ self.old.near }

@@ -1,12 +1,12 @@
-//! The edge of a backward search: the least bound of the routers that it left out.
+//! The edge of a backward search: the least bound of the routers that it hasn't settled.
 
 ghost use Rattle.std.specs.Prelude.{◌≡◌, ◌<◌, ◌≤◌, ℕ, false, length, slice_index_or};
 ghost use Rattle.cspf_search.specs.Bounds.{bound_at};
 
 use crate::limits::NO_WAY;
 
-/// The least bound of those of the first `count` routers that aren't done; `NO_WAY` where all are
-/// done. It has the bound of each router, and whether it is done.
+/// The least bound among the first `count` routers that aren't done, or `NO_WAY` if all are done.
+/// `near` has the bound of each router, and `done` whether the router is done.
 pub(crate) fn least_open(near: &[u32], done: &[bool], count: usize) -> u32
     requires bounds { count ≤ length near.now }
     requires marks { count ≤ length done.now }

@@ -1,5 +1,6 @@
-//! One round of the plain search: the first node that a turn or a link leads to from any
-//! settled node. A node is looked at again only where what leads on from it may come first.
+//! One round of the search by rounds. It finds the first node that a turn or a link leads to from
+//! any settled node. A settled node is looked at again only if a node that it leads to may come
+//! first.
 
 ghost use Rattle.std.specs.Prelude.{◌≡◌, ◌⊎◌, ◌+◌, ◌-◌, ◌%◌, ◌<◌, ◌↔◌, true, Some, None, IsTrue, length, slice_get, slice_index_or};
 ghost use Rattle.std.specs.Option.{ForSome, IsSomeAnd};
@@ -24,8 +25,9 @@ use cspf_graph::{accepts, may_leave_at};
 use cspf_model::{Link, MOST_ROUTERS, Request};
 use std::cmp::Ordering;
 
-/// Compares two nodes: by the cost of their walks, then by the number of links, then by the leg,
-/// then by the local addresses from the first link on. Their ranks have the first two.
+/// Compares two nodes by the cost of their walks, then by the number of links, then by the leg,
+/// then by the local addresses from the first link on. The ranks of the nodes compare the cost and
+/// the number of links at once.
 fn compare<'a>(nodes: &[Node<'a>], a: &Node<'a>, b: &Node<'a>) -> Ordering
     requires arena { AreNodes nodes.now }
     requires first { IsNext nodes.now a.now }
@@ -40,7 +42,7 @@ fn compare<'a>(nodes: &[Node<'a>], a: &Node<'a>, b: &Node<'a>) -> Ordering
     locals(nodes, a, b)
 }
 
-/// Whether the best node ranks before any node of this rank.
+/// Whether there is a best node, and its rank is lower than `rank`.
 fn is_late(best: &Option<Node<'_>>, rank: u64) -> bool
     ensures { IsTrue result ↔ IsSomeAnd best.now (λ kept. kept.rank < rank) }
 {
@@ -50,7 +52,7 @@ fn is_late(best: &Option<Node<'_>>, rank: u64) -> bool
     }
 }
 
-/// Keeps a node in place of the best one, if it comes before that.
+/// Keeps the node as the best one, if it comes before the best one so far.
 fn keep<'a>(nodes: &[Node<'a>], best: &mut Option<Node<'a>>, node: Node<'a>)
     requires arena { AreNodes nodes.now }
     requires first { ForSome best.old (IsNext nodes.now) }
@@ -65,34 +67,35 @@ fn keep<'a>(nodes: &[Node<'a>], best: &mut Option<Node<'a>>, node: Node<'a>)
     *best = Some(node);
 }
 
-/// The state at the start of a round.
+/// What a round starts from: the query and the settled nodes.
 #[derive(Clone, Copy)]
 pub(crate) struct Round<'a, 'b> {
     pub(crate) query: Query<'b>,
     /// The settled nodes.
     pub(crate) nodes: &'a [Node<'b>],
-    /// The forward star of each.
+    /// The forward star of each settled node.
     pub(crate) stars: &'a [ForwardStar<'b>],
-    /// For each state whether it has a node.
+    /// For each state, whether it is settled.
     pub(crate) marks: &'a [bool],
 }
 
-/// A settled node that a round looks on from.
+/// A settled node from which a round looks for the next node.
 #[derive(Clone, Copy)]
 struct Look<'a, 'b> {
     query: Query<'b>,
     /// The settled nodes.
     nodes: &'a [Node<'b>],
-    /// For each state whether it has a node.
+    /// For each state, whether it is settled.
     marks: &'a [bool],
-    /// The index of this node among them.
+    /// The index of this node among the settled nodes.
     at: usize,
-    /// Its forward star.
+    /// The node's forward star.
     star: ForwardStar<'b>,
 }
 
-/// The node that the turn to the next leg leads to from this node. There has to be a next leg,
-/// nothing may be settled there, and this node has to be at a target of its leg.
+/// The node that this node's turn to the next leg leads to. There is no such node in the last leg,
+/// or if the router's state in the next leg is already settled. There is none either if the router
+/// isn't a target of this node's leg.
 fn look_at_turn<'b>(look: Look<'_, 'b>) -> Option<Node<'b>>
     requires look { IsLook look }
     ensures { IsFirst look.entry.nodes.now (LeadsToRow look.entry 0) result }
@@ -118,9 +121,9 @@ fn look_at_turn<'b>(look: Look<'_, 'b>) -> Option<Node<'b>>
     })
 }
 
-/// Keeps the node that a link leads to from this node, if it comes before the best. The request has
-/// to be able to use the link, and a route to enter the router where it ends. The walk may leave
-/// its router, and nothing is settled where the link ends.
+/// Keeps the node that the link leads to as the best one, if it comes before the best one so far.
+/// The request must admit the link, and a route must be allowed to enter the router at its end.
+/// This node's walk may leave its router, and the state at the link's end isn't settled.
 fn look_at_link<'b>(look: Look<'_, 'b>, edge: Edge<'b>, best: &mut Option<Node<'b>>)
     requires look { IsLook look }
     requires leaves { NodeMayLeave look.query.table.now look.nodes.now look.at look.star.state }
@@ -156,9 +159,9 @@ fn look_at_link<'b>(look: Look<'_, 'b>, edge: Edge<'b>, best: &mut Option<Node<'
     keep(nodes, best, node);
 }
 
-/// Keeps the node that the link in a row leads to from this node, if it comes before the best.
-/// Nothing may be settled there, the request has to be able to use the link, and a route to enter
-/// there. The walk may leave its router.
+/// Keeps the node that the link in a row leads to as the best one, if it comes before the best one
+/// so far. The state at the link's end must not be settled, and the request must admit the link. A
+/// route must be allowed to enter the router there. This node's walk may leave its router.
 fn look_at_row<'b>(look: Look<'_, 'b>, row: usize, best: &mut Option<Node<'b>>)
     requires look { IsLook look }
     requires leaves { NodeMayLeave look.query.table.now look.nodes.now look.at look.star.state }
@@ -183,7 +186,8 @@ fn look_at_row<'b>(look: Look<'_, 'b>, row: usize, best: &mut Option<Node<'b>>)
     look_at_link(look, edge, best);
 }
 
-/// The first node that the turn leads to from this node, or a link if the walk may leave its router.
+/// The first node that this node leads to: by the turn to the next leg, or by a link if its walk
+/// may leave its router.
 fn look_from<'b>(look: Look<'_, 'b>) -> Option<Node<'b>>
     requires look { IsLook look }
     ensures { IsFirst look.entry.nodes.now
@@ -202,7 +206,7 @@ fn look_from<'b>(look: Look<'_, 'b>) -> Option<Node<'b>>
     best
 }
 
-/// The rank of the node, if there is one, and else more than any rank.
+/// The rank of the node, or a number above all ranks if there is no node.
 fn low_of(found: &Option<Node<'_>>) -> u64
     ensures { result ≡ low_of found.now }
 {
@@ -212,15 +216,16 @@ fn low_of(found: &Option<Node<'_>>) -> u64
     }
 }
 
-/// Whether all that leads on from a node comes after the best one, where none of it ranks below the
-/// number.
+/// Whether a settled node can be skipped, because it leads to no node, or only to nodes after the
+/// best one. `low` is a lower bound of the ranks of the nodes that it leads to.
 fn is_passed(best: &Option<Node<'_>>, low: u64) -> bool
     ensures { result ≡ true → (low ≡ no_rank) ⊎ (low_of best.now < low) }
 {
     low == u64::MAX || low_of(best) < low
 }
 
-/// Keeps a node in place of the best one, if there is one and it comes before that.
+/// Keeps the found node as the best one, if there is a found node and it comes before the best one
+/// so far.
 fn keep_found<'a>(nodes: &[Node<'a>], best: &mut Option<Node<'a>>, found: Option<Node<'a>>)
     requires arena { AreNodes nodes.now }
     requires first { ForSome best.old (IsNext nodes.now) }
@@ -232,8 +237,8 @@ fn keep_found<'a>(nodes: &[Node<'a>], best: &mut Option<Node<'a>>, found: Option
     }
 }
 
-/// The first node that a turn or a link leads to from any node. For each node `lows` has a number
-/// below which nothing ranks that leads on from it, before and after.
+/// The first node that a turn or a link leads to from any settled node. For each settled node,
+/// `lows` has a lower bound of the ranks of the nodes that it leads to, before and after the call.
 pub(crate) fn first<'b>(round: Round<'_, 'b>, lows: &mut Vec<u64>) -> Option<Node<'b>>
     requires round { IsRound round }
     requires lows { AreLows round.query.table.now round.query.request.now round.nodes.now lows.old.items }

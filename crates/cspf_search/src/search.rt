@@ -1,5 +1,5 @@
-//! Both searches, `best` with a heap and `best_by_rounds` without one, and the outcome by the nodes
-//! that they settled.
+//! Both searches, `settled` by rounds and `reached` from a heap, and the outcome that follows from
+//! the nodes that they settle.
 
 ghost use Rattle.cspf_search.specs.Bounds.{bound_at};
 ghost use Rattle.cspf_model.specs.declared.limits.TheConstants.{MOST_ROUTE_LINKS};
@@ -40,7 +40,8 @@ use cspf_model::{MOST_ROUTERS, Outcome, Request, Route};
 use std::alloc::{AllocError, Global};
 use std::collections::BinaryHeap;
 
-/// The head-end alone in the first leg, which nothing leads to.
+/// The nodes at the start of a search: only the head-end in the first leg, with a walk without
+/// links.
 fn rooted<'a>(alloc: Global, request: &'a Request) -> Result<Vec<Node<'a>>, AllocError>
     ensures { IfOk result (λ nodes. nodes.items ≡ root_of request.now ∷ []) }
 {
@@ -56,8 +57,8 @@ fn rooted<'a>(alloc: Global, request: &'a Request) -> Result<Vec<Node<'a>>, Allo
     Ok(nodes)
 }
 
-/// The node to settle next, unless the tail-end is settled in the last of the legs or nothing leads
-/// on.
+/// The node to settle next. There is none if the tail-end is settled in the last leg, or if no link
+/// or turn leads to another state.
 fn next<'b>(round: Round<'_, 'b>, lows: &mut Vec<u64>) -> Option<Node<'b>>
     requires round { IsRound round }
     requires lows { AreLows round.query.table.now round.query.request.now round.nodes.now lows.old.items }
@@ -74,8 +75,8 @@ fn next<'b>(round: Round<'_, 'b>, lows: &mut Vec<u64>) -> Option<Node<'b>>
     first(round, lows)
 }
 
-/// The nodes that are settled when the tail-end is in the last of the legs, or when nothing leads
-/// on.
+/// All nodes that the search by rounds settles. It ends when the tail-end is settled in the last
+/// leg, or when no link or turn leads to another state.
 fn settled<'a>(alloc: Global, query: Query<'a>) -> Result<Vec<Node<'a>>, AllocError>
     requires query { IsQuery query }
     requires known { IsRouterOf query.table.now query.request.now.from }
@@ -105,7 +106,7 @@ fn settled<'a>(alloc: Global, query: Query<'a>) -> Result<Vec<Node<'a>>, AllocEr
     Ok(nodes)
 }
 
-/// The route along the walk of the node at an index.
+/// The route along the walk of the node `at`.
 fn route_to(alloc: Global, nodes: &[Node<'_>], at: usize) -> Result<Route, AllocError>
     requires arena { AreNodes nodes.now }
     requires within { at < length nodes.now }
@@ -118,7 +119,7 @@ fn route_to(alloc: Global, nodes: &[Node<'_>], at: usize) -> Result<Route, Alloc
     Ok(Route::new(links, cost_at(nodes, at)))
 }
 
-/// Whether the bounds say that there is no way from the state at an index.
+/// Whether the bounds rule out every way from the state `at` to the tail-end.
 fn is_shut(goal: Goal<'_>, at: usize) -> bool
     requires { at < length goal.bounds.now }
     ensures { result ≡ true → bound_at goal.entry.bounds.now at ≡ NO_WAY }
@@ -126,7 +127,8 @@ fn is_shut(goal: Goal<'_>, at: usize) -> bool
     goal.bounds[at] == NO_WAY
 }
 
-/// The floor once the state at an index is settled. Keys below it are dropped.
+/// The floor after the state `at` is settled. If the floor rises, the keys of states below it are
+/// dropped from the heap.
 fn close(
     alloc: Global,
     query: Query<'_>,
@@ -151,9 +153,9 @@ fn close(
     Ok(next)
 }
 
-/// As `settled`, from a heap. Where the bounds say that there is no way from the head-end, only
-/// that is settled. The head-end and the tail-end are given by their index in the list of routers.
-/// A tree has the bounds in the last leg.
+/// All nodes that the search from a heap settles. If the bounds rule out every way from the
+/// head-end, only the head-end is settled. `from` and `to` are the indexes of the head-end and the
+/// tail-end in the list of routers. A tree, if there is one, gives the bounds in the last leg.
 fn reached<'a>(
     alloc: Global,
     query: Query<'a>,
@@ -195,7 +197,7 @@ fn reached<'a>(
     Ok(nodes)
 }
 
-/// The outcome that the settled nodes give.
+/// The outcome that follows from the settled nodes.
 fn answer(alloc: Global, query: Query<'_>, nodes: &[Node<'_>]) -> Result<Outcome, AllocError>
     requires query { IsQuery query }
     requires ends { HasEnds query.table.now query.request.now }
@@ -209,8 +211,7 @@ fn answer(alloc: Global, query: Query<'_>, nodes: &[Node<'_>]) -> Result<Outcome
     Ok(Outcome::Route(route_to(alloc, nodes, at)?))
 }
 
-/// The nodes that one of both searches settles: by rounds, or from a heap, with a tree if there is
-/// one.
+/// All nodes that a search settles: by rounds, or else from a heap, with a tree if there is one.
 fn searched<'a>(
     alloc: Global,
     query: Query<'a>,
@@ -233,8 +234,8 @@ fn searched<'a>(
     }
 }
 
-/// The best answer to a request in the table's database, by one of both searches, with a tree if
-/// there is one. Where the tree gives the least route, nothing is searched.
+/// The best answer to a request in the table's database: by rounds, or else from a heap, with a
+/// tree if there is one. If the tree alone gives the least route, nothing is searched.
 fn best_by(
     alloc: Global,
     table: &Table,
@@ -268,10 +269,12 @@ fn best_by(
     answer(alloc, query, &nodes)
 }
 
-/// The best answer to a request in the table's database (RFC 2702 7): its head-end or its tail-end
-/// is unknown, or the route before all others, or there is none. A route is a walk of admissible
-/// links that passes through no router without transit (RFC 6987). The hops of the request cut it
-/// into legs (RFC 3209 4.3.3). The search settles routers in legs from a heap.
+/// The best answer to a request in the table's database (RFC 2702 7). The answer is `UnknownFrom`
+/// if the database doesn't have the head-end, and otherwise `UnknownTo` if it doesn't have the
+/// tail-end. Otherwise it is the route before all others, or `NoRoute` if there is no route. A
+/// route is a walk of admissible links that passes through no router without transit (RFC 6987).
+/// The hops of the request cut the route into legs (RFC 3209 4.3.3). A state is a router in a leg,
+/// and the search settles states from a heap.
 pub fn best(alloc: Global, table: &Table, request: &Request) -> Result<Outcome, AllocError>
     ensures { IfOk result (λ outcome.
         IsBestAnswer table.now request.now (answer_of outcome)) }
@@ -279,10 +282,10 @@ pub fn best(alloc: Global, table: &Table, request: &Request) -> Result<Outcome, 
     best_by(alloc, table, request, false, None)
 }
 
-/// The answer of `best`, by a tree for the request's tail-end and its affinities in the same
-/// database, which `Tree::grow` makes. Without hops, the bounds of the tree may give the least
-/// route alone, and then nothing is searched. Else they are the bounds in the last leg, so fewer
-/// routers are settled.
+/// The answer of `best`, computed with a tree. `Tree::grow` makes the tree for the request's
+/// tail-end and affinities in the same database. Without hops, the bounds of the tree may already
+/// give the least route, and then nothing is searched. Otherwise the search uses these bounds in
+/// the last leg, so it settles fewer routers.
 pub fn best_by_tree(
     alloc: Global,
     table: &Table,
@@ -296,8 +299,8 @@ pub fn best_by_tree(
     best_by(alloc, table, request, false, Some(tree))
 }
 
-/// The answer of `best`, by a slower and simpler search. Each round settles the first of all
-/// routers in legs that a settled one leads to.
+/// The answer of `best`, by a slower and simpler search. Each round settles the first of all states
+/// that a link or a turn leads to from a settled state.
 pub fn best_by_rounds(
     alloc: Global,
     table: &Table,

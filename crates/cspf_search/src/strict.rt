@@ -1,4 +1,4 @@
-//! Strict legs that no route can pass: where there is one, nothing is searched.
+//! Strict legs that no route can pass. If a request has such a leg, nothing is searched.
 
 ghost use Rattle.std.specs.Prelude.{◌≡◌, ◌<◌, true, false, IfSome, length};
 ghost use Rattle.cspf_db.specs.Index.{router_list};
@@ -11,8 +11,8 @@ use crate::query::Query;
 use cspf_graph::{admissible, is_loose, may_be_left};
 use cspf_model::MOST_ROUTERS;
 
-/// Whether a route at the router at an index, in the leg to a hop, may turn to the next leg there
-/// or after one link.
+/// Whether a route at the router `place` may turn to the next leg there, or after one link.
+/// `leg_index` is the index of the hop that the leg leads to.
 fn joins(query: Query<'_>, leg_index: usize, place: u16) -> bool
     requires query { IsQuery query }
     requires leg { leg_index < length query.request.now.hops }
@@ -39,8 +39,8 @@ fn joins(query: Query<'_>, leg_index: usize, place: u16) -> bool
     false
 }
 
-/// Whether the leg to a hop is strict and no route can pass it. The routers at which it begins are
-/// given by their indexes in the list of routers.
+/// Whether the leg to a hop is strict and no route can pass it. `starts` are the routers at which
+/// the leg begins, by their indexes in the list of routers.
 pub(crate) fn is_broken(query: Query<'_>, leg_index: usize, starts: &[u16]) -> bool
     requires query { IsQuery query }
     requires leg { leg_index < length query.request.now.hops }
@@ -58,9 +58,8 @@ pub(crate) fn is_broken(query: Query<'_>, leg_index: usize, starts: &[u16]) -> b
     true
 }
 
-/// The routers at which the leg to the hop at an index begins, by their indexes in the list of
-/// routers. The first leg begins at the head-end, and each other one at the targets of the leg
-/// before.
+/// The routers at which the leg to a hop begins, by their indexes in the list of routers. The first
+/// leg begins at the head-end, and each other leg at the targets of the leg before it.
 pub(crate) fn starts_of<'a>(query: Query<'a>, head: &'a [u16], leg_index: usize) -> &'a [u16]
     requires query { IsQuery query }
     requires head { AreTargetsOf query.table.now query.request.now 0 head.now }
@@ -74,8 +73,8 @@ pub(crate) fn starts_of<'a>(query: Query<'a>, head: &'a [u16], leg_index: usize)
     }
 }
 
-/// The first strict leg that no route can pass, by the index of its hop, if there is one. `head`
-/// has one item: the index of the head-end in the list of routers.
+/// The first strict leg that no route can pass, by the index of its hop. `head` has one item: the
+/// index of the head-end in the list of routers.
 pub(crate) fn first_broken(query: Query<'_>, head: &[u16]) -> Option<usize>
     requires query { IsQuery query }
     requires head { AreTargetsOf query.table.now query.request.now 0 head.now }

@@ -1,4 +1,4 @@
-//! Trees of lower bounds, which requests with one tail-end and the same affinities share.
+//! Trees of lower bounds. Requests with the same tail-end and the same affinities share a tree.
 
 ghost use Rattle.std.specs.Prelude.{◌≡◌, length};
 ghost use Rattle.cspf_model.specs.declared.limits.TheConstants.{MOST_ROUTERS};
@@ -11,16 +11,16 @@ use cspf_graph::listed;
 use cspf_model::{MOST_ROUTERS, Request};
 use std::alloc::{AllocError, Global};
 
-/// For each router a lower bound of the cost from there to one tail-end, along links that pass the
-/// same affinities, whatever bandwidth they have unreserved. Beside it stands a lower bound of the
-/// number of links of the ways that cost no more.
+/// For each router, a lower bound of the cost from there to one tail-end. It holds for ways over
+/// links that pass the affinities of the tree, whatever their unreserved bandwidth. For the ways
+/// that cost no more than this bound, the tree also has a lower bound of their number of links.
 #[derive(Drop)]
 pub struct Tree {
-    /// For each router the least cost that was found, or `NO_WAY`.
+    /// For each router, the least cost found, or `NO_WAY`.
     pub(crate) near: Vec<u32>,
-    /// For each router the least number of links that was found with that cost.
+    /// For each router, the least number of links found for a way of this cost.
     links: Vec<u16>,
-    /// The least cost of a router that was left out. No bound is above it.
+    /// The least cost of the routers that the search hasn't settled. No bound exceeds it.
     pub(crate) edge: u32,
     ghost many: { length near.items ≡ MOST_ROUTERS },
     ghost counts: { length links.items ≡ MOST_ROUTERS },
@@ -32,8 +32,8 @@ impl Tree {
     ghost use Rattle.cspf_model.specs.Database.{IsRouterOf};
     ghost use Rattle.cspf_search.specs.Trees.{IsTree, ShareTrees, tree_bound, tree_links};
 
-    /// The tree for the tail-end and the affinities of a request, unless no link begins or ends at
-    /// the tail-end. It is the same for each request that shares them.
+    /// The tree for the tail-end and the affinities of a request, or none if no link begins or ends
+    /// at the tail-end. All requests with this tail-end and these affinities share the tree.
     pub fn grow(alloc: Global, table: &Table, request: &Request) -> Result<Option<Tree>, AllocError>
         ensures known { IfOk result (λ grown. IfSome grown (λ tree. (r : Asked)
             → ShareTrees request.now r → IsTree table.now r tree)) }
@@ -58,7 +58,7 @@ impl Tree {
         Ok(Some(Tree { near, links, edge }))
     }
 
-    /// The bound of the router at an index in the list of routers.
+    /// The bound of the router at the index `place` in the list of routers.
     pub(crate) fn bound(&self, place: usize) -> u32
         requires { place < MOST_ROUTERS }
         ensures { result ≡ tree_bound self.now place }
@@ -66,8 +66,9 @@ impl Tree {
         self.near[place].min(self.edge)
     }
 
-    /// The least number of links of a way that costs no more than the bound, from the router at an
-    /// index in the list of routers. It is 0 where the edge is the bound.
+    /// A lower bound of the number of links of the ways that cost no more than the bound. The ways
+    /// begin at the router at the index `place` in the list of routers. The result is 0 if the
+    /// router's bound is the edge.
     pub(crate) fn least_links(&self, place: usize) -> u16
         requires { place < MOST_ROUTERS }
         ensures { result ≡ tree_links self.now place }

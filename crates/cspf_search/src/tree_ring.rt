@@ -1,5 +1,5 @@
-//! The state of the backward search that grows a tree. A router comes before another by its cost, then
-//! by its number of links.
+//! The state of the backward search that grows a tree. Waiting routers are ordered by cost, then by
+//! number of links.
 
 ghost use Rattle.std.specs.Prelude.{◌≡◌, ◌<◌, ◌≤◌, ℕ, true, false, IfOk, IfSome, OnOk, length};
 ghost use Rattle.cspf_model.specs.declared.limits.TheConstants.{MOST_ROUTERS};
@@ -10,19 +10,19 @@ use std::alloc::{AllocError, Global};
 use std::cmp::Reverse;
 use std::collections::BinaryHeap;
 
-/// The cost and the number of links of a router that waits, and its index in the list of routers.
+/// The cost and the number of links of a waiting router, and its index in the list of routers.
 type RankedRouter = Reverse<(u32, u16, u16)>;
 
 /// The state of a backward search that grows a tree.
 #[derive(Drop)]
 pub(crate) struct TreeRing {
-    /// For each router the least cost to the tail-end that was found, or `NO_WAY`.
+    /// For each router, the least cost to the tail-end found so far, or `NO_WAY`.
     pub(crate) near: Vec<u32>,
-    /// For each router the least number of links that was found with that cost.
+    /// For each router, the least number of links found for a way of this cost.
     pub(crate) links: Vec<u16>,
-    /// For each router whether the links that arrive there were all looked at.
+    /// For each router, whether the search has looked at all links that arrive there.
     pub(crate) done: Vec<bool>,
-    /// The routers that wait.
+    /// The waiting routers.
     heap: BinaryHeap<RankedRouter, Global>,
     ghost bounds: { length near.items ≡ MOST_ROUTERS },
     ghost counts: { length links.items ≡ MOST_ROUTERS },
@@ -33,8 +33,8 @@ impl TreeRing {
     ghost use Rattle.cspf_search.specs.Bounds.{bound_at};
     ghost use Rattle.cspf_search.specs.TreeSteps.{IsAsNear, TreeFalls, is_settled_there};
 
-    /// A ring in which no router is done. The tail-end, which is the router at an index, waits with the
-    /// cost 0 and no links. No other router has a way.
+    /// A ring in which no router is done. The tail-end, whose index is `to`, waits with the cost 0
+    /// and no links. No other router has a way.
     pub(crate) fn begin(alloc: Global, to: usize) -> Result<Self, AllocError>
         requires { to < MOST_ROUTERS }
         ensures none { IfOk result (λ ring. (w : ℕ) → is_settled_there ring w ≡ false) }
@@ -52,8 +52,8 @@ impl TreeRing {
         Ok(ring)
     }
 
-    /// Whether the router at an index has a way of less than this cost, or of this cost with no more
-    /// than this many links.
+    /// Whether the router `at` has a way that costs less than `ahead`, or one that costs `ahead`
+    /// and has at most `count` links.
     pub(crate) fn is_as_near(&self, at: usize, ahead: u32, count: u16) -> bool
         requires { at < MOST_ROUTERS }
         ensures near { result ≡ true → IsAsNear self.now at ahead count }
@@ -64,8 +64,8 @@ impl TreeRing {
         near < ahead || (near == ahead && self.links[at] <= count)
     }
 
-    /// Gives the router at an index a way of this cost with this many links, if it has none as near.
-    /// Then it waits.
+    /// Gives the router `from` a way of the cost `ahead` with `count` links, unless it already has
+    /// a way that is as near. After it gets a new way, the router waits.
     pub(crate) fn lower(&mut self, from: u16, ahead: u32, count: u16) -> Result<(), AllocError>
         requires within { from < MOST_ROUTERS }
         ensures falls { OnOk result (TreeFalls self.old self.new) }
@@ -82,7 +82,7 @@ impl TreeRing {
         Ok(())
     }
 
-    /// The index of the first router that waits, if one waits.
+    /// The first waiting router, by its index.
     pub(crate) fn nearest(&mut self) -> Option<usize>
         ensures within { IfSome result (λ at. at < MOST_ROUTERS) }
         ensures bounds { self.new.near ≡ self.old.near }

@@ -1,5 +1,5 @@
-//! The search against the direction of the links by which a tree grows. It settles all routers, and
-//! asks of a link only the affinities and the reverse.
+//! Grows a tree by a search against the links from the tail-end, which settles all routers. It uses
+//! a link if the link has a reverse and passes the affinities.
 
 ghost use Rattle.std.specs.Prelude.{◌≡◌, ◌≢◌, ◌<◌, ◌↔◌, ℕ, IsTrue, OnOk, length, slice_index};
 ghost use Rattle.cspf_columns.specs.declared.limits.TheConstants.{NO_LINK};
@@ -17,9 +17,9 @@ use cspf_graph::accepts;
 use cspf_model::{MOST_ROUTERS, Request};
 use std::alloc::AllocError;
 
-/// Offers the router at an index a way by the link at another index, which arrives from it, if there
-/// is such a link and it passes the affinities. The way has this many links, and costs this much
-/// after that link. The request asks for no bandwidth.
+/// Offers the router `from` a way that begins with its link to a router with the cost `base`. The
+/// way has `count` links. `reverse` is the index of that link, or `NO_LINK`. Nothing is offered if
+/// there is no link, or the link doesn't pass the affinities of `any`, a request for no bandwidth.
 fn pass(
     table: &Table,
     any: &Request,
@@ -48,9 +48,9 @@ fn pass(
     ring.lower(from, ahead, count)
 }
 
-/// Offers ways over the router at an index to the routers that links arrive from there. The ways
-/// have this many links, and cost this much from there. A link that may be used is the reverse of
-/// one from there.
+/// Offers a way over the router `to` to each router with a link that ends there. A way has `count`
+/// links, and costs `base` from `to` on. The links that end at `to` are the reverses of the links
+/// from there.
 fn walk(
     table: &Table,
     any: &Request,
@@ -74,7 +74,7 @@ fn walk(
     Ok(())
 }
 
-/// Whether a way to the tail-end may lead over the router at an index, or end there.
+/// Whether a way to the tail-end may lead over the router `to`, or end there.
 pub(crate) fn may_lead_over(table: &Table, any: &Request, to: usize) -> bool
     requires { to < length (router_list table.now) }
     ensures { IsTrue result
@@ -83,7 +83,7 @@ pub(crate) fn may_lead_over(table: &Table, any: &Request, to: usize) -> bool
     table.transit_at(to) || table.routers()[to] == any.to
 }
 
-/// Looks at all links that arrive at the router at an index, unless no way may lead over it.
+/// Looks at all links that arrive at the router `to`, unless no way may lead over that router.
 fn take(table: &Table, any: &Request, to: usize, ring: &mut TreeRing) -> Result<(), AllocError>
     requires any { any.now.bandwidth ≡ 0 }
     requires listed { AreListed table.now }
@@ -106,7 +106,8 @@ fn take(table: &Table, any: &Request, to: usize, ring: &mut TreeRing) -> Result<
     Ok(())
 }
 
-/// Settles the routers that wait, first those of the least cost, then of the fewest links.
+/// Settles the waiting routers. Those of the least cost come first, and at the same cost those with
+/// the fewest links.
 pub(crate) fn settle(table: &Table, any: &Request, ring: &mut TreeRing) -> Result<(), AllocError>
     requires any { any.now.bandwidth ≡ 0 }
     requires listed { AreListed table.now }

@@ -1,9 +1,10 @@
-//! The route that the bounds of a tree alone give. A link that the request may use is tight where
-//! the bound falls over it by just its metric, and the number of links by just one. A route that
-//! costs no more than the bound of the head-end, with no more links, takes tight links alone. Where
-//! two of these routes part, the one by the earlier row has the lower local address, so it is before
-//! the other. So the walk over the first tight link of each router is the least route, if it leads to
-//! the tail-end, and no search is needed.
+//! The route that the bounds of a tree give without a search. A link that the request may use is
+//! *tight* if two things hold: from its router to its end the bound falls by just its metric, and
+//! the number of links by just one. Take a route that costs no more than the head-end's bound, and
+//! has no more links than the tree gives the head-end. All links of such a route are tight. Where
+//! two such routes part, the link in the earlier row has the lower local address, so its route
+//! comes first. So the walk over the first tight link of each router is the least route, if it
+//! leads to the tail-end.
 
 ghost use Rattle.std.specs.Prelude.{◌≡◌, ◌<◌, ◌↔◌, IfOk, IfSome, IsTrue, length};
 ghost use Rattle.cspf_model.specs.Best.{IsBestRoute};
@@ -23,8 +24,8 @@ use cspf_graph::accepts;
 use cspf_model::{Request, Route};
 use std::alloc::{AllocError, Global};
 
-/// Whether a link from the router at an index is tight for the request. The bounds are compared
-/// first, since they tell most links.
+/// Whether a link from the router `place` is tight for the request. The bounds are compared first,
+/// because they exclude most links.
 fn is_tight(table: &Table, request: &Request, tree: &Tree, place: usize, edge: Edge<'_>) -> bool
     requires listed { AreListed table.now }
     requires links { AreLinksOf table.now (links_of table.now) }
@@ -44,7 +45,7 @@ fn is_tight(table: &Table, request: &Request, tree: &Tree, place: usize, edge: E
     accepts(edge.link, request) && may_lead_over(table, request, edge.end)
 }
 
-/// The first tight link from the router at an index, if there is one.
+/// The first tight link from the router `place`, if there is one.
 fn tight_from<'a>(
     table: &'a Table,
     request: &Request,
@@ -77,9 +78,9 @@ fn tight_from<'a>(
     None
 }
 
-/// The route along the first tight link of each router from the head-end on, if these lead to the
-/// tail-end. The request has no hops. The head-end and the tail-end are given by their index in the
-/// list of routers.
+/// The route over the first tight link of each router from the head-end on, if these links lead to
+/// the tail-end. The request has no hops. `from` and `to` are the indexes of the head-end and the
+/// tail-end in the list of routers.
 fn follow(
     alloc: Global,
     table: &Table,
@@ -96,13 +97,14 @@ fn follow(
     requires to { IsIndexOf table.now request.now.to to }
     ensures { IfOk result (λ found. IfSome found (IsBestRoute table.now request.now)) }
 {
-    // By the clauses of this call a router's rows are in order of their local addresses.
+    // The contract of `links` says that the links of a router are in order of their local
+    // addresses.
     let _rows = table.links();
     let mut links = Vec::with_capacity(alloc, ROOM_FOR_LINKS)?;
     let mut place = from;
     for _taken in 0..table.routers().len() {
         if place == to {
-            // A route may be kept for long, so it has no room for more links.
+            // The copy has no spare capacity, because a route may be kept for long.
             let kept = Vec::from_slice(alloc, links.as_slice())?;
             let cost = u64::from(tree.bound(from));
             return Ok(Some(Route::new(kept, cost)));
@@ -116,9 +118,9 @@ fn follow(
     Ok(None)
 }
 
-/// The least route of a request without hops, if the bounds of a tree for its tail-end and its
-/// affinities give it without a search. There is none with hops or without a tree. The head-end and
-/// the tail-end are given by their index in the list of routers.
+/// The least route of a request without hops, if a tree for its tail-end and affinities gives it
+/// without a search. With hops or without a tree the result is none. `from` and `to` are the
+/// indexes of the head-end and the tail-end in the list of routers.
 pub(crate) fn walk_by_tree(
     alloc: Global,
     table: &Table,

@@ -1,4 +1,4 @@
--- The lines of answers are the replies to their requests.
+-- The lines that are written for answers are the replies to the requests of these answers.
 use Rattle.std.proofs.Common.{◌≡◌, ℕ, ◌+◌, zero, suc, All, Option, Some, List, [], ◌∷◌, ◌++◌, ◌-◌, take, drop, length, slice_get, refl, sym, ap, ◌∙◌, subst, append_assoc, append-nil, arith}
 use Rattle.std.proofs.KnownBytes.{Appends-trans}
 use Rattle.std.proofs.Math.Seq.{take-length}
@@ -19,7 +19,7 @@ use Rattle.cspf_serve.proofs.Begun.{begun_behind, begun_weaker}
 use Rattle.cspf_serve.specs.AnswerLines.{AreAnswerLines}
 use Rattle.cspf_serve.specs.LiveRun.{AreRepliesWithin}
 
--- one more answer's line
+-- one more answer's line is written
 lines_more : (answers : List Answer) (a : Answer) (lines line : List ℕ) → AreAnswerLines answers lines
     → IsReply a.id a.version (answer_of a.outcome) line → AreAnswerLines (answers ++ a ∷ []) (lines ++ line)
 lines_more [] a lines line before reply = (line, [], reply, rw before (sym (append-nil line)), refl)
@@ -39,7 +39,7 @@ writes_answer answers a old mid new before reply = (
   Appends-trans old mid new before.0 reply.0 before.2 reply.2,
 )
 
--- the line of one more answer was begun
+-- the line of the next answer is written in part
 pub answer_begun : (answers : List Answer) (i : ℕ) (a : Answer) (old mid new : Option (List ℕ)) → take (i + 1) answers ≡ take i answers ++ a ∷ []
     → Writes old mid (AreAnswerLines (take i answers)) → HasBegun mid new (IsReply a.id a.version (answer_of a.outcome))
     → HasBegun old new (λ lines. (count : ℕ) × AreAnswerLines (take count answers) lines)
@@ -52,7 +52,7 @@ reply_at : (batches : List NumberedChanges) (q : Request) (a : Answer) (line : L
     → IsReply a.id a.version (answer_of a.outcome) line → IsReplyTo (database_after batches) a.version q line
 reply_at batches q a line is reply = (answer_of a.outcome, is.best, subst (λ (n : ℕ). IsReply n a.version (answer_of a.outcome) line) is.id reply)
 
--- the lines of the first answers are the replies to the first requests
+-- the lines of the first `count` answers are the replies to the first `count` requests
 lines_after : (batches : List NumberedChanges) (count : ℕ) (qs : List Request) (answers : List Answer) (lines : List ℕ) → length answers ≡ length qs
     → ((index : ℕ) (q : Request) (a : Answer) → slice_get qs index ≡ Some q → slice_get answers index ≡ Some a → IsAnswerAfter batches q a)
     → AreAnswerLines (take count answers) lines → AreReplies (database_after batches) (length batches) (take count qs) lines
@@ -77,7 +77,7 @@ replies_after batches requests list lines is written =
     (lines_after batches (length list) requests list lines is.count is.each
     (subst (λ (l : List Answer). AreAnswerLines l lines) (sym (take-length list)) written))
 
--- the requests from an index on are answered
+-- the requests from the index `first` on are answered
 pub rest_answered : (batches : List NumberedChanges) (first : ℕ) (requests : List Request) (answers list : List Answer) → list ≡ answers
     → AreAnswersAfter batches (take (length requests - first) (drop first requests)) answers → AreAnswersAfter batches (drop first requests) list
 rest_answered batches first requests answers list same answered =
@@ -86,7 +86,7 @@ rest_answered batches first requests answers list same answered =
     subst (λ (l : List Answer). AreAnswersAfter batches rest l) (sym same)
     (subst (λ (qs : List Request). AreAnswersAfter batches qs answers) asked answered)
 
--- the beginning of the lines of the first answers, or nothing
+-- nothing is written, or the beginning of the lines of some of the first answers
 pub answers_begun : (batches : List NumberedChanges) (requests : List Request) (list : List Answer) (old new : Option (List ℕ)) → AreAnswersAfter batches requests list
     → HasBegun old new (λ lines. (count : ℕ) × AreAnswerLines (take count list) lines)
     → HasBegun old new (λ lines. (count : ℕ) × AreReplies (database_after batches) (length batches) (take count requests) lines)
@@ -95,7 +95,7 @@ answers_begun batches requests list old new is begun =
     (λ lines. (count : ℕ) × AreReplies (database_after batches) (length batches) (take count requests) lines)
     (λ lines written. (written.0, lines_after batches written.0 requests list lines is.count is.each written.1)) begun
 
--- each answer at any version
+-- each request has a reply at a published version
 pub replies_within : (published : List NumberedChanges) (qs : List Request) (answers : List Answer) (lines : List ℕ) → length answers ≡ length qs
     → AreAnswersWithin published qs answers → AreAnswerLines answers lines → AreRepliesWithin published qs lines
 replies_within published [] [] lines count each is = is
@@ -114,7 +114,7 @@ pub replies_written : (batches : List NumberedChanges) (requests : List Request)
     → Writes old new (AreAnswerLines list) → Writes old new (AreReplies (database_after batches) (length batches) requests)
 replies_written batches requests list old new is written = (written.0, replies_after batches requests list written.0 is written.1, written.2)
 
--- askers of one opening have one source
+-- the askers that one call of `open` made have the same source
 pub sources_of : (source : Book) (askers : List AskerState) → All (λ (a : AskerState). (a.batches ≡ []) × (a.source ≡ source)) askers
     → All (λ (a : AskerState). a.source ≡ source) askers
 sources_of source askers all i d less = (all i d less).1

@@ -1,4 +1,4 @@
--- The lines of batches and of requests, and where a run over a journal ends early.
+-- The lines of batches and requests, and what holds if a run over a journal ends early.
 use Rattle.std.proofs.Common.{◌≡◌, ℕ, ◌<◌, ◌≤◌, ◌⊎◌, Bool, Option, Some, None, IfSome, List, ◌++◌, length, inl, inr, refl, ap, arith, Result, Ok, Err, IfOk, IfErr}
 use Rattle.std.proofs.KnownBytes.{Appends-trans}
 use Rattle.std.proofs.lemmas.List.{length-map}
@@ -27,12 +27,12 @@ use Rattle.cspf_serve.specs.EarlyEnds.{AreStreamsRefused}
 use Rattle.cspf_serve.specs.PublishedBatches.{IsUnfitBehind, ArePublishedOrRefused, IsAcceptedOrUnfit}
 use Rattle.cspf_serve.specs.RunFaults.{IsStreamFault, IsAnsweringFault, IsStrayInBatchRun, IsBatchFault}
 
--- what holds of the line that refuses
+-- if `P` holds of the refusing line and implies `Q`, then `Q` holds of it
 pub IfRefused-weaker : (s : EarlyEnd) (P Q : List ℕ → Type 0) → ((line : List ℕ) → P line → Q line) → IfRefused s P → IfRefused s Q
 IfRefused-weaker (early_end.Refused line) P Q f refused = f (judge_line_text line) refused
 IfRefused-weaker (early_end.Failed error) P Q f refused = tt
 
--- the batches before one are accepted, and that one is refused
+-- the batches before the one that doesn't fit are accepted, and that batch is refused
 pub one_unfit : (bs published : List NumberedChanges) (line : List ℕ) → IsUnfitBehind bs published line → AreLawful published
     → IsOneUnfit bs (version_lines published ++ line)
 one_unfit bs published line is lawful = record {
@@ -46,7 +46,7 @@ one_unfit bs published line is lawful = record {
   whole = rw is.is_line refl;
 }
 
--- the batches before one are applied, and that one is refused
+-- the versions of the published batches are written, and then the line that refuses the next batch
 pub unfit_written : (bs published : List NumberedChanges) (qs : List Request) (line : List ℕ) (old mid new : Option (List ℕ)) → IsUnfitBehind bs published line
     → AreLawful published → Appends old mid (version_lines published) → Appends mid new line → Writes old new (λ lines. IsAcceptedOrUnfit bs qs lines 2)
 unfit_written bs published qs line old mid new is lawful versions last = (
@@ -55,7 +55,7 @@ unfit_written bs published qs line old mid new is lawful versions last = (
   Appends-trans old mid new (version_lines published) line versions last,
 )
 
--- the batches are applied, and the requests answered
+-- all batches are accepted, and the requests are answered
 pub accepted_written : (bs : List NumberedChanges) (qs : List Request) (d : Database) (old mid new : Option (List ℕ))
     → AreLawful bs → d ≡ database_after bs → Appends old mid (version_lines bs) → Writes mid new (AreReplies d (length bs) qs)
     → Writes old new (λ lines. IsAcceptedOrUnfit bs qs lines 0)
@@ -75,19 +75,19 @@ accepted_written bs qs d old mid new lawful database written replies = (
 
 -- ---- the whole run
 
--- the numbers of batches that were read from a journal
+-- the batches of a journal are numbered from 1
 pub numbers_of : (accept_torn : Bool) (records : Records) (bs : List NumberedChanges) → AreBatchesOf accept_torn records bs → AreNumberedFrom 1 bs
 numbers_of accept_torn records bs is = elim is.journal [
   | inl clean ↦ clean.begins.numbers
   | inr torn ↦ torn.0.begins.numbers
 ]
 
--- what holds of a run over a journal and requests
+-- what a run over a journal and requests writes, if the bytes of both are known
 abbrev pub IsWrittenRun : Bool → Option (List ℕ) → Option (List ℕ) → ℕ → Option (List ℕ) → Option (List ℕ) → Type 0
 IsWrittenRun accept_torn kept asked status old new =
     IfSome kept (λ journal. IfSome asked (λ requests. Writes old new (λ lines. IsBatchRun accept_torn (rows_of journal) (rows_of requests) lines status)))
 
--- the requests that records ask for are as many as these
+-- a stream with this many requests has at least as many records
 rows_asked : (records : Records) (qs : List Request) (index : ℕ) → AreRequestsOf records qs → index < length qs → index < length records
 rows_asked records qs index is within =
     let asks = length-map {B = Result Row RowError} qs (λ (q : Request). Ok (row.Ask q)) in
@@ -95,7 +95,7 @@ rows_asked records qs index is within =
     let same = ap length is.asked in
     omega (arith, within, rows, asks, same)
 
--- what holds of a journal that was read
+-- which batches of a journal were published, if its bytes are known
 abbrev pub IsPublished : Bool → Option (List ℕ) → List NumberedChanges → Option JudgeLine → Type 0
 IsPublished accept_torn kept published unfit =
     IfSome kept (λ bytes. (batches : List NumberedChanges) × AreBatchesOf accept_torn (rows_of bytes) batches × ArePublishedOrRefused batches published unfit)
@@ -111,7 +111,7 @@ module _ (accept_torn : Bool) (kept asked : Option (List ℕ)) (published : List
       let is = ran read.0 read.2 in
       (is.0, inr (read.0, read.1, inr (qs, of_rows, is.1)), is.2)
 
-  -- all is accepted, or a batch doesn't fit
+  -- the run ends with a status: all batches are accepted, or one doesn't fit
   pub batch_ran : (r : Result ℕ RunError)
       → IfOk r (λ status. (batches : List NumberedChanges) → ArePublishedOrRefused batches published unfit
       → Writes old new (λ lines. IsAcceptedOrUnfit batches qs lines status))
@@ -119,7 +119,7 @@ module _ (accept_torn : Bool) (kept asked : Option (List ℕ)) (published : List
   batch_ran (Err e) ran = tt
   batch_ran (Ok status) ran = ran_of kept asked status read of_rows ran
 
-  -- a request is answered at a version above the number of the batches
+  -- an answer whose version is above the number of the journal's batches is a fault of the run
   pub stray_in_run : (kept asked : Option (List ℕ)) (index version : ℕ) → IsPublished accept_torn kept published unfit → IfSome asked (λ bytes. AreRequestsOf (rows_of bytes) qs)
       → index < length qs → ((batches : List NumberedChanges) → ArePublishedOrRefused batches published unfit → length batches < version)
       → IsStrayInBatchRun accept_torn kept asked index version
@@ -129,7 +129,7 @@ module _ (accept_torn : Bool) (kept asked : Option (List ℕ)) (published : List
   stray_in_run (Some journal) (Some requests) index version read of_rows within above =
       (rows_asked (rows_of requests) qs index of_rows within, (read.0, read.1, above read.0 read.2))
 
-  -- the answers end the run
+  -- the run ends by an error while it answers requests
   pub batch_failed : (r : Result ℕ RunError)
       → IfErr r (λ e. IsStreamFault e ⊎ IsAnsweringFault (λ index version. (index < length qs)
       × ((batches : List NumberedChanges) → ArePublishedOrRefused batches published unfit → length batches < version)) e)
@@ -140,13 +140,13 @@ module _ (accept_torn : Bool) (kept asked : Option (List ℕ)) (published : List
   batch_failed (Err e) (inr (inr stray)) =
       inr (inr (inr (stray.0, stray.1, stray.2, stray_in_run kept asked stray.0 stray.1 read of_rows stray.3.0 stray.3.1)))
 
--- streams that are refused give that line alone
+-- if a stream is refused, the refusal is the only line, and the status is 2
 pub refused_alone : (accept_torn : Bool) (journal requests : Records) (line : List ℕ) → AreStreamsRefused accept_torn journal requests line
     → IsBatchRun accept_torn journal requests line 2
 refused_alone accept_torn journal requests line (inl refused) = inl (refused, refl)
 refused_alone accept_torn journal requests line (inr (batches, read, refused)) = inr (batches, read, inl (refused, refl))
 
--- a run that ends early by a refusal writes its line
+-- a run that a stream's refusal ends early writes the line of the refusal
 pub run_refused : (accept_torn : Bool) (kept asked : Option (List ℕ)) (s : EarlyEnd) (r : Result ℕ RunError) (old new : Option (List ℕ))
     → IfRefused s (λ line. IfSome kept (λ journal. IfSome asked (λ requests. AreStreamsRefused accept_torn (rows_of journal) (rows_of requests) line)))
     → IfOk r (λ status. status ≡ 2) → IfOk r (λ status. IsRefusalWritten s old new)
@@ -168,7 +168,7 @@ script_written law accept_torn (Some journal) (Some requests) old new run = λ c
     let script = law accept_torn (rows_of journal) (rows_of requests) run.0 clean few run.1 in
     (run.0, script.0, script.1, run.2)
 
--- where the status is 0
+-- if the status is 0, the output is the lines of a script
 pub script_of_run : AreLinesOfAScript → (accept_torn : Bool) (kept asked old new : Option (List ℕ)) (r : Result ℕ RunError)
     → IfOk r (λ status. IsWrittenRun accept_torn kept asked status old new) → r ≡ Ok 0
     → IfSome kept (λ journal. IfSome asked (λ requests. IsCleanJournal (rows_of journal) → length (rows_of journal ++ rows_of requests) ≤ 1000000

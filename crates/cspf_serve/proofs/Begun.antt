@@ -1,17 +1,18 @@
--- The beginning of lines that was written behind others, and what it is the beginning of.
+-- What is written after a text, in whole or in part, and what holds of it.
 use Rattle.std.proofs.Common.{◌≡◌, Option, Some, None, List, [], ◌++◌, ℕ, inl, inr, sym, ◌∙◌, append-nil}
 use Rattle.std.specs.Io.KnownBytes.{Appends, Keeps}
 use Rattle.cspf_judge.proofs.Fronts.{front_behind}
 use Rattle.cspf_judge.specs.EarlyEnds.{HasBegun}
 
--- nothing was written behind a text
+-- nothing is written after a text
 kept_behind : (old mid new : Option (List ℕ)) (text : List ℕ) → Appends old mid text → Keeps mid new → Appends old new text
 kept_behind None mid new text written kept = tt
 kept_behind (Some xs) None new text written kept = absurd written
 kept_behind (Some xs) (Some ys) None text written kept = absurd kept
 kept_behind (Some xs) (Some ys) (Some zs) text written kept = kept ∙ written
 
--- the beginning was written of lines behind a text, of which this holds too
+-- if the beginning of some lines is written after a text, the beginning of the text with these
+-- lines is written
 pub begun_behind : (old mid new : Option (List ℕ)) (text : List ℕ) (P Q : List ℕ → Type 0) → Appends old mid text → Q text
     → ((lines : List ℕ) → P lines → Q (text ++ lines)) → HasBegun mid new P → HasBegun old new Q
 begun_behind old mid new text P Q written here more (inl kept) =
@@ -19,7 +20,8 @@ begun_behind old mid new text P Q written here more (inl kept) =
 begun_behind old mid new text P Q written here more (inr (lines, is, begun)) =
     inr (text ++ lines, more lines is, front_behind old mid new text lines written begun)
 
--- what holds of lines of which the beginning was written
+-- if `P` of lines implies `Q` of them, the beginning of lines with `P` is the beginning of lines
+-- with `Q`
 pub begun_weaker : (old new : Option (List ℕ)) (P Q : List ℕ → Type 0) → ((lines : List ℕ) → P lines → Q lines) → HasBegun old new P → HasBegun old new Q
 begun_weaker old new P Q f (inl kept) = inl kept
 begun_weaker old new P Q f (inr (lines, is, begun)) = inr (lines, f lines is, begun)

@@ -1,4 +1,4 @@
--- The replies of clients are fresh, by the one list of steps that has all their readings.
+-- The replies of clients are fresh, by the one list of steps that has the readings of all clients.
 use Rattle.std.proofs.Common.{◌≡◌, ℕ, suc, ◌+◌, ◌^◌, ◌<◌, ◌≤◌, ◌⊎◌, Bool, List, [], ◌∷◌, ◌++◌, length, length-append, append_assoc, append-nil, codes, Option, Some, IfSome, Result, Ok, Err, MatchResult, inl, inr, refl, sym, ap, subst, ◌∙◌, arith, ⊎_elim}
 use Rattle.std.specs.Fmt.{decimal}
 use Rattle.std.specs.Option.{option_map}
@@ -41,11 +41,11 @@ use Rattle.cspf_serve.proofs.Pairs.{numbered_weaker}
 abbrev Rows : Type 0
 Rows = List (List (List ℕ))
 
--- nothing is said of a row that isn't answered
+-- nothing is claimed of a row that gets no answer
 abbrev Nothing : ℕ → Unit {0} → List (List ℕ) → Unit {0} → Type 0
 Nothing place s fields t = Unit {0}
 
--- a row answered leaves the client its number
+-- the answer to a row doesn't change the client's number
 client_kept : (place : ℕ) (s t : SessionState) (r : Result Row RowError) (line : List ℕ) → IsClientRowAnswered place s r line t → t.client ≡ s.client
 client_kept place s t (Err why) line a = ap (λ (x : SessionState). x.client) a.after
 client_kept place s t (Ok (row.Put link)) line a = ap (λ (x : SessionState). x.client) a.after
@@ -60,7 +60,7 @@ clients_kept place s t [] lines a = ap (λ (x : SessionState). x.client) a.1
 clients_kept place s t (fields ∷ rows) lines a = clients_kept (suc place) a.1 t rows a.2 a.5 ∙ client_kept place s a.1 (row_of fields) a.0 a.3
 
 module _ (all : KnownSteps) (number : ℕ) (order : AreOrderedFrom 0 0 all.steps) where
-  -- the reading for a row
+  -- the steps have a reading of the count for the client's row
   read_of : (place : ℕ) (s t : SessionState) → s.client ≡ number → AreFirstSteps all t.steps → ReadsCount place s t → IsReadBefore all.steps number place (length t.known.batches)
   read_of place s t client first reads =
       let up = reads.caught_up in
@@ -167,7 +167,7 @@ module _ (all : KnownSteps) (number : ℕ) (order : AreOrderedFrom 0 0 all.steps
       written = a.written;
     }
 
-  -- the lines of rows, and what is written, whether or not a stream stopped
+  -- the lines of the rows and what is written, whether or not the stream stopped
   abbrev Lines : Option Rows → Option (List ℕ) → Option (List ℕ) → Type 0
   Lines rows old new =
       AreAllAnswered (IsAnsweredFresh all.steps number) rows tt tt old new
@@ -199,14 +199,14 @@ fresh_runs W J Q V updates said recorded bytes contents writer journal clients s
     (λ n c s is. served_lines served.steps n run.steps_of_run.journal.order bytes contents run.state.run.accepted c s is)
     1 clients served.clients.items run.clients_served
 
--- a run over one row
+-- the lines of a stream of one row are the line of that row
 one_row : (s t : SessionState) (fields : List (List ℕ)) (lines : List ℕ) → AreAnswered IsClientAnswered 1 s (fields ∷ []) lines t
     → (line : List ℕ) × IsClientAnswered 1 s fields line t × (lines ≡ line)
 unfolding AreAnswered
 one_row s t fields lines a =
     (a.0, subst (λ (n : SessionState). IsClientAnswered 1 s fields a.0 n) (sym a.5.1) a.3, a.4 ∙ (ap (λ (m : List ℕ). a.0 ++ m) a.5.0 ∙ append-nil a.0))
 
--- a reading behind a batch that is counted
+-- the reading comes after the step that counts the batch, so it counts 1 batch
 behind : (b : NumberedChanges) (before after : List LogStep) (count : ℕ) → read_behind_a_batch b ≡ before ++ Read 1 1 count ∷ after → count_of before ≡ 1
 behind b [] after count is = absurd (cc is)
 behind b (x ∷ []) after count is = absurd (cc is)

@@ -1,4 +1,4 @@
--- Which batches of a journal are published, one batch after the other, and the lines of their versions.
+-- Which batches of a journal are published, batch by batch, and the lines of their versions.
 use Rattle.std.proofs.Common.{◌≡◌, ℕ, zero, suc, ◌+◌, ◌<◌, ◌≤◌, Bool, true, false, Option, Some, None, IfSome, List, [], ◌∷◌, ◌++◌, take, get_or, length, inl, inr, refl, sym, ap, ◌∙◌, subst, append_assoc, append-nil, add-one, arith, Result, Ok, Err, IfOk, IfErr}
 use Rattle.std.proofs.lemmas.Grind.{flat_map-append}
 use Rattle.std.proofs.Math.Seq.{take-suc}
@@ -33,14 +33,14 @@ use Rattle.cspf_judge.specs.EarlyEnds.{IfRefused, IsJournalLine, WritesFront}
 use Rattle.cspf_serve.specs.EarlyEnds.{IsOwnFaultLine}
 use Rattle.cspf_serve.specs.PublishedBatches.{IsUnfitBehind, ArePublishedOrRefused}
 
--- the number of the batch at a place
+-- the number of the batch at index `i`
 pub number_at : (first : ℕ) (bs : List NumberedChanges) (i : ℕ) (d : NumberedChanges) → AreNumberedFrom first bs → i < length bs
     → (get_or bs i d).number ≡ first + i
 number_at first [] i d numbered within = absurd (omega arith)
 number_at first (b ∷ bs) zero d numbered within = let is = numbered.0 in omega arith
 number_at first (b ∷ bs) (suc i) d numbered within = let is = number_at (first + 1) bs i d numbered.1 (omega arith) in omega arith
 
--- one more version
+-- the line of one more version
 pub version_more : (bs : List NumberedChanges) (made : ℕ) → AreNumberedFrom 1 bs → made < length bs
     → version_lines (take made bs) ++ version_line (made + 1) ≡ version_lines (take (made + 1) bs)
 version_more bs made numbered within =
@@ -48,7 +48,7 @@ version_more bs made numbered within =
     let number : (get_or bs made none).number ≡ made + 1 = number_at 1 bs made none numbered within ∙ omega arith in
     rw (add-one made, take-suc bs made none within, ← add-one made) (simp flat_map-append (rw (number, append-nil (version_line (made + 1))) refl))
 
--- of the versions those before one were written, and the beginning of that one
+-- the lines of the first `made` versions are written, and the beginning of the next version's line
 pub version_front : (bs : List NumberedChanges) (made : ℕ) (old mid new : Option (List ℕ)) → AreNumberedFrom 1 bs → made < length bs
     → Appends old mid (version_lines (take made bs)) → WritesFront mid new (version_line (made + 1)) → WritesFront old new (version_lines bs)
 version_front bs made old mid new numbered within before begun =
@@ -62,7 +62,7 @@ last_number : (first : ℕ) (bs : List NumberedChanges) (b : NumberedChanges) �
 last_number first [] b numbered = let is = numbered.0 in omega arith
 last_number first (x ∷ bs) b numbered = let is = last_number (first + 1) bs b numbered.1 in omega arith
 
--- a batch with the next number is refused for its changes alone
+-- a batch with the next number can be refused only for its changes
 shown_unfit : {W : Type 0} (contents : W → Option (List ℕ)) (p after : PublisherState W) (b : NumberedChanges) (e : ApplyError) (line : List ℕ)
     → b.number ≡ length p.batches + 1 → length p.batches + 1 ≤ 1000000 → IsApplyError contents p after b e → IsOwnFaultLine e b.number line
     → (why : Refusal) × IsRefusal (database_after p.batches) b why × (line ≡ refused_batch_line b.number (refusal.Unfit why))
@@ -73,7 +73,7 @@ shown_unfit contents p after b (error.Refused why) line number room is shown = (
 shown_unfit contents p after b error.Memory line number room is shown = absurd shown
 shown_unfit contents p after b (error.Journal written) line number room is shown = absurd shown
 
--- the next batch doesn't fit
+-- the batch after the published ones doesn't fit
 pub unfit_here : {W : Type 0} (contents : W → Option (List ℕ)) (p after : PublisherState W) (given : List NumberedChanges) (b : NumberedChanges) (e : ApplyError) (line : List ℕ)
     → AreNumberedFrom 1 (given ++ (b ∷ [])) → length given + 1 ≤ 1000000 → p.batches ≡ given → after.batches ≡ p.batches
     → IsApplyError contents p after b e → IsOwnFaultLine e b.number line → IsUnfitBehind (given ++ (b ∷ [])) after.batches line
@@ -90,7 +90,7 @@ unfit_here contents p after given b e line numbered room published same is shown
       is_line = unfit.2;
     }
 
--- one more batch after the one that doesn't fit
+-- a batch that comes after the one that doesn't fit changes nothing
 pub unfit_more : (given published : List NumberedChanges) (b : NumberedChanges) (line : List ℕ) → IsUnfitBehind given published line
     → IsUnfitBehind (given ++ (b ∷ [])) published line
 unfit_more given published b line is = record {
@@ -109,14 +109,14 @@ module _ (accept_torn : Bool) (given published : List NumberedChanges) (unfit : 
   accepted rows rest.Clean torn journal few = record { few = few; journal = inl journal }
   accepted rows rest.Torn torn journal few = record { few = few; journal = inr (journal, torn refl) }
 
-  -- the batches of a journal that is read
+  -- a journal that was read has these batches
   pub journal_read : (all : Option (List (List (List ℕ)))) (left : Rest) → (left ≡ rest.Torn → accept_torn ≡ true)
       → IfSome all (λ rows. IsJournal rows given left × (length rows ≤ 1000000))
       → IfSome all (λ rows. (batches : List NumberedChanges) × AreBatchesOf accept_torn rows batches × ArePublishedOrRefused batches published unfit)
   journal_read None left torn journal = tt
   journal_read (Some rows) left torn journal = (given, accepted rows left torn journal.0 journal.1, is)
 
--- rows are left after the batches
+-- rows are left after the batches of a journal
 pub journal_torn : (accept_torn : Bool) (given : List NumberedChanges) (count : ℕ) (all : Option (List (List (List ℕ)))) (left : Rest) (line : List ℕ)
     → length given ≡ count → IfSome all (λ rows. IsJournal rows given left × (length rows ≤ 1000000))
     → (left ≡ rest.Torn) × (accept_torn ≡ false) × (line ≡ torn_line count) → IfSome all (λ rows. IsJournalRefused accept_torn rows line)
@@ -124,7 +124,7 @@ journal_torn accept_torn given count None left line counted journal is = tt
 journal_torn accept_torn given count (Some rows) left line counted journal is =
     inr (journal.1, is.1, (given, rw is.0 at journal.0, rw counted is.2))
 
--- a journal that can't be read has too many rows, or no line
+-- a journal that can't be read has too many rows, or its fault has no line
 pub journal_unread : (accept_torn : Bool) (all : Option (List (List (List ℕ)))) (why : ReadError) (line : List ℕ)
     → (why ≡ read_error.TooManyRows → IfSome all (λ rows. 1000000 < length rows)) → IsJournalLine why line → IfSome all (λ rows. IsJournalRefused accept_torn rows line)
 journal_unread accept_torn all read_error.Memory line many is = absurd is
@@ -139,7 +139,7 @@ of_bytes None Holds is = tt
 of_bytes (Some text) Holds is = is
 
 module _ {R : Type 0} (accept_torn : Bool) (rem : R → Option (List ℕ)) (reader : JournalReader R) (bytes : Option (List ℕ)) where
-  -- the records that were read, where the bytes are known
+  -- what was read of all records, if the bytes of the journal are known
   pub read_of_bytes : (published : List NumberedChanges) (r : Result (Option JudgeLine) EarlyEnd) → HasGiven rem (option_map rows_of bytes) reader []
       → IfOk r (λ unfit. (all : Option (List (List (List ℕ)))) → HasGiven rem all reader []
       → IfSome all (λ rows. (batches : List NumberedChanges) × AreBatchesOf accept_torn rows batches × ArePublishedOrRefused batches published unfit))

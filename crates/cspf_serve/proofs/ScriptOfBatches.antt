@@ -1,4 +1,4 @@
--- The rows of a journal and then those of requests, as one script.
+-- The rows of a journal, followed by the rows of requests, are a script.
 use Rattle.std.proofs.Common.{◌≡◌, ℕ, ◌+◌, ◌<◌, ◌≤◌, ◌⊎◌, true, false, Bool, List, [], ◌∷◌, ◌++◌, map, take, length, length-append, Result, Ok, inl, inr, refl, sym, ap, subst, ◌∙◌, append_assoc, append-nil, arith}
 use Rattle.std.proofs.lemmas.Bool.{le-ltb}
 use Rattle.std.proofs.lemmas.List.{map-append, length-map, take_all}
@@ -26,11 +26,11 @@ use Rattle.cspf_serve.specs.BatchLaws.{AreLinesOfAScript}
 abbrev ReadRow : Type 0
 ReadRow = Result Row RowError
 
--- rows that are all read
+-- each of these rows was read without an error
 abbrev read_rows : List Row → List (Result Row RowError)
 read_rows rows = map {B = Result Row RowError} Ok rows
 
--- some rows are answered, and then others
+-- the rows `xs` are answered, and then the rows `ys`
 AreAnswered-append : (s t u : RunState) (xs ys : Records) (l m : List ℕ) → AreRowsAnswered s xs l t → AreRowsAnswered t ys m u → AreRowsAnswered s (xs ++ ys) (l ++ m) u
 unfolding AreRowsAnswered
 AreAnswered-append s t u [] ys l m before after = rw (before.0, ← before.1) after
@@ -43,7 +43,8 @@ AreAnswered-append s t u (fields ∷ xs) ys l m before after = (
   AreAnswered-append before.1 t u xs ys before.2 m before.5 after,
 )
 
--- some rows are answered from a state on, and these batches are accepted and these changes open after them
+-- The rows are answered by these lines from the state `s` on. After them these batches are
+-- accepted, and these changes are open.
 record IsAfter (s : RunState) (rows : Records) (lines : List ℕ) (accepted : List NumberedChanges) (changes : List Change) : Type 0 where
   after : RunState
   answered : AreRowsAnswered s rows lines after
@@ -54,7 +55,7 @@ none_after : (s : RunState) → IsAfter s [] [] s.accepted s.changes
 unfolding AreRowsAnswered
 none_after s = record { after = s; answered = (refl, refl); accepted_are = refl; changes_are = refl }
 
--- one row is answered, and then others
+-- the first row is answered, and then the other rows
 row_after : (s t : RunState) (fields : List (List ℕ)) (rows : Records) (line lines : List ℕ) (accepted : List NumberedChanges) (changes : List Change)
     → IsRowAnswered (at_next_row s) (row_of fields) line t → IsAfter t rows lines accepted changes → IsAfter s (fields ∷ rows) (line ++ lines) accepted changes
 unfolding AreRowsAnswered
@@ -65,7 +66,7 @@ row_after s t fields rows line lines accepted changes here rest = record {
   changes_are = rest.changes_are;
 }
 
--- some rows are answered, and then others
+-- the rows `xs` are answered, and then the rows `ys`
 rows_after : (s : RunState) (xs ys : Records) (l m : List ℕ) (a b : List NumberedChanges) (c d : List Change)
     → (first : IsAfter s xs l a c) → IsAfter first.after ys m b d → IsAfter s (xs ++ ys) (l ++ m) b d
 rows_after s xs ys l m a b c d first second = record {
@@ -80,7 +81,7 @@ change_answered s (change.Put link) read is = rw is (refl, refl)
 change_answered s (change.Remove from local) read is = rw is (refl, refl)
 change_answered s (change.Node router transit) read is = rw is (refl, refl)
 
--- rows of changes
+-- the rows of changes have no lines, and the changes are open after them
 changes_after : (s : RunState) (cs : List Change) (xs : Records) → map row_of xs ≡ read_rows (map change_row cs) → IsAfter s xs [] s.accepted (s.changes ++ cs)
 changes_after s [] [] are = rw (append-nil s.changes) (none_after s)
 changes_after s [] (x ∷ xs) are = absurd (cc)
@@ -92,7 +93,7 @@ changes_after s (c ∷ cs) (x ∷ xs) are =
     row_after s t x xs [] [] s.accepted (s.changes ++ (c ∷ cs)) (change_answered (at_next_row s) c (row_of x) head)
     (rw (← append_assoc s.changes (c ∷ []) cs) (changes_after t cs xs rest))
 
--- records that are read as some rows and then others
+-- records that are read as two lists of rows, one after the other, can be cut into two lists
 record IsCut (xs : Records) (ys zs : List (Result Row RowError)) : Type 0 where
   front : Records
   back : Records
@@ -115,7 +116,7 @@ records_cut (x ∷ xs) (y ∷ ys) zs are =
       second = rest.second;
     }
 
--- the rows of a batch that is accepted
+-- the end row of a batch is answered by the version, and the batch is accepted
 end_after : (s : RunState) (number count : ℕ) (xs : Records) → IsAccepted (at_next_row s) number count → map row_of xs ≡ Ok (row.End number count) ∷ []
     → IsAfter s xs (version_line number) (s.accepted ++ (open_batch s number ∷ [])) []
 end_after s number count [] accepted are = absurd (cc)
@@ -126,7 +127,7 @@ end_after s number count (x ∷ []) accepted are =
     let here : IsRowAnswered (at_next_row s) (row_of x) (version_line number) t = rw head (inl (accepted, refl, refl)) in
     rw (← append-nil (version_line number)) (row_after s t x [] (version_line number) [] (s.accepted ++ (open_batch s number ∷ [])) [] here (none_after t))
 
--- the batch is accepted where it is the next one and fits
+-- a batch is accepted if it has the next number and fits
 accepted_next : (s t : RunState) (b : NumberedChanges) → t.accepted ≡ s.accepted → t.changes ≡ b.changes → length s.accepted < 1000000
     → b.number ≡ length s.accepted + 1 → Fits (database_after s.accepted) b → IsAccepted (at_next_row t) b.number (length b.changes)
 accepted_next s t b accepted changes room next fits = record {
@@ -147,7 +148,8 @@ batch_after s b xs none room next fits are =
     let same : first.after.accepted ++ (open_batch first.after b.number ∷ []) ≡ s.accepted ++ (b ∷ []) = rw (first.accepted_are, open_ones) refl in
     rw cut.whole (rows_after s cut.front cut.back [] (version_line b.number) s.accepted (s.accepted ++ (b ∷ [])) (s.changes ++ b.changes) [] first (rw same at second))
 
--- the rows of batches that are lawful and have the next numbers
+-- batches with the next numbers, each of which fits after the one before, are accepted with their
+-- versions
 journal_after : OneMoreBatch → (s : RunState) (bs : List NumberedChanges) (xs : Records) → s.changes ≡ [] → AreNumberedFrom (length s.accepted + 1) bs
     → AreLawfulAfter (database_after s.accepted) bs → length s.accepted + length bs ≤ 1000000 → map row_of xs ≡ read_rows (journal_rows bs)
     → IsAfter s xs (version_lines bs) (s.accepted ++ bs) []
@@ -164,7 +166,7 @@ journal_after more s (b ∷ bs) xs none numbers lawful few are =
     let all : first.after.accepted ++ bs ≡ s.accepted ++ (b ∷ bs) = ap (λ a. a ++ bs) first.accepted_are ∙ append_assoc s.accepted (b ∷ []) bs in
     rw cut.whole (rows_after s cut.front cut.back (version_line b.number) (version_lines bs) (s.accepted ++ (b ∷ [])) (s.accepted ++ (b ∷ bs)) [] [] first (rw all at second))
 
--- rows that ask
+-- the rows of requests are answered at the version of the accepted batches
 requests_after : (s : RunState) (qs : List Request) (xs : Records) (lines : List ℕ) → AreRequests xs qs
     → AreReplies (database_after s.accepted) (length s.accepted) qs lines → IsAfter s xs lines s.accepted s.changes
 requests_after s [] [] lines are replies = rw replies (none_after s)
@@ -178,7 +180,7 @@ requests_after s (q ∷ qs) (x ∷ xs) lines are replies =
     let here : IsRowAnswered (at_next_row s) (row_of x) replies.0 t = rw head (reply.0, reply.1, reply.2, refl) in
     rw replies.3 (row_after s t x xs replies.0 replies.1 s.accepted s.changes here (requests_after t qs xs replies.1 rest replies.4))
 
--- each batch has a row at least
+-- each batch has at least one row
 few_batches : (bs : List NumberedChanges) → length bs ≤ length (journal_rows bs)
 few_batches [] = omega arith
 few_batches (b ∷ bs) =
@@ -186,7 +188,7 @@ few_batches (b ∷ bs) =
     let changes = map change_row b.changes in
     omega (arith, one, length-append (batch_rows b) (journal_rows bs), length-append changes (row.End b.number (length b.changes) ∷ []))
 
--- a run of at most 1,000,000 rows, whose changes are all in batches
+-- at most 1,000,000 rows that leave no change open are a whole run
 run_of : (rows : Records) (lines : List ℕ) (accepted : List NumberedChanges) → length rows ≤ 1000000 → IsAfter start rows lines accepted []
     → (summary : Summary) × IsSolveRun rows lines summary
 run_of rows lines accepted few after =
@@ -202,7 +204,7 @@ run_of rows lines accepted few after =
       },
     )
 
--- a clean journal and requests that are all accepted are a script
+-- a clean journal that is accepted, and requests that are answered, are a script
 accepted_run : OneMoreBatch → (journal requests : Records) (bs : List NumberedChanges) (qs : List Request) (lines : List ℕ) → IsJournal journal bs rest.Clean
     → AreRequests requests qs → AreAccepted bs qs lines → length (journal ++ requests) ≤ 1000000 → (summary : Summary) × IsSolveRun (journal ++ requests) lines summary
 accepted_run more journal requests bs qs lines clean asked accepted few =
@@ -216,7 +218,7 @@ accepted_run more journal requests bs qs lines clean asked accepted few =
     run_of (journal ++ requests) lines first.after.accepted few
     (rw accepted.whole (rows_after start journal requests (version_lines bs) accepted.replies bs first.after.accepted [] [] first (rw first.changes_are at second)))
 
--- the batches of a clean journal leave nothing out
+-- the batches that a run takes from a clean journal are all its batches
 whole_batches : IsOneJournal → (accept_torn : Bool) (journal : Records) (clean_ones bs : List NumberedChanges) → IsJournal journal clean_ones rest.Clean
     → IsJournal journal bs rest.Clean ⊎ (IsJournal journal bs rest.Torn × (accept_torn ≡ true)) → IsJournal journal bs rest.Clean
 whole_batches one accept_torn journal clean_ones bs clean (inl found) = found

@@ -1,4 +1,4 @@
--- Clients of a run, from their seats to their results.
+-- What holds of the clients of a run, from their seats to their results.
 use Rattle.std.proofs.Common.{◌≡◌, ◌+◌, ◌<◌, ◌⊎◌, ℕ, suc, false, Option, List, [], ◌∷◌, ◌++◌, All, length, Result, Ok, Err, inl, inr, refl, sym, ap, subst, ◌∙◌, arith}
 use Rattle.std.proofs.lemmas.Bool.{cases_lt}
 use Rattle.std.specs.List.{AllZip}
@@ -43,7 +43,8 @@ module _ {Q V : Type 0} (bytes : Q → Option (List ℕ)) (contents : V → Opti
   ready_of (s ∷ seats) [] long = absurd (omega (arith, long))
   ready_of (s ∷ seats) (c ∷ clients) long = (tt, ready_of seats clients (omega (arith, long)))
 
-  -- clients whose seats are of the publisher are answered from it, each by its number
+  -- if the seats are of one publisher and numbered, each client is answered from that publisher by
+  -- its number
   pub answered_of : (n : ℕ) (seats : List ClientSeat) (clients : List (Client Q V)) (ran : List (ServingState Q V)) → All (IsSeat source) seats → AreNumberedSeats n seats
       → AreDone (λ (s : ClientSeat) (client : Client Q V) (c : ServingState Q V). IsAnswered bytes contents s.asker.source s.number client c) seats clients ran
       → AreNumberedPairs (IsAnswered bytes contents source) n clients ran
@@ -58,12 +59,12 @@ module _ {Q V : Type 0} (bytes : Q → Option (List ℕ)) (contents : V → Opti
     answered_of (suc n) seats clients ran (All-tail (IsSeat source) s seats each) numbers.1 done.1,
   )
 
-  -- and once they were run they are still of the publisher
+  -- after their run, the clients' states are still of that publisher
   pub sources_of_run : (clients : List (Client Q V)) (ran : List (ServingState Q V)) → AreNumberedPairs (IsAnswered bytes contents source) 1 clients ran → All (IsOfSource source) ran
   sources_of_run clients ran answered =
       numbered_second (IsAnswered bytes contents source) (IsOfSource source) (λ n c s is. (sym is.forward.known.source ∙ is.source_is, sym is.forward.steps.source ∙ is.steps_source)) 1 clients ran answered
 
-  -- the results of all clients
+  -- each client has its result
   served_of : (published : List NumberedChanges) (all : KnownSteps) (clients : List (Client Q V)) (ran : List (ServingState Q V)) (served : List (ServedClient V))
       → AreNumberedPairs (IsAnswered bytes contents source) 1 clients ran → AllZip (IsServedEnd published) ran served → All (λ (a : ServingState Q V). AreFirstSteps all a.state.steps) ran
       → AreServedFrom bytes contents published all 1 clients served
@@ -88,7 +89,7 @@ module _ {Q V : Type 0} (bytes : Q → Option (List ℕ)) (contents : V → Opti
       }) 1 clients ran served answered
       (pairs_with (IsServedEnd published) (λ (a : ServingState Q V). AreFirstSteps all a.state.steps) ran served closed firsts)
 
-  -- the result of the run, from where its publisher was opened
+  -- the result of a run, whose publisher was just opened
   pub served_run : {W J : Type 0} (said : W → Option (List ℕ)) (recorded : J → Option (List ℕ)) (updates : Option (List ℕ)) (writer written : W) (first : PublisherState J) (left : KeptUpdates J)
       (clients : List (Client Q V)) (ran : List (ServingState Q V)) (ended : Result (Unit {0}) StreamError) (served : Served W J V)
       → (t : UpdatesState) × KeepsUpdates recorded first left t × IsUpdatesRun ended (option_map rows_of updates) t (said writer) (said written)
@@ -113,7 +114,7 @@ module _ {Q V : Type 0} (bytes : Q → Option (List ℕ)) (contents : V → Opti
         status_is = closed.status first t run.1;
       }
 
--- the lines of the updates once all their rows are answered, by the result of their last line
+-- the lines of the updates: all rows are answered, and then the last line is written or fails
 pub updates_run : (said : Result (Unit {0}) StreamError) (all : Option Rows) (t : UpdatesState) (old mid new : Option (List ℕ))
     → AreAllAnswered IsUpdateAnsweredAt all no_updates t old mid → IsLastLineSaid said (end_line t.run.changes) mid new → IsUpdatesRun said all t old new
 updates_run (Ok done) all t old mid new answered last = record { mid = mid; answered = answered; last = last }
@@ -147,7 +148,7 @@ module _ {J V : Type 0} (contents : J → Option (List ℕ)) (first : PublisherS
   pub status_of_clients : ¬ All (λ (c : ServedClient V). c.refused ≡ 0) clients → IsServedStatus t clients 2
   status_of_clients not = inr ((λ all. not all.each), refl)
 
--- a client that has met the published batches, and is closed with what it knew before
+-- a client has met the published batches, and its result has what it knew before
 pub closed_of : {Q V : Type 0} (published : List NumberedChanges) (told knew : KnownBatches) (old met : ServingState Q V) (served : ServedClient V)
     → told.batches ≡ published → knew ≡ old.state.known
     → met ≡ record old { state = record old.state { known = met.state.known }; end = met.end }
@@ -172,12 +173,12 @@ closed_of {Q} {V} published told knew old met served batches was others known ha
       ]);
     }
 
--- seats with one more, of the next number
+-- one more seat, with the next number
 pub seats_more : (n : ℕ) (seats : List ClientSeat) (seat : ClientSeat) → AreNumberedSeats n seats → seat.number ≡ length seats + n → AreNumberedSeats n (seats ++ seat ∷ [])
 seats_more n [] seat all is = (omega (arith, is), tt)
 seats_more n (s ∷ seats) seat all is = (all.0, seats_more (suc n) seats seat all.1 (omega (arith, is)))
 
--- the state that is kept before the first row
+-- the state before the first row of the updates
 pub begins : {J : Type 0} (contents : J → Option (List ℕ)) (p : PublisherState J) (k : KeptUpdates J) → k.sink.publisher ≡ p → p.batches ≡ [] → p.stopped ≡ false
     → AreOpen k.changes [] → IsFresh k → KeepsUpdates contents p k no_updates
 begins {J} contents p k same none going open_none fresh = record {

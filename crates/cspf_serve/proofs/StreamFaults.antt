@@ -1,4 +1,5 @@
--- An error of what is judged is one of a run's streams, and an error of `open` one of its opening.
+-- Errors of judging are faults of the run's streams, and errors of `open` are faults of its
+-- opening.
 use Rattle.std.proofs.Common.{◌≡◌, ◌⊎◌, inl, inr, ap, ◌∙◌}
 use Rattle.cspf_judge.specs.declared.early_end.JudgeError.{JudgeError}
 use Rattle.cspf_judge.specs.declared.early_end.JudgeError.TheVariants as judge_error

@@ -1,4 +1,4 @@
--- The state after the rows of a stream of updates.
+-- How the state of a run's updates changes with each row.
 use Rattle.std.proofs.Common.{◌≡◌, ◌≢◌, ℕ, ◌+◌, false, true, Option, List, [], ◌∷◌, ◌++◌, take, length, Result, Ok, Err, inl, inr, refl, sym, ap, subst, ◌∙◌, arith, append-nil}
 use Rattle.std.proofs.KnownBytes.{Appends-trans}
 use Rattle.std.proofs.lemmas.Bool.{false≢true}
@@ -32,10 +32,10 @@ use Rattle.cspf_serve.specs.LiveWords.{refusal_of}
 use Rattle.cspf_serve.specs.Updates.{UpdatesState, AreNowCounted, IsEndUpdate, IsUpdateAnswered, IsUpdateLost, at_next_update}
 use Rattle.cspf_serve.specs.UpdatesStates.{CountedState, KeptUpdates, IsPublished, ArePublished, KeepsUpdates, IsUpdateTaken, IsUpdateFailed, publisher_spec, after_published}
 
--- ---- a batch has as many of the open changes as are kept
+-- ---- the changes of a batch are a prefix of the open changes that are kept
 
 module _ {J : Type 0} (contents : J → Option (List ℕ)) (p q : PublisherState J) (b : NumberedChanges) (all : List Change) (front : AreKeptChanges b.changes all) where
-  -- they are all changes where it may come next
+  -- if the batch may come next, its changes are all open changes
   all_open : IsNextBatch p b → b.changes ≡ all
   all_open next = kept_all b.changes all front next.follows.fits.short
 
@@ -54,13 +54,14 @@ module _ {J : Type 0} (contents : J → Option (List ℕ)) (p q : PublisherState
 
 -- ---- the answer to a row
 
--- the publisher's batches are those that were accepted, and the changes are those that are open
+-- the publisher's batches are those that were accepted, and the kept changes are those that are
+-- open
 pub record IsOfUpdates {J : Type 0} (contents : J → Option (List ℕ)) (first : PublisherState J) (r : RowsState (CountedState J)) (s : UpdatesState) : Type 0 where
   pub published : ArePublished contents first r.sink s
   pub changes : r.changes ≡ s.run.changes
   pub refused : r.refused ≡ s.run.refused
 
--- a state of which the publisher's part is the same
+-- a state with the same batches and steps describes the same publisher
 still_published : {J : Type 0} (contents : J → Option (List ℕ)) (first : PublisherState J) (c : CountedState J) (s t : UpdatesState) → ArePublished contents first c s
     → t.run.accepted ≡ s.run.accepted → t.stopped ≡ s.stopped → t.text ≡ s.text → t.steps ≡ s.steps → ArePublished contents first c t
 still_published contents first c s t are accepted stopped text steps = record {
@@ -72,7 +73,7 @@ still_published contents first c s t are accepted stopped text steps = record {
 }
 
 module _ {J : Type 0} (contents : J → Option (List ℕ)) (first : PublisherState J) (unfit : RefusedIsUnfit) (r : RowsState (CountedState J)) (s : UpdatesState) (of : IsOfUpdates contents first r s) where
-  -- a row after which the rows are of a state
+  -- after a row, the kept rows are those of a state of which `Says` holds
   abbrev Answered : (UpdatesState → Type 0) → RowsState (CountedState J) → Type 0
   Answered Says t = (after : UpdatesState) × IsOfUpdates contents first t after × Says after
 
@@ -119,12 +120,12 @@ module _ {J : Type 0} (contents : J → Option (List ℕ)) (first : PublisherSta
           })),
         )
 
-    -- the end row is answered this line, and its batch is refused
+    -- the end row is answered by the line `said`, and its batch is refused
     abbrev IsEnded : CountedState J → List ℕ → Type 0
     IsEnded p said =
         (after : UpdatesState) × ArePublished contents first p after × IsEndUpdate s.stopped s number count said after × (after.run ≡ after_refused_batch s.run)
 
-    -- as in a script
+    -- the batch is refused as in a script
     refuses : (p : CountedState J) (why : BatchRefusal) → r.sink.publisher.stopped ≡ false → p ≡ r.sink → (¬ IsAccepted s.run number count) × IsBatchRefusal s.run number count why
         → IsEnded p (refused_batch_line number why)
     refuses p why going same is =
@@ -146,7 +147,7 @@ module _ {J : Type 0} (contents : J → Option (List ℕ)) (first : PublisherSta
     not_right p why same going is =
         refuses p why going same (wrong_end s.run r.sink.publisher.stopped (length r.sink.publisher.batches) number count (length r.changes) why going version (ap length of.changes) is)
 
-    -- the end row isn't right
+    -- the end row has the wrong number or count
     wrong : (p : CountedState J) (why : BatchRefusal) → p ≡ r.sink → IsWrongEnd r.sink.publisher.stopped (length r.sink.publisher.batches) number count (length r.changes) why → IsEnded p (refused_batch_line number why)
     wrong p refusal.Stopped same is =
         let stops : s.stopped ≡ true = sym of.published.stopped ∙ is in (
@@ -165,7 +166,7 @@ module _ {J : Type 0} (contents : J → Option (List ℕ)) (first : PublisherSta
     whole : (p : CountedState J) → p.publisher ≡ r.sink.publisher → p.steps ≡ r.sink.steps → p ≡ r.sink
     whole p same steps = λ i. record { publisher = same i; steps = steps i }
 
-    -- its batch isn't published
+    -- the end row is right, but the batch isn't published
     unpublished : (p : CountedState J) (why : ApplyError) → IsRightEnd r.sink.publisher.stopped (length r.sink.publisher.batches) number count (length r.changes)
         → IsApplyError contents r.sink.publisher p.publisher (record { number = number; changes = r.changes }) why → p.publisher.batches ≡ r.sink.publisher.batches
         → p.publisher.source ≡ r.sink.publisher.source → p.steps ≡ r.sink.steps → IsEnded p (refused_batch_line number (refusal_of why))
@@ -215,7 +216,7 @@ module _ {J : Type 0} (contents : J → Option (List ℕ)) (first : PublisherSta
           (said, ap (λ (x : RunState). x.accepted) d.3),
         )
 
-  -- one more open change
+  -- the row is one more open change
   changed : (c : Change) → IsOfUpdates contents first (record r { changes = r.changes ++ c ∷ [] }) (record s { run = after_change_row s.run c })
   changed c = record {
     published = still_published contents first r.sink s (record s { run = after_change_row s.run c }) of.published refl refl refl refl;
@@ -263,9 +264,9 @@ module _ {J : Type 0} (contents : J → Option (List ℕ)) (first : PublisherSta
   row_lost t (Ok (row.End number count)) (inr a) = let is = refused number count a.0 t a.1 in (is.0, is.1, inr (a.0, is.2.0, is.2.1))
   row_lost t (Ok (row.Ask q)) a = same_lost t (Ok (row.Ask q)) a
 
--- ---- what the code keeps
+-- ---- the state that the code keeps
 
--- the updates' rows, as they are kept
+-- the rows of the updates, as the kept state that the contracts speak of
 abbrev pub kept_of : {J : Type 0} → Rows (CountedState J) → KeptUpdates J
 kept_of k = record { sink = k.sink; changes = k.changes; answers = k.answers; refused = k.refused }
 

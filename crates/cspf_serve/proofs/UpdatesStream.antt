@@ -1,4 +1,4 @@
--- A stream of updates: from the state that the code keeps to the state of the specification.
+-- The rows of updates are answered as the specification says, given the state that the code keeps.
 use Rattle.std.proofs.Common.{◌≡◌, ℕ, suc, ◌+◌, Bool, true, false, List, [], ◌∷◌, length, Option, Result, Ok, Err, inl, inr, refl, ap, arith}
 use Rattle.cspf_rows.specs.Rows.{row_of}
 use Rattle.cspf_rows.specs.declared.row.Row.{Row}
@@ -19,7 +19,7 @@ use Rattle.cspf_serve.specs.ServedRun.{IsUpdateAnsweredAt, IsUpdateLostAt}
 same_rows : (a b : RunState) → a ≡ b → a.rows ≡ b.rows
 same_rows a b is = ap (λ (x : RunState). x.rows) is
 
--- no answer changes how many rows were read
+-- the answer to an end row doesn't change how many rows were read
 rows_end : (s : RunState) (number count : ℕ) (line : List ℕ) (t : RunState) → IsEndAnswered s number count line t → t.rows ≡ s.rows
 rows_end s number count line t (inl a) = ap (λ (x : RunState). x.rows) a.2
 rows_end s number count line t (inr a) = ap (λ (x : RunState). x.rows) a.4
@@ -57,8 +57,8 @@ abbrev Rows : Type 0
 Rows = List (List (List ℕ))
 
 module _ {J : Type 0} (contents : J → Option (List ℕ)) (first : PublisherState J) where
-  -- Rows that are taken one after the other are answered, from the state that is kept before to one that
-  -- is kept afterwards.
+  -- If the code takes rows one after the other, the specification's answers to them lead from the
+  -- state before the first row to a state after the last row.
   carried : (place : ℕ) (k k' : KeptUpdates J) (s : UpdatesState) (rows : Rows) (lines : List ℕ) → KeepsUpdates contents first k s → place ≡ s.run.rows + 1
       → AreAnswered (IsUpdateTaken contents) place k rows lines k'
       → (t : UpdatesState) × KeepsUpdates contents first k' t × AreAnswered IsUpdateAnsweredAt place s rows lines t × (place + length rows ≡ t.run.rows + 1)

@@ -4,7 +4,7 @@ use Rattle.cspf_ero.specs.ReplyLine.{IsReply}
 use Rattle.cspf_model.specs.Outcome.{answer_of}
 use Rattle.cspf_publish.specs.declared.answer.Answer.{Answer}
 
--- the lines of answers, each with its id and version
+-- the lines of answers, one reply for each, with the id and version of the answer
 abbrev pub AreAnswerLines : List Answer → List ℕ → Type 0
 AreAnswerLines [] lines = lines ≡ []
 AreAnswerLines (a ∷ answers) lines =

@@ -9,13 +9,13 @@ use Rattle.cspf_solve.specs.declared.summary.Summary.{Summary}
 use Rattle.cspf_solve.specs.Script.{IsSolveRun}
 use Rattle.cspf_serve.specs.BatchRun.{IsBatchRun}
 
--- nothing is left after the batches of a journal
+-- the journal has no rows after its batches
 abbrev pub IsCleanJournal : Records → Type 0
 IsCleanJournal records = (batches : List NumberedChanges) × IsJournal records batches rest.Clean
 
--- Take a journal with nothing after its batches, and requests of which none is refused, at most
--- 1,000,000 rows together. The lines are those of a script: of the journal's rows and then the
--- requests'.
+-- The journal has no rows after its batches, no request is refused, and both have at most 1,000,000
+-- rows together. Then the lines are those of one script: the journal's rows, followed by the
+-- requests' rows.
 abbrev pub AreLinesOfAScript : Type 0
 AreLinesOfAScript =
     (accept_torn : Bool) (journal requests : Records) (lines : List ℕ)

@@ -15,24 +15,25 @@ use Rattle.cspf_stream.specs.Lines.{version_line, refused_batch_line}
 use Rattle.cspf_judge.specs.EarlyEnds.{HasBegun}
 use Rattle.cspf_judge.specs.Inputs.{AreBatchesOf, IsJournalRefused, AreRequestsOf, AreRequestsRefused}
 
--- the lines of batches that are accepted, one for each
+-- the lines of accepted batches: one version for each batch
 abbrev pub version_lines : List NumberedChanges → List ℕ
 version_lines batches = flat_map (λ batch. version_line batch.number) batches
 
--- a request is answered by this line, in a database at a version
+-- the line is the reply to the request, computed in the database `d` at this version
 abbrev pub IsReplyTo : Database → ℕ → Request → List ℕ → Type 0
 IsReplyTo d version q line =
     (answer : Answer) × IsBestAnswer d q answer × IsReply q.id version answer line
 
--- requests are answered one after the other, all in one database at one version
+-- the lines are the replies to the requests in order, all computed in the same database at the same
+-- version
 abbrev pub AreReplies : Database → ℕ → List Request → List ℕ → Type 0
 AreReplies d version [] lines = lines ≡ []
 AreReplies d version (q ∷ qs) lines =
     (line : List ℕ) × (more : List ℕ) × IsReplyTo d version q line × (lines ≡ line ++ more)
     × AreReplies d version qs more
 
--- Each batch is accepted and answered by its version, and then the requests are answered at the
--- last version.
+-- Each batch is accepted, and its line is its version. Then the requests are answered at the last
+-- version.
 pub record AreAccepted (batches : List NumberedChanges) (requests : List Request)
     (lines : List ℕ) : Type 0 where
   pub lawful : AreLawful batches
@@ -40,8 +41,8 @@ pub record AreAccepted (batches : List NumberedChanges) (requests : List Request
   pub answered : AreReplies (database_after batches) (length batches) requests replies
   pub whole : lines ≡ version_lines batches ++ replies
 
--- The batches before one of them are accepted and answered by their versions; that one doesn't fit,
--- and its refusal is the last line.
+-- The batches before one that doesn't fit are accepted, and their lines are their versions. The
+-- last line refuses the batch that doesn't fit.
 pub record IsOneUnfit (batches : List NumberedChanges) (lines : List ℕ) : Type 0 where
   pub before : List NumberedChanges
   pub batch : NumberedChanges
@@ -52,8 +53,8 @@ pub record IsOneUnfit (batches : List NumberedChanges) (lines : List ℕ) : Type
   pub refused : IsRefusal (database_after before) batch why
   pub whole : lines ≡ version_lines before ++ refused_batch_line batch.number (refusal.Unfit why)
 
--- The lines of batches and of the records of a stream of requests, and the status: the requests are
--- read before the first batch is applied.
+-- The lines and the status of a run over batches and a stream of requests. The requests are read
+-- before any line is written, so if they are refused, no batch has a line.
 abbrev pub AreAnsweredTogether : List NumberedChanges → Records → List ℕ → ℕ → Type 0
 AreAnsweredTogether batches records lines status =
     (AreRequestsRefused records lines × (status ≡ 2))
@@ -68,8 +69,8 @@ IsBatchRun accept_torn journal requests lines status =
     ⊎ ((batches : List NumberedChanges) × AreBatchesOf accept_torn journal batches
     × AreAnsweredTogether batches requests lines status)
 
--- The lines of a run that ends behind the batches or behind the reply to one of the requests, or all
--- lines of a run that refuses something.
+-- What a run has written if it ends early: the lines of the batches and some of the first replies,
+-- or all lines of a run that refuses something.
 abbrev pub IsBatchRunInPart : Bool → Records → Records → List ℕ → Type 0
 IsBatchRunInPart accept_torn journal requests lines =
     IsBatchRun accept_torn journal requests lines 2
@@ -77,7 +78,8 @@ IsBatchRunInPart accept_torn journal requests lines =
     × ((asked : List Request) × AreRequestsOf requests asked
     × ((count : ℕ) × AreAccepted batches (take count asked) lines)))
 
--- nothing was written, or the beginning of the lines of such a run, where the bytes of both are known
+-- nothing was written, or the beginning of such lines, if the bytes of the journal and the requests
+-- are known
 abbrev pub HasBegunBatch : Bool → Option (List ℕ) → Option (List ℕ) → Option (List ℕ) → Option (List ℕ) → Type 0
 HasBegunBatch accept_torn journal requests old new =
     IfSome journal (λ kept. IfSome requests (λ asked.

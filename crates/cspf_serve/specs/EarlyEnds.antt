@@ -1,4 +1,4 @@
--- Private: what holds where a run over a journal ends early.
+-- Private: what holds if a run over a journal ends early.
 use Rattle.std.specs.Prelude.{◌≡◌, ℕ, ◌+◌, ◌^◌, ◌<◌, ◌⊎◌, Bool, List, [], ◌∷◌, ◌++◌}
 use Rattle.cspf_judge.specs.declared.early_end.JudgeError.{JudgeError}
 use Rattle.cspf_judge.specs.declared.early_end.JudgeError.TheVariants.{Memory, Device}
@@ -13,7 +13,7 @@ use Rattle.cspf_stream.specs.Lines.{refused_batch_line}
 use Rattle.cspf_work.specs.declared.serve_error.ServeError.{ServeError}
 use Rattle.cspf_work.specs.declared.serve_error.ServeError.TheVariants as serve_error
 
--- the line of a batch that isn't published because it is at fault: other faults have none
+-- the line of a batch that isn't published because the batch is at fault; other faults have no line
 abbrev pub IsOwnFaultLine : ApplyError → ℕ → List ℕ → Type 0
 IsOwnFaultLine error.Stopped number line = ⊥
 IsOwnFaultLine error.Exhausted number line = line ≡ refused_batch_line number refusal.Exhausted
@@ -22,8 +22,8 @@ IsOwnFaultLine (error.Refused why) number line = line ≡ refused_batch_line num
 IsOwnFaultLine error.Memory number line = ⊥
 IsOwnFaultLine (error.Journal written) number line = ⊥
 
--- the error of a run that ends at a batch without fault that isn't published: a fault of the batch
--- has a line
+-- The error of a run that ends at a batch which has no fault, but isn't published. A batch with a
+-- fault has a line instead.
 abbrev pub IsFaultBeyond : ApplyError → JudgeError → Type 0
 IsFaultBeyond error.Stopped e = e ≡ Device
 IsFaultBeyond error.Exhausted e = ⊥
@@ -32,20 +32,21 @@ IsFaultBeyond (error.Refused why) e = ⊥
 IsFaultBeyond error.Memory e = e ≡ Memory
 IsFaultBeyond (error.Journal written) e = e ≡ Device
 
--- A batch ends a run: memory is refused, or a device fails. Then it is that of the journal, and the publisher is
--- stopped, or that of the lines, and the batch is published.
+-- How an error ends a run at a batch. Memory was refused, or a device failed. If the device is the
+-- journal, the publisher is stopped. If it is the lines' writer, the batch is published.
 abbrev pub IsPublishingFault : {W : Type 0} → PublisherState W → PublisherState W → NumberedChanges → JudgeError → Type 0
 IsPublishingFault before after b e =
     (e ≡ Memory)
     ⊎ ((e ≡ Device) × (IsStopped after ⊎ (after.batches ≡ before.batches ++ b ∷ [])))
 
--- the records of a journal or those of requests are refused by this line, the journal first
+-- this line refuses the journal or, if the journal isn't refused, the requests
 abbrev pub AreStreamsRefused : Bool → Records → Records → List ℕ → Type 0
 AreStreamsRefused accept_torn journal requests line =
     IsJournalRefused accept_torn journal line
     ⊎ ((batches : List NumberedChanges) × AreBatchesOf accept_torn journal batches × AreRequestsRefused requests line)
 
--- the error of a part of a list of requests, with the index of a request in the whole list
+-- an error in a part of a list of requests, and the same error with the request's index in the
+-- whole list
 abbrev pub IsErrorOfPart : ℕ → ServeError → ServeError → Type 0
 IsErrorOfPart first serve_error.Memory e = e ≡ serve_error.Memory
 IsErrorOfPart first serve_error.NoEntry e = e ≡ serve_error.NoEntry

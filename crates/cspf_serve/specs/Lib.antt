@@ -1,4 +1,4 @@
--- The words of this crate's contracts.
+-- The definitions that this crate's contracts cite.
 pub mod ErrorNames
 pub mod BatchRun
 pub mod BatchLaws

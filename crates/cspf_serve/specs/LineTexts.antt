@@ -1,4 +1,4 @@
--- Private: the text of each line of a run, except replies and the lines of what is judged.
+-- Private: the text of each line of a run, except replies and the lines of judging.
 use Rattle.std.specs.Prelude.{ℕ, List}
 use Rattle.cspf_serve.specs.declared.line.Line.{Line}
 use Rattle.cspf_serve.specs.declared.line.Line.TheVariants as line

@@ -1,4 +1,5 @@
--- The lines of updates and requests in a live run, which applies and answers at once.
+-- The lines of updates and requests in a live run, which publishes batches while it answers
+-- requests.
 use Rattle.std.specs.Prelude.{◌≡◌, ℕ, ◌<◌, ◌≤◌, ◌⊎◌, false, List, [], ◌∷◌, ◌++◌, length, take, Some, slice_get}
 use Rattle.std.specs.List.{flat_map}
 use Rattle.cspf_rows.specs.Records.{Records}
@@ -14,22 +15,22 @@ use Rattle.cspf_judge.specs.Inputs.{AreBatchesOf, IsJournalRefused, AreRequestsO
 use Rattle.cspf_serve.specs.BatchRun.{IsReplyTo}
 use Rattle.cspf_serve.specs.LiveWords.{applied_line, unpublished_line}
 
--- a request is answered by this line, at a published version: in the database of a prefix of these
--- batches
+-- The line answers the request at a published version: in the database after a prefix of these
+-- batches.
 abbrev pub IsReplyWithin : List NumberedChanges → Request → List ℕ → Type 0
 IsReplyWithin published q line =
     (version : ℕ) × (version ≤ length published)
     × IsReplyTo (database_after (take version published)) version q line
 
--- the lines of requests, in their order, each at any published version
+-- the replies to the requests in order, each at some published version
 abbrev pub AreRepliesWithin : List NumberedChanges → List Request → List ℕ → Type 0
 AreRepliesWithin published [] lines = lines ≡ []
 AreRepliesWithin published (q ∷ qs) lines =
     (line : List ℕ) × (more : List ℕ) × IsReplyWithin published q line × (lines ≡ line ++ more)
     × AreRepliesWithin published qs more
 
--- Why the batch after those that are published isn't published. Numbers that were read from a
--- journal are the right ones, and they are few enough.
+-- Why the first batch after the published ones isn't published. It can't be for its number, or for
+-- too many batches: both were checked when the updates were read.
 abbrev pub IsWhyNot : List NumberedChanges → NumberedChanges → ApplyError → Type 0
 IsWhyNot published b error.Stopped = ⊥
 IsWhyNot published b error.Exhausted = ⊥
@@ -39,14 +40,13 @@ IsWhyNot published b error.Memory = Fits (database_after published) b
 IsWhyNot published b (error.Journal written) =
     Fits (database_after published) b × (written < length (batch_text b))
 
--- the text that the journal has of a batch that isn't published: the bytes that were written before
--- its fault
+-- For a batch that isn't published, the bytes that the journal got before its fault.
 abbrev pub begun_text : NumberedChanges → ApplyError → List ℕ
 begun_text b (error.Journal written) = take written (batch_text b)
 begun_text b why = []
 
--- The lines after the replies, the text in the journal after the published batches, and the status.
--- All batches are published, or the first of the others is refused.
+-- The lines after the replies, the journal's text after the published batches, and the status. All
+-- batches are published, or the batch after the published ones is refused.
 abbrev pub IsEndOfLiveRun : List NumberedChanges → ℕ → List ℕ → List ℕ → ℕ → Type 0
 IsEndOfLiveRun batches applied line text status =
     ((applied ≡ length batches) × (line ≡ []) × (text ≡ []) × (status ≡ 0))
@@ -54,9 +54,10 @@ IsEndOfLiveRun batches applied line text status =
     × IsWhyNot (take applied batches) next why × (line ≡ unpublished_line next.number why)
     × (text ≡ begun_text next why) × (status ≡ 2))
 
--- A prefix of the batches is published. The requests are answered at versions of these. Then come
--- the lines of their number, and of why the next one isn't published, if there is one. The journal
--- has the texts of those that are published, and after a fault of the journal a prefix of one more.
+-- A prefix of the batches is published, and each request is answered at the version of a published
+-- batch or at version 0. After the replies, one line counts the published batches, and another says
+-- why the next batch isn't published, if there is a next one. The journal has the texts of the
+-- published batches, and after a fault also a prefix of the next batch's text.
 pub record AreAnsweredLive (batches : List NumberedChanges) (requests : List Request)
     (lines text : List ℕ) (status : ℕ) : Type 0 where
   pub applied : ℕ
@@ -70,9 +71,9 @@ pub record AreAnsweredLive (batches : List NumberedChanges) (requests : List Req
   pub written : lines ≡ replies ++ applied_line applied ++ last
   pub recorded : text ≡ flat_map batch_text (take applied batches) ++ begun
 
--- The text that is added to the journal of a live run that ends by an error after batches were
--- applied. As without the error: the texts of the batches up to the first that isn't published, and
--- after a fault of the journal a prefix of that one.
+-- The text that the journal gets in a live run that ends by an error after batches were applied. It
+-- is the same as without the error: the texts of the published batches, and after a fault of the
+-- journal also a prefix of the next batch's text.
 pub record AreRecorded (batches : List NumberedChanges) (text : List ℕ) : Type 0 where
   pub applied : ℕ
   pub inside : applied ≤ length batches
@@ -82,25 +83,24 @@ pub record AreRecorded (batches : List NumberedChanges) (text : List ℕ) : Type
   pub end : IsEndOfLiveRun batches applied last begun status
   pub recorded : text ≡ flat_map batch_text (take applied batches) ++ begun
 
--- no batch was applied, or all were up to the first that was refused
+-- no batch was applied, or all batches up to the first that was refused
 abbrev pub AreRecordedAtError : List NumberedChanges → List ℕ → Type 0
 AreRecordedAtError batches text = (text ≡ []) ⊎ AreRecorded batches text
 
--- the text that is added to the journal of a live run over the records of updates that ends by an
--- error
+-- The text that the journal gets in a live run over the records of updates that ends by an error.
 abbrev pub IsRecordedAtError : Records → List ℕ → Type 0
 IsRecordedAtError updates text =
     (text ≡ []) ⊎ ((batches : List NumberedChanges) × AreBatchesOf false updates batches × AreRecorded batches text)
 
--- The records of updates or those of requests are refused by this line, the updates first.
+-- This line refuses the updates or, if the updates aren't refused, the requests.
 abbrev pub AreInputsRefused : Records → Records → List ℕ → Type 0
 AreInputsRefused updates requests line =
     IsJournalRefused false updates line
     ⊎ ((batches : List NumberedChanges) × AreBatchesOf false updates batches
     × AreRequestsRefused requests line)
 
--- The lines of the records of updates and of requests, the text that is added to the journal, and
--- the status.
+-- The lines, the text that the journal gets, and the status of a live run over the records of
+-- updates and of requests.
 abbrev pub IsLiveRun : Records → Records → List ℕ → List ℕ → ℕ → Type 0
 IsLiveRun updates requests lines text status =
     (AreInputsRefused updates requests lines × (text ≡ []) × (status ≡ 2))

@@ -1,4 +1,4 @@
--- The lines after the replies of a live run.
+-- The lines that a live run writes after its replies.
 use Rattle.std.specs.Prelude.{ℕ, List, ◌++◌, codes}
 use Rattle.std.specs.Fmt.{decimal}
 use Rattle.cspf_publish.specs.declared.errors.ApplyError.{ApplyError}
@@ -7,7 +7,7 @@ use Rattle.cspf_stream.specs.declared.batch_refusal.BatchRefusal.{BatchRefusal}
 use Rattle.cspf_stream.specs.declared.batch_refusal.BatchRefusal.TheVariants as refusal
 use Rattle.cspf_stream.specs.Lines.{refused_batch_line}
 
--- why a batch is refused that a publisher doesn't publish
+-- the refusal of a batch that the publisher didn't publish
 abbrev pub refusal_of : ApplyError → BatchRefusal
 refusal_of error.Stopped = refusal.Stopped
 refusal_of error.Exhausted = refusal.Exhausted
@@ -16,10 +16,10 @@ refusal_of (error.Refused why) = refusal.Unfit why
 refusal_of error.Memory = refusal.Memory
 refusal_of (error.Journal written) = refusal.Journal written
 
--- how many batches were published
+-- the line that counts the published batches
 abbrev pub applied_line : ℕ → List ℕ
 applied_line count = codes "applied " ++ decimal count ++ codes "\n"
 
--- the line of the batch with this number, which isn't published
+-- the line of the batch with this number, which wasn't published
 abbrev pub unpublished_line : ℕ → ApplyError → List ℕ
 unpublished_line number why = refused_batch_line number (refusal_of why)

@@ -1,8 +1,8 @@
--- Lists of which the elements are related place by place, each by its number.
+-- Lists whose elements are related place by place, with the number of the place.
 use Rattle.std.specs.Prelude.{◌≡◌, ℕ, suc, ⊤, List, [], ◌∷◌}
 
--- The lists are as long as one another, and the elements at each place are related. The number of the first
--- place is this one, and that of each other place the next.
+-- Both lists have the same length, and the two elements at each place are related. Places are
+-- numbered from `n` on.
 abbrev pub AreNumberedPairs : {A B : Type 0} → (ℕ → A → B → Type 0) → ℕ → List A → List B → Type 0
 AreNumberedPairs R n [] [] = ⊤
 AreNumberedPairs R n [] (y ∷ ys) = ⊥

@@ -1,4 +1,4 @@
--- Private: which batches of a journal are published, and what is written of them.
+-- Private: which batches of a journal are published, and the lines that are written for them.
 use Rattle.std.specs.Prelude.{◌≡◌, ℕ, ◌⊎◌, Option, Some, None, List, ◌∷◌, ◌++◌, take}
 use Rattle.cspf_model.specs.declared.refusal.Refusal.{Refusal}
 use Rattle.cspf_model.specs.Numbered.{NumberedChanges}
@@ -11,7 +11,7 @@ use Rattle.cspf_model.specs.declared.request.Request.{Request}
 use Rattle.cspf_stream.specs.Lines.{refused_batch_line}
 use Rattle.cspf_serve.specs.BatchRun.{AreAccepted, IsOneUnfit}
 
--- the batch after those that are published doesn't fit, as the line says
+-- the batch after the published ones doesn't fit, and the line refuses it
 pub record IsUnfitBehind (batches published : List NumberedChanges) (line : List ℕ) : Type 0 where
   pub batch : NumberedChanges
   pub after : List NumberedChanges
@@ -20,17 +20,19 @@ pub record IsUnfitBehind (batches published : List NumberedChanges) (line : List
   pub refused : IsRefusal (database_after published) batch why
   pub is_line : line ≡ refused_batch_line batch.number (refusal.Unfit why)
 
--- the batches are published, or else those before the first one that doesn't fit, as a line says
+-- all batches are published, or only those before the first one that doesn't fit, which the line
+-- refuses
 abbrev pub ArePublishedOrRefused : List NumberedChanges → List NumberedChanges → Option JudgeLine → Type 0
 ArePublishedOrRefused batches published None = published ≡ batches
 ArePublishedOrRefused batches published (Some line) = IsUnfitBehind batches published (judge_line_text line)
 
--- all batches are accepted and the requests answered, or one of the batches doesn't fit
+-- all batches are accepted and the requests are answered, or one of the batches doesn't fit
 abbrev pub IsAcceptedOrUnfit : List NumberedChanges → List Request → List ℕ → ℕ → Type 0
 IsAcceptedOrUnfit batches requests lines status =
     (AreAccepted batches requests lines × (status ≡ 0)) ⊎ (IsOneUnfit batches lines × (status ≡ 2))
 
--- all batches are accepted and the first of the requests answered, or one of the batches doesn't fit
+-- all batches are accepted and some of the first requests are answered, or one of the batches
+-- doesn't fit
 abbrev pub IsAcceptedInPart : List NumberedChanges → List Request → List ℕ → Type 0
 IsAcceptedInPart batches requests lines =
     ((count : ℕ) × AreAccepted batches (take count requests) lines) ⊎ IsOneUnfit batches lines

@@ -1,4 +1,4 @@
--- Which errors end a run over a journal, or over updates, and requests.
+-- Which errors end a run over a journal and requests, or over updates and requests.
 use Rattle.std.specs.Prelude.{◌≡◌, ℕ, ◌<◌, ◌⊎◌, Bool, List, length, Option, IfSome}
 use Rattle.cspf_model.specs.Numbered.{NumberedChanges}
 use Rattle.cspf_rows.specs.Records.{rows_of}
@@ -11,7 +11,7 @@ use Rattle.cspf_judge.specs.Inputs.{AreBatchesOf}
 use Rattle.cspf_judge.specs.declared.early_end.JudgeError.{JudgeError}
 use Rattle.cspf_judge.specs.declared.early_end.JudgeError.TheVariants as judge_error
 
--- each error of a journal, requests or replies keeps its name
+-- the error of a run for each error of reading or writing, which keeps its name
 abbrev pub judged_error_of : JudgeError → RunError
 judged_error_of judge_error.Memory = Memory
 judged_error_of judge_error.Device = Device
@@ -20,36 +20,36 @@ judged_error_of judge_error.Device = Device
 abbrev pub IsStreamFault : RunError → Type 0
 IsStreamFault e = (e ≡ Memory) ⊎ (e ≡ Device)
 
--- memory was refused, or there was no place for a reader
+-- memory was refused, or the replicas of the database had no place left for a reader
 abbrev pub IsOpeningFault : RunError → Type 0
 IsOpeningFault e = (e ≡ Memory) ⊎ (e ≡ Places)
 
--- a worker gave up, or a request, by its index, is answered at a version of which this holds
+-- a worker gave up, or `IsStray` holds of the index of a request and the version of its answer
 abbrev pub IsAnsweringFault : (ℕ → ℕ → Type 0) → RunError → Type 0
 IsAnsweringFault IsStray e =
     ((fault : ServeError) × (e ≡ Serve fault) × IsFaultOfWorker fault)
     ⊎ ((index : ℕ) × (version : ℕ) × (e ≡ Serve (Unaccounted index version)) × IsStray index version)
 
--- the streams or the answers end a run
+-- an error of the streams or of answering the requests ends the run
 abbrev pub IsRunFault : (ℕ → ℕ → Type 0) → RunError → Type 0
 IsRunFault IsStray e = IsStreamFault e ⊎ IsAnsweringFault IsStray e
 
--- a request of the stream is answered at a version above the number of the journal's batches
+-- the answer to a request of the stream has a version above the number of the journal's batches
 abbrev pub IsStrayInBatchRun : Bool → Option (List ℕ) → Option (List ℕ) → ℕ → ℕ → Type 0
 IsStrayInBatchRun accept_torn journal requests index version =
     IfSome requests (λ asked. index < length (rows_of asked))
     × IfSome journal (λ kept. (batches : List NumberedChanges)
     × AreBatchesOf accept_torn (rows_of kept) batches × (length batches < version))
 
--- why a run over a journal and requests ends by an error: its publisher isn't opened, or it ends later
+-- the error that ends a run over a journal and requests: in opening the publisher, or later
 abbrev pub IsBatchFault : Bool → Option (List ℕ) → Option (List ℕ) → RunError → Type 0
 IsBatchFault accept_torn journal requests e = IsOpeningFault e ⊎ IsRunFault (IsStrayInBatchRun accept_torn journal requests) e
 
--- a request of the stream is answered at a version above those of a prefix of the updates, and so
--- above 0
+-- The answer to a request of the stream has a version above the number of the published updates, so
+-- above 0.
 abbrev pub IsStrayInLiveRun : Option (List ℕ) → ℕ → ℕ → Type 0
 IsStrayInLiveRun requests index version = IfSome requests (λ asked. index < length (rows_of asked)) × (0 < version)
 
--- why a run over updates and requests ends by an error: its publisher isn't opened, or it ends later
+-- the error that ends a run over updates and requests: in opening the publisher, or later
 abbrev pub IsLiveFault : Option (List ℕ) → RunError → Type 0
 IsLiveFault requests e = IsOpeningFault e ⊎ IsRunFault (IsStrayInLiveRun requests) e

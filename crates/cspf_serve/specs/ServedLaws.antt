@@ -22,8 +22,8 @@ use Rattle.cspf_serve.specs.NumberedPairs.{AreNumberedPairs}
 use Rattle.cspf_serve.specs.ServedRun.{IsServedClient, IsServedRun}
 use Rattle.cspf_serve.specs.declared.serving.served_run.Served.{Served}
 
--- One of the steps is the reading for the row of a client at this place. What was counted by the steps
--- before it is no more than this version.
+-- One of the steps is the reading of the count for this row of the client. The steps before it
+-- count at most `version` batches as published.
 pub record IsReadBefore (steps : List LogStep) (client place version : ℕ) : Type 0 where
   pub before : List LogStep
   pub count : ℕ
@@ -31,14 +31,15 @@ pub record IsReadBefore (steps : List LogStep) (client place version : ℕ) : Ty
   pub reading : steps ≡ before ++ Read client place count ∷ after
   pub fresh : count_of before ≤ version
 
--- A request is answered at a version that is no less than what was counted before its row was read.
+-- A request is answered at a version that is at least the count of published batches before its row
+-- was read.
 pub record IsFreshReply (steps : List LogStep) (client place : ℕ) (q : Request) (line : List ℕ) : Type 0 where
   pub version : ℕ
   pub answer : Answer
   pub reply : IsReply q.id version answer line
   pub read : IsReadBefore steps client place version
 
--- the line of a row, read or not, is fresh: only a request has a version
+-- the line of a row is fresh; only a reply to a request has a version, so every other line is fresh
 abbrev pub IsFreshLine : List LogStep → ℕ → ℕ → Result Row RowError → List ℕ → Type 0
 IsFreshLine steps client place (Err why) line = Unit {0}
 IsFreshLine steps client place (Ok (row.Put link)) line = Unit {0}
@@ -47,19 +48,20 @@ IsFreshLine steps client place (Ok (row.Node router transit)) line = Unit {0}
 IsFreshLine steps client place (Ok (row.End number count)) line = Unit {0}
 IsFreshLine steps client place (Ok (row.Ask q)) line = IsFreshReply steps client place q line
 
--- the row at a place is answered by a fresh line, whatever else is known between two rows
+-- the line that answers the row at this place is fresh; nothing else is claimed of the state
+-- between rows
 abbrev pub IsAnsweredFresh : List LogStep → ℕ → AnswersOf (Unit {0})
 IsAnsweredFresh steps client place s fields line t = IsFreshLine steps client place (row_of fields) line
 
--- Fresh lines answer all rows of a client, or those before its stream stopped.
+-- All rows of a client are answered by fresh lines, or all rows before its stream stopped.
 abbrev pub HasFreshLines : {Q V : Type 0} → (Q → Option (List ℕ)) → (V → Option (List ℕ)) → List LogStep → ℕ → Client Q V → ServedClient V → Type 0
 HasFreshLines bytes contents steps number client served =
     AreAllAnswered (IsAnsweredFresh steps number) (option_map rows_of (bytes client.requests)) tt tt (contents client.replies) (contents served.replies)
     ⊎ ((why : StreamError) × (left : Option (List (List (List ℕ)))) × (failed : Bool)
     × HasStopped (IsAnsweredFresh steps number) (λ place s fields t. Unit {0}) why (option_map rows_of (bytes client.requests)) left failed tt tt (contents client.replies) (contents served.replies))
 
--- In a served run each reply is at a version that is no less than what was counted before its row was read,
--- by the list of steps that the run hands out.
+-- In a served run each reply has a version that is at least the count of published batches before
+-- its row was read. The list of steps that the run hands out shows this.
 abbrev pub ServedRepliesAreFresh : Type 0 → Type 0 → Type 0 → Type 0 → Type 0
 ServedRepliesAreFresh W J Q V =
     (updates : Option (List ℕ)) (said : W → Option (List ℕ)) (recorded : J → Option (List ℕ)) (bytes : Q → Option (List ℕ)) (contents : V → Option (List ℕ))
@@ -71,7 +73,7 @@ ServedRepliesAreFresh W J Q V =
 abbrev pub read_behind_a_batch : NumberedChanges → List LogStep
 read_behind_a_batch b = Recorded b ∷ Published 1 ∷ Read 1 1 1 ∷ []
 
--- In a run of these steps no reply at version 0 is the served client's.
+-- In a run with these steps, the served client has no reply at version 0.
 abbrev pub NoReplyIsBehind : Type 0
 NoReplyIsBehind =
     (b : NumberedChanges) (all : KnownSteps) (fields : List (List ℕ)) (q : Request) (client : Client (List ℕ) (List ℕ)) (served : ServedClient (List ℕ)) (answer : Answer)

@@ -1,5 +1,5 @@
--- The result of a run over updates and clients: one list of published batches. The updates make it,
--- the journal has it, and every client is answered from it.
+-- The result of a run over updates and clients. There is one list of published batches: the updates
+-- make it, the journal records it, and all clients are answered from it.
 use Rattle.std.specs.Prelude.{◌≡◌, ℕ, ◌+◌, ◌<◌, ◌≤◌, ◌⊎◌, Bool, Option, Some, List, [], length, All, Result, Err, MatchResult}
 use Rattle.std.specs.Option.{option_map}
 use Rattle.std.specs.Io.KnownBytes.{Appends, Keeps}
@@ -31,15 +31,16 @@ use Rattle.cspf_serve.specs.declared.serving.served_run.ServedError.TheVariants 
 abbrev Rows : Type 0
 Rows = List (List (List ℕ))
 
--- the row at this place, from 1, is answered
+-- the row at this place is answered; places count from 1
 abbrev pub IsUpdateAnsweredAt : AnswersOf UpdatesState
 IsUpdateAnsweredAt place s fields line t = (place ≡ s.run.rows + 1) × IsUpdateAnswered (at_next_update s) (row_of fields) line t
 
--- memory is refused at the row at this place
+-- memory is refused at the row at this place; places count from 1
 abbrev pub IsUpdateLostAt : FailsOf UpdatesState
 IsUpdateLostAt place s fields t = (place ≡ s.run.rows + 1) × IsUpdateLost (at_next_update s) (row_of fields) t
 
--- where the line of changes that are still open stops: memory for it is refused, or as any line does
+-- why the line that counts the open changes isn't written: memory for it is refused, or writing
+-- fails
 abbrev pub IsLastLineStopped : StreamError → List ℕ → Option (List ℕ) → Option (List ℕ) → Type 0
 IsLastLineStopped error.Memory line old new = Keeps old new
 IsLastLineStopped error.Read line old new = ⊥
@@ -47,19 +48,19 @@ IsLastLineStopped error.Write line old new = IsLineStopped error.Write line old 
 IsLastLineStopped error.Flush line old new = IsLineStopped error.Flush line old new
 IsLastLineStopped error.TooManyRows line old new = ⊥
 
--- the line of changes that are still open is said, where there are any, or stops
+-- the line that counts the open changes is written if there are any, or writing it fails
 abbrev pub IsLastLineSaid : Result (Unit {0}) StreamError → List ℕ → Option (List ℕ) → Option (List ℕ) → Type 0
 IsLastLineSaid said line old new =
     MatchResult said (λ done. Appends old new line) (λ error. IsLastLineStopped error line old new)
 
--- All rows of the updates are answered. After their lines this holds of the line of the changes
--- that are still open, if there are any.
+-- All rows of the updates are answered. `Last` holds of what was then written of the line that
+-- counts the open changes, if there is such a line.
 pub record AreUpdatesAnswered (Last : List ℕ → Option (List ℕ) → Type 0) (all : Option Rows) (t : UpdatesState) (old : Option (List ℕ)) : Type 0 where
   pub mid : Option (List ℕ)
   pub answered : AreAllAnswered IsUpdateAnsweredAt all no_updates t old mid
   pub last : Last (end_line t.run.changes) mid
 
--- The updates stop: as any stream does, or in their last line.
+-- The stream of updates stops before its end, or in the line that counts the open changes.
 abbrev pub AreUpdatesStopped : StreamError → Option Rows → UpdatesState → Option (List ℕ) → Option (List ℕ) → Type 0
 AreUpdatesStopped error all t old new =
     ((left : Option Rows) × (failed : Bool) × HasStopped IsUpdateAnsweredAt IsUpdateLostAt error all left failed no_updates t old new)
@@ -72,11 +73,12 @@ IsUpdatesRun ended all t old new =
     (λ done. AreUpdatesAnswered (λ line mid. Appends mid new line) all t old)
     (λ error. AreUpdatesStopped error all t old new)
 
--- The client with a number was run, from before the first row of its requests until it met all batches that
--- were published in the end. It hands out what it knew after its last row. Its batches are a prefix of
--- those that were published, so each of its replies is the best answer at a published version. Or it knew
--- more batches than were published in the end, which no run shows, and ends as `Ahead`. Its steps are the
--- first of all steps of the journal, so its readings of the count are among them.
+-- The client with this number was answered from the first row of its requests on, until it met all
+-- batches that were published in the end. Its batches are a prefix of the published batches, so
+-- each of its replies is the best answer at a published version. A client that knew more batches
+-- than were published ends as `Ahead`; no run shows this. The client's steps are a prefix of all
+-- steps of the journal, so its readings of the count are among these. The result has what the
+-- client knew after its last row.
 pub record IsServedClient {Q V : Type 0} (bytes : Q → Option (List ℕ)) (contents : V → Option (List ℕ)) (published : List NumberedChanges) (all : KnownSteps) (number : ℕ) (client : Client Q V) (served : ServedClient V) : Type 0 where
   pub before : ServingState Q V
   pub after : ServingState Q V
@@ -95,33 +97,33 @@ pub record IsServedClient {Q V : Type 0} (bytes : Q → Option (List ℕ)) (cont
       ((served.end ≡ after.end) × BeginsWith published served.known.batches)
       ⊎ ((served.end ≡ Err Ahead) × (length published < length served.known.batches))
 
--- Each client was served. The first of them has this number, and each other one the next.
+-- Each client was served. The clients are numbered from `number` on.
 abbrev pub AreServedFrom : {Q V : Type 0} → (Q → Option (List ℕ)) → (V → Option (List ℕ)) → List NumberedChanges → KnownSteps → ℕ → List (Client Q V) → List (ServedClient V) → Type 0
 AreServedFrom bytes contents published all number clients served =
     AreNumberedPairs (IsServedClient bytes contents published all) number clients served
 
--- The steps of one journal from its first on. They record the published batches, count them as published,
--- and go on from these other steps.
+-- `all` has the steps of one journal, from its first step on. They record the published batches,
+-- count them as published, and begin with `steps`.
 pub record AreStepsOfRun (published : List NumberedChanges) (steps : List LogStep) (all : KnownSteps) : Type 0 where
   pub journal : AreJournalSteps all.steps
   pub recorded : BeginsWith (batches_of all.steps) published
   pub counted : length published ≤ count_of all.steps
   pub later : IsPrefix steps all.steps
 
--- no row and no batch was refused on any stream, and no change was left open
+-- no row and no batch of any stream was refused, and no change is still open
 pub record IsAllAccepted {V : Type 0} (t : UpdatesState) (clients : List (ServedClient V)) : Type 0 where
   pub refused : t.run.refused ≡ 0
   pub none_open : t.run.changes ≡ []
   pub each : All (λ c. c.refused ≡ 0) clients
 
--- 0 where all was accepted, and else 2
+-- the status is 0 if nothing was refused or left open, and 2 otherwise
 abbrev pub IsServedStatus : {V : Type 0} → UpdatesState → List (ServedClient V) → ℕ → Type 0
 IsServedStatus t clients status =
     (IsAllAccepted t clients × (status ≡ 0)) ⊎ ((¬ IsAllAccepted t clients) × (status ≡ 2))
 
--- The updates make the published batches: they are those that their run accepted. The journal has
--- grown by the text that that run wrote, and each client was answered from prefixes of them. One list is
--- handed out, of the steps of the journal: those that record and count the batches, and the readings of
+-- The published batches are those that the updates' run accepted. The journal has grown by the text
+-- that this run wrote, and each client was answered from prefixes of these batches. The run hands
+-- out one list of the journal's steps: it records and counts the batches, and has the readings of
 -- all clients. The clients are numbered from 1.
 pub record IsServedRun {W J Q V : Type 0} (updates : Option (List ℕ)) (said : W → Option (List ℕ)) (recorded : J → Option (List ℕ)) (bytes : Q → Option (List ℕ)) (contents : V → Option (List ℕ)) (writer : W) (journal : J) (clients : List (Client Q V)) (served : Served W J V) : Type 0 where
   pub state : UpdatesState
@@ -131,7 +133,8 @@ pub record IsServedRun {W J Q V : Type 0} (updates : Option (List ℕ)) (said : 
   pub clients_served : AreServedFrom bytes contents state.run.accepted served.steps 1 clients served.clients.items
   pub status_is : IsServedStatus state served.clients.items served.status
 
--- Why no run began: its publisher wasn't opened, or one of this many clients has no thread.
+-- Why no run began: its publisher wasn't opened, or no thread could be had for one of `count`
+-- clients.
 abbrev pub IsServedFault : ℕ → ServedError → Type 0
 IsServedFault count (served_error.Run error) = IsOpeningFault error
 IsServedFault count (served_error.NoThread client) = (0 < client) × (client ≤ count)

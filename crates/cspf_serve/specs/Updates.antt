@@ -1,5 +1,5 @@
--- The lines of a stream of updates while clients ask: the script of its rows, except for faults of
--- the journal and memory, and with any number of rows.
+-- The lines of a stream of updates while clients ask. They are those of a script of the same rows,
+-- except at a fault of the journal or of memory, and the number of rows has no limit.
 use Rattle.std.specs.Prelude.{◌≡◌, ℕ, ◌<◌, ◌≤◌, ◌⊎◌, Bool, true, false, List, [], ◌++◌, take, length, Result, Ok, Err}
 use mathlib.Core.List.{IsPrefix}
 use Rattle.cspf_journal.specs.declared.log_step.LogStep.{LogStep}
@@ -14,28 +14,28 @@ use Rattle.cspf_rows.specs.declared.row_error.RowError.{RowError}
 use Rattle.cspf_serve.specs.LiveWords.{unpublished_line}
 use Rattle.cspf_solve.specs.Script.{RunState, start, at_next_row, after_refused_batch, open_batch, IsAccepted, IsEndAnswered, IsRowAnswered}
 
--- the state between two rows
+-- the state of the updates between two rows
 pub record UpdatesState : Type 0 where
-  -- the state in a run of the same rows: its accepted batches are those that are published
+  -- the state of a script after the same rows; its accepted batches are the published ones
   pub run : RunState
-  -- a fault of the journal came before, and nothing is published any more
+  -- whether the journal had a fault, after which nothing is published any more
   pub stopped : Bool
-  -- what was written to the journal
+  -- the text that was written to the journal
   pub text : List ℕ
-  -- the steps of the journal up to the count of the last batch that is published
+  -- the steps of the journal up to the one that counts the last published batch
   pub steps : List LogStep
 
--- before the first row
+-- the state before the first row
 abbrev pub no_updates : UpdatesState
 no_updates = record { run = start; stopped = false; text = []; steps = [] }
 
--- later steps, by which these batches are counted as published
+-- the later steps count these batches as published
 pub record AreNowCounted (batches : List NumberedChanges) (before after : List LogStep) : Type 0 where
   pub later : IsPrefix before after
   pub counted : length batches ≤ count_of after
 
--- The journal after a fault. Refused memory leaves it as it was. A fault of the journal adds a
--- prefix of the batch's text, and the journal ends for good.
+-- What a fault leaves of the journal. Refused memory leaves the journal as it was. A fault of the
+-- journal adds a prefix of the batch's text, and nothing is written to the journal after it.
 abbrev pub IsLeftByFault : UpdatesState → ℕ → ApplyError → UpdatesState → Type 0
 IsLeftByFault s number error.Stopped t = ⊥
 IsLeftByFault s number error.Exhausted t = ⊥
@@ -52,15 +52,15 @@ IsLeftByFault s number (error.Journal written) t =
       steps = s.steps;
     })
 
--- A batch that is accepted isn't published for a fault, which its line names.
+-- A batch that a script would accept isn't published because of a fault. The line names the fault.
 pub record IsUnpublished (s : UpdatesState) (number count : ℕ) (line : List ℕ) (t : UpdatesState) : Type 0 where
   pub accepted : IsAccepted s.run number count
   pub why : ApplyError
   pub left : IsLeftByFault s number why t
   pub line_is : line ≡ unpublished_line number why
 
--- The end row is answered as in a script: the batch is refused, or it is published. Then its text is in
--- the journal, and all published batches are counted.
+-- The end row is answered as in a script: its batch is refused or published. If it is published,
+-- its text is in the journal, and all published batches are counted.
 pub record IsAsInScript (s : UpdatesState) (number count : ℕ) (line : List ℕ) (t : UpdatesState) : Type 0 where
   pub answered : IsEndAnswered s.run number count line t.run
   pub going : t.stopped ≡ false
@@ -74,21 +74,21 @@ IsRefusedBehindFault s number line t =
     (line ≡ unpublished_line number error.Stopped)
     × (t ≡ record { run = after_refused_batch s.run; stopped = true; text = s.text; steps = s.steps })
 
--- an end row is answered
+-- an end row is answered; the flag says whether the journal had a fault before
 abbrev pub IsEndUpdate : Bool → UpdatesState → ℕ → ℕ → List ℕ → UpdatesState → Type 0
 IsEndUpdate true s number count line t = IsRefusedBehindFault s number line t
 IsEndUpdate false s number count line t = IsAsInScript s number count line t ⊎ IsUnpublished s number count line t
 
--- any other row is answered as in a script
+-- a row that is no end row is answered as in a script
 pub record IsOtherUpdate (s : UpdatesState) (r : Result Row RowError) (line : List ℕ) (t : UpdatesState) : Type 0 where
   pub answered : IsRowAnswered s.run r line t.run
   pub same : t ≡ record { run = t.run; stopped = s.stopped; text = s.text; steps = s.steps }
 
--- one more row is read
+-- the state with one more row read
 abbrev pub at_next_update : UpdatesState → UpdatesState
 at_next_update s = record s { run = at_next_row s.run }
 
--- the line that the row with the number `s.run.rows` is answered, and the state after it
+-- the row is answered by this line, and `t` is the state after it; `s.run.rows` is the row's number
 abbrev pub IsUpdateAnswered : UpdatesState → Result Row RowError → List ℕ → UpdatesState → Type 0
 IsUpdateAnswered s (Err why) line t = IsOtherUpdate s (Err why) line t
 IsUpdateAnswered s (Ok (row.Put link)) line t = IsOtherUpdate s (Ok (row.Put link)) line t
@@ -97,7 +97,8 @@ IsUpdateAnswered s (Ok (row.Node router transit)) line t = IsOtherUpdate s (Ok (
 IsUpdateAnswered s (Ok (row.End number count)) line t = IsEndUpdate s.stopped s number count line t
 IsUpdateAnswered s (Ok (row.Ask q)) line t = IsOtherUpdate s (Ok (row.Ask q)) line t
 
--- Memory is refused at a row: nothing is published without its line. Else nothing changes, or only
--- what the missing line would have said: changes are dropped, or the journal has a fault.
+-- Memory is refused at a row, so its line is missing. No batch is published without its line. The
+-- state is as before, or it changes only as the missing line would have said: open changes are
+-- dropped, or the journal has a fault.
 abbrev pub IsUpdateLost : UpdatesState → Result Row RowError → UpdatesState → Type 0
 IsUpdateLost s row t = (t ≡ s) ⊎ ((line : List ℕ) × IsUpdateAnswered s row line t × (t.run.accepted ≡ s.run.accepted))

@@ -23,33 +23,35 @@ use Rattle.cspf_solve.specs.Script.{open_batch, after_batch}
 use Rattle.cspf_serve.specs.LiveWords.{refusal_of}
 use Rattle.cspf_serve.specs.Updates.{UpdatesState, AreNowCounted, IsUpdateAnswered, IsUpdateLost, at_next_update}
 
--- a publisher, and the steps of its journal up to its last count
+-- a publisher, and the steps of its journal up to the last one that counts batches
 pub record CountedState (J : Type 0) : Type 0 where
   pub publisher : PublisherState J
   pub steps : KnownSteps
 
--- The steps are of the publisher's journal. They record its batches, and count them as published.
+-- The steps are of the publisher's journal. They record the publisher's batches, and count all of
+-- them as published.
 pub record AreAllCounted {J : Type 0} (p : PublisherState J) (steps : KnownSteps) : Type 0 where
   pub source : steps.source ≡ p.source
   pub recorded : BeginsWith (batches_of steps.steps) p.batches
   pub counted : length p.batches ≤ count_of steps.steps
 
--- the publisher with its steps, the open changes, and how many requests were answered, rows and batches
--- refused
+-- The publisher with its steps, the open changes, the number of answered requests, and the number
+-- of refused rows and batches.
 pub record KeptUpdates (J : Type 0) : Type 0 where
   pub sink : CountedState J
   pub changes : OpenChanges
   pub answers : ℕ
   pub refused : ℕ
 
--- no change is open, and nothing was answered or refused
+-- no change is open, no request was answered, and nothing was refused
 pub record IsFresh {J : Type 0} (k : KeptUpdates J) : Type 0 where
   pub none : k.changes.count ≡ 0
   pub unasked : k.answers ≡ 0
   pub clean : k.refused ≡ 0
 
--- The publisher is that of the beginning, its published batches are those that were accepted, and its
--- journal has grown by what was written. The steps go on from those of the state.
+-- The publisher has the source that it had at the beginning. Its published batches are the accepted
+-- ones, and its journal has grown by the text of the state. The steps in `c` go on from the steps
+-- of the state.
 pub record ArePublished {J : Type 0} (contents : J → Option (List ℕ)) (first : PublisherState J) (c : CountedState J) (s : UpdatesState) : Type 0 where
   pub source : c.publisher.source ≡ first.source
   pub batches : c.publisher.batches ≡ s.run.accepted
@@ -57,7 +59,7 @@ pub record ArePublished {J : Type 0} (contents : J → Option (List ℕ)) (first
   pub journal : Appends (contents first.journal) (contents c.publisher.journal) s.text
   pub steps : IsPrefix s.steps c.steps.steps
 
--- the publisher is that of the state, and so are the open changes and the refusals
+-- the publisher, the open changes and the number of refusals are those of the state
 pub record KeepsUpdates {J : Type 0} (contents : J → Option (List ℕ)) (first : PublisherState J) (k : KeptUpdates J) (s : UpdatesState) : Type 0 where
   pub published : ArePublished contents first k.sink s
   pub changes : AreOpen k.changes s.run.changes
@@ -70,8 +72,8 @@ pub record IsPublished {J : Type 0} (contents : J → Option (List ℕ)) (old ne
   pub going : new.stopped ≡ false
   pub recorded : Appends (contents old.journal) (contents new.journal) (batch_text b)
 
--- How a publisher takes batches and answers requests. A batch that it accepts is published, and then
--- counted by later steps. Each of its errors is a refusal.
+-- How a publisher takes batches and answers requests. Each batch that it accepts is published, and
+-- a later step counts it. Each of its errors is a refusal.
 abbrev pub publisher_spec : {J : Type 0} → (J → Option (List ℕ)) → SinkSpec (CountedState J)
 publisher_spec contents = record {
   version = λ c. length c.publisher.batches;
@@ -85,7 +87,7 @@ publisher_spec contents = record {
       (answer : Answer) × IsBestAnswer (database_after c.publisher.batches) q answer × IsReply q.id (length c.publisher.batches) answer line;
 }
 
--- the state after a batch with this number is published, and counted by these steps
+-- the state after the batch with this number was published, and these steps counted it
 abbrev pub after_published : UpdatesState → ℕ → List LogStep → UpdatesState
 after_published s number steps = record {
   run = after_batch s.run number;
@@ -94,13 +96,13 @@ after_published s number steps = record {
   steps = steps;
 }
 
--- the row at a place is answered
+-- the row at this place is answered; places count from 1
 abbrev pub IsUpdateTaken : {J : Type 0} → (J → Option (List ℕ)) → AnswersOf (KeptUpdates J)
 IsUpdateTaken {J} contents place k fields line k' =
     (first : PublisherState J) (s : UpdatesState) → KeepsUpdates contents first k s → place ≡ s.run.rows + 1
     → (t : UpdatesState) × KeepsUpdates contents first k' t × IsUpdateAnswered (at_next_update s) (row_of fields) line t
 
--- memory is refused at the row at a place
+-- memory is refused at the row at this place; places count from 1
 abbrev pub IsUpdateFailed : {J : Type 0} → (J → Option (List ℕ)) → FailsOf (KeptUpdates J)
 IsUpdateFailed {J} contents place k fields k' =
     (first : PublisherState J) (s : UpdatesState) → KeepsUpdates contents first k s → place ≡ s.run.rows + 1

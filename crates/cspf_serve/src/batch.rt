@@ -1,4 +1,4 @@
-//! The batches of a journal are published, and then the requests of a stream are answered.
+//! The run that publishes the batches of a journal, and then answers the requests of a stream.
 
 mod answering;
 mod batch_run;

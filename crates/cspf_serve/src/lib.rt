@@ -1,16 +1,17 @@
-//! From bytes to bytes. A journal and a stream of requests are read, and the lines of both are
-//! written. Or updates and requests are read, published and answered at once.
+//! The runs of the program, from the bytes that they read to the bytes that they write. A run reads
+//! a journal and requests, and writes the lines of both. Or it reads updates and requests, and
+//! publishes the updates while it answers the requests.
 //!
-//! `batch` publishes the batches of a journal and answers requests. `specs/BatchRun.antt` defines
-//! the lines of both, and `specs/BatchLaws.antt` when they are those of one script of both. `live`
-//! publishes batches, each written to the journal first, while workers answer requests:
-//! `specs/LiveRun.antt` defines the lines and the journal of a live run. `serving` publishes
-//! updates as they come in while clients ask. `specs/Updates.antt` defines the answers to updates,
-//! and `specs/ServedRun.antt` the result of a whole run. `streams` has what these share, and
-//! `specs/RunFaults.antt` says which errors end them.
+//! `batch` publishes the batches of a journal and then answers requests. `specs/BatchRun.antt`
+//! defines the lines of both, and `specs/BatchLaws.antt` when these are the lines of one script.
+//! `live` publishes batches while workers answer requests, and writes each batch to the journal
+//! first: `specs/LiveRun.antt` defines the lines and the journal of a live run. `serving` publishes
+//! updates as they come in while clients ask: `specs/Updates.antt` defines the answers to updates,
+//! and `specs/ServedRun.antt` the result of a whole run. `streams` has what these three share, and
+//! `specs/RunFaults.antt` defines the errors that end them.
 //!
-//! The run over one stream of rows is that of `cspf_solve`, the workers are those of `cspf_work`,
-//! and audit and snapshot those of `cspf_judge`. Their names stand here too.
+//! The run over one stream of rows is in `cspf_solve`, the workers are in `cspf_work`, and audit
+//! and snapshot are in `cspf_judge`. This crate exports their names as well.
 #![tactic(auto)]
 
 mod batch;

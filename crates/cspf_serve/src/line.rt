@@ -1,4 +1,4 @@
-//! The lines of a run, all but the replies to requests.
+//! The lines of a run, except for the replies to requests.
 
 ghost use Rattle.std.specs.Prelude.{◌≡◌};
 ghost use Rattle.cspf_serve.specs.LiveWords.{refusal_of};
@@ -8,14 +8,14 @@ use cspf_stream::{BatchRefusal, StreamLine};
 use std::alloc::{AllocError, Global};
 use std::fmt;
 
-/// A line of a run, unless it is the reply to a request.
+/// A line of a run that isn't the reply to a request.
 #[derive(Clone, Copy)]
 pub(crate) enum Line {
-    /// A line that streams of rows have, too.
+    /// A line that a run over one stream of rows has, too.
     Stream(StreamLine),
-    /// This many batches were published.
+    /// How many batches were published.
     Applied { count: u32 },
-    /// The batch with this number isn't published.
+    /// The batch with this number wasn't published.
     Unpublished { number: u32, error: ApplyError },
 }
 
@@ -41,7 +41,7 @@ impl Line {
     ghost use Rattle.std.specs.Prelude.{◌≡◌, IfOk};
     ghost use Rattle.cspf_serve.specs.LineTexts.{line_text};
 
-    /// Its bytes, the line feed too.
+    /// The bytes of the line, with its line feed.
     pub(crate) fn bytes(self, alloc: Global) -> Result<Vec<u8>, AllocError>
         ensures { IfOk result (λ bytes. bytes.items ≡ line_text self) }
     {
@@ -49,7 +49,7 @@ impl Line {
     }
 }
 
-/// Why a batch is refused that a publisher doesn't publish.
+/// The refusal of a batch that the publisher didn't publish.
 pub(crate) fn refusal_of(error: ApplyError) -> BatchRefusal
     ensures { result ≡ refusal_of error }
 {

@@ -1,4 +1,4 @@
-//! Batches are published over a journal while workers answer requests.
+//! The run that publishes batches to a journal while workers answer requests.
 
 mod inputs;
 mod live_run;

@@ -1,4 +1,4 @@
-//! Updates are published as they come in, while clients ask, each on its stream.
+//! The run that publishes updates as they come in, while each client asks on its own stream.
 
 mod laws;
 mod served_run;

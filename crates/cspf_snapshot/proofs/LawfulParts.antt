@@ -1,4 +1,4 @@
--- Batches of a database's own changes fit.
+-- If the changes of batches are those of a snapshot, each batch fits the database of the batches before it.
 use Rattle.std.proofs.Common.{◌≡◌, ℕ, suc, ◌+◌, ◌≤◌, Bool, true, false, cond, List, [], ◌∷◌, ◌++◌, length, map, sym, ap, ◌∙◌, arith}
 use Rattle.std.specs.Ordering.{nat_cmp, eq_by_cmp}
 use Rattle.std.specs.Cmp.{nat_cmp_total}
@@ -16,42 +16,42 @@ use Rattle.cspf_snapshot.proofs.FullBatches.{AreShort}
 use Rattle.cspf_snapshot.proofs.Parts.{IsPartOf, IsOwnChange, AreOwnChanges, part_after, after_changes-append, link_count-le, mark_count-le}
 use Rattle.cspf_snapshot.proofs.RouterCounts.{router_count-le}
 
--- what holds of all of two joined lists holds of all of the first
+-- what holds of each item of two joined lists holds of each item of the first
 all_front : {X : Type 0} (P : X → Type 0) (xs ys : List X) → AllByRecursion P (xs ++ ys)
     → AllByRecursion P xs
 all_front P [] ys all = tt
 all_front P (x ∷ xs) ys all = (all.0, all_front P xs ys all.1)
 
--- and of all of the second
+-- what holds of each item of two joined lists holds of each item of the second
 all_back : {X : Type 0} (P : X → Type 0) (xs ys : List X) → AllByRecursion P (xs ++ ys)
     → AllByRecursion P ys
 all_back P [] ys all = all
 all_back P (x ∷ xs) ys all = all_back P xs ys all.1
 
--- changes on different keys
+-- no two changes have the same key
 abbrev HaveOwnChangeKeys : List Change → Type 0
 HaveOwnChangeKeys cs = IsDistinct (eq_by_cmp change_key_cmp) (map key_changed cs)
 
--- what holds of the keys of all changes holds of those of a prefix
+-- what holds of the key of each change holds of the key of each of the first changes
 keys_front : (P : ChangeKey → Type 0) (bs cs : List Change)
     → AllByRecursion P (map key_changed (bs ++ cs)) → AllByRecursion P (map key_changed bs)
 keys_front P [] cs all = tt
 keys_front P (b ∷ bs) cs all = (all.0, keys_front P bs cs all.1)
 
--- a prefix of changes on different keys is on different keys
+-- if no two changes have the same key, no two of the first changes have
 own_front : (bs cs : List Change) → HaveOwnChangeKeys (bs ++ cs) → HaveOwnChangeKeys bs
 unfolding IsDistinct
 own_front [] cs own = tt
 own_front (b ∷ bs) cs own =
     (keys_front (λ k. eq_by_cmp change_key_cmp (key_changed b) k ≡ false) bs cs own.0, own_front bs cs own.1)
 
--- and so are the others
+-- if no two changes have the same key, no two of the last changes have
 own_back : (bs cs : List Change) → HaveOwnChangeKeys (bs ++ cs) → HaveOwnChangeKeys cs
 unfolding IsDistinct
 own_back [] cs own = own
 own_back (b ∷ bs) cs own = own_back bs cs own.1
 
--- own changes remove nothing
+-- an own change removes nothing, so all that the changes remove is present
 all_present : (e d : Database) (cs : List Change) → AreOwnChanges d cs
     → AllByRecursion (IsPresent e) cs
 all_present e d [] own = tt
@@ -59,7 +59,7 @@ all_present e d (Put l ∷ cs) own = (tt, all_present e d cs own.1)
 all_present e d (Remove from local ∷ cs) own = absurd own.0
 all_present e d (Node router transit ∷ cs) own = (tt, all_present e d cs own.1)
 
--- a set of a list has no more numbers than the list
+-- a set made from a list has at most as many numbers as the list
 pub len-from_list-le : (ns : List ℕ) → set.len (set.from_list {R = nat_cmp} ns) ≤ length ns
 len-from_list-le [] = omega (arith, set.len-empty nat_cmp)
 len-from_list-le (n ∷ ns) =
@@ -70,37 +70,37 @@ len-from_list-le (n ∷ ns) =
     at_most_one_more true n m e most le = omega (arith, e, le)
     at_most_one_more false n m e most le = omega (arith, e, le)
 
--- A database that fits a table.
+-- The database has at most as many links, routers and marks as a table can hold.
 pub record IsSmall (d : Database) : Type 0 where
   pub keyed : AreAtTheirKeys d
   pub links : link_count d ≤ MOST_LINKS
   pub routers : router_count d ≤ MOST_ROUTERS
   pub marks : mark_count d ≤ MOST_MARKS
 
--- After the first own changes a part of the database is still a part, and no larger than the
--- database.
+-- The batch `b` has the first of the database's own changes, and the changes `cs` come after it. After the batch
+-- the database `e` is still a part of `d`, and not larger than `d`.
 module _ (counted : RoutersAreCounted) (d : Database) (small : IsSmall d) (e : Database) (b : NumberedChanges) (cs : List Change) (part : IsPartOf e d) (own : AreOwnChanges d (b.changes ++ cs)) (made : after_changes e (b.changes ++ cs) ≡ d) where
-  -- the database after the first changes
+  -- the database after the batch
   abbrev next : Database
   next = after_changes e b.changes
 
-  -- the others make the database of it
+  -- the changes `cs` then make the database `d`
   made_next : after_changes next cs ≡ d
   made_next = sym (after_changes-append e b.changes cs) ∙ made
 
-  -- the first are own changes
+  -- the changes of the batch are own changes of `d`
   own_first : AreOwnChanges d b.changes
   own_first = all_front (IsOwnChange d) b.changes cs own
 
-  -- the others are own changes
+  -- the changes `cs` are own changes of `d`
   own_others : AreOwnChanges d cs
   own_others = all_back (IsOwnChange d) b.changes cs own
 
-  -- the database after the first changes is a part
+  -- the database after the batch is a part of `d`
   part_then : IsPartOf next d
   part_then = part_after e d b.changes part own_first
 
-  -- the batch fits
+  -- the batch fits the database `e`
   first_fits : HaveOwnChangeKeys (b.changes ++ cs) → length b.changes ≤ MOST_CHANGES → Fits e b
   first_fits keys short = record {
     short = short;
@@ -111,7 +111,7 @@ module _ (counted : RoutersAreCounted) (d : Database) (small : IsSmall d) (e : D
     marks = omega (arith, mark_count-le next d cs own_others, ap mark_count made_next, small.marks);
   }
 
--- own changes in short batches that make the database are lawful
+-- batches of at most 4,096 own changes that lead from `e` to `d` are lawful after `e`
 pub lawful_after : RoutersAreCounted → (d : Database) → IsSmall d → (e : Database) (bs : List NumberedChanges)
     → IsPartOf e d → AreOwnChanges d (changes_of bs) → HaveOwnChangeKeys (changes_of bs)
     → AreShort bs → after_changes e (changes_of bs) ≡ d → AreLawfulAfter e bs

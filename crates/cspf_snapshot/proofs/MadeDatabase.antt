@@ -14,7 +14,7 @@ use Rattle.cspf_snapshot.specs.Snapshots.{marking, changes_making, AreMarksOf}
 use Rattle.cspf_model.proofs.Databases.Keys.{keys_total, keys_antisymmetric}
 use Rattle.cspf_snapshot.proofs.Parts.{AreOwnChanges, none_is_part, part_after, has_link_after, has_link_put}
 
--- each link that is put is there after all changes
+-- each link that is put is in the database after all changes
 has_links : (e d : Database) (links : List Link) (marks : List ℕ)
     → AreOwnChanges d (changes_making links marks)
     → AllByRecursion (λ l. is_some (link_at (after_changes e (changes_making links marks)) (key_of l)) ≡ true) links
@@ -24,8 +24,8 @@ has_links e d (l ∷ links) marks own = (
   has_links (after_change e (Put l)) d links marks own.1,
 )
 
--- two options are equal where a value of the first is that of the second, and both have one or
--- neither
+-- Two options are equal if the value of the first is always that of the second, and the first has a value if the
+-- second does.
 same_option : (o p : Option Link) → ((l : Link) → o ≡ Some l → p ≡ Some l)
     → ((l : Link) → p ≡ Some l → is_some o ≡ true) → o ≡ p
 same_option None None part has = refl
@@ -35,13 +35,13 @@ same_option None (Some l) part has = absurd (none_there (has l refl))
     none_there e = cc
 same_option (Some l) p part has = sym (part l refl)
 
--- tests in another order
+-- the order of tests that are joined by `or` doesn't matter
 or_moved : (a b c : Bool) → ((a || b) || c) ≡ (b || (a || c))
 or_moved true true c = refl
 or_moved true false c = refl
 or_moved false b c = refl
 
--- nothing more
+-- `or false` changes nothing
 or_none : (a : Bool) → a ≡ (a || false)
 or_none true = refl
 or_none false = refl
@@ -56,20 +56,20 @@ contains-marking e (router ∷ marks) q =
     ∙ ap (λ b. b || list_any (eq_by_cmp nat_cmp q) marks) (set.contains-insert nat_cmp_total e.marks router q)
     ∙ or_moved (eq_by_cmp nat_cmp q router) (set.contains e.marks q) (list_any (eq_by_cmp nat_cmp q) marks)
 
--- also after puts
+-- changes that put links and then mark routers add these routers to the marks
 contains-making : (e : Database) (links : List Link) (marks : List ℕ) (q : ℕ)
     → set.contains (after_changes e (changes_making links marks)).marks q
     ≡ (set.contains e.marks q || list_any (eq_by_cmp nat_cmp q) marks)
 contains-making e [] marks q = contains-marking e marks q
 contains-making e (l ∷ links) marks q = contains-making (after_change e (Put l)) links marks q
 
--- a database's own changes, for all of its links and marks
+-- the changes that put all links of the database `d` and mark all its marked routers
 module _ (d : Database) (links : List Link) (marks : List ℕ) (own : AreOwnChanges d (changes_making links marks)) (listed : AreLinksOf d links) (keyed : AreAtTheirKeys d) (are_marks : AreMarksOf d marks) where
-  -- the database that they make from nothing
+  -- the database that these changes make from the empty database
   abbrev made : Database
   made = after_changes no_links (changes_making links marks)
 
-  -- a key with a link in the database has one in what is made
+  -- if `d` has a link at a key, the database that is made has a link there
   is_made : (k : Key) (l : Link) → link_at d k ≡ Some l → is_some (link_at made k) ≡ true
   is_made k l is =
       let same = keyed k l is in
@@ -78,13 +78,13 @@ module _ (d : Database) (links : List Link) (marks : List ℕ) (own : AreOwnChan
       (All-from_recursion (λ m. is_some (link_at made (key_of m)) ≡ true) links (has_links no_links d links marks own))
       (listed.whole l (ap (link_at d) same ∙ is))
 
-  -- the links are the database's
+  -- the database that is made has the links of `d`
   links_made : made.links ≡ d.links
   links_made =
       same_map keys_total keys_antisymmetric made.links d.links
       (λ k. same_option (link_at made k) (link_at d k) (part_after no_links d (changes_making links marks) (none_is_part d) own k) (is_made k))
 
-  -- the marks are the database's
+  -- the database that is made has the marks of `d`
   marks_made : made.marks ≡ d.marks
   marks_made =
       set.same_set nat_cmp_total set.nat_cmp-IsAntisymmetric made.marks d.marks
@@ -93,6 +93,6 @@ module _ (d : Database) (links : List Link) (marks : List ℕ) (own : AreOwnChan
       ∙ sym (set.contains-from_list nat_cmp_total marks q)
       ∙ ap (λ s. set.contains s q) (sym are_marks.all))
 
-  -- they make the database
+  -- the database that is made is `d`
   pub is_database : made ≡ d
   is_database = λ i. record { links = links_made i; marks = marks_made i }

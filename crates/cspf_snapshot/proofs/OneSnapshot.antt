@@ -1,4 +1,4 @@
--- A database has one snapshot at most.
+-- A database has at most one snapshot.
 use Rattle.std.proofs.Common.{◌≡◌, ℕ, ◌+◌, ◌<◌, List, [], ◌∷◌, ◌++◌, length, take, drop, refl, sym, ap, ◌∙◌, arith, length-append}
 use Rattle.std.specs.Cmp.{nat_cmp_total}
 use Rattle.std.specs.FinSet as set
@@ -23,30 +23,30 @@ same_marks d ms ns are also =
     ∙ ap (λ s. set.contains s q) (sym are.all ∙ also.all)
     ∙ set.contains-from_list nat_cmp_total ns q)
 
--- prefixes of one length of equal lists are equal
+-- if two joined lists are equal and their first parts have the same length, the first parts are equal
 same_fronts : (front back other rest : List Change) → length front ≡ length other
     → front ++ back ≡ other ++ rest → front ≡ other
 same_fronts front back other rest long e =
     sym (take-append_seam front back) ∙ ap (take (length front)) e
     ∙ ap (λ n. take n (other ++ rest)) long ∙ take-append_seam other rest
 
--- and so are the rests after them
+-- if two joined lists are equal and their first parts have the same length, the second parts are equal
 same_backs : (front back other rest : List Change) → length front ≡ length other
     → front ++ back ≡ other ++ rest → back ≡ rest
 same_backs front back other rest long e =
     sym (drop-append_seam front back) ∙ ap (drop (length front)) e
     ∙ ap (λ n. drop n (other ++ rest)) long ∙ drop-append_seam other rest
 
--- batches of one number with the same changes are one
+-- two batches with the same number and the same changes are equal
 one_batch : (b c : NumberedChanges) → b.number ≡ c.number → b.changes ≡ c.changes → b ≡ c
 one_batch b c number changes = λ i. record { number = number i; changes = changes i }
 
--- batches that are full except the last have changes
+-- if there is a batch and all but the last are full, there is at least one change
 some_changes : (b : NumberedChanges) (bs : List NumberedChanges) → AreFullButLast (b ∷ bs)
     → 0 < length (changes_of (b ∷ bs))
 some_changes b bs full = omega (arith, length-changes_of-lt (b ∷ bs) full)
 
--- batches that are full except the last are determined by their changes and the first number
+-- batches that are all full but the last are determined by their changes and the number of the first
 same_batches : (first : ℕ) (bs cs : List NumberedChanges) → AreFullButLast bs → AreFullButLast cs
     → AreNumberedFrom first bs → AreNumberedFrom first cs → changes_of bs ≡ changes_of cs → bs ≡ cs
 same_batches first [] [] full also numbers others e = refl
@@ -68,7 +68,7 @@ same_batches first (b ∷ f ∷ bs) (c ∷ g ∷ cs) full also numbers others e 
     let behind = same_batches (first + 1) (f ∷ bs) (g ∷ cs) full.1 also.1 numbers.1 others.1 (same_backs b.changes (changes_of (f ∷ bs)) c.changes (changes_of (g ∷ cs)) long e) in
     λ i. here i ∷ behind i
 
--- a database has one snapshot at most
+-- a database has at most one snapshot
 pub one_snapshot : OneSnapshot
 one_snapshot d batches others is also =
     same_batches 1 batches others is.full also.full is.numbers also.numbers

@@ -1,4 +1,4 @@
--- The changes of a snapshot are a database's own, each on a different key.
+-- The changes of a snapshot are a database's own changes, and no two of them have the same key.
 use Rattle.std.proofs.Common.{◌≡◌, ℕ, false, List, [], ◌∷◌, map, refl}
 use Rattle.std.specs.Ordering.{nat_cmp, eq_by_cmp}
 use Rattle.std.specs.declared.cmp.Ordering.TheVariants.{Less}
@@ -11,23 +11,24 @@ use Rattle.cspf_snapshot.specs.Snapshots.{marking, changes_making}
 use Rattle.cspf_model.proofs.Databases.Keys.{link_apart}
 use Rattle.cspf_snapshot.proofs.Parts.{AreOwnChanges}
 
--- changes that mark routers are any database's own
+-- a change that marks a router is an own change of any database
 own_marks : (d : Database) (marks : List ℕ) → AreOwnChanges d (map marking marks)
 own_marks d [] = tt
 own_marks d (router ∷ marks) = (refl, own_marks d marks)
 
--- puts of its links, and then changes that mark routers, are a database's own
+-- puts of a database's links, and then changes that mark routers, are its own changes
 pub own_changes : (d : Database) (links : List Link) (marks : List ℕ)
     → AllByRecursion (IsLinkOf d) links → AreOwnChanges d (changes_making links marks)
 own_changes d [] marks each = own_marks d marks
 own_changes d (l ∷ links) marks each = (each.0, own_changes d links marks each.1)
 
--- the key of a router below another does not tie with its key
+-- if one router's address is below another's, changes that mark them have different keys
 mark_below_apart : (router other : ℕ) → nat_cmp router other ≡ Less
     → eq_by_cmp change_key_cmp (mark_key router) (mark_key other) ≡ false
 mark_below_apart router other below = rw below refl
 
--- the key of a router below others does not tie with theirs
+-- if a router's address is below all others, the change that marks it has a different key from those that
+-- mark the others
 apart_above : (router : ℕ) (marks : List ℕ)
     → AllByRecursion (λ other. nat_cmp router other ≡ Less) marks
     → AllByRecursion (λ k. eq_by_cmp change_key_cmp (mark_key router) k ≡ false) (map key_changed (map marking marks))
@@ -35,7 +36,7 @@ apart_above router [] above = tt
 apart_above router (other ∷ marks) above =
     (mark_below_apart router other above.0, apart_above router marks above.1)
 
--- changes that mark rising routers are on different keys
+-- changes that mark routers in strictly rising order have different keys
 distinct_marks : (marks : List ℕ) → IsStrictlySortedBy nat_cmp marks
     → IsDistinct (eq_by_cmp change_key_cmp) (map key_changed (map marking marks))
 unfolding IsDistinct IsStrictlySortedBy
@@ -43,20 +44,21 @@ distinct_marks [] rising = tt
 distinct_marks (router ∷ marks) rising =
     (apart_above router marks rising.0, distinct_marks marks rising.1)
 
--- the key of a link does not tie with those of routers alone
+-- a change of a link has a different key from every change that marks a router
 apart_from_marks : (k : Key) (marks : List ℕ)
     → AllByRecursion (λ j. eq_by_cmp change_key_cmp (link_key k) j ≡ false) (map key_changed (map marking marks))
 apart_from_marks k [] = tt
 apart_from_marks k (router ∷ marks) = (link_apart k router, apart_from_marks k marks)
 
--- nor with those of other links
+-- if a link has a different key from other links, its change has a different key from theirs and from all
+-- marks
 apart_from_all : (k : Key) (links : List Link) (marks : List ℕ)
     → AllByRecursion (λ j. eq_by_cmp key_cmp k j ≡ false) (map key_of links)
     → AllByRecursion (λ j. eq_by_cmp change_key_cmp (link_key k) j ≡ false) (map key_changed (changes_making links marks))
 apart_from_all k [] marks apart = apart_from_marks k marks
 apart_from_all k (l ∷ links) marks apart = (apart.0, apart_from_all k links marks apart.1)
 
--- the changes of a snapshot are on different keys
+-- no two changes of a snapshot have the same key
 pub distinct_making : (links : List Link) (marks : List ℕ) → HaveOwnKeys links
     → IsStrictlySortedBy nat_cmp marks
     → IsDistinct (eq_by_cmp change_key_cmp) (map key_changed (changes_making links marks))

@@ -1,4 +1,4 @@
--- A part of a database after some of the database's own changes.
+-- A database whose links are all in another one, and what the other's own changes do to it.
 use Rattle.std.proofs.Common.{◌≡◌, ℕ, ◌+◌, ◌≤◌, Bool, true, false, cond, Option, Some, None, is_some, List, [], ◌∷◌, ◌++◌, sym, ap, refl, ◌∙◌, arith}
 use Rattle.std.specs.Ordering.{eq_by_cmp}
 use Rattle.std.specs.Cmp.{nat_cmp_total}
@@ -12,38 +12,38 @@ use Rattle.cspf_model.specs.Database.{Database, Key, key_of, key_cmp, link_at, I
 use Rattle.cspf_model.specs.Changes.{no_links, marks_after, after_change, after_changes}
 use Rattle.cspf_model.proofs.Databases.Keys.{keys_total, keys_same, key_itself}
 
--- each link of one database is at the same key of the other
+-- `e` is a part of `d`: each link of `e` is in `d`, at the same key
 abbrev pub IsPartOf : Database → Database → Type 0
 IsPartOf e d = (k : Key) (l : Link) → link_at e k ≡ Some l → link_at d k ≡ Some l
 
--- a change puts a link of the database, or marks a router
+-- an own change of `d` puts a link of `d`, or marks a router as without transit
 abbrev pub IsOwnChange : Database → Change → Type 0
 IsOwnChange d (Put l) = IsLinkOf d l
 IsOwnChange d (Remove from local) = ⊥
 IsOwnChange d (Node router transit) = transit ≡ false
 
--- each of the changes does
+-- all changes are own changes of `d`
 abbrev pub AreOwnChanges : Database → List Change → Type 0
 AreOwnChanges d cs = AllByRecursion (IsOwnChange d) cs
 
--- some changes, then others
+-- the changes of two joined lists are those of the first list, and then those of the second
 pub after_changes-append : (d : Database) (bs cs : List Change)
     → after_changes d (bs ++ cs) ≡ after_changes (after_changes d bs) cs
 after_changes-append d [] cs = refl
 after_changes-append d (b ∷ bs) cs = after_changes-append (after_change d b) bs cs
 
--- no link is a part of any database
+-- the database without links is a part of every database
 pub none_is_part : (d : Database) → IsPartOf no_links d
 none_is_part d k l is = absurd (none_some (sym (map.get-empty key_cmp k) ∙ is))
   where
     none_some : ◌≡◌ {A = Option Link} None (Some l) → ⊥
     none_some e = cc
 
--- a part of a database has its links at their keys
+-- if `e` is a part of `d`, its links are at their own keys, since those of `d` are
 pub part_at_keys : (e d : Database) → IsPartOf e d → AreAtTheirKeys d → AreAtTheirKeys e
 part_at_keys e d part keyed k l is = keyed k l (part k l is)
 
--- a part is still a part after one of the database's own changes
+-- a part of `d` is still a part after one own change of `d`
 part_next : (e d : Database) (c : Change) → IsPartOf e d → IsOwnChange d c
     → IsPartOf (after_change e c) d
 part_next e d (Put l) part own k m is =
@@ -54,19 +54,19 @@ part_next e d (Put l) part own k m is =
 part_next e d (Remove from local) part own k m is = absurd own
 part_next e d (Node router transit) part own k m is = part k m is
 
--- and after all of them
+-- a part of `d` is still a part after any own changes of `d`
 pub part_after : (e d : Database) (cs : List Change) → IsPartOf e d → AreOwnChanges d cs
     → IsPartOf (after_changes e cs) d
 part_after e d [] part own = part
 part_after e d (c ∷ cs) part own =
     part_after (after_change e c) d cs (part_next e d c part own.0) own.1
 
--- to add an entry takes none away
+-- adding an entry doesn't make the count smaller
 least_of : (b : Bool) (n m : ℕ) → m ≡ cond b n (n + 1) → n ≤ m
 least_of true n m e = omega (arith, e)
 least_of false n m e = omega (arith, e)
 
--- an own change takes no link away
+-- after an own change there are at least as many links
 link_count_next : (e d : Database) (c : Change) → IsOwnChange d c
     → link_count e ≤ link_count (after_change e c)
 link_count_next e d (Put l) own =
@@ -75,7 +75,7 @@ link_count_next e d (Put l) own =
 link_count_next e d (Remove from local) own = absurd own
 link_count_next e d (Node router transit) own = omega arith
 
--- and no mark
+-- after an own change there are at least as many marks
 mark_count_next : (e d : Database) (c : Change) → IsOwnChange d c
     → mark_count e ≤ mark_count (after_change e c)
 mark_count_next e d (Put l) own = omega arith
@@ -89,21 +89,21 @@ mark_count_next e d (Node router transit) own = marked transit own
         least_of (set.contains e.marks router) (set.len e.marks) (set.len (set.insert e.marks router))
         (set.len-insert nat_cmp_total e.marks router)
 
--- own changes take no link away
+-- after own changes there are at least as many links
 pub link_count-le : (e d : Database) (cs : List Change) → AreOwnChanges d cs
     → link_count e ≤ link_count (after_changes e cs)
 link_count-le e d [] own = omega arith
 link_count-le e d (c ∷ cs) own =
     omega (arith, link_count_next e d c own.0, link_count-le (after_change e c) d cs own.1)
 
--- and no mark
+-- after own changes there are at least as many marks
 pub mark_count-le : (e d : Database) (cs : List Change) → AreOwnChanges d cs
     → mark_count e ≤ mark_count (after_changes e cs)
 mark_count-le e d [] own = omega arith
 mark_count-le e d (c ∷ cs) own =
     omega (arith, mark_count_next e d c own.0, mark_count-le (after_change e c) d cs own.1)
 
--- a key with a link has one after an own change
+-- a key that has a link still has a link after an own change
 has_link_next : (e d : Database) (c : Change) (k : Key) → IsOwnChange d c
     → is_some (link_at e k) ≡ true → is_some (link_at (after_change e c) k) ≡ true
 has_link_next e d (Put l) k own there =
@@ -116,14 +116,14 @@ has_link_next e d (Put l) k own there =
 has_link_next e d (Remove from local) k own there = absurd own
 has_link_next e d (Node router transit) k own there = there
 
--- and after all of them
+-- a key that has a link still has a link after any own changes
 pub has_link_after : (e d : Database) (cs : List Change) (k : Key) → AreOwnChanges d cs
     → is_some (link_at e k) ≡ true → is_some (link_at (after_changes e cs) k) ≡ true
 has_link_after e d [] k own there = there
 has_link_after e d (c ∷ cs) k own there =
     has_link_after (after_change e c) d cs k own.1 (has_link_next e d c k own.0 there)
 
--- a link that is put is there
+-- after a put there is a link at its key
 pub has_link_put : (e : Database) (l : Link)
     → is_some (link_at (after_change e (Put l)) (key_of l)) ≡ true
 has_link_put e l =

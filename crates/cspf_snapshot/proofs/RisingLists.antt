@@ -1,4 +1,4 @@
--- Lists of numbers that rise and have the same numbers are one.
+-- Two strictly rising lists with the same numbers are equal.
 use Rattle.std.proofs.Common.{◌≡◌, ℕ, ◌||◌, ◌&&◌, Bool, true, false, cond, T, Some, None, List, [], ◌∷◌, map, refl, sym, ap, ◌∙◌}
 use Rattle.std.specs.Ordering.{nat_cmp, eq_by_cmp, is_lt}
 use Rattle.std.specs.declared.cmp.Ordering.TheVariants.{Less}
@@ -8,30 +8,30 @@ use Rattle.std.specs.List.Sorted.{IsStrictlySortedBy}
 use Rattle.std.specs.FinMap.{nat_cmp-IsAntisymmetric}
 use Rattle.std.specs.FinMap.Entries.{find, is_sorted, below_all, same_entries}
 
--- entries with the numbers as keys, and no values
+-- the numbers as the keys of entries that have no values
 abbrev entries : List ℕ → List (ℕ × Unit {0})
 entries ns = map (λ n. (n, tt)) ns
 
--- a number is found among the entries exactly where it is in the list
+-- the entries have a number exactly if the list has it
 find-entries : (q : ℕ) (ns : List ℕ)
     → find nat_cmp q (entries ns) ≡ cond (list_any (eq_by_cmp nat_cmp q) ns) (Some tt) None
 find-entries q [] = refl
 find-entries q (n ∷ ns) =
     elim (eq_by_cmp nat_cmp q n) as (λ b. cond b (Some tt) (find nat_cmp q (entries ns)) ≡ cond (b || list_any (eq_by_cmp nat_cmp q) ns) (Some tt) None) [ true ↦ refl | false ↦ find-entries q ns ]
 
--- the conjunction of two tests that pass
+-- two tests that pass, joined by `and`
 both : (a b : Bool) → a ≡ true → T b → T (a && b)
 both true b is h = h
 both false b is h = absurd (cc)
 
--- a number below others is below their entries
+-- a number that is below all numbers of a list is below all entries
 below_entries : (n : ℕ) (ns : List ℕ) → AllByRecursion (λ m. nat_cmp n m ≡ Less) ns
     → T (below_all nat_cmp n (entries ns))
 below_entries n [] below = tt
 below_entries n (m ∷ ns) below =
     both (is_lt (nat_cmp n m)) (below_all nat_cmp n (entries ns)) (ap is_lt below.0) (below_entries n ns below.1)
 
--- the entries of numbers that rise are sorted
+-- the entries of a strictly rising list are sorted
 sorted_entries : (ns : List ℕ) → IsStrictlySortedBy nat_cmp ns → T (is_sorted nat_cmp (entries ns))
 unfolding IsStrictlySortedBy
 sorted_entries [] rising = tt
@@ -42,12 +42,12 @@ sorted_entries (n ∷ ns) rising =
     first true b g h = h
     first false b g h = absurd g
 
--- the numbers of entries
+-- the keys of the entries are the numbers
 numbers-entries : (ns : List ℕ) → map (λ e. e.0) (entries ns) ≡ ns
 numbers-entries [] = refl
 numbers-entries (n ∷ ns) = ap (λ ms. n ∷ ms) (numbers-entries ns)
 
--- lists that rise and have the same numbers are one
+-- two strictly rising lists with the same numbers are equal
 pub same_rising : (ms ns : List ℕ) → IsStrictlySortedBy nat_cmp ms → IsStrictlySortedBy nat_cmp ns
     → ((q : ℕ) → list_any (eq_by_cmp nat_cmp q) ms ≡ list_any (eq_by_cmp nat_cmp q) ns) → ms ≡ ns
 same_rising ms ns rising also same =

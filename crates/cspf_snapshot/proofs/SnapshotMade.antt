@@ -1,4 +1,4 @@
--- Batches of the changes that make a database are its snapshot.
+-- The changes that make a database, cut into batches, are its snapshot.
 use Rattle.std.proofs.Common.{◌≡◌, ℕ, ◌+◌, ◌≤◌, List, length, map, sym, ap, subst, ◌∙◌, arith, length-append, Result, Ok, Err, IfOk}
 use Rattle.std.specs.List.{IsDistinct}
 use Rattle.std.specs.FinMap as finite
@@ -22,7 +22,7 @@ use Rattle.cspf_snapshot.proofs.OwnChanges.{own_changes, distinct_making}
 use Rattle.cspf_snapshot.proofs.MadeDatabase.{is_database}
 use Rattle.cspf_snapshot.proofs.LawfulParts.{IsSmall, lawful_after, len-from_list-le}
 
--- the lists of the links and marks of a table
+-- the lists of a table: its links and its marks
 pub record AreListsOf (d : Database) (links : List Link) (marks : List ℕ) : Type 0 where
   pub listed : AreLinksOf d links
   pub most : length links ≤ MOST_LINKS
@@ -33,9 +33,9 @@ pub record AreListsOf (d : Database) (links : List Link) (marks : List ℕ) : Ty
   pub are_marks : AreMarksOf d marks
   pub few_marks : length marks ≤ MOST_MARKS
 
--- the changes for the links and the marks of a table
+-- the changes that put the links of a table and mark its routers
 module _ (d : Database) (links : List Link) (marks : List ℕ) (lists : AreListsOf d links marks) where
-  -- the database fits a table
+  -- the database has no more links, routers and marks than a table can hold
   is_small : IsSmall d
   is_small = record {
     keyed = lists.keyed;
@@ -44,29 +44,29 @@ module _ (d : Database) (links : List Link) (marks : List ℕ) (lists : AreLists
     marks = omega (arith, lists.few_marks, ap set.len lists.are_marks.all, len-from_list-le marks);
   }
 
-  -- they are its own
+  -- these changes are own changes of the database
   are_own : AreOwnChanges d (changes_making links marks)
   are_own = own_changes d links marks (recursion_from_All (IsLinkOf d) links lists.listed.each)
 
-  -- they make it
+  -- from the empty database they make the database
   making : after_changes no_links (changes_making links marks) ≡ d
   making = is_database d links marks are_own lists.listed lists.keyed lists.are_marks
 
-  -- they are on different keys
+  -- no two of these changes have the same key
   on_own_keys : IsDistinct (eq_by_cmp change_key_cmp) (map key_changed (changes_making links marks))
   on_own_keys =
       distinct_making links marks lists.once (sorted_from_strictly_increasing marks lists.are_marks.rising)
 
-  -- they are a put for each link and a change for each mark
+  -- there is one put for each link and one change for each mark
   pub length-changes_making : length (changes_making links marks) ≡ length links + length marks
   length-changes_making =
       omega (arith, length-append (map Put links) (map marking marks), length-map links Put, length-map marks marking)
 
-  -- they are few
+  -- there are at most `MOST_LINKS + MOST_MARKS` changes
   pub few_changes : length (changes_making links marks) ≤ MOST_LINKS + MOST_MARKS
   few_changes = omega (arith, length-changes_making, lists.most, lists.few_marks)
 
-  -- batches of them are a snapshot
+  -- batches of these changes, all full but the last, are a snapshot
   pub is_snapshot : RoutersAreCounted → (batches : List NumberedChanges)
       → changes_of batches ≡ changes_making links marks → AreNumberedFrom 1 batches
       → AreFullButLast batches → IsSnapshot d batches
@@ -84,7 +84,7 @@ module _ (d : Database) (links : List Link) (marks : List ℕ) (lists : AreLists
     database = ap (after_changes no_links) changes ∙ making;
   }
 
--- a fact of the value of a result, by three other facts of it
+-- if three facts give a fourth, and the value of a result has the three, it has the fourth
 pub if_ok_by : {A E : Type 0} (P Q S R : A → Type 0) → ((a : A) → P a → Q a → S a → R a)
     → (r : Result A E) → IfOk r P → IfOk r Q → IfOk r S → IfOk r R
 if_ok_by P Q S R gives (Ok a) p q s = gives a p q s

@@ -1,11 +1,12 @@
--- Why batches aren't replayed.
+-- Why the batches of a journal can't be replayed.
 use Rattle.std.specs.Prelude.{List}
 use Rattle.cspf_model.specs.Numbered.{NumberedChanges}
 use Rattle.cspf_model.specs.Refusals.{IsFirstUnfit}
 use Rattle.cspf_snapshot.specs.declared.replay_error.ReplayError.{ReplayError}
 use Rattle.cspf_snapshot.specs.declared.replay_error.ReplayError.TheVariants as error
 
--- Why batches aren't replayed. Refused memory may occur with any batches.
+-- Why batches can't be replayed: memory is refused, which may happen with any batches, or this is the first batch
+-- that doesn't fit.
 abbrev pub IsReplayError : List NumberedChanges → ReplayError → Type 0
 IsReplayError batches error.Memory = Unit {0}
 IsReplayError batches (error.Refused number why) = IsFirstUnfit batches number why

@@ -1,10 +1,10 @@
--- Laws of the batches that make a database.
+-- Law of the batches that make a database.
 use Rattle.std.specs.Prelude.{◌≡◌, List}
 use Rattle.cspf_model.specs.Numbered.{NumberedChanges}
 use Rattle.cspf_model.specs.Database.{Database}
 use Rattle.cspf_snapshot.specs.Snapshots.{IsSnapshot}
 
--- a database has one snapshot at most
+-- a database has at most one snapshot
 abbrev pub OneSnapshot : Type 0
 OneSnapshot =
     (d : Database) (batches others : List NumberedChanges)

@@ -1,4 +1,4 @@
--- The batches that make a database from nothing.
+-- The batches that make a database from the empty one.
 use Rattle.std.specs.Prelude.{◌≡◌, ◌<◌, ◌≤◌, ℕ, false, List, [], ◌∷◌, ◌++◌, length, map}
 use Rattle.std.specs.List.Sorted.{IsStrictlyIncreasing}
 use Rattle.std.specs.FinSet as set
@@ -12,16 +12,16 @@ use Rattle.cspf_db.specs.Index.{links_of}
 use Rattle.cspf_model.specs.Changes.{changes_of, database_after, AreLawful}
 use Rattle.cspf_snapshot.specs.declared.limits.TheConstants.{MOST_SNAPSHOT_BATCHES}
 
--- the addresses that the database has marked, each once, rising
+-- the addresses that are marked in the database, each once and in rising order
 pub record AreMarksOf (d : Database) (marks : List ℕ) : Type 0 where
   pub all : d.marks ≡ set.from_list marks
   pub rising : IsStrictlyIncreasing marks
 
--- the change that marks a router as one without transit
+-- the change that marks a router as without transit
 abbrev pub marking : ℕ → Change
 marking router = Node router false
 
--- a put of each link, and then a change that marks each of the routers
+-- a put of each link, and then a change that marks each router
 abbrev pub changes_making : List Link → List ℕ → List Change
 changes_making links marks = map Put links ++ map marking marks
 
@@ -31,9 +31,9 @@ AreFullButLast [] = Unit {0}
 AreFullButLast (b ∷ []) = (0 < length b.changes) × (length b.changes ≤ MOST_CHANGES)
 AreFullButLast (b ∷ c ∷ bs) = (length b.changes ≡ MOST_CHANGES) × AreFullButLast (c ∷ bs)
 
--- The batches put the links of the database, in order of their keys, and then mark its marked
--- routers, rising. They are numbered from 1 on, full except the last, and at most 5. Each fits the
--- database of those before it, and the last leaves the database.
+-- The batches put the links of the database in order of their keys, and then mark its marked routers in rising
+-- order. They are numbered from 1, all full but the last, and at most 5. Each batch fits the database of the
+-- batches before it, and after the last there is the whole database.
 pub record IsSnapshot (d : Database) (batches : List NumberedChanges) : Type 0 where
   pub marks : List ℕ
   pub are_marks : AreMarksOf d marks

@@ -1,8 +1,7 @@
-//! What follows from the definitions of `specs/` alone. Each call here does nothing: its contract
-//! is the law.
+//! Law of the definitions in `specs/`. The function does nothing: its contract is the law.
 ghost use Rattle.cspf_snapshot.specs.SnapshotLaws.{OneSnapshot};
 
-/// A database has one snapshot at most.
+/// Law: a database has at most one snapshot.
 pub fn one_snapshot()
     ensures { OneSnapshot }
 {}

@@ -1,8 +1,8 @@
-//! From a table to batches and back: the few batches that make a table's database from nothing, and
-//! the table after the batches of a journal.
+//! From a table to batches and back: the few batches that make a table's database from the empty one,
+//! and the table after the batches of a journal.
 //!
-//! `specs/Snapshots.antt` defines the batches that make a database, `specs/SnapshotLaws.antt` says
-//! that there is one list of them, and `specs/Replays.antt` why batches aren't replayed.
+//! `specs/Snapshots.antt` defines the batches that make a database. `specs/SnapshotLaws.antt` says that
+//! only one list of batches does. `specs/Replays.antt` defines why batches can't be replayed.
 #![tactic(auto)]
 
 mod cutting;

@@ -7,20 +7,20 @@ use cspf_db::Table;
 use cspf_model::{Batch, Change, Link, counted_routers};
 use std::alloc::{AllocError, Global};
 
-/// The batches that make the database of the table from nothing, numbered from 1 on. First comes a
-/// put of each link, in order of the router that it runs from and then of its address there. Then
-/// comes a change for each Router ID that is marked as without transit, rising. Each batch but the
-/// last has `MOST_CHANGES` changes, and an empty table has no batch.
+/// The batches that make the table's database from the empty one, numbered from 1. First they put the
+/// links, in order of the routers that the links run from and then of the local addresses. Then they mark
+/// each router that has no transit, in rising order of Router ID. Each batch but the last has
+/// `MOST_CHANGES` changes. The snapshot of an empty table has no batches.
 pub fn snapshot(alloc: Global, table: &Table) -> Result<Vec<Batch>, AllocError>
     ensures { IfOk result (λ batches. IsSnapshot table.now batches.items) }
 {
-    // Law: the routers that are counted are those of the database.
+    // Law: the count of routers is that of the database's routers.
     counted_routers();
     let changes = list_changes(alloc, table.links(), table.marks())?;
     cut_into_batches(alloc, &changes)
 }
 
-/// A put of each link, and then a change that marks each of these as without transit.
+/// A put of each link, and then a change that marks each router as without transit.
 fn list_changes(alloc: Global, links: &[Link], marks: &[Addr]) -> Result<Vec<Change>, AllocError>
     ensures { IfOk result (λ changes. changes.items ≡ changes_making links.now marks.now) }
 {

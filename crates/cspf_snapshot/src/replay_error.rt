@@ -6,16 +6,16 @@ use cspf_model::Refusal;
 use std::alloc::AllocError;
 use thiserror::Error;
 
-/// Why batches aren't replayed.
+/// Why batches can't be replayed.
 #[derive(Clone, Copy, Debug, PartialEq, Eq, Error)]
 pub enum ReplayError {
     /// Memory was refused.
     #[error("out of memory")]
     Memory,
-    /// A batch doesn't fit the database of those before it, each of which fits.
+    /// A batch doesn't fit the database of the batches before it, all of which fit.
     #[error("batch {number}: {refusal}")]
     Refused {
-        /// Its number.
+        /// The number of this batch.
         number: u32,
         /// Why it doesn't fit.
         refusal: Refusal,

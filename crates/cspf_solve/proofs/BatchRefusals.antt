@@ -9,11 +9,11 @@ use Rattle.cspf_stream.specs.declared.batch_refusal.BatchRefusal.{BatchRefusal}
 use Rattle.cspf_stream.specs.declared.batch_refusal.BatchRefusal.TheVariants as refusal
 use Rattle.cspf_solve.specs.Script.{RunState, IsAccepted, IsBatchRefusal, current_version, current_database, open_batch}
 
--- the batch isn't accepted, for this reason
+-- the batch isn't accepted, and `why` is the reason
 abbrev pub IsKept : RunState → ℕ → ℕ → BatchRefusal → Type 0
 IsKept s number count why = (¬ IsAccepted s number count) × IsBatchRefusal s number count why
 
--- an end row that isn't right
+-- the end row is wrong for the open changes, so their batch is refused
 pub wrong_end : (s : RunState) (stopped : Bool) (version number count changes : ℕ) (why : BatchRefusal) → stopped ≡ false → version ≡ current_version s → changes ≡ length s.changes
     → IsWrongEnd stopped version number count changes why → IsKept s number count why
 wrong_end s stopped version number count changes refusal.Stopped going is_version is_count wrong = absurd (false≢true (sym going ∙ wrong))
@@ -30,7 +30,7 @@ wrong_end s stopped version number count changes (refusal.Unfit why) going is_ve
 wrong_end s stopped version number count changes refusal.Memory going is_version is_count wrong = absurd wrong
 wrong_end s stopped version number count changes (refusal.Journal written) going is_version is_count wrong = absurd wrong
 
--- a batch that doesn't fit
+-- the batch doesn't fit the database, so it is refused
 pub unfit_end : RefusedIsUnfit → (s : RunState) (stopped : Bool) (version number count changes : ℕ) (why : Refusal) → version ≡ current_version s → changes ≡ length s.changes
     → IsRightEnd stopped version number count changes → IsRefusal (current_database s) (open_batch s number) why → IsKept s number count (refusal.Unfit why)
 unfit_end unfit s stopped version number count changes why is_version is_count right is = (

@@ -1,4 +1,4 @@
--- No count grows by more than one a row.
+-- Each row adds at most one to each count.
 use Rattle.std.proofs.Common.{ℕ, ◌≤◌, List, [], ◌∷◌, length, length-append, Result, Ok, Err, inl, inr, refl, arith}
 use Rattle.cspf_model.specs.declared.batch.Change.{Change}
 use Rattle.cspf_model.specs.declared.batch.Change.TheVariants as change
@@ -53,7 +53,7 @@ within_rows s t (fields ∷ rows) lines a =
       refused = omega (arith, first.refused, rest.refused);
     }
 
--- the counts after at most 1,000,000 rows
+-- after at most 1,000,000 rows no count is above 1,000,000
 pub counted_rows : (solver : Solver) (s : RunState) (rows : List (List (List ℕ))) (lines : List ℕ)
     → AreRowsAnswered start rows lines s → length rows ≤ 1000000 → KeepsRun solver s → AreCounted solver
 counted_rows solver s rows lines answered few kept =

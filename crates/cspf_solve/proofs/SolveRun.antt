@@ -1,4 +1,4 @@
--- A run over rows: from the answers of the solver to the lines and the summary, and where it stops.
+-- A run over rows: from the solver's answers to the lines and the summary, and the output of a run that stops.
 use Rattle.std.proofs.Common.{◌≡◌, ◌≢◌, ℕ, suc, ◌+◌, ◌<◌, ◌≤◌, Bool, true, false, List, [], ◌∷◌, ◌++◌, take, length, length-append, Option, Some, None, IfSome, option_map, Result, Ok, Err, IfOk, IfErr, OnOk, inl, inr, refl, sym, ap, subst, ◌∙◌, append_assoc, append-nil, arith}
 use Rattle.std.proofs.KnownBytes.{Appends-nil, Appends-trans, Appends-kept}
 use Rattle.std.proofs.lemmas.Bool.{lt-ltb, le-ltb, false≢true}
@@ -24,7 +24,7 @@ use Rattle.cspf_solve.proofs.RowCounts.{counted_rows}
 abbrev Rows : Type 0
 Rows = List (List (List ℕ))
 
--- how the solver answers the row at a place, and what it does where memory is refused
+-- how the solver answers the row at a place, and what holds if memory is refused there
 abbrev pub SolverAnswers : AnswersOf Solver
 SolverAnswers place old fields = IsAnsweredBySolver old (row_of fields)
 
@@ -50,8 +50,8 @@ answered_more s t u (row ∷ done) fields out line before step = (
   answered_more before.1 t u done fields before.2 line before.5 step,
 )
 
--- rows that the solver answers one after the other, from the state that is kept before to one that is kept
--- afterwards
+-- rows that the solver answers one after the other: it keeps the state `s` before them, and afterwards it keeps
+-- the state that the rows lead to
 carried : (place : ℕ) (k k' : Solver) (s : RunState) (rows : Rows) (lines : List ℕ) → KeepsRun k s → AreAnswered SolverAnswers place k rows lines k'
     → (t : RunState) × KeepsRun k' t × AreRowsAnswered s rows lines t
 unfolding AreAnswered AreRowsAnswered
@@ -106,7 +106,7 @@ pub counted_run : (all : Option (List (List (List ℕ)))) (old new : Option (Lis
 counted_run all old new solver bytes false run = counted_rows solver run.state run.done run.out run.answered run.past.1 run.kept
 counted_run all old new solver bytes true run = counted_rows solver run.state run.done run.out run.answered (omega (arith, run.past.1)) run.kept
 
--- which rows are read, and whether there are more
+-- which rows are read, and whether there are more rows
 pub rows_read : (too_many : Bool) (count : ℕ) (rows done rest : List (List (List ℕ))) → rows ≡ done ++ rest → length done ≡ count → IsPast too_many count rest
     → (take 1000000 rows ≡ done) × (is_too_many rows ≡ too_many)
 rows_read false count rows done rest split same past =
@@ -116,11 +116,11 @@ rows_read false count rows done rest split same past =
 rows_read true count rows done rest split same past =
     rw split (take_at done rest 1000000 (same ∙ past.1), lt-ltb 1000000 (length (done ++ rest)) (omega (arith, same, past.0, past.1, length-append done rest)))
 
--- the lines and the summary of all rows
+-- the lines of all rows are written, and this is the summary of the run
 abbrev pub IsWritten : Option (List (List (List ℕ))) → Option (List ℕ) → Option (List ℕ) → Summary → Type 0
 IsWritten all old new summary = IfSome all (λ rows. (lines : List ℕ) × IsSolveRun rows lines summary × Appends old new lines)
 
--- the last line was written
+-- the last line was written, and this is the summary
 abbrev pub IsEnded : Solver → Bool → Option (List ℕ) → Option (List ℕ) → Summary → Type 0
 IsEnded solver too_many old new summary =
     (s : RunState) → KeepsRun solver s → Appends old new (last_line too_many s.changes) × (summary ≡ summary_of s too_many)
@@ -148,7 +148,7 @@ pub run_ends : (all : Option (List (List (List ℕ)))) (old mid new : Option (Li
 run_ends all old mid new solver bytes too_many (Err error) run ended = tt
 run_ends all old mid new solver bytes too_many (Ok summary) run ended = ends all old mid new solver bytes too_many summary run ended
 
--- ---- where the run stops
+-- ---- the output of a run that stops
 
 abbrev IsHaltedByRows : Option Rows → Option (List ℕ) → Option (List ℕ) → Type 0
 IsHaltedByRows all old new = IfSome all (λ rows. (out : List ℕ) × IsBegunByRows rows out × Appends old new out)
@@ -216,7 +216,7 @@ module _ (all left : Option (List (List (List ℕ)))) (old new : Option (List �
       cut_off all a.done (a.fields ∷ a.rest) old a.mid new c.0 a.lines stop.0 stop.1 (length a.lines) bytes (in_row_split all left a.done a.rest a.fields a.split)
       (omega (arith, a.stops.0)) c.2 (inl (a.stops.0, step.0, step.2)) stop.3 a.written stop.4 refl stop.5
 
-  -- nothing is flushed
+  -- the run makes no flush, so it can't stop at a flush
   no_flush : (failed : Bool) → HasStoppedAfter SolverAnswers SolverFails 1000000 false bytes stream_error.Flush all left failed k k' old new → ⊥
   no_flush failed a = false≢true a.stops.1.2
 
@@ -245,7 +245,7 @@ most_done : (done rest : Rows) (too_many : Bool) → IsPast too_many (length don
 most_done done rest false past = past.1
 most_done done rest true past = omega (arith, past.1)
 
--- the last line stopped
+-- the run stopped while it wrote the last line
 stops_at_end : (all : Option Rows) (old mid new : Option (List ℕ)) (solver : Solver) (bytes : ℕ) (too_many : Bool) (error : SolveError)
     → HasRun all old mid solver bytes too_many → ((s : RunState) → KeepsRun solver s → IsEndCut (last_line too_many s.changes) mid new bytes error) → IsHalted all old new error
 stops_at_end all old mid new solver bytes too_many solve_error.Memory run cut =
@@ -263,7 +263,7 @@ pub run_stops : (all : Option (List (List (List ℕ)))) (old mid new : Option (L
 run_stops all old mid new solver bytes too_many (Ok summary) run cut = tt
 run_stops all old mid new solver bytes too_many (Err error) run cut = stops_at_end all old mid new solver bytes too_many error run cut
 
--- a last line that stops isn't a read that fails
+-- the last line is written without a read, so it can't stop with `Read`
 end_not_read : (line : List ℕ) (old new : Option (List ℕ)) (written : ℕ) (error : SolveError) → IsEndCut line old new written error → error ≢ solve_error.Read
 end_not_read line old new written solve_error.Memory cut = λ e. cc e
 end_not_read line old new written solve_error.Read cut = absurd cut
@@ -276,7 +276,7 @@ not_read all old mid new solver bytes too_many (Ok summary) P run cut = tt
 not_read all old mid new solver bytes too_many (Err error) P run cut =
     λ e. absurd (end_not_read (last_line too_many run.state.changes) mid new bytes error (cut run.state run.kept) e)
 
--- nothing was read yet
+-- at the start nothing is read and nothing written
 pub halted_at_start : (bytes old : Option (List ℕ)) → IfSome bytes (λ text. (out : List ℕ) × IsBegunByRows (rows_of text) out × Appends old old out)
 halted_at_start None old = tt
 halted_at_start (Some text) old = (
@@ -290,7 +290,7 @@ halted_at_start (Some text) old = (
   Appends-nil old,
 )
 
--- what holds of the rows of a stream, where its bytes are known
+-- what holds of the rows of a stream if its bytes are known
 
 pub ok_of_rows : {T E A B : Type 0} (r : Result T E) (o : Option A) (p : Option B) (f : A → B) (Q : T → B → Type 0) → p ≡ option_map f o
     → IfOk r (λ x. IfSome p (Q x)) → IfOk r (λ x. IfSome o (λ a. Q x (f a)))

@@ -7,13 +7,14 @@ use Rattle.cspf_solve.specs.Script.{RunState, start, at_next_row, IsRowAnswered,
 use Rattle.cspf_solve.specs.declared.error.SolveError.{SolveError}
 use Rattle.cspf_solve.specs.declared.error.SolveError.TheVariants as error
 
--- a prefix of the rows of a stream, at most 1,000,000, is answered
+-- the rows `done`, at most 1,000,000, are the first rows of a stream, and they are answered with these
+-- lines
 pub record AreFirstAnswered (rows done rest : List (List (List ℕ))) (lines : List ℕ) (after : RunState) : Type 0 where
   pub split : rows ≡ done ++ rest
   pub few : length done ≤ MOST_ROWS
   pub answered : AreRowsAnswered start done lines after
 
--- the output is the whole lines of a prefix of the rows
+-- the output is the lines of a prefix of the rows, each of them whole
 pub record IsBegunByRows (rows : List (List (List ℕ))) (out : List ℕ) : Type 0 where
   pub done : List (List (List ℕ))
   pub rest : List (List (List ℕ))
@@ -27,8 +28,8 @@ IsNextText done s (fields ∷ rest) text =
     ((length done < MOST_ROWS) × (after : RunState) × IsRowAnswered (at_next_row s) (row_of fields) text after)
     ⊎ ((length done ≡ MOST_ROWS) × (text ≡ too_many_line))
 
--- the output is the lines of a prefix of the rows, and then a part of the next text, but not all of
--- it
+-- the output is the lines of a prefix of the rows, and then a part of the next text that isn't the whole
+-- text
 pub record IsCutOff (rows : List (List (List ℕ))) (out : List ℕ) : Type 0 where
   pub done : List (List (List ℕ))
   pub rest : List (List (List ℕ))
@@ -41,8 +42,8 @@ pub record IsCutOff (rows : List (List (List ℕ))) (out : List ℕ) : Type 0 wh
   pub part : size < length text
   pub whole : out ≡ lines ++ take size text
 
--- Memory that was refused and a failed read leave whole lines. A failed write leaves the output,
--- with its number of bytes.
+-- After `Memory` and `Read` the output has whole lines only. After `Write` it may end within a line, and
+-- `written` is its length in bytes.
 abbrev pub IsOutputAtError : SolveError → List (List (List ℕ)) → List ℕ → Type 0
 IsOutputAtError error.Memory rows out = IsBegunByRows rows out
 IsOutputAtError error.Read rows out = IsBegunByRows rows out

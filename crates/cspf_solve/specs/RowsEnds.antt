@@ -1,4 +1,4 @@
--- Private: how the rows of a run end.
+-- Private: how reading the rows of a run ends.
 use Rattle.std.specs.Prelude.{◌≡◌, ℕ, Bool, true, List, ◌++◌, length, Option, IfSome, Result, MatchResult}
 use Rattle.std.specs.Io.KnownBytes.{Appends}
 use Rattle.cspf_solve.specs.Script.{RunState, start, AreRowsAnswered}
@@ -8,7 +8,7 @@ use Rattle.cspf_solve.specs.declared.solver.Solver.{Solver}
 use Rattle.cspf_solve.specs.declared.error.SolveError.{SolveError}
 use Rattle.cspf_solve.specs.declared.error.SolveError.TheVariants as solve_error
 
--- all rows that are read are answered, and there are more of them or not
+-- all rows that are read are answered, and `too_many` says whether there are more rows
 pub record HasRun (all : Option (List (List (List ℕ)))) (old new : Option (List ℕ)) (solver : Solver) (bytes : ℕ) (too_many : Bool) : Type 0 where
   pub done : List (List (List ℕ))
   pub rest : List (List (List ℕ))
@@ -25,7 +25,7 @@ pub record HasRun (all : Option (List (List (List ℕ)))) (old new : Option (Lis
 abbrev pub IsHalted : Option (List (List (List ℕ))) → Option (List ℕ) → Option (List ℕ) → SolveError → Type 0
 IsHalted all old new error = IfSome all (λ rows. (out : List ℕ) × IsOutputAtError error rows out × Appends old new out)
 
--- All rows that are read are answered, or the run stops. Only the reader's own fault is `Read`.
+-- All rows that are read are answered, or the run stops. It stops with `Read` only if a read failed.
 abbrev pub IsRowsEnd : Option (List (List (List ℕ))) → Option (List ℕ) → Option (List ℕ) → Solver → ℕ → Bool → Result Bool SolveError → Type 0
 IsRowsEnd all old new solver bytes failed ended =
     MatchResult ended (HasRun all old new solver bytes) (λ error. IsHalted all old new error × (error ≡ solve_error.Read → failed ≡ true))

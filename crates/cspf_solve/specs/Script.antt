@@ -1,4 +1,4 @@
--- The lines of a stream of rows, from its bytes to bytes, and the summary of its run.
+-- The lines and the summary of a run, as a function of the bytes of its rows.
 use Rattle.std.specs.Prelude.{◌≡◌, ◌≢◌, ℕ, ◌+◌, ◌<◌, ◌≤◌, ◌⊎◌, nat_lt, if◌then◌else◌, Bool, true, false, List, [], ◌∷◌, ◌++◌, take, length, Result, Ok, Err}
 use Rattle.cspf_model.specs.declared.batch.Change.{Change}
 use Rattle.cspf_model.specs.declared.batch.Change.TheVariants as change
@@ -21,7 +21,7 @@ use Rattle.cspf_solve.specs.declared.summary.Summary.{Summary}
 use Rattle.cspf_stream.specs.RefusedRows.{refused_row_line}
 use Rattle.cspf_stream.specs.Lines.{version_line, refused_batch_line, too_many_line, end_line}
 
--- the state between two rows
+-- the state of a run between two rows
 pub record RunState : Type 0 where
   -- how many rows were read
   pub rows : ℕ
@@ -34,19 +34,19 @@ pub record RunState : Type 0 where
   -- how many rows and batches were refused
   pub refused : ℕ
 
--- before the first row: version 0, the empty database, and no open changes
+-- the state before the first row: version 0, the empty database, and no open changes
 abbrev pub start : RunState
 start = record { rows = 0; accepted = []; changes = []; answers = 0; refused = 0 }
 
--- the version is the number of the accepted batches
+-- the version is the count of accepted batches
 abbrev pub current_version : RunState → ℕ
 current_version s = length s.accepted
 
--- the database of the accepted batches: open changes aren't in it
+-- the database of the accepted batches, without the open changes
 abbrev pub current_database : RunState → Database
 current_database s = database_after s.accepted
 
--- the open changes as the batch with this number
+-- the batch with this number that has the open changes
 abbrev pub open_batch : RunState → ℕ → NumberedChanges
 open_batch s number = record { number = number; changes = s.changes }
 
@@ -54,7 +54,7 @@ open_batch s number = record { number = number; changes = s.changes }
 abbrev pub at_next_row : RunState → RunState
 at_next_row s = record s { rows = s.rows + 1 }
 
--- the row is refused: database, version and open changes stay
+-- the row is refused: the database, the version and the open changes stay as they are
 abbrev pub after_refused_row : RunState → RunState
 after_refused_row s = record s { refused = s.refused + 1 }
 
@@ -62,29 +62,29 @@ after_refused_row s = record s { refused = s.refused + 1 }
 abbrev pub after_change_row : RunState → Change → RunState
 after_change_row s c = record s { changes = s.changes ++ c ∷ [] }
 
--- the open changes are applied in one, and none are open
+-- the open changes are applied as one batch, and then no changes are open
 abbrev pub after_batch : RunState → ℕ → RunState
 after_batch s number = record s { accepted = s.accepted ++ open_batch s number ∷ []; changes = [] }
 
--- the open changes are dropped: database and version stay
+-- the open changes are dropped: the database and the version stay as they are
 abbrev pub after_refused_batch : RunState → RunState
 after_refused_batch s = record s { changes = []; refused = s.refused + 1 }
 
--- a request is answered: database, version and open changes stay
+-- a request is answered: the database, the version and the open changes stay as they are
 abbrev pub after_reply : RunState → RunState
 after_reply s = record s { answers = s.answers + 1 }
 
--- The open changes are accepted as the batch with this number and this count where all is right.
--- The version is below 1,000,000, the number is the next version, the count is right, and the batch
--- fits the database.
+-- When the open changes are accepted as the batch with this number and this count. The version is below
+-- 1,000,000, and the number is that of the next version. The count is that of the open changes, and the
+-- batch fits the database.
 pub record IsAccepted (s : RunState) (number count : ℕ) : Type 0 where
   pub room : current_version s < MOST_VERSIONS
   pub next : number ≡ current_version s + 1
   pub counted : count ≡ length s.changes
   pub fits : Fits (current_database s) (open_batch s number)
 
--- Why the open changes are refused as the batch with this number and this count: the first of these
--- that applies. A run has no journal, and it ends where memory is refused.
+-- Why the open changes are refused as the batch with this number and this count: the first reason that
+-- applies. `Stopped` never applies, since a run has no journal and ends if memory is refused.
 abbrev pub IsBatchRefusal : RunState → ℕ → ℕ → BatchRefusal → Type 0
 IsBatchRefusal s number count refusal.Stopped = ⊥
 IsBatchRefusal s number count refusal.Exhausted = MOST_VERSIONS ≤ current_version s
@@ -98,14 +98,14 @@ IsBatchRefusal s number count (refusal.Unfit why) =
 IsBatchRefusal s number count refusal.Memory = ⊥
 IsBatchRefusal s number count (refusal.Journal written) = ⊥
 
--- an end row is answered by the version that its batch makes, or by the refusal of the batch
+-- an end row is answered with the version that its batch makes, or with the refusal of the batch
 abbrev pub IsEndAnswered : RunState → ℕ → ℕ → List ℕ → RunState → Type 0
 IsEndAnswered s number count line after =
     (IsAccepted s number count × (line ≡ version_line number) × (after ≡ after_batch s number))
     ⊎ ((why : BatchRefusal) × (¬ IsAccepted s number count) × IsBatchRefusal s number count why
     × (line ≡ refused_batch_line number why) × (after ≡ after_refused_batch s))
 
--- the line that the row with the number `s.rows` is answered, and the state after it
+-- the row with the number `s.rows` is answered with this line, and leads to the state `after`
 abbrev pub IsRowAnswered : RunState → Result Row RowError → List ℕ → RunState → Type 0
 IsRowAnswered s (Err error) line after = (line ≡ refused_row_line s.rows error) × (after ≡ after_refused_row s)
 IsRowAnswered s (Ok (row.Put link)) line after = (line ≡ []) × (after ≡ after_change_row s (change.Put link))
@@ -115,28 +115,28 @@ IsRowAnswered s (Ok (row.End number count)) line after = IsEndAnswered s number 
 IsRowAnswered s (Ok (row.Ask q)) line after =
     (answer : Answer) × IsBestAnswer (current_database s) q answer × IsReply q.id (current_version s) answer line × (after ≡ after_reply s)
 
--- rows are answered one after the other, from a state to a state
+-- rows are answered one after the other, from the state `s` to the state `after`
 unfoldable pub AreRowsAnswered : RunState → List (List (List ℕ)) → List ℕ → RunState → Type 0
 AreRowsAnswered s [] lines after = (lines ≡ []) × (after ≡ s)
 AreRowsAnswered s (fields ∷ rows) lines after =
     (line : List ℕ) × (next : RunState) × (more : List ℕ)
     × IsRowAnswered (at_next_row s) (row_of fields) line next × (lines ≡ line ++ more) × AreRowsAnswered next rows more after
 
--- there is a row past the 1,000,000th
+-- there are more than 1,000,000 rows
 abbrev pub is_too_many : List (List (List ℕ)) → Bool
 is_too_many rows = nat_lt MOST_ROWS (length rows)
 
--- the last line of a run: rows that aren't read come before changes that are still open
+-- the last line of a run: it says that there are too many rows, or else how many changes are still open
 abbrev pub last_line : Bool → List Change → List ℕ
 last_line true changes = too_many_line
 last_line false changes = end_line changes
 
--- changes that are still open after the last row count as one refusal more
+-- changes that are still open after the last row count as one more refusal, if there aren't too many rows
 abbrev pub unended_count : Bool → List Change → ℕ
 unended_count true changes = 0
 unended_count false changes = if nat_lt 0 (length changes) then 1 else 0
 
--- the summary of a run that ends in a state
+-- the summary of a run that ends in this state
 abbrev pub summary_of : RunState → Bool → Summary
 summary_of s too_many = record {
   rows = s.rows;

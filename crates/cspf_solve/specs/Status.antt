@@ -2,6 +2,6 @@
 use Rattle.std.specs.Prelude.{ℕ, ◌||◌, nat_lt, if◌then◌else◌}
 use Rattle.cspf_solve.specs.declared.summary.Summary.{Summary}
 
--- 2 where anything was refused or there were too many rows, else 0
+-- the status is 2 if anything was refused or there were too many rows, and 0 otherwise
 abbrev pub status_of : Summary → ℕ
 status_of summary = if summary.too_many || nat_lt 0 summary.refused then 2 else 0

@@ -9,7 +9,7 @@ use Rattle.cspf_stream.specs.Sinks.{SinkSpec}
 use Rattle.cspf_stream.specs.declared.batch_refusal.BatchRefusal.TheVariants as refusal
 use Rattle.cspf_solve.specs.declared.table_sink.TableSink.{TableSink}
 
--- a batch is accepted where it fits
+-- what a table does as a sink: it accepts a batch that fits
 abbrev pub table_spec : SinkSpec TableSink
 table_spec = record {
   version = λ sink. sink.version;

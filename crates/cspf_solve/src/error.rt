@@ -16,7 +16,7 @@ pub enum SolveError {
     /// A write failed, or took no bytes.
     #[error("a write failed after {written} bytes")]
     Write {
-        /// The bytes that the whole run wrote. No run can write too many for this type.
+        /// How many bytes the whole run wrote. The type is large enough for every run.
         written: u128,
     },
 }

@@ -3,12 +3,12 @@ ghost use Rattle.cspf_solve.specs.SolveLaws.{CountsByOne, GoesOnByOneRow, HaveOn
 use cspf_ero::one_reply_line;
 use cspf_model::{one_best_answer, one_refusal};
 
-/// Law: rows have one reply. Two runs over the same rows write the same lines, and come to the same
-/// summary.
+/// Law: each stream of rows has one output. Two runs over the same rows write the same lines and have the
+/// same summary.
 pub fn rows_have_one_reply()
     ensures { HaveOneReply }
 {
-    // Laws: a request has one best answer at most, an answer one line, and a batch one refusal.
+    // Laws: a request has at most one best answer, an answer has one line, and a batch has one refusal.
     one_best_answer();
     one_reply_line();
     one_refusal();
@@ -18,14 +18,14 @@ pub fn rows_have_one_reply()
 pub fn stops_at_a_prefix()
     ensures { StopsAtAPrefix }
 {
-    // Laws: a request has one best answer at most, an answer one line, and a batch one refusal.
+    // Laws: a request has at most one best answer, an answer has one line, and a batch has one refusal.
     one_best_answer();
     one_reply_line();
     one_refusal();
 }
 
-/// Law: a run goes on row by row. Rows with one more at their end are answered exactly where they
-/// are, and then that one is. No count of a run grows by more than one with a row.
+/// Law: a run goes on row by row. If rows are answered and then one more row is answered, all these rows
+/// together are answered, with the last row's line at the end. Each row adds at most one to each count.
 pub fn runs_go_on_row_by_row()
     ensures more { GoesOnByOneRow }
     ensures counts { CountsByOne }

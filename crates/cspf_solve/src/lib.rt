@@ -1,8 +1,9 @@
-//! The solver: one stream of rows in, the line of each out, by one thread and without a publisher.
+//! The solver reads one stream of rows and writes the line of each. It works in one thread and without
+//! a publisher.
 //!
-//! `specs/Script.antt` defines the lines of a run, from bytes to bytes, and its summary.
-//! `specs/OutputAtError.antt` defines the output where a run ends by an error, and
-//! `specs/SolveLaws.antt` what holds of every run.
+//! `specs/Script.antt` defines the lines and the summary of a run as a function of its bytes.
+//! `specs/OutputAtError.antt` defines the output of a run that ends with an error, and
+//! `specs/SolveLaws.antt` has the laws of all runs.
 #![tactic(auto)]
 
 mod error;

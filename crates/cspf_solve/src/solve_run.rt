@@ -1,4 +1,4 @@
-//! The run of `solve`: one stream of rows in, the line of each out.
+//! The run of `solve`: it reads one stream of rows and writes the line of each.
 
 ghost use Rattle.std.specs.Prelude.{◌≡◌, ℕ, ◌+◌, ◌*◌, ◌^◌, ◌≤◌, List, true, IfOk, IfErr, IfSome};
 ghost use Rattle.std.specs.Io.KnownBytes.{Appends};
@@ -17,14 +17,14 @@ use csv::Reader;
 use std::alloc::Global;
 use std::io::{Read, Write};
 
-/// Reads a stream of rows and writes the line of each when it is known, in one write where the
-/// writer takes it whole. `IsScript` defines the lines, and when a row or a batch is refused. At
-/// most 1,000,000 rows are read. Memory is taken only for the longest one and for the trees of the
-/// table, of which `run_solve_with` says how many there are.
+/// Reads a stream of rows and writes the line of each row as soon as it is known, in one write if the
+/// writer takes it whole. `IsScript` defines the lines, and when a row or a batch is refused. At most
+/// 1,000,000 rows are read. However many rows there are, memory is taken only for the longest row, the
+/// database, the open changes and the trees. `run_solve_with` says how many trees there are.
 ///
-/// After an error the writer has the lines of a prefix of the rows. After a failed write it may
-/// also have a part of the next text, but not all of it. `Read` comes from a read that failed and
-/// `Write` from a write that failed or took no bytes. The writer isn't flushed.
+/// After an error the writer has the lines of a prefix of the rows. After a failed write it may also have
+/// a part of the next line, but not all of it. `Read` means that a read failed, `Write` that a write
+/// failed or took no bytes. The writer isn't flushed.
 pub fn run_solve<R: Read + Drop, W: Write>(
     alloc: Global,
     reader: R,
@@ -40,8 +40,8 @@ pub fn run_solve<R: Read + Drop, W: Write>(
     run_solve_with(alloc, reader, writer, RunOptions::new())
 }
 
-/// As `run_solve`, but the trees of the table are at most as many as the options say, and at most
-/// `MOST_TREES` of `cspf_trees`.
+/// As `run_solve`, but the table has at most `options.trees` trees, and never more than `MOST_TREES` of
+/// `cspf_trees`.
 pub fn run_solve_with<R: Read + Drop, W: Write>(
     alloc: Global,
     reader: R,
@@ -60,7 +60,7 @@ pub fn run_solve_with<R: Read + Drop, W: Write>(
     solve_rows(alloc, &mut rows, &mut solver, writer)
 }
 
-/// Answers the rows that a reader has left.
+/// Answers the rows that the reader still has, and writes the last line.
 fn solve_rows<R: Read, W: Write>(
     alloc: Global,
     rows: &mut Reader<R>,
@@ -75,15 +75,15 @@ fn solve_rows<R: Read, W: Write>(
     ensures stopped { IfErr result (λ error. IfSome (rows_left R.remaining rows.old) (λ all.
         (out : List ℕ) × IsOutputAtError error all out
         × Appends (W.contents writer.old) (W.contents writer.new) out)) }
-    // Only the reader's own fault is answered `Read`.
+    // The result is `Read` only if a read failed.
     ensures read { IfErr result (λ error. error ≡ IsRead → has_failed rows.new ≡ true) }
 {
     let (written, ended) = answer_most(alloc, rows, solver, writer);
     finish(alloc, solver, writer, written, ended?)
 }
 
-/// Answers the first 1,000,000 rows that a reader has left. Returns how many bytes were written, and
-/// whether there are more rows, or why the run stops in them.
+/// Answers the first 1,000,000 rows that the reader still has. Returns how many bytes were written, and
+/// whether there are more rows or why the run stops.
 fn answer_most<R: Read, W: Write>(
     alloc: Global,
     rows: &mut Reader<R>,
@@ -101,8 +101,8 @@ fn answer_most<R: Read, W: Write>(
     (written, end_after_rows(written, ended))
 }
 
-/// How the rows end, after `written` bytes: whether there are more than are read, or why the run
-/// stops there.
+/// How the rows end, after `written` bytes: whether there are more than 1,000,000 rows, or the error that
+/// stops the run.
 fn end_after_rows(written: u128, ended: Result<(), StreamError>) -> Result<bool, SolveError>
     ensures { result ≡ end_after_rows written ended }
 {

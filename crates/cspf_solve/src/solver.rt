@@ -1,5 +1,5 @@
-//! The solver answers one row after the other, over a table and its version, and counts the rows of
-//! a run.
+//! The solver answers one row after the other, over a table and its version, and keeps the counts of a
+//! run.
 
 ghost use Rattle.std.specs.Prelude.{◌≡◌, ◌+◌, ◌<◌, ◌≤◌, ◌^◌, IfOk, OnOk};
 
@@ -12,13 +12,13 @@ use cspf_trees::{MOST_TREES, TreeTable};
 use csv::ByteRecord;
 use std::alloc::{AllocError, Global};
 
-/// The state between two rows. A stream of any length takes no more memory than this and the trees of
-/// the table.
+/// The state of a run between two rows. However long the stream is, it takes no more memory than the
+/// database, the open changes and the trees of the table.
 #[derive(Drop)]
 pub struct Solver {
-    /// The database of the batches that were accepted, and the open changes.
+    /// The database of the accepted batches, and the open changes.
     rows: Rows<TableSink>,
-    /// The rows that were read.
+    /// How many rows were read.
     read: u64,
 }
 
@@ -31,7 +31,7 @@ impl Answering<()> for Solver {
 
     ghost fails = { λ place old fields new. Unit {0} };
 
-    // Each row adds one at most.
+    // Each row adds at most one to each count.
     ghost may_stand = { λ place solver. AreBelow place solver };
 
     fn answer(
@@ -50,8 +50,8 @@ impl Solver {
     ghost use Rattle.cspf_solve.specs.SolverStates.{KeepsRun, AreFew, AreWithinOne, AreCounted};
     ghost use Rattle.cspf_trees.specs.declared.limits.TheConstants.{MOST_TREES};
 
-    /// Version 0, with the empty database and no open changes. Its table keeps at most `MOST_TREES`
-    /// trees.
+    /// A solver before its first row: version 0, the empty database and no open changes. Its table keeps at
+    /// most `MOST_TREES` trees.
     pub fn new(alloc: Global) -> Result<Solver, AllocError>
         ensures start { IfOk result (λ solver. KeepsRun solver start) }
         ensures trees { IfOk result (λ solver. solver.rows.sink.table.most_trees ≡ MOST_TREES) }
@@ -59,8 +59,8 @@ impl Solver {
         Solver::with_trees(alloc, MOST_TREES)
     }
 
-    /// As `new`, but its table keeps at most this many trees, and never more than `MOST_TREES`. With 0
-    /// it keeps none. The answers are the same.
+    /// As `new`, but its table keeps at most `most` trees, and never more than `MOST_TREES`. With 0 it keeps
+    /// no trees. The answers don't depend on `most`.
     pub fn with_trees(alloc: Global, most: usize) -> Result<Solver, AllocError>
         ensures start { IfOk result (λ solver. KeepsRun solver start) }
         ensures trees { IfOk result (λ solver. solver.rows.sink.table.most_trees ≡ most) }
@@ -75,7 +75,7 @@ impl Solver {
         })
     }
 
-    /// Takes one more row, and returns its line, which is empty for a change.
+    /// Answers one more row, and returns its line. The line of a change is empty.
     pub fn answer(
         &mut self,
         alloc: Global,
@@ -86,15 +86,15 @@ impl Solver {
             × KeepsRun self.new after × IsRowAnswered (at_next_row s) row.now line.items after) }
         ensures counts { AreWithinOne self.old self.new }
     {
-        // Laws: one more batch makes its changes in the database of the batches before it, and a batch
-        // that is refused doesn't fit.
+        // Laws: one more batch makes its changes in the database of the batches before it, and a refused batch
+        // doesn't fit.
         absorbing();
         one_refusal();
         self.read += 1;
         self.rows.answer(&(), alloc, self.read, row)
     }
 
-    /// The last line: rows that aren't read come before changes that are still open.
+    /// The last line: it says that there are too many rows, or else how many changes are still open.
     pub fn last_line(&self, alloc: Global, too_many: bool) -> Result<Vec<u8>, AllocError>
         ensures { IfOk result (λ line. (s : RunState) → KeepsRun self.now s
             → line.items ≡ last_line too_many s.changes) }
@@ -106,7 +106,7 @@ impl Solver {
         }
     }
 
-    /// The summary, where the run ends here.
+    /// The summary of a run that ends here.
     pub(crate) fn summary(&self, too_many: bool) -> Summary
         requires { AreCounted self.now }
         ensures { (s : RunState) → KeepsRun self.now s → result ≡ summary_of s too_many }

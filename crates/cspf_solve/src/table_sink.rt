@@ -1,4 +1,4 @@
-//! The sink of a solver: a table that answers requests, and accepts batches that fit.
+//! The sink of a solver: a table that answers requests and accepts the batches that fit.
 
 ghost use Rattle.std.specs.Prelude.{◌≡◌};
 
@@ -8,7 +8,7 @@ use cspf_stream::{BatchRefusal, Sink};
 use cspf_trees::TreeTable;
 use std::alloc::{AllocError, Global};
 
-/// The database of the batches that were accepted, and their number.
+/// The database of the accepted batches, and its version.
 #[derive(Drop)]
 pub struct TableSink {
     pub(crate) table: TreeTable,

@@ -1,4 +1,4 @@
--- A stream of rows, the first of which were read and answered.
+-- A stream of rows of which the first were read and answered.
 use Rattle.std.proofs.Common.{◌≡◌, ℕ, suc, ◌+◌, ◌<◌, ◌≤◌, Bool, true, false, List, [], ◌∷◌, ◌++◌, length, length-append, Option, Some, None, IfSome, Result, Ok, Err, OnOk, IfErr, inl, inr, refl, sym, ap, ◌∙◌, append_assoc, append-nil, arith}
 use Rattle.std.proofs.KnownBytes.{Appends-nil, Appends-trans}
 use Rattle.std.specs.Io.KnownBytes.{Appends}
@@ -16,11 +16,11 @@ use Rattle.cspf_stream.specs.declared.error.StreamError.TheVariants as stream_er
 abbrev Rows : Type 0
 Rows = List (List (List ℕ))
 
--- the rows are those that were read, followed by those that are left
+-- All rows of the stream are the rows that were read, and then the rows that are left.
 abbrev pub IsReadUpTo : Option (List (List (List ℕ))) → List (List (List ℕ)) → Option (List (List (List ℕ))) → Type 0
 IsReadUpTo all done left = IfSome all (λ rows. (rest : List (List (List ℕ))) × (left ≡ Some rest) × (rows ≡ done ++ rest))
 
--- a stream of which this many rows are answered, from a state to a state
+-- This many rows of a stream are answered, from the state `s` to the state `t`.
 pub record IsGoing {S : Type 0} (answers : AnswersOf S) (all left : Option (List (List (List ℕ)))) (s t : S) (old new : Option (List ℕ)) (read bytes : ℕ) : Type 0 where
   pub done : List (List (List ℕ))
   pub lines : List ℕ
@@ -30,14 +30,14 @@ pub record IsGoing {S : Type 0} (answers : AnswersOf S) (all left : Option (List
   pub written : Appends old new lines
   pub size : length lines ≡ bytes
 
--- a row was read
+-- A row was read, so it is the first of the rows that were left.
 row_read : (left next : Option Rows) (rows : Rows) (fields : List (List ℕ)) → left ≡ Some rows → Takes left next true fields
     → (rest : Rows) × (next ≡ Some rest) × (rows ≡ fields ∷ rest)
 row_read None next rows fields is takes = absurd cc
 row_read (Some x) None rows fields is takes = absurd takes
 row_read (Some x) (Some rest) rows fields is takes = let same : x ≡ rows = cc in (rest, refl, sym same ∙ takes)
 
--- no row was left
+-- No row could be read, so no row was left.
 none_read : (left next : Option Rows) (rows : Rows) (fields : List (List ℕ)) → left ≡ Some rows → Takes left next false fields → rows ≡ []
 none_read None next rows fields is takes = absurd cc
 none_read (Some x) next rows fields is takes = let same : x ≡ rows = cc in sym same ∙ takes
@@ -64,7 +64,7 @@ split_at_start : (all : Option Rows) → IsReadUpTo all [] all
 split_at_start None = tt
 split_at_start (Some all) = (all, refl, refl)
 
--- the rows that a stream which isn't known has left
+-- the rows that are left of a stream, or no rows if they aren't known
 rest_of : Option Rows → Rows
 rest_of None = []
 rest_of (Some rows) = rows
@@ -118,7 +118,7 @@ module _ {S : Type 0} (answers : AnswersOf S) where
   }
 
   module _ (all left next : Option (List (List (List ℕ)))) (s t : S) (old mid : Option (List ℕ)) (read bytes : ℕ) (fields : List (List ℕ)) (going : IsGoing answers all left s t old mid read bytes) where
-    -- one more row is answered
+    -- One more row is answered.
     pub steps : (u : S) (new : Option (List ℕ)) (line : List ℕ) (after : ℕ) → Takes left next true fields → answers (read + 1) t fields line u → Appends mid new line
         → after ≡ bytes + length line → IsGoing answers all next s u old new (read + 1) after
     steps u new line after takes answered written size =
@@ -133,7 +133,7 @@ module _ {S : Type 0} (answers : AnswersOf S) where
           size = omega (arith, length-append going.lines line, going.size, size);
         }
 
-    -- no row is left
+    -- No row is left.
     pub ends : (limit : ℕ) → read ≤ limit → Takes left next false fields → AreFirstRowsAnswered answers limit bytes all s t old mid
     ends limit few takes = record {
       whole = record {
@@ -162,13 +162,13 @@ module _ {S : Type 0} (answers : AnswersOf S) where
     }
 
     module _ (fails : FailsOf S) (limit : ℕ) (flush : Bool) where
-      -- a row can't be read
+      -- A row can't be read.
       pub stops_at_read : (why : RecordError) (error : StreamError) (after : Option (List (List (List ℕ)))) (failed : Bool) → failed ≡ true → read ≤ limit
           → error ≡ stream_fault_of stream_error.Memory stream_error.Read why → HasStoppedAfter answers fails limit flush bytes error all after failed s t old mid
       stops_at_read fault.Memory error after failed is few e = rw e (inl (is, between limit few))
       stops_at_read fault.Device error after failed is few e = rw e (is, between limit few)
 
-      -- the row that was read stops
+      -- The row was read, but its answer stops.
       pub stops_in_row : (u : S) (new : Option (List ℕ)) (failed : Bool) (error : StreamError) (after : ℕ) → read < limit → Takes left next true fields
           → IsRowStoppedAfter answers fails flush bytes after error (read + 1) fields t u mid new → HasStoppedAfter answers fails limit flush after error all next failed s u old new
       stops_in_row u new failed error after few takes stops =
@@ -201,7 +201,7 @@ module _ {S : Type 0} (answers : AnswersOf S) where
           go stream_error.Flush stops split = here stream_error.Flush stops split
           go stream_error.TooManyRows stops split = absurd stops
 
-      -- one row more than the limit allows
+      -- There is one more row than the limit allows.
       pub too_many : (failed : Bool) → read ≡ limit → Takes left next true fields → HasStoppedAfter answers fails limit flush bytes stream_error.TooManyRows all next failed s t old mid
       too_many failed most takes = record {
         more = record {
@@ -217,7 +217,7 @@ module _ {S : Type 0} (answers : AnswersOf S) where
         size = going.size;
       }
 
--- ---- a stream without a limit but the count of its rows
+-- ---- a stream that is limited only by the count of its rows
 
 module _ {S : Type 0} (answers : AnswersOf S) (fails : FailsOf S) (bytes : ℕ) (all left : Option (List (List (List ℕ)))) (failed : Bool) (s t : S) (old new : Option (List ℕ)) where
   row_stopped : (flush : Bool) (before after : ℕ) (why : StreamError) (place : ℕ) (fields : List (List ℕ)) (b : S) (mid : Option (List ℕ))
@@ -274,7 +274,7 @@ pub line_stopped : {T : Type 0} (r : Result T StreamError) (size : ℕ) (flush :
 line_stopped (Ok x) size flush line old new a = tt
 line_stopped (Err why) size flush line old new a = line_cut size flush why line old new a
 
--- the answer to a row stops in its line
+-- The answer to a row stops while its line is written.
 row_cut : {S : Type 0} (answers : AnswersOf S) (fails : FailsOf S) (flush : Bool) (before size after : ℕ) (why : StreamError) (place : ℕ) (fields : List (List ℕ)) (s t : S) (line : List ℕ) (old new : Option (List ℕ))
     → answers place s fields line t → after ≡ before + size → IsLineStoppedAfter flush size why line old new
     → IsRowStoppedAfter answers fails flush before after why place fields s t old new

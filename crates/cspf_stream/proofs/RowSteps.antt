@@ -8,13 +8,13 @@ use Rattle.cspf_stream.specs.Sinks.{SinkSpec}
 use Rattle.cspf_stream.specs.declared.batch_refusal.BatchRefusal.{BatchRefusal}
 use Rattle.cspf_stream.specs.declared.rows.Rows.{Rows}
 
--- what always holds also holds at an error
+-- What always holds also holds after an error.
 pub at_error : {T E : Type 0} (P : Type 0) (r : Result T E) → P → OnErr r P
 at_error P (Ok x) holds = tt
 at_error P (Err e) holds = holds
 
 module _ {S : Type 0} (spec : SinkSpec S) (k k' : Rows S) (number count : ℕ) (none : AreOpen k'.changes []) (answers : k'.answers ≡ k.answers) where
-  -- an end row whose batch is accepted
+  -- The batch of an end row is accepted.
   pub accepted : k'.refused ≡ k.refused → ((all : List Change) → AreOpen k.changes all → IsBatchTaken spec k.sink number count all k'.sink)
       → RowsLead k k' (λ s t. IsEndAccepted spec s number count (version_line number) t)
   accepted refused taken = λ s kept. (
@@ -27,7 +27,7 @@ module _ {S : Type 0} (spec : SinkSpec S) (k k' : Rows S) (number count : ℕ) (
     },
   )
 
-  -- and one whose batch is refused
+  -- The batch of an end row is refused.
   dropped : (why : BatchRefusal) → k'.refused ≡ k.refused + 1 → ((all : List Change) → AreOpen k.changes all → IsBatchDropped spec k.sink number count all why k'.sink)
       → RowsLead k k' (λ s t. IsEndRefused spec s number count (refused_batch_line number why) t)
   dropped why refused is = λ s kept. (
@@ -41,7 +41,7 @@ module _ {S : Type 0} (spec : SinkSpec S) (k k' : Rows S) (number count : ℕ) (
     },
   )
 
-  -- its line is made, or memory for the line is refused
+  -- The line of the refused batch is made, or memory for it is refused.
   pub refused_said : {T E : Type 0} (r : Result T E) (text : T → List ℕ) (why : BatchRefusal) → k'.refused ≡ k.refused + 1
       → ((all : List Change) → AreOpen k.changes all → IsBatchDropped spec k.sink number count all why k'.sink) → IfOk r (λ line. text line ≡ refused_batch_line number why)
       → IfOk r (λ line. RowsLead k k' (λ s t. IsEndAccepted spec s number count (text line) t ⊎ IsEndRefused spec s number count (text line) t))

@@ -1,4 +1,4 @@
--- A row is known by its step.
+-- Only one row has a given step.
 use Rattle.std.proofs.Common.{◌≡◌, refl, subst}
 use Rattle.cspf_model.specs.declared.batch.Change.TheVariants as change
 use Rattle.cspf_rows.specs.declared.row.Row.{Row}

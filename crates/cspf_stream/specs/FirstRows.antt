@@ -1,5 +1,4 @@
--- What is answered and written of the first rows of a stream, within a limit, and how many bytes that
--- is.
+-- What is answered and written of the first rows of a stream, up to a limit, and how many bytes are written.
 use Rattle.std.specs.Prelude.{◌≡◌, ℕ, suc, ◌+◌, ◌<◌, ◌≤◌, ◌⊎◌, Bool, true, List, take, length, Option}
 use Rattle.std.specs.Io.KnownBytes.{Appends}
 use Rattle.std.specs.Io.KnownBytes as known
@@ -8,14 +7,13 @@ use Rattle.cspf_stream.specs.StreamStops.{FailsOf, StopsBetween, StopsAtRow, Has
 use Rattle.cspf_stream.specs.declared.error.StreamError.{StreamError}
 use Rattle.cspf_stream.specs.declared.error.StreamError.TheVariants as error
 
--- All rows of a stream are answered, which are no more than the limit. Their lines have this many bytes.
+-- All rows of a stream are answered. They are at most `limit`, and their lines have this many bytes.
 pub record AreFirstRowsAnswered {S : Type 0} (answers : AnswersOf S) (limit bytes : ℕ) (all : Option (List (List (List ℕ)))) (s t : S) (old new : Option (List ℕ)) : Type 0 where
   pub whole : AreAllAnswered answers all s t old new
   pub few : length whole.done ≤ limit
   pub size : length whole.lines ≡ bytes
 
--- Where the line of a row stops, after this many of its bytes. A flush fails only where one was asked
--- for.
+-- How writing the line of a row stops, after `size` bytes of the line. A flush can fail only if `flush` is set.
 abbrev pub IsLineStoppedAfter : Bool → ℕ → StreamError → List ℕ → Option (List ℕ) → Option (List ℕ) → Type 0
 IsLineStoppedAfter flush size error.Memory line old new = ⊥
 IsLineStoppedAfter flush size error.Read line old new = ⊥
@@ -23,8 +21,8 @@ IsLineStoppedAfter flush size error.Write line old new = (size < length line) ×
 IsLineStoppedAfter flush size error.Flush line old new = (flush ≡ true) × (size ≡ length line) × Appends old new line
 IsLineStoppedAfter flush size error.TooManyRows line old new = ⊥
 
--- Where the answer to the row at a place stops, and how many bytes are written before it and at the
--- stop.
+-- How the answer to the row with this number stops. `before` is how many bytes were written before the row, and
+-- `after` how many when it stopped.
 abbrev pub IsRowStoppedAfter : {S : Type 0} → AnswersOf S → FailsOf S → Bool → ℕ → ℕ → StreamError → ℕ → List (List ℕ) → S → S → Option (List ℕ) → Option (List ℕ) → Type 0
 IsRowStoppedAfter answers fails flush before after error.Memory place fields s t old new =
     fails place s fields t × known.Keeps old new × (after ≡ before)
@@ -41,18 +39,18 @@ pub record StopsAfterRows {S : Type 0} (answers : AnswersOf S) (limit bytes : �
   pub few : length between.done ≤ limit
   pub size : length between.lines ≡ bytes
 
--- the stream stops in a row, before which fewer rows than the limit are answered
+-- The stream stops within a row. Fewer rows than the limit were answered before it.
 abbrev pub StopsInRowAfter : {S : Type 0} → AnswersOf S → FailsOf S → ℕ → Bool → ℕ → StreamError → Option (List (List (List ℕ))) → Option (List (List (List ℕ))) → S → S → Option (List ℕ) → Option (List ℕ) → Type 0
 StopsInRowAfter answers fails limit flush bytes error all left s t old new =
     StopsAtRow answers (λ done lines fields before mid. (length done < limit)
     × IsRowStoppedAfter answers fails flush (length lines) bytes error (suc (length done)) fields before t mid new) all left s old
 
--- as many rows as the limit allows are answered, and there is one more
+-- As many rows are answered as the limit allows, and there is one more row.
 pub record HasMoreRows {S : Type 0} (answers : AnswersOf S) (limit bytes : ℕ) (all : Option (List (List (List ℕ)))) (s t : S) (old new : Option (List ℕ)) : Type 0 where
   pub more : HasMoreThan answers limit all s t old new
   pub size : length more.lines ≡ bytes
 
--- the state where the first rows of a stream stop, as in `HasStopped`
+-- the state in which the first rows of a stream stop, as in `HasStopped`
 abbrev pub HasStoppedAfter : {S : Type 0} → AnswersOf S → FailsOf S → ℕ → Bool → ℕ → StreamError → Option (List (List (List ℕ))) → Option (List (List (List ℕ))) → Bool → S → S → Option (List ℕ) → Option (List ℕ) → Type 0
 HasStoppedAfter answers fails limit flush bytes error.Memory all left failed s t old new =
     ((failed ≡ true) × StopsAfterRows answers limit bytes all s t old new)

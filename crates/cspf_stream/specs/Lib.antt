@@ -1,4 +1,4 @@
--- The words of this crate's contracts.
+-- The definitions that this crate's contracts use.
 pub mod BatchWords
 pub mod EndRows
 pub mod FirstRows

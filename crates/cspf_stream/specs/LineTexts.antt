@@ -1,4 +1,4 @@
--- The text of each line of a stream of rows that `StreamLine` names.
+-- The text of each `StreamLine`.
 use Rattle.std.specs.Prelude.{ℕ, List}
 use Rattle.cspf_stream.specs.declared.line.StreamLine.{StreamLine}
 use Rattle.cspf_stream.specs.declared.line.StreamLine.TheVariants as line

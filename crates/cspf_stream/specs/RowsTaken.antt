@@ -1,4 +1,4 @@
--- How the rows of a stream are taken, over a sink.
+-- How the rows of a stream are answered with the help of a sink.
 use Rattle.std.specs.Prelude.{◌≡◌, ℕ, ◌+◌, ◌⊎◌, List, [], ◌∷◌, ◌++◌, length, Result, Ok, Err}
 use Rattle.cspf_model.specs.declared.batch.Change.{Change}
 use Rattle.cspf_rows.specs.declared.row.Row.{Row}
@@ -14,67 +14,67 @@ use Rattle.cspf_stream.specs.declared.rows.Rows.{Rows}
 use Rattle.cspf_stream.specs.declared.step.Step.{Step}
 use Rattle.cspf_stream.specs.declared.step.Step.TheVariants as step
 
--- the state between two rows: the sink, the open changes, the requests that were answered, and the
--- rows and batches that were refused
+-- the state between two rows: the sink, the open changes, how many requests were answered, and how many rows and
+-- batches were refused
 pub record RowsState (S : Type 0) : Type 0 where
   pub sink : S
   pub changes : List Change
   pub answers : ℕ
   pub refused : ℕ
 
--- the state that the code keeps
+-- `rows` is the state of the code for the state `s`.
 pub record KeepsRows {S : Type 0} (rows : Rows S) (s : RowsState S) : Type 0 where
   pub sink : rows.sink ≡ s.sink
   pub changes : AreOpen rows.changes s.changes
   pub answers : rows.answers ≡ s.answers
   pub refused : rows.refused ≡ s.refused
 
--- if the code keeps a state before, it keeps a state after that this relation relates to it
+-- From a state before, the code goes to a state after, and the relation `Step` holds between these two.
 abbrev pub RowsLead : {S : Type 0} → Rows S → Rows S → (RowsState S → RowsState S → Type 0) → Type 0
 RowsLead {S} old new Step = (s : RowsState S) → KeepsRows old s → (t : RowsState S) × KeepsRows new t × Step s t
 
 module _ {S : Type 0} (spec : SinkSpec S) where
-  -- the end row with this number and this count is right for these open changes
+  -- The end row with this number and count is right for these open changes.
   abbrev pub IsRightFor : S → ℕ → ℕ → List Change → Type 0
   IsRightFor sink number count changes = IsRightEnd (spec.stopped sink) (spec.version sink) number count (length changes)
 
-  -- the end row is right, and its batch is accepted
+  -- The end row is right, and the sink accepts its batch.
   abbrev pub IsBatchTaken : S → ℕ → ℕ → List Change → S → Type 0
   IsBatchTaken sink number count changes new =
       IsRightFor sink number count changes × spec.accepts sink (record { number = number; changes = changes }) new
 
-  -- Why no batch is accepted. Where the end row isn't right, the sink stays as it is.
+  -- Why no batch is accepted. If the end row is wrong, the sink stays as it is.
   abbrev pub IsBatchDropped : S → ℕ → ℕ → List Change → BatchRefusal → S → Type 0
   IsBatchDropped sink number count changes why new =
       (IsWrongEnd (spec.stopped sink) (spec.version sink) number count (length changes) why × (new ≡ sink))
       ⊎ (IsRightFor sink number count changes × spec.refuses sink (record { number = number; changes = changes }) why new)
 
-  -- the batch of an end row is accepted: no change is open then
+  -- The batch of an end row is accepted. Afterwards no change is open.
   pub record IsEndAccepted (s : RowsState S) (number count : ℕ) (line : List ℕ) (t : RowsState S) : Type 0 where
     pub taken : IsBatchTaken s.sink number count s.changes t.sink
     pub line_is : line ≡ version_line number
     pub after : t ≡ record { sink = t.sink; changes = []; answers = s.answers; refused = s.refused }
 
-  -- it is refused, and no change is open either
+  -- The batch of an end row is refused. Afterwards no change is open.
   pub record IsEndRefused (s : RowsState S) (number count : ℕ) (line : List ℕ) (t : RowsState S) : Type 0 where
     pub why : BatchRefusal
     pub dropped : IsBatchDropped s.sink number count s.changes why t.sink
     pub line_is : line ≡ refused_batch_line number why
     pub after : t ≡ record { sink = t.sink; changes = []; answers = s.answers; refused = s.refused + 1 }
 
-  -- a row is taken, by what it asks for
+  -- The row with this step is answered.
   abbrev pub IsStepTaken : RowsState S → Step → List ℕ → RowsState S → Type 0
   IsStepTaken s (step.Change c) line t = (line ≡ []) × (t ≡ record s { changes = s.changes ++ c ∷ [] })
   IsStepTaken s (step.End number count) line t = IsEndAccepted s number count line t ⊎ IsEndRefused s number count line t
   IsStepTaken s (step.Ask q) line t = spec.replies s.sink q line × (t ≡ record s { answers = s.answers + 1 })
 
-  -- the row at a place is taken
+  -- The row with this number is answered.
   abbrev pub IsRowTaken : ℕ → RowsState S → Result Row RowError → List ℕ → RowsState S → Type 0
   IsRowTaken place s (Err error) line t = (line ≡ refused_row_line place error) × (t ≡ record s { refused = s.refused + 1 })
   IsRowTaken place s (Ok row) line t = IsStepTaken s (step_of row) line t
 
-  -- Memory is refused at a row: nothing changes, or only the line of a refused batch is missing. No
-  -- batch is accepted without its line.
+  -- Memory is refused while a row is answered. Then either nothing changes, or a batch is refused and only its
+  -- line is missing. No batch is accepted without its line.
   abbrev pub IsStepLost : RowsState S → Step → RowsState S → Type 0
   IsStepLost s (step.Change c) t = t ≡ s
   IsStepLost s (step.End number count) t = (t ≡ s) ⊎ ((line : List ℕ) × IsEndRefused s number count line t)

@@ -1,4 +1,4 @@
--- What is known of a sink: its version, and how it takes batches and answers requests.
+-- The behaviour of a sink: its version, and how it takes batches and answers requests.
 use Rattle.std.specs.Prelude.{ℕ, Bool, List}
 use Rattle.cspf_model.specs.Numbered.{NumberedChanges}
 use Rattle.cspf_model.specs.declared.request.Request.{Request}
@@ -7,11 +7,11 @@ use Rattle.cspf_stream.specs.declared.batch_refusal.BatchRefusal.{BatchRefusal}
 pub record SinkSpec (S : Type 0) : Type 1 where
   -- how many batches were accepted
   pub version : S → ℕ
-  -- no batch is accepted any more
+  -- whether no more batches are accepted
   pub stopped : S → Bool
-  -- the batch is accepted; the states before and after
+  -- In the first state the sink accepts the batch, and goes to the second state.
   pub accepts : S → NumberedChanges → S → Type 0
-  -- the batch is refused, and why; the states before and after
+  -- In the first state the sink refuses the batch for this reason, and goes to the second state.
   pub refuses : S → NumberedChanges → BatchRefusal → S → Type 0
-  -- the request is answered this line
+  -- The line answers the request.
   pub replies : S → Request → List ℕ → Type 0

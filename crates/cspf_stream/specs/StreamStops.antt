@@ -1,4 +1,4 @@
--- What was read, answered and written where a stream stops before its end.
+-- What was read, answered and written if a stream stops before its end.
 use Rattle.std.specs.Prelude.{◌≡◌, ℕ, suc, ◌<◌, ◌⊎◌, Bool, true, List, ◌∷◌, ◌++◌, take, length, Option, Some, IfSome}
 use Rattle.std.specs.Io.KnownBytes.{Appends}
 use Rattle.std.specs.Io.KnownBytes as known
@@ -7,11 +7,11 @@ use Rattle.cspf_stream.specs.declared.limits.TheConstants.{MOST_STREAM_ROWS}
 use Rattle.cspf_stream.specs.declared.error.StreamError.{StreamError}
 use Rattle.cspf_stream.specs.declared.error.StreamError.TheVariants as error
 
--- the states before and after refused memory at the row at a place
+-- the relation between a row's number, the state before, its fields, and the state after, if memory is refused
 abbrev pub FailsOf : Type 0 → Type 1
 FailsOf S = ℕ → S → List (List ℕ) → S → Type 0
 
--- where the line of a row stops
+-- how writing the line of a row stops
 abbrev pub IsLineStopped : StreamError → List ℕ → Option (List ℕ) → Option (List ℕ) → Type 0
 IsLineStopped error.Memory line old new = ⊥
 IsLineStopped error.Read line old new = ⊥
@@ -19,9 +19,8 @@ IsLineStopped error.Write line old new = (size : ℕ) × (size < length line) ×
 IsLineStopped error.Flush line old new = Appends old new line
 IsLineStopped error.TooManyRows line old new = ⊥
 
--- Where the answer to the row at a place stops. Where memory was refused nothing is written. Where
--- a write failed a part of the line is written, but not all of it. Where a flush failed the whole
--- line is written.
+-- How the answer to the row with this number stops. If memory is refused, nothing is written. If a write fails, a
+-- part of the line is written, but not all of it. If a flush fails, the whole line is written.
 abbrev pub IsRowStopped : {S : Type 0} → AnswersOf S → FailsOf S → StreamError → ℕ → List (List ℕ) → S → S → Option (List ℕ) → Option (List ℕ) → Type 0
 IsRowStopped answers fails error.Memory place fields s t old new = fails place s fields t × known.Keeps old new
 IsRowStopped answers fails error.Read place fields s t old new = ⊥
@@ -40,9 +39,9 @@ pub record StopsBetween {S : Type 0} (answers : AnswersOf S) (all : Option (List
   pub answered : AreAnswered answers 1 s done lines t
   pub written : Appends old new lines
 
--- A prefix of the rows is answered, and their lines are written. The next row stops the stream as this
--- says of those rows, their lines, its fields, and the state and the writer before it. No row after it
--- was read.
+-- A prefix of the rows is answered, and their lines are written. The next row stops the stream. `Stops` says how,
+-- from the answered rows, their lines, the fields of the next row, and the state and the writer before it. No row
+-- after it was read.
 pub record StopsAtRow {S : Type 0} (answers : AnswersOf S) (Stops : List (List (List ℕ)) → List ℕ → List (List ℕ) → S → Option (List ℕ) → Type 0) (all left : Option (List (List (List ℕ)))) (s : S) (old : Option (List ℕ)) : Type 0 where
   pub done : List (List (List ℕ))
   pub fields : List (List ℕ)
@@ -55,12 +54,12 @@ pub record StopsAtRow {S : Type 0} (answers : AnswersOf S) (Stops : List (List (
   pub written : Appends old mid lines
   pub stops : Stops done lines fields before mid
 
--- the stream stops in a row
+-- The stream stops within a row.
 abbrev pub StopsInRow : {S : Type 0} → AnswersOf S → FailsOf S → StreamError → Option (List (List (List ℕ))) → Option (List (List (List ℕ))) → S → S → Option (List ℕ) → Option (List ℕ) → Type 0
 StopsInRow answers fails error all left s t old new =
     StopsAtRow answers (λ done lines fields before mid. IsRowStopped answers fails error (suc (length done)) fields before t mid new) all left s old
 
--- As many rows as this are answered, and their lines are written. There is one more row.
+-- As many rows as the limit are answered, and their lines are written. There is one more row.
 pub record HasMoreThan {S : Type 0} (answers : AnswersOf S) (limit : ℕ) (all : Option (List (List (List ℕ)))) (s t : S) (old new : Option (List ℕ)) : Type 0 where
   pub done : List (List (List ℕ))
   pub fields : List (List ℕ)
@@ -71,8 +70,8 @@ pub record HasMoreThan {S : Type 0} (answers : AnswersOf S) (limit : ℕ) (all :
   pub answered : AreAnswered answers 1 s done lines t
   pub written : Appends old new lines
 
--- The state where a stream stops. A read that failed is the reader's fault, and so is memory that
--- was refused before a row was whole.
+-- The state in which a stream stops. The reader has failed if a read failed, or if memory was refused before a row
+-- was read whole.
 abbrev pub HasStopped : {S : Type 0} → AnswersOf S → FailsOf S → StreamError → Option (List (List (List ℕ))) → Option (List (List (List ℕ))) → Bool → S → S → Option (List ℕ) → Option (List ℕ) → Type 0
 HasStopped answers fails error.Memory all left failed s t old new =
     ((failed ≡ true) × StopsBetween answers all s t old new) ⊎ StopsInRow answers fails error.Memory all left s t old new

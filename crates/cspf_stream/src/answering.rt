@@ -4,21 +4,22 @@ ghost use Rattle.csv.specs.Records.{fields_of};
 use csv::ByteRecord;
 use std::alloc::{AllocError, Global};
 
-/// Answers the rows of a stream, one after the other, each by its fields. So it says itself which
-/// rows there are: `Row::read` knows those of a database. The context is what a row needs besides
-/// but no answer depends on, such as the handle of a runtime.
+/// Answers the rows of a stream, one after the other. An implementation reads the fields of each
+/// row itself, so it decides which rows there are. `Row::read` reads the rows of a database.
+/// `context` is what answering needs but no answer depends on, such as the handle of a runtime.
 pub trait Answering<C> {
-    /// The row at this place, from 1, is answered this line; the states before and after.
+    /// The relation between the row's number, counted from 1, the state before, the fields, the
+    /// line, and the state after.
     ghost answers: { ℕ → Self → List (List ℕ) → List ℕ → Self → Type 0 };
 
-    /// Memory is refused at the row at this place; the states before and after.
+    /// The same relation, without a line, if memory is refused at the row.
     ghost fails: { ℕ → Self → List (List ℕ) → Self → Type 0 };
 
-    /// An invariant of the state before the row at this place, such as that a count is below the
-    /// place.
+    /// An invariant of the state before the row with this number, such as that a count is below the
+    /// number.
     ghost may_stand: { ℕ → Self → Type 0 };
 
-    /// Returns the line that answers the row at this place. It may be empty.
+    /// Returns the line that answers the row with this number. The line may be empty.
     fn answer(
         &mut self,
         context: &C,

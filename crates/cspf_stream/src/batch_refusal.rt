@@ -5,27 +5,27 @@ use std::fmt;
 /// Why a batch is refused.
 #[derive(Clone, Copy, Debug, PartialEq, Eq)]
 pub enum BatchRefusal {
-    /// The journal has failed: no batch is accepted any more.
+    /// The journal has failed, so no more batches are accepted.
     Stopped,
     /// The version is 1,000,000.
     Exhausted,
-    /// Another number than the next version.
+    /// The number isn't that of the next version.
     WrongNumber {
         /// The next version.
         expected: u32,
     },
-    /// Another count than that of the open changes.
+    /// The count isn't the number of open changes.
     WrongCount {
-        /// The number of the open changes.
+        /// How many changes are open.
         counted: u64,
     },
     /// The batch doesn't fit the database.
     Unfit(Refusal),
     /// Memory was refused.
     Memory,
-    /// The journal failed in the text of the batch.
+    /// The journal failed while the batch was written.
     Journal {
-        /// How many bytes of the text were written.
+        /// How many bytes of the batch's text were written.
         written: usize,
     },
 }

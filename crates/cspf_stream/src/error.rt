@@ -18,10 +18,11 @@ pub enum StreamError {
     /// A write failed, or took no bytes.
     #[error("a write failed")]
     Write,
-    /// A line is written, but the flush after it failed.
+    /// A line was written, but the flush after it failed.
     #[error("a flush failed")]
     Flush,
-    /// There is a row past `MOST_STREAM_ROWS` rows. No run can read as many.
+    /// There are more rows than the limit allows. `answer_rows` has the limit `MOST_STREAM_ROWS`,
+    /// which no run reaches.
     #[error("too many rows")]
     TooManyRows,
 }

@@ -1,16 +1,17 @@
-//! A stream of rows that are answered one by one: each row's line is written before the next row is
-//! read. A stream is limited only by the 64-bit count of its rows, or by its caller.
+//! A stream of rows that are answered one by one. The line of each row is written before the next
+//! row is read. A stream has at most as many rows as a 64-bit number can count, or as its caller
+//! allows.
 //!
-//! The `Answering` of the stream answers each row. `specs/RowAnswers.antt` defines the answers to a
-//! stream of rows. `specs/StreamStops.antt` defines what was read, answered and written where a
-//! stream stops before its end, and by which error.
+//! The `Answering` of a stream answers each row. `specs/RowAnswers.antt` defines the answers to a
+//! stream of rows. `specs/StreamStops.antt` defines what was read, answered and written if a stream
+//! stops before its end, and which error it returns.
 //!
-//! `Rows` take each row over a `Sink`, which accepts or refuses batches and answers requests.
-//! `specs/RowsTaken.antt` defines how, by what `specs/Sinks.antt` knows of the sink.
+//! `Rows` answers each row with the help of a `Sink`, which accepts or refuses batches and answers
+//! requests. `specs/RowsTaken.antt` defines how, in terms of `specs/Sinks.antt`.
 //!
-//! What all that answer rows share is here, too: the steps that rows are, the open changes
-//! (`specs/OpenChanges.antt`), the reasons why a batch is refused, and the text of each line but
-//! replies (`specs/Lines.antt`, `specs/RefusedRows.antt`).
+//! This crate also has what all programs that answer rows share: the steps of rows, the open
+//! changes (`specs/OpenChanges.antt`), the reasons why a batch is refused, and the text of each
+//! line except replies (`specs/Lines.antt`, `specs/RefusedRows.antt`).
 #![tactic(auto)]
 
 mod answering;

@@ -2,16 +2,16 @@ use crate::BatchRefusal;
 use std::alloc::{AllocError, Global};
 use std::fmt;
 
-/// A line of a stream of rows, unless it answers a request or a row that is refused.
+/// A line of a stream of rows, except replies and the lines of refused rows.
 #[derive(Clone, Copy)]
 pub enum StreamLine {
-    /// A batch is accepted, which makes this version.
+    /// A batch is accepted. `version` is the version that it makes.
     Version { version: u32 },
     /// The batch with this number is refused.
     RefusedBatch { number: u32, refusal: BatchRefusal },
-    /// This many changes are taken by no batch.
+    /// This many changes are still open after the last row, so they are in no batch.
     Unended { count: u64 },
-    /// In place of rows that aren't read.
+    /// The line in place of the rows past the limit, which aren't read.
     TooManyRows,
 }
 
@@ -37,7 +37,7 @@ impl StreamLine {
     ghost use Rattle.std.specs.Prelude.{◌≡◌, IfOk};
     ghost use Rattle.cspf_stream.specs.LineTexts.{stream_line_text};
 
-    /// Its bytes, the line feed too.
+    /// The bytes of the line, including the line feed.
     pub fn bytes(self, alloc: Global) -> Result<Vec<u8>, AllocError>
         ensures { IfOk result (λ bytes. bytes.items ≡ stream_line_text self) }
     {

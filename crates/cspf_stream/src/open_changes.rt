@@ -1,4 +1,4 @@
-//! The changes of a stream that no batch has taken yet.
+//! The changes of a stream that are still open: no `end` row has come after them.
 
 ghost use Rattle.std.specs.Prelude.{◌≡◌, ◌+◌, ◌∷◌, ◌++◌, ◌<◌, ◌^◌, [], List, IfOk, OnOk, OnErr, take};
 ghost use Rattle.cspf_model.specs.declared.batch.Change.{Change as Changed};
@@ -10,18 +10,18 @@ use crate::limits::KEPT_CHANGES;
 use cspf_model::{Batch, Change};
 use std::alloc::{AllocError, Global};
 
-/// The changes that no `end` row has taken yet: the first of them, at most one more than a batch may
-/// have, and how many they are.
+/// The changes since the last `end` row. Only the first of them are kept, at most one more than a
+/// batch may have.
 #[derive(Drop)]
 pub struct OpenChanges {
-    /// The first of them, under any number.
+    /// The first of the open changes, as a batch. Its number means nothing.
     pub batch: Batch,
-    /// How many they are.
+    /// How many changes are open.
     pub count: u64,
 }
 
 impl OpenChanges {
-    /// None.
+    /// No open changes.
     pub fn new(alloc: Global) -> OpenChanges
         ensures open { AreOpen result [] }
         ensures none { result.count ≡ 0 }
@@ -35,7 +35,7 @@ impl OpenChanges {
         }
     }
 
-    /// Adds an open change.
+    /// Adds a change to the open changes.
     pub fn add(&mut self, change: Change) -> Result<(), AllocError>
         requires { self.old.count + 1 < 2 ^ 64 }
         ensures open { OnOk result ((all : List Changed) → AreOpen self.old all
@@ -48,7 +48,7 @@ impl OpenChanges {
         Ok(())
     }
 
-    /// Leaves no change open.
+    /// Drops all open changes.
     pub fn clear(&mut self)
         ensures open { AreOpen self.new [] }
         ensures none { self.new.count ≡ 0 }
@@ -57,7 +57,8 @@ impl OpenChanges {
         self.count = 0;
     }
 
-    /// The line of changes that are still open at the end, an empty one where there are none.
+    /// The last line if changes are still open after the last row. It is empty if no changes are
+    /// open.
     pub fn last_line(&self, alloc: Global) -> Result<Vec<u8>, AllocError>
         ensures { IfOk result (λ line. (all : List Changed) → AreOpen self.now all
             → line.items ≡ end_line all) }
@@ -70,7 +71,7 @@ impl OpenChanges {
     }
 }
 
-/// One more change at the end of those that are kept, unless they are as many as are kept.
+/// Appends a change to the kept changes, unless `KEPT_CHANGES` are kept already.
 fn keep(changes: &mut Vec<Change>, change: Change) -> Result<(), AllocError>
     ensures kept { OnOk result ((all : List Changed) → changes.old.items ≡ take KEPT_CHANGES all
         → changes.new.items ≡ take KEPT_CHANGES (all ++ change ∷ [])) }

@@ -1,5 +1,5 @@
-//! The rows of a stream, each taken by what it asks for: a change is kept, an `end` row gives the open
-//! changes to a sink as a batch, and the sink answers a request.
+//! The rows of a stream, each answered by its kind. A change is kept open, an `end` row gives the
+//! open changes to a sink as a batch, and the sink answers a request.
 
 ghost use Rattle.std.specs.Prelude.{◌≡◌, ◌+◌, ◌<◌, ◌≤◌, ◌⊎◌, ◌^◌, ℕ, [], List, IfOk, IfErr, IfSome, IfNone, OnOk, OnErr};
 ghost use Rattle.cspf_model.specs.declared.batch.Change.{Change as Changed};
@@ -11,16 +11,16 @@ use cspf_model::MOST_VERSIONS;
 use cspf_rows::{Row, RowError};
 use std::alloc::{AllocError, Global};
 
-/// The state between two rows. It takes no more memory with the rows.
+/// The state between two rows. It takes no more memory as rows are read.
 #[derive(Drop)]
 pub struct Rows<S> {
-    /// What takes the batches and answers the requests.
+    /// The sink, which accepts or refuses the batches and answers the requests.
     pub sink: S,
     /// The open changes.
     pub changes: OpenChanges,
-    /// The requests that were answered.
+    /// How many requests were answered.
     pub answers: u64,
-    /// The rows and batches that were refused.
+    /// How many rows and batches were refused.
     pub refused: u64,
 }
 
@@ -28,7 +28,7 @@ impl<S> Rows<S> {
     ghost use Rattle.cspf_stream.specs.RowCounts.{CanCountOneMore, GrowsByOneAtMost};
     ghost use Rattle.cspf_stream.specs.RowsTaken.{RowsLead, IsBatchTaken, IsBatchDropped, IsEndAccepted, IsEndRefused, IsStepTaken, IsRowTaken, IsStepLost, IsRowLost};
 
-    /// No change is open, and nothing was answered or refused.
+    /// The state before the first row: no change is open, and nothing was answered or refused.
     pub fn new(alloc: Global, sink: S) -> Rows<S>
         ensures sink { result.sink ≡ sink }
         ensures open { AreOpen result.changes [] }
@@ -42,8 +42,8 @@ impl<S> Rows<S> {
         }
     }
 
-    /// Takes the row at this place, from 1, and returns its line, which is empty for a change. The line
-    /// of an accepted batch is made before the batch is given to the sink.
+    /// Answers the row with this number, counted from 1, and returns its line, which is empty for a
+    /// change. The line of an accepted batch is made before the sink gets the batch.
     pub fn answer<C>(
         &mut self,
         context: &C,
@@ -70,8 +70,8 @@ impl<S> Rows<S> {
         }
     }
 
-    /// Takes a row that is read, by what it asks for. So a stream can have rows besides these, which
-    /// it answers itself.
+    /// Answers a row that was read elsewhere, by its step. So a caller can have other kinds of
+    /// rows, too, and answer these rows itself.
     pub fn take<C>(&mut self, context: &C, alloc: Global, step: Step) -> Result<Vec<u8>, AllocError>
     where
         S: Sink<C>,
@@ -96,9 +96,9 @@ impl<S> Rows<S> {
         }
     }
 
-    /// Gives the open changes to the sink as the batch with this number and this count, or refuses
-    /// them, and returns the line. None are open afterwards. The line of an accepted batch is made
-    /// before the batch is given.
+    /// Gives the open changes to the sink as the batch with this number and count, or refuses the
+    /// batch, and returns the line. Afterwards no changes are open. The line of an accepted batch
+    /// is made before the sink gets the batch.
     fn end<C>(
         &mut self,
         context: &C,
@@ -130,8 +130,8 @@ impl<S> Rows<S> {
         }
     }
 
-    /// Gives the open changes to the sink as the batch with this number, if the number and this count
-    /// are right. They stay open.
+    /// Gives the open changes to the sink as the batch with this number, if the number and this
+    /// count are right. The changes stay open.
     fn give<C>(
         &mut self,
         context: &C,
@@ -158,7 +158,7 @@ impl<S> Rows<S> {
     }
 }
 
-/// Why an end row is refused before its batch is looked at, if it is.
+/// Why an end row is refused before the sink gets its batch. `None` if it isn't.
 fn wrong_end(
     stopped: bool,
     version: u32,

@@ -4,11 +4,11 @@ use cspf_rows::Row;
 /// What a row asks for.
 #[derive(Clone, Copy)]
 pub enum Step {
-    /// One more open change.
+    /// A change, which stays open.
     Change(Change),
-    /// The open changes are a batch with this number and this count.
+    /// The end of a batch: the open changes are the batch with this number and count.
     End { number: u32, count: u32 },
-    /// The answer to a request.
+    /// A request, which is to be answered.
     Ask(Request),
 }
 

@@ -1,4 +1,4 @@
-//! The loop over a stream: each row is answered, and its line is written before the next row is
+//! The loop over a stream. Each row is answered, and its line is written before the next row is
 //! read.
 
 ghost use Rattle.std.specs.Prelude.{◌≡◌, ◌+◌, ◌*◌, ◌^◌, ◌<◌, ◌≤◌, ℕ, List, true, false, length, OnOk, IfErr};
@@ -24,12 +24,13 @@ struct Manner {
     flush: bool,
 }
 
-/// Answers all rows that a reader has left, in order. The line of a row is written and flushed
-/// before the next row is read. It takes one write where the writer takes it whole. An empty line
-/// isn't written. Memory is taken only for the longest row, and for what a row's answer needs.
+/// Answers all rows that the reader hasn't read yet, in order. The line of a row is written and
+/// flushed before the next row is read. It is written in one write if the writer takes it whole. An
+/// empty line isn't written. Memory is taken only for the longest row, and for what the answers
+/// need.
 ///
-/// After an error no row after the one that stopped the stream was read, and the writer has the
-/// lines of the rows before it. `HasStopped` gives the rest of the state.
+/// After an error no row was read after the row that stopped the stream. The lines of all rows
+/// before this row are written. `HasStopped` defines the rest of the state.
 pub fn answer_rows<R: Read, W: Write, C, A: Answering<C>>(
     context: &C,
     alloc: Global,
@@ -49,9 +50,8 @@ pub fn answer_rows<R: Read, W: Write, C, A: Answering<C>>(
     answer_first_rows(context, alloc, limit, true, rows, writer, answering).1
 }
 
-/// Answers the rows that a reader has left as `answer_rows` does, but at most as many as the limit
-/// allows, and flushes only where that is asked for. Returns how many bytes were written, and how the
-/// stream ended.
+/// Answers the next `limit` rows of the reader at most, as `answer_rows` does, but flushes only if
+/// `flush` is set. Returns how many bytes were written, and how the stream ended.
 pub fn answer_first_rows<R: Read, W: Write, C, A: Answering<C>>(
     context: &C,
     alloc: Global,
@@ -87,7 +87,7 @@ pub fn answer_first_rows<R: Read, W: Write, C, A: Answering<C>>(
     (written, ended)
 }
 
-/// Answers the rows that a reader has left, each of which is read into these fields, and counts the
+/// Answers the rows that the reader hasn't read yet. Each row is read into `fields`. Counts the
 /// bytes that are written.
 fn answer_each<R: Read, W: Write, C, A: Answering<C>>(
     context: &C,
@@ -132,7 +132,7 @@ fn answer_each<R: Read, W: Write, C, A: Answering<C>>(
     Ok(())
 }
 
-/// Answers the row at this place, writes its line, flushes the writer where that is asked for, and
+/// Answers the row with this number, writes its line, flushes the writer if `flush` is set, and
 /// counts the bytes that are written.
 fn answer_row<W: Write, C, A: Answering<C>>(
     context: &C,
@@ -164,8 +164,8 @@ fn answer_row<W: Write, C, A: Answering<C>>(
     put
 }
 
-/// Writes a line and flushes the writer where that is asked for, unless the line is empty. Returns
-/// how many bytes of it were written, too.
+/// Writes a line, unless it is empty, and then flushes the writer if `flush` is set. Also returns
+/// how many bytes of the line were written.
 fn put_counted<W: Write>(
     line: &[u8],
     flush: bool,
@@ -189,7 +189,7 @@ fn put_counted<W: Write>(
     (line.len(), Ok(()))
 }
 
-/// Writes a line and flushes the writer, unless the line is empty.
+/// Writes a line and flushes the writer. If the line is empty, it does neither.
 pub fn put_line<W: Write>(line: &[u8], writer: &mut W) -> Result<(), StreamError>
     ensures whole { OnOk result (Appends (W.contents writer.old) (W.contents writer.new) line.now) }
     ensures stopped { IfErr result (λ error. IsLineStopped error line.now

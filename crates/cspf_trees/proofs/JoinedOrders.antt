@@ -10,7 +10,7 @@ use Rattle.std.proofs.lemmas.List.Sums.{sum_by-append}
 use Rattle.cspf_model.specs.declared.link.Link.{Link}
 use Rattle.cspf_model.specs.Walks.{cost_of, locals_of, walk_cmp}
 
--- one comparison after another
+-- `ordering_then` is associative
 
 assoc_then : (o p r : Ordering) → ordering_then (ordering_then o p) r ≡ ordering_then o (ordering_then p r)
 assoc_then Less p r = refl
@@ -22,7 +22,8 @@ neither_less Less p first second = absurd (first refl)
 neither_less Equal p first second = second
 neither_less Greater p first second = first
 
--- where two comparisons aren't less, the first is greater, or it ties and the second isn't less
+-- If `ordering_then` of two comparisons isn't `Less`, the first is `Greater`, or the first is `Equal`
+-- and the second isn't `Less`.
 greater_or_tied : (o p : Ordering) → ordering_then o p ≢ Less → (o ≡ Greater) ⊎ ((o ≡ Equal) × (p ≢ Less))
 greater_or_tied Less p h = absurd (h refl)
 greater_or_tied Equal p h = inr (refl, h)
@@ -34,7 +35,8 @@ above a b h = grind (arith, nat_tests)
 level : (a b : ℕ) → nat_cmp a b ≡ Equal → a ≡ b
 level a b h = grind (arith, nat_tests)
 
--- What is compared last isn't less where the costs, and then the numbers of links, leave it to decide.
+-- The walk with cost `a` and `m` links isn't before the walk with cost `b` and `n` links. `o` is the
+-- last comparison, which decides if the costs and the numbers of links tie.
 abbrev IsNoEarlier : ℕ → ℕ → ℕ → ℕ → Ordering → Type 0
 IsNoEarlier a b m n o = (b < a) ⊎ ((a ≡ b) × ((n < m) ⊎ ((m ≡ n) × (o ≢ Less))))
 
@@ -66,8 +68,9 @@ ties a b e = grind (arith, nat_tests)
 by_last : (a b m n : ℕ) (o : Ordering) → a ≡ b → m ≡ n → o ≢ Less → ordering_then (nat_cmp a b) (ordering_then (nat_cmp m n) o) ≢ Less
 by_last a b m n o e f h = unless_less (nat_cmp a b) (ordering_then (nat_cmp m n) o) (ties a b e) (unless_less (nat_cmp m n) o (ties m n f) h)
 
--- two walks that aren't before two others: what is compared last of both together decides only where
--- both tie before
+-- Two walks are put together, and so are two others. If neither walk is before its counterpart, the
+-- first pair isn't before the second pair. The last comparison decides only if the costs and the
+-- numbers of links tie.
 put_together : (a b c e m n s t : ℕ) (o p r : Ordering) → IsNoEarlier a b m n o → IsNoEarlier c e s t p → (m ≡ n → o ≢ Less → p ≢ Less → r ≢ Less)
     → ordering_then (nat_cmp (a + c) (b + e)) (ordering_then (nat_cmp (m + s) (n + t)) r) ≢ Less
 put_together a b c e m n s t o p r (inl dear) (inl second) last = by_cost (a + c) (b + e) (ordering_then (nat_cmp (m + s) (n + t)) r) (omega arith)
@@ -79,7 +82,7 @@ put_together a b c e m n s t o p r (inr (cost, inr first)) (inr (more, inl long)
 put_together a b c e m n s t o p r (inr (cost, inr first)) (inr (more, inr second)) last =
     by_last (a + c) (b + e) (m + s) (n + t) r (omega arith) (let tied = first.0 in let too = second.0 in omega arith) (last first.0 first.1 second.1)
 
--- lists that begin with equally many numbers are compared part by part
+-- two lists are compared part by part, if their first parts have the same length
 parts_compared : (xs ys us vs : List ℕ) → length xs ≡ length ys
     → slice_cmp nat_cmp (xs ++ us) (ys ++ vs) ≡ ordering_then (slice_cmp nat_cmp xs ys) (slice_cmp nat_cmp us vs)
 parts_compared [] [] us vs e = refl
@@ -94,11 +97,12 @@ locals_compared v w x y e =
     rw (map-append (λ (l : Link). l.local) v x, map-append (λ (l : Link). l.local) w y)
     (parts_compared (locals_of v) (locals_of w) (locals_of x) (locals_of y) (length-map v (λ (l : Link). l.local) ∙ e ∙ sym (length-map w (λ (l : Link). l.local))))
 
--- the cost of two walks, one after the other
+-- the cost of two walks, one after the other, is the sum of their costs
 pub cost_of-append : (v w : List Link) → cost_of (v ++ w) ≡ cost_of v + cost_of w
 cost_of-append v w = sum_by-append (λ (l : Link). l.metric) v w
 
--- walks that aren't before others, one after the other, aren't before these, one after the other
+-- If `v` isn't before `w` and `x` isn't before `y`, then `v` and `x` together aren't before `w` and `y`
+-- together.
 pub joined_no_earlier : (v w x y : List Link) → walk_cmp v w ≢ Less → walk_cmp x y ≢ Less → walk_cmp (v ++ x) (w ++ y) ≢ Less
 joined_no_earlier v w x y first second =
     rw (cost_of-append v x, cost_of-append w y, length-append v x, length-append w y)
@@ -107,7 +111,7 @@ joined_no_earlier v w x y first second =
     (opened _ _ _ _ _ first) (opened _ _ _ _ _ second)
     (λ same front back. rw (locals_compared v w x y same) (neither_less _ _ front back)))
 
--- no walk is before the one of no links
+-- no walk is before the walk without links
 pub none_earlier : (v : List Link) → walk_cmp v [] ≢ Less
 none_earlier [] less = absurd (cc)
 none_earlier (l ∷ v) less = by_length (cost_of (l ∷ v)) (length (l ∷ v)) (slice_cmp nat_cmp (locals_of (l ∷ v)) []) (omega arith) less

@@ -1,4 +1,4 @@
--- Walks that are put one after the other, and legs that are.
+-- Walks, and legs, that are put one after the other.
 use Rattle.std.proofs.Common.{◌≡◌, inl, inr, ℕ, suc, ◌+◌, List, [], ◌∷◌, ◌++◌, ◌⊎◌, length, map, refl, sym, ap, subst, ◌∙◌, arith, append-nil}
 use Rattle.std.specs.List.{AllByRecursion, flat_map}
 use Rattle.std.proofs.lemmas.List.Concat.{flat_map-append}
@@ -29,7 +29,7 @@ joined_in_parts a [] w joined = (tt, joined)
 joined_in_parts a (l ∷ v) w joined = let parts = joined_in_parts l.to v w joined.1 in ((joined.0, parts.0), parts.1)
 
 module _ (d : Database) where
-  -- all of the links begin at routers with transit
+  -- each of the links begins at a router with transit
   abbrev BeginAtTransit : List Link → Type 0
   BeginAtTransit links = AllByRecursion (HasTransit d) (map (λ m. m.from) links)
 
@@ -45,30 +45,30 @@ module _ (d : Database) where
   begin_in_parts [] w all = (tt, all)
   begin_in_parts (l ∷ v) w all = let parts = begin_in_parts v w all.1 in ((all.0, parts.0), parts.1)
 
-  -- links that all begin at routers with transit pass only through these
+  -- links that all begin at routers with transit pass only through routers with transit
   pass_after : (w : List Link) → BeginAtTransit w → PassTransit w
   pass_after [] all = tt
   pass_after (l ∷ w) all = all.1
 
-  -- so do links that pass only through these, where they begin at one too
+  -- links that pass only through routers with transit begin at such routers, if the first link does
   begin_from : (a : ℕ) (w : List Link) → AreJoined a w → HasTransit d a → PassTransit w → BeginAtTransit w
   begin_from a [] joined here passed = tt
   begin_from a (l ∷ w) joined here passed = (subst (HasTransit d) (sym joined.0) here, passed)
 
-  -- links after others pass through routers with transit where these have transit, and the joint has it
-  -- or no links are before it
+  -- Two walks, one after the other, pass only through routers with transit if each walk does. The
+  -- router between them needs transit as well, unless the first walk has no links.
   pub pass_both : (a : ℕ) (v w : List Link) → AreJoined a w → (HasTransit d a ⊎ (v ≡ [])) → PassTransit v → PassTransit w → PassTransit (v ++ w)
   pass_both a [] w joined joint first second = second
   pass_both a (l ∷ v) w joined (inl transit) first second = begin_both v w first (begin_from a w joined transit second)
   pass_both a (l ∷ v) w joined (inr none) first second = absurd (cc)
 
-  -- what a whole passes its parts pass
+  -- if two walks together pass only through routers with transit, so does each walk
   pub pass_in_parts : (v w : List Link) → PassTransit (v ++ w) → PassTransit v × PassTransit w
   pass_in_parts [] w all = (tt, all)
   pass_in_parts (l ∷ v) w all = let parts = begin_in_parts v w all in (parts.0, pass_after w parts.1)
 
 module _ (d : Database) (q : Request) where
-  -- Legs of a request and one more.
+  -- The first legs of a request with the next leg after them are legs of the request.
   pub one_more_leg : (first a : ℕ) (legs : List (List Link)) (leg : List Link) → AreLegs d q first a legs
       → IsLeg d q (first + length legs) (end_of a (flat_map (λ links. links) legs)) leg → AreLegs d q first a (legs ++ (leg ∷ []))
   one_more_leg first a [] leg are is = (let here : first + 0 ≡ first = omega arith in subst (λ k. IsLeg d q k a leg) here is, tt)
@@ -81,7 +81,7 @@ module _ (d : Database) (q : Request) where
         (subst (λ r. IsLeg d q (first + length (links ∷ legs)) r leg) end is)),
   )
 
--- the links of legs and one more
+-- the links of some legs with one more leg are their links and then the links of that leg
 pub links_and_leg : (legs : List (List Link)) (leg : List Link) → flat_map (λ links. links) (legs ++ (leg ∷ [])) ≡ flat_map (λ links. links) legs ++ leg
 links_and_leg legs leg =
     flat_map-append (λ (links : List Link). links) legs (leg ∷ []) ∙ ap (λ last. flat_map (λ links. links) legs ++ last) (append-nil leg)

@@ -1,4 +1,5 @@
--- The best routes of legs with one target each, one after the other, are the best route.
+-- If each leg has only one target, the best routes of the legs, one after the other, are the best
+-- route.
 use Rattle.std.proofs.Common.{◌≡◌, ◌≢◌, inl, ℕ, suc, ◌+◌, ◌<◌, ◌≤◌, List, [], ◌∷◌, ◌++◌, ◌⊎◌, length, slice_get, slice_index, refl, sym, ap, subst, ◌∙◌, arith, append-nil, append_assoc, length-append, bit_and, bit_xor}
 use Rattle.std.specs.List.{AllByRecursion, flat_map}
 use Rattle.std.specs.declared.cmp.Ordering.TheVariants.{Less}
@@ -18,7 +19,7 @@ use Rattle.cspf_trees.specs.LegsInTurn.{AsksForLeg, GoesOnInLegs, IsLeastSoFar, 
 use Rattle.cspf_trees.proofs.JoinedOrders.{joined_no_earlier, none_earlier}
 use Rattle.cspf_trees.proofs.JoinedWalks.{both_hold, end_of_both, hold_in_parts, joined_both, joined_in_parts, links_and_leg, one_more_leg, pass_both, pass_in_parts}
 
--- the links of a leg are admissible for the request and for that of the leg alike
+-- requests with the same setup priority, bandwidth and affinities have the same admissible links
 
 affinity_too : (q p : Request) (l : Link) → q.exclude_any ≡ p.exclude_any → q.include_any ≡ p.include_any → q.include_all ≡ p.include_all → HasAffinity q l → HasAffinity p l
 affinity_too q p l exclude any all is = record {
@@ -46,13 +47,13 @@ all_admissible d q p setup bandwidth exclude any all [] are = tt
 all_admissible d q p setup bandwidth exclude any all (l ∷ links) are =
     (admissible_too d q p l setup bandwidth exclude any all are.0, all_admissible d q p setup bandwidth exclude any all links are.1)
 
--- a loose leg may visit any routers
+-- a loose leg may visit all routers
 stays_in_loose : (d : Database) (q : Request) (at : ℕ) → IsLoose (slice_get q.hops at) → (routers : List ℕ) → AllByRecursion (IsInside d q (suc at)) routers
 stays_in_loose d q at loose [] = tt
 stays_in_loose d q at loose (router ∷ routers) = (inl loose, stays_in_loose d q at loose routers)
 
 module _ (d : Database) (q : Request) where
-  -- the walk of no links, before the first leg
+  -- before the first leg, each route goes on in legs from the walk without links
   begins : (route : List Link) → IsRoute d q route → GoesOnInLegs d q 0 q.from [] route
   begins route is = record {
     front = [];
@@ -76,7 +77,7 @@ module _ (d : Database) (q : Request) where
     least = begins;
   }
 
-  -- What a route takes next: a leg to the one target, and the other legs.
+  -- How a route goes on: with a leg to the only target, and then with the other legs.
   record TakesLeg (count router target : ℕ) (walk route : List Link) : Type 0 where
     front : List Link
     leg : List Link
@@ -109,7 +110,8 @@ module _ (d : Database) (q : Request) where
     takes_leg : (route : List Link) → GoesOnInLegs d q count router walk route → TakesLeg count router target walk route
     takes_leg route g = next_leg route g.front g.legs g.whole g.number g.each g.arrives g.order
 
-    -- with its next leg a route isn't before the walk with a leg that is no later
+    -- The route up to the end of its next leg isn't before the walk with these links, if that leg isn't
+    -- before these links.
     goes_on_after : (route : List Link) (t : TakesLeg count router target walk route) (links : List Link) → walk_cmp t.leg links ≢ Less
         → GoesOnInLegs d q (suc count) target (walk ++ links) route
     goes_on_after route t links least = record {
@@ -122,7 +124,7 @@ module _ (d : Database) (q : Request) where
       order = joined_no_earlier t.front walk t.leg links t.order least;
     }
 
-    -- legs and one more make the walk so far
+    -- the walk with these links is the least walk so far, if no route is before it up to there
     one_more : IsLeastSoFar d q count router walk → (links : List Link) → IsWalk d q (walk ++ links) → end_of router links ≡ target
         → ((route : List Link) → IsRoute d q route → GoesOnInLegs d q (suc count) target (walk ++ links) route)
         → IsLeastSoFar d q (suc count) target (walk ++ links)
@@ -146,7 +148,7 @@ module _ (d : Database) (q : Request) where
           least = least;
         }
 
-    -- a leg from a router to itself is empty
+    -- if the walk already ends at the target, it is the least walk to the target
     pub least_after_none : IsLeastSoFar d q count router walk → target ≡ router → IsLeastSoFar d q (suc count) target walk
     least_after_none before same =
         subst (IsLeastSoFar d q (suc count) target) (append-nil walk)
@@ -171,13 +173,13 @@ module _ (d : Database) (q : Request) where
             arrives = ap (λ r. end_of r t.leg) asks.from ∙ t.arrives ∙ sym asks.to;
           })
 
-      -- where a leg has no route, the request has none
+      -- if a leg has no route, the request has no route
       pub no_route_without_leg : IsLeastSoFar d q count router walk → ((links : List Link) → ¬ IsRoute d p links) → (route : List Link) → ¬ IsRoute d q route
       no_route_without_leg before none route is =
           let t = takes_leg route (before.least route is) in
           none t.leg (leg_is_route route is t)
 
-      -- the walk so far and the best route of the next leg
+      -- the walk so far, with the best route of the next leg, is the least walk so far
       pub least_after_leg : IsLeastSoFar d q count router walk → (HasTransit d router ⊎ (walk ≡ [])) → (links : List Link) → IsBestRoute d p links
           → IsLeastSoFar d q (suc count) target (walk ++ links)
       least_after_leg before joint links best =
@@ -195,20 +197,20 @@ module _ (d : Database) (q : Request) where
           arrives
           (λ route is. let t = takes_leg route (before.least route is) in goes_on_after route t links (best.least t.leg (leg_is_route route is t)))
 
-  -- after all legs a route goes on by none
+  -- after the last leg a route has no more links, so it isn't before the walk
   all_taken : (walk route front : List Link) (legs : List (List Link)) → front ++ flat_map (λ links. links) legs ≡ route
       → suc (length q.hops) + length legs ≡ suc (length q.hops) → walk_cmp front walk ≢ Less → walk_cmp route walk ≢ Less
   all_taken walk route front [] whole number order = subst (λ w. walk_cmp w walk ≢ Less) (sym (append-nil front) ∙ whole) order
   all_taken walk route front (leg ∷ legs) whole number order = absurd (omega arith)
 
-  -- the walk of all legs is the best route
+  -- the least walk through all legs is the best route
   pub best_of_legs : (router : ℕ) (walk : List Link) → IsLeastSoFar d q (suc (length q.hops)) router walk → IsBestRoute d q walk
   best_of_legs router walk is = record {
     is_route = record { is_walk = is.is_walk; cut = (is.legs, record { number = is.number; whole = is.whole; each = is.each }) };
     least = λ other route. let g = is.least other route in all_taken walk other g.front g.legs g.whole g.number g.order;
   }
 
-  -- it ends at the tail-end, so it has links
+  -- the walk through all legs ends at the tail-end, so it has links
   ends_at_tail : (router : ℕ) → IsTarget d q (suc (length q.hops)) router → router ≡ q.to
   ends_at_tail router target = subst (λ hop. IsTargetOf d q.to hop router) (slice_get_past q.hops (length q.hops) (omega arith)) target
 

@@ -1,4 +1,4 @@
--- Prefixes that one router owns, and legs with one target.
+-- Prefixes that only one router owns, and legs with only one target.
 use Rattle.std.proofs.Common.{◌≡◌, inl, inr, ℕ, zero, suc, ◌<◌, ◌↔◌, Some, None, List, [], ◌∷◌, ◌++◌, Contains, length, slice_get, slice_index, slice_index_or, refl, sym, ap, subst, ◌∙◌, arith, lit<}
 use Rattle.std.proofs.lemmas.Bool.{cases_lt}
 use Rattle.std.proofs.lemmas.List.{get_or_append_left, get_or_push, length_push}
@@ -13,18 +13,18 @@ use Rattle.cspf_db.specs.Index.{router_list}
 use Rattle.cspf_db.specs.Owners.{AreOwners}
 use Rattle.cspf_trees.specs.LegsInTurn.{IsSoleOwner, IsSoleTarget}
 
--- the item of a list of one
+-- each item of a list with one item is that item
 one_item : (x y k : ℕ) → k < length (x ∷ []) → slice_index_or (x ∷ []) k y ≡ y → y ≡ x
 one_item x y zero h e = sym e
 one_item x y (suc k) h e = absurd (omega arith)
 
--- a list of one item
+-- a list of length 1 has only its first item
 alone : (xs : List ℕ) → length xs ≡ 1 → xs ≡ slice_index xs 0 ∷ []
 alone [] one = absurd (omega arith)
 alone (x ∷ []) one = refl
 alone (x ∷ (y ∷ xs)) one = absurd (omega arith)
 
--- where one index is listed, the router there is the only owner
+-- if the list of a prefix's owners has only one index, the router at that index is the only owner
 pub sole_owner_at : (d : Database) (prefix : PrefixParts) (places : List ℕ) → length places ≡ 1 → AreOwners d prefix places
     → ((router : ℕ) → Contains (router_list d) router ↔ IsRouterOf d router) → IsSoleOwner d prefix (slice_index (router_list d) (slice_index places 0))
 sole_owner_at d prefix places one are known =
@@ -38,13 +38,13 @@ sole_owner_at d prefix places one are known =
           sym (at.2 0) ∙ ap (slice_index (router_list d)) (one_item place at.0 there.0 there.1 there.2);
     }
 
--- the hop at an index of a list
+-- a hop that is read from a list is the hop at that index
 pub hop_at : (hops items : List Hop) (at count : ℕ) (hop : Hop) → items ≡ hops → count ≡ at → at < length items → hop ≡ slice_index_or items at hop → slice_get hops count ≡ Some hop
 hop_at hops items at count hop same here within is =
     rw (here, ← same) (slice_get-get_or items at hop within ∙ ap Some (sym is))
 
 module _ (d : Database) (q : Request) where
-  -- the one owner of a loose hop is the one target of the leg to it
+  -- the only owner of a loose hop is the only target of the leg to that hop
   pub hop_target : (at : ℕ) (hop : Hop) (router : ℕ) → slice_get q.hops at ≡ Some hop → IsLoose (slice_get q.hops at) → IsSoleOwner d hop.prefix router → IsSoleTarget d q at router
   hop_target at hop router is loose owner = record {
     loose = loose;
@@ -52,7 +52,7 @@ module _ (d : Database) (q : Request) where
     sole = λ other target. owner.sole other (subst (λ o. IsTargetOf d q.to o other) is target);
   }
 
-  -- the tail-end is the one target of the last leg
+  -- the tail-end is the only target of the last leg
   pub tail_target : (at : ℕ) → at ≡ length q.hops → IsSoleTarget d q at q.to
   tail_target at last =
       let past : slice_get q.hops at ≡ None = slice_get_past q.hops at (omega arith) in
@@ -62,7 +62,7 @@ module _ (d : Database) (q : Request) where
         sole = λ other target. subst (λ o. IsTargetOf d q.to o other) past target;
       }
 
-  -- one more target
+  -- the targets of the first legs, with the target of the next leg, are right
   pub targets_push : (targets : List ℕ) (router : ℕ) → ((at : ℕ) → at < length targets → IsSoleTarget d q at (slice_index targets at)) → IsSoleTarget d q (length targets) router
       → (at : ℕ) → at < length (targets ++ (router ∷ [])) → IsSoleTarget d q at (slice_index (targets ++ (router ∷ [])) at)
   targets_push targets router each last at within =

@@ -1,4 +1,4 @@
--- Private words of the cache: the class of a request.
+-- Private: the class of a request.
 use Rattle.std.specs.Prelude.{◌≡◌}
 use Rattle.cspf_model.specs.declared.request.Request.{Request}
 use Rattle.cspf_trees.specs.declared.class.Class.{Class}

@@ -5,7 +5,7 @@ use Rattle.cspf_db.specs.Shapes.{HaveOneShape}
 use Rattle.cspf_search.specs.declared.tree.Tree.{Tree}
 use Rattle.cspf_search.specs.Trees.{IsTree}
 
--- a tree of a database is one of each database with its shape
+-- a tree of a database is also a tree of each database with the same shape
 abbrev pub TreesOutlastBandwidth : Type 0
 TreesOutlastBandwidth =
     (d e : Database) (q : Request) (tree : Tree) → HaveOneShape d e → IsTree d q tree → IsTree e q tree

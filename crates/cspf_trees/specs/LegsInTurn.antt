@@ -1,5 +1,5 @@
--- Private words of the cache: requests each of whose legs has one target, and what answers their legs in
--- turn.
+-- Private: requests whose legs have only one target each, and how their legs are answered one after the
+-- other.
 use Rattle.std.specs.Prelude.{◌≡◌, ◌≢◌, ℕ, suc, ◌+◌, ◌<◌, List, [], ◌++◌, length, slice_get, slice_index}
 use Rattle.std.specs.List.{flat_map}
 use Rattle.std.specs.declared.cmp.Ordering.TheVariants.{Less}
@@ -13,25 +13,25 @@ use Rattle.cspf_model.specs.Legs.{AreLegs}
 use Rattle.cspf_model.specs.Routes.{IsRoute}
 use Rattle.cspf_model.specs.Best.{Answer, IsBestAnswer}
 
--- the router owns the prefix, and no other one does
+-- the router owns the prefix, and no other router owns it
 pub record IsSoleOwner (d : Database) (prefix : PrefixParts) (router : ℕ) : Type 0 where
   pub owns : Owns d prefix router
   pub sole : (other : ℕ) → Owns d prefix other → other ≡ router
 
--- The leg to the hop at an index, or to the tail-end after the last hop, is loose. The router is its one
--- target.
+-- The leg to the hop at this index is loose, and the router is its only target. After the last hop the
+-- leg to the tail-end is meant.
 pub record IsSoleTarget (d : Database) (q : Request) (at router : ℕ) : Type 0 where
   pub loose : IsLoose (slice_get q.hops at)
   pub target : IsTarget d q (suc at) router
   pub sole : (other : ℕ) → IsTarget d q (suc at) other → other ≡ router
 
--- each leg of the request has one target: these routers in order
+-- each leg of the request has only one target: these routers, in the order of the legs
 pub record AreSoleTargets (d : Database) (q : Request) (targets : List ℕ) : Type 0 where
   pub number : length targets ≡ suc (length q.hops)
   pub each : (at : ℕ) → at < length targets → IsSoleTarget d q at (slice_index targets at)
 
--- One request asks for a leg of another: from one router to another by no hops, with the setup priority,
--- the bandwidth and the affinities of the other request.
+-- The request `leg` asks for one leg of the request `q`: from the router `start` to the router
+-- `target`, without hops. It has the setup priority, the bandwidth and the affinities of `q`.
 pub record AsksForLeg (q leg : Request) (start target : ℕ) : Type 0 where
   pub from : leg.from ≡ start
   pub to : leg.to ≡ target
@@ -42,14 +42,14 @@ pub record AsksForLeg (q leg : Request) (start target : ℕ) : Type 0 where
   pub include_all : leg.include_all ≡ q.include_all
   pub hops : leg.hops ≡ []
 
--- the best answer to a request for a leg
+-- this is the best answer to the request for a leg of `q`
 pub record IsLegAnswer (d : Database) (q : Request) (start target : ℕ) (answer : Answer) : Type 0 where
   pub leg : Request
   pub asks : AsksForLeg q leg start target
   pub best : IsBestAnswer d leg answer
 
--- A route begins with links to the router, which aren't before a walk. It goes on by the legs after the
--- first ones, of which there are so many.
+-- The route begins with links that end at the router and aren't better than the walk. These links take
+-- the place of the first `count` legs. The other legs of the route follow.
 pub record GoesOnInLegs (d : Database) (q : Request) (count router : ℕ) (walk route : List Link) : Type 0 where
   pub front : List Link
   pub legs : List (List Link)
@@ -59,8 +59,8 @@ pub record GoesOnInLegs (d : Database) (q : Request) (count router : ℕ) (walk 
   pub arrives : end_of q.from front ≡ router
   pub order : walk_cmp front walk ≢ Less
 
--- The walk is that many of the first legs of the request, and ends at the router. Each route begins
--- with links to the router that aren't before it.
+-- The walk consists of the first `count` legs of the request, and ends at the router. Each route begins
+-- with links that end at the router and aren't better than the walk.
 pub record IsLeastSoFar (d : Database) (q : Request) (count router : ℕ) (walk : List Link) : Type 0 where
   pub is_walk : IsWalk d q walk
   pub legs : List (List Link)

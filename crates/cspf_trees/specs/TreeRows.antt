@@ -1,4 +1,4 @@
--- Private words of the cache: the tree of a row.
+-- Private: which tree a row has.
 use Rattle.std.specs.Prelude.{◌≡◌, ℕ, Option, List, IfSome, None, Some, sum_by}
 use Rattle.cspf_model.specs.declared.request.Request.{Request}
 use Rattle.cspf_model.specs.Database.{Database}
@@ -7,23 +7,23 @@ use Rattle.cspf_search.specs.declared.tree.Tree.{Tree}
 use Rattle.cspf_trees.specs.declared.tree_row.TreeRow.{TreeRow}
 use Rattle.cspf_trees.specs.Classes.{HasClass}
 
--- The row is of an earlier generation, or it has no tree, or a tree of the database for each request of
--- its class.
+-- If the row is of this generation and has a tree, this is a tree of the database for each request of
+-- the row's class.
 abbrev pub HasTreeOf : Database → ℕ → TreeRow → Type 0
 HasTreeOf d generation row =
     row.generation ≡ generation → IfSome row.tree (λ tree. (q : Request) → HasClass q row.class → IsTree d q tree)
 
--- the row is of this generation, and of the class of the request
+-- the row is of this generation, and of the request's class
 pub record IsAskedOf (q : Request) (now : ℕ) (row : TreeRow) : Type 0 where
   pub generation : row.generation ≡ now
   pub class : HasClass q row.class
 
--- a row of the first generation without a tree
+-- the row is of generation 0 and has no tree
 pub record IsEmptyTreeRow (row : TreeRow) : Type 0 where
   pub generation : row.generation ≡ 0
   pub tree : row.tree ≡ None
 
--- how many trees an optional tree is: none or one
+-- how many trees an optional tree counts as: 0 or 1
 abbrev pub option_count : Option Tree → ℕ
 option_count None = 0
 option_count (Some tree) = 1
@@ -32,6 +32,6 @@ option_count (Some tree) = 1
 abbrev pub row_count : TreeRow → ℕ
 row_count row = option_count row.tree
 
--- how many trees the rows have, whatever database they are of
+-- how many trees the rows have, of any generation
 abbrev pub tree_count : List TreeRow → ℕ
 tree_count rows = sum_by row_count rows

@@ -1,4 +1,4 @@
--- The value of a table with trees.
+-- How clauses see a table with trees.
 use Rattle.std.specs.Prelude.{ℕ, refl}
 use Rattle.std.specs.Coded.{Coded, code_by, coded×, coded_ℕ}
 use Rattle.cspf_model.specs.Database.{Database}
@@ -9,7 +9,7 @@ pub record TreeTableState : Type 0 where
   pub database : Database
   pub most_trees : ℕ
 
--- a table with trees is stored as these two
+-- a table with trees is coded as the pair of its database and its number of trees
 abbrev pub tree_table_code : Coded TreeTableState
 tree_table_code =
     code_by (Database × ℕ) (coded× database_code coded_ℕ) (λ s. (s.database, s.most_trees))

@@ -6,16 +6,17 @@ use crate::limits::{MOST_TREES, WAYS};
 use cspf_addr::{Addr, Mask};
 use cspf_model::Request;
 
-/// A tail-end and affinities. Requests that have them share their trees.
+/// A class of requests: all requests with this tail-end and these affinities. The requests of a class
+/// share one tree.
 #[derive(Clone, Copy, Debug, PartialEq, Eq)]
 pub(crate) struct Class {
     /// The tail-end.
     pub(crate) to: Addr,
-    /// The groups that are excluded.
+    /// The groups whose links are excluded.
     pub(crate) exclude_any: Mask,
-    /// The groups of which one is needed.
+    /// The groups of which a link needs at least one, if there are any.
     pub(crate) include_any: Mask,
-    /// The groups that are all needed.
+    /// The groups of which a link needs all.
     pub(crate) include_all: Mask,
 }
 
@@ -31,12 +32,12 @@ pub(crate) fn class_of(request: &Request) -> Class
     }
 }
 
-/// The bits of one more number in a hash.
+/// Mixes one more number into a hash.
 fn mixed(hash: u64, number: u32) -> u64 {
     (hash ^ u64::from(number)).wrapping_mul(0x9e37_79b9_7f4a_7c15)
 }
 
-/// The first of the rows that a class may be in.
+/// The index of the first of the `WAYS` rows that a class may be in.
 pub(crate) fn first_row(class: &Class) -> usize
     ensures { result + WAYS ≤ MOST_TREES }
 {

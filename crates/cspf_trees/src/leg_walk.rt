@@ -12,14 +12,14 @@ use std::alloc::{AllocError, Global};
 /// At most `MOST_ROUTE_LINKS` links that follow each other, and the router at which they end.
 #[derive(Drop)]
 pub(crate) struct LegWalk {
-    /// The router.
+    /// The router at which the links end.
     pub(crate) at: Addr,
     /// The links.
     pub(crate) links: Vec<Link>,
     ghost most: { length links.items ≤ MOST_ROUTE_LINKS },
 }
 
-/// The sum of the metrics.
+/// The sum of the links' metrics.
 fn cost_along(links: &[Link]) -> u64
     requires { length links.now ≤ MOST_ROUTE_LINKS }
     ensures value { result ≡ cost_of links.now }
@@ -37,7 +37,7 @@ impl LegWalk {
     ghost use Rattle.cspf_model.specs.RouteLinks.{AreLinked};
     ghost use Rattle.cspf_trees.specs.LegSteps.{IsLonger};
 
-    /// No links, at a router.
+    /// A walk without links, at a router.
     pub(crate) fn begin(alloc: Global, at: Addr) -> LegWalk
         ensures at { result.at ≡ at }
         ensures links { result.links.items ≡ [] }
@@ -56,8 +56,8 @@ impl LegWalk {
         self.links.is_empty() || table.transit(self.at)
     }
 
-    /// Appends the links of a route to a router, unless there would be more than `MOST_ROUTE_LINKS`.
-    /// Returns whether it did.
+    /// Appends the links of a route that ends at the router `to`, unless the walk would have more than
+    /// `MOST_ROUTE_LINKS` links. Returns whether the links were appended.
     pub(crate) fn append(&mut self, route: &Route, to: Addr) -> Result<bool, AllocError>
         ensures longer { IfOk result (λ fits.
             fits ≡ true → IsLonger route.now to self.old self.new) }
@@ -73,13 +73,13 @@ impl LegWalk {
         Ok(true)
     }
 
-    /// The route along the links.
+    /// The walk as a route.
     pub(crate) fn route(&self, alloc: Global) -> Result<Route, AllocError>
         requires some { 0 < length self.now.links.items }
         requires linked { AreLinked self.now.links.items }
         ensures { IfOk result (λ route. route ≡ self.now.links.items) }
     {
-        // A route may be kept for long, so it has no room for more links.
+        // A route may be kept for a long time, so it has no room for more links.
         let links = Vec::from_slice(alloc, self.links.as_slice())?;
         let cost = cost_along(&self.links);
         Ok(Route::new(links, cost))

@@ -1,6 +1,6 @@
-//! Requests whose hops are all loose and owned by one router each. Their legs are answered in turn, each
-//! as a request without hops, so each by the tree of its own class. Together the best routes of the legs
-//! are the best route.
+//! Answers requests whose hops are all loose, each owned by only one router. The legs are answered one
+//! after the other, each as a request without hops, by the tree of the leg's class. The best routes of
+//! the legs, one after the other, are the best route of the request.
 
 ghost use Rattle.std.specs.Prelude.{◌≡◌, ◌≢◌, ◌+◌, ◌<◌, ℕ, true, IfOk, IfSome, length, slice_get};
 ghost use Rattle.cspf_model.specs.Best.{IsBestAnswer};
@@ -17,13 +17,13 @@ use cspf_db::Table;
 use cspf_model::{MOST_LEGS, Outcome, Request, route_without_hops};
 use std::alloc::{AllocError, Global};
 
-/// What one more leg tells of the routes.
+/// What the answer to one more leg shows of the request's routes.
 enum LegStep {
-    /// The walk goes on to the target of the leg, and no route is before it up to there.
+    /// The walk goes on to the target of the leg. No route is better than the walk up to there.
     On,
-    /// There is no route.
+    /// The request has no route.
     NoRoute,
-    /// Nothing.
+    /// Nothing is known of the routes.
     Unknown,
 }
 
@@ -34,7 +34,8 @@ fn has_loose_hops(request: &Request) -> bool
     !request.hops.is_empty() && request.hops.as_slice().iter().all(|hop| hop.loose)
 }
 
-/// The target of each leg, if the request has hops, all are loose, and each leg has one target.
+/// The target of each leg, if the request has hops, all of them are loose, and each leg has only one
+/// target.
 fn sole_targets(
     trees: &mut Trees,
     alloc: Global,
@@ -61,7 +62,7 @@ fn sole_targets(
     Ok(Some(targets))
 }
 
-/// The request for a leg of another one, from one router to another.
+/// The request for one leg of another request, from the router `from` to the router `to`.
 fn leg_request(request: &Request, from: Addr, to: Addr) -> Request
     requires { from ≢ to }
     ensures { AsksForLeg request.now result from to }
@@ -79,7 +80,7 @@ fn leg_request(request: &Request, from: Addr, to: Addr) -> Request
     }
 }
 
-/// The best answer to the request for a leg of another one.
+/// The best answer to the request for one leg of another request.
 fn answer_leg(
     trees: &mut Trees,
     alloc: Global,
@@ -117,7 +118,7 @@ fn go_on(
     ensures most { trees.new.most ≡ trees.old.most }
     ensures step { IfOk result (IsLegStep table.now request.now (leg + 1) walk.new) }
 {
-    // Law: without hops the routes are the walks to the tail-end.
+    // Law: if a request has no hops, its routes are the walks to the tail-end.
     route_without_hops();
     if walk.at == to {
         return Ok(LegStep::On);
@@ -138,9 +139,10 @@ fn go_on(
     }
 }
 
-/// The best answer to a request whose hops are all loose and owned by one router each, leg by leg. It is
-/// `None` for other requests, and where an end is unknown, where the walk would pass a router without
-/// transit between two legs, or where it would have more than `MOST_ROUTE_LINKS` links.
+/// The best answer to a request whose hops are all loose, each owned by only one router. The answer is
+/// found leg by leg. The result is `None` for other requests, and if the head-end or the tail-end is
+/// unknown. The result is also `None` if the walk would pass a router without transit between two legs,
+/// or would have more than `MOST_ROUTE_LINKS` links.
 pub(crate) fn best_by_legs(
     trees: &mut Trees,
     alloc: Global,

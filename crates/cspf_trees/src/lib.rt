@@ -1,8 +1,11 @@
-//! Many requests in one database: `Trees` keep a tree for each tail-end and set of affinities that is
-//! asked for often, and answer by `best_by_tree` of `cspf_search` where they have one. Each answer meets
-//! the contract of `best`, whatever is kept. Where all hops are loose and owned by one router each, the legs
-//! are answered in turn, and that router is kept for the next hop with the prefix. `specs/Trees.antt` says
-//! when trees are of a database. A `TreeTable` is a table with trees of its own database.
+//! Answers many requests in one database. `Trees` keep a tree for each tail-end and set of affinities
+//! that is asked for often. If a request has a kept tree, it is answered by `best_by_tree` of
+//! `cspf_search`. Each answer meets the contract of `best`, whichever trees are kept.
+//!
+//! If all hops of a request are loose, and each is owned by only one router, its legs are answered one
+//! after the other. The owner of a hop's prefix is kept for later hops with this prefix.
+//! `specs/Trees.antt` says when trees are of a database. A `TreeTable` is a table with the trees of its
+//! database.
 #![tactic(auto)]
 
 mod class;

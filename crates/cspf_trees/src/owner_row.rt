@@ -1,4 +1,4 @@
-//! A row: a prefix, and the one router that owns it.
+//! A row: a prefix, and the only router that owns it.
 
 ghost use Rattle.std.specs.Prelude.{◌≡◌, ◌<◌, All, IfOk, IfSome, length};
 ghost use Rattle.cspf_model.specs.Database.{Database};
@@ -10,10 +10,10 @@ use crate::limits::OWNER_ROWS;
 use cspf_addr::{Addr, Prefix};
 use std::alloc::{AllocError, Global};
 
-/// A prefix, and the router that alone owns it.
+/// A prefix, and the only router that owns it.
 #[derive(Clone, Copy)]
 pub(crate) struct OwnerRow {
-    /// The generation of owners that the row belongs to, or 0 if it has no owner.
+    /// The generation of owners that the row belongs to, or 0 if the row has no owner.
     pub(crate) generation: u64,
     /// The prefix.
     pub(crate) prefix: Prefix,
@@ -21,7 +21,7 @@ pub(crate) struct OwnerRow {
     pub(crate) router: Addr,
 }
 
-/// All rows, which have no owner. Any prefix and router will do, since they aren't read.
+/// All rows, without owners. The rows are made with this prefix and this router, which are never read.
 pub(crate) fn empty_owners(
     alloc: Global,
     prefix: Prefix,

@@ -1,4 +1,4 @@
-//! The routers that alone own prefixes, of one database.
+//! Keeps which router is the only owner of a prefix in one database.
 
 ghost use Rattle.std.specs.Prelude.{◌<◌, ◌≤◌, All, IfOk, IfSome};
 ghost use Rattle.cspf_trees.specs.LegsInTurn.{IsSoleOwner};
@@ -10,22 +10,23 @@ use cspf_db::Table;
 use cspf_model::MOST_ROUTERS;
 use std::alloc::{AllocError, Global};
 
-/// Prefixes that were asked for, each with the router that alone owns it in one database. A row has the
-/// last prefix that came to it.
+/// Prefixes that were asked for, each with the only router that owns it in one database. A row keeps
+/// the last prefix that was put in it.
 #[derive(Drop)]
 pub(crate) struct Owners {
-    /// The rows: none, or all of them.
+    /// The rows: either none or `OWNER_ROWS`.
     rows: Vec<OwnerRow>,
-    /// The generation of the owners that are of the database, 1 or later. Rows of earlier ones count as
+    /// The generation of the owners in the database, 1 or later. Rows of earlier generations count as
     /// empty.
     generation: u64,
-    /// Whether there may be rows.
+    /// Whether rows may be made.
     keeps: bool,
     ghost begun: { 0 < generation },
     ghost past: { All (λ row. row.generation ≤ generation) rows.items },
 }
 
-/// The router that alone owns a prefix, unless none or several do, by a look at each router.
+/// The only router that owns a prefix, found by a look at each router. The result is `None` if no
+/// router or several routers own the prefix.
 fn read_owner(alloc: Global, table: &Table, prefix: Prefix) -> Result<Option<Addr>, AllocError>
     ensures { IfOk result (λ found. IfSome found (IsSoleOwner table.now prefix)) }
 {
@@ -43,7 +44,8 @@ impl Owners {
     ghost use Rattle.cspf_trees.specs.Owners.{AreOwnersOf};
     ghost use Rattle.cspf_trees.specs.declared.limits.TheConstants.{OWNER_ROWS};
 
-    /// No owners, so they are of any database. Later ones are kept if they may be. It takes no memory.
+    /// An empty set of owners, which is right for each database. Later owners are kept if `keeps` is
+    /// true. The call takes no memory.
     pub(crate) fn new(alloc: Global, keeps: bool) -> Owners
         ensures { (d : Database) → AreOwnersOf d result }
     {
@@ -54,7 +56,7 @@ impl Owners {
         }
     }
 
-    /// Leaves no owner to answer by, so the owners are of any database. Memory is kept for later ones.
+    /// Forgets all owners, which is right for each database. The memory is kept for later owners.
     pub(crate) fn clear(&mut self)
         ensures { (d : Database) → AreOwnersOf d self.new }
     {
@@ -65,8 +67,8 @@ impl Owners {
         }
     }
 
-    /// Makes the rows if there are none yet and there may be. Returns whether there are rows. The empty
-    /// rows are made with this prefix and router.
+    /// Makes the rows if there are none yet and rows may be made. Returns whether there are rows. The
+    /// empty rows are made with this prefix and this router.
     fn fill(&mut self, alloc: Global, prefix: Prefix, router: Addr) -> bool
         ensures owners { (d : Database) → AreOwnersOf d self.old → AreOwnersOf d self.new }
         ensures many { result ≡ true → length self.new.rows.items ≡ OWNER_ROWS }
@@ -86,7 +88,7 @@ impl Owners {
         }
     }
 
-    /// Keeps the router that alone owns a prefix, if there are rows or can be.
+    /// Keeps the only owner of a prefix, if there are rows or they can be made.
     fn keep(&mut self, alloc: Global, prefix: Prefix, router: Addr)
         ensures { (d : Database) → IsSoleOwner d prefix router
             → AreOwnersOf d self.old → AreOwnersOf d self.new }
@@ -101,7 +103,7 @@ impl Owners {
         }
     }
 
-    /// The router that alone owns a prefix, if it is kept.
+    /// The only owner of a prefix, if it is kept.
     fn kept(&self, prefix: Prefix) -> Option<Addr>
         ensures { (d : Database) → AreOwnersOf d self.now
             → IfSome result (IsSoleOwner d prefix) }
@@ -112,8 +114,8 @@ impl Owners {
         owner_in(&self.rows[owner_index(prefix)], self.generation, prefix)
     }
 
-    /// The router that alone owns a prefix, unless none or several do. If it is not kept yet, each router
-    /// is looked at, and then it is kept.
+    /// The only owner of a prefix. The result is `None` if no router or several routers own the prefix.
+    /// If the owner isn't kept yet, it is found by a look at each router, and then kept.
     pub(crate) fn sole_owner(
         &mut self,
         alloc: Global,

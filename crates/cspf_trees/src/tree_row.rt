@@ -1,4 +1,4 @@
-//! A row: a class of requests, and its tree once it is asked for often.
+//! A row: a class of requests, and the class's tree once the class is asked for often.
 
 ghost use Rattle.std.specs.Prelude.{◌≡◌, ◌+◌, ◌<◌, ◌≤◌, true, false, All, None, IfOk, IfSome, length};
 ghost use Rattle.cspf_model.specs.declared.request.Request.{Request as Asked};
@@ -15,20 +15,20 @@ use cspf_model::Request;
 use cspf_search::Tree;
 use std::alloc::{AllocError, Global};
 
-/// A class, how often it was asked for of late, and its tree if it has one.
+/// A class, how often it was asked for recently, and its tree if it has one.
 #[derive(Drop)]
 pub(crate) struct TreeRow {
     /// The generation of trees that the row belongs to.
     pub(crate) generation: u64,
     /// The class.
     pub(crate) class: Class,
-    /// The asks of the class, less those of other classes that came to the row.
+    /// How often the class was asked for, less the asks for other classes that came to this row.
     pub(crate) asks: u32,
-    /// Its tree, if one was grown.
+    /// The tree of the class, if one was grown.
     pub(crate) tree: Option<Tree>,
 }
 
-/// All rows, which have no tree.
+/// All rows, without trees.
 pub(crate) fn empty_rows(alloc: Global) -> Result<Vec<TreeRow>, AllocError>
     ensures many { IfOk result (λ rows. length rows.items ≡ MOST_TREES) }
     ensures empty { IfOk result (λ rows. All IsEmptyTreeRow rows.items) }
@@ -52,8 +52,8 @@ pub(crate) fn empty_rows(alloc: Global) -> Result<Vec<TreeRow>, AllocError>
     Ok(rows)
 }
 
-/// A tree for the class of a request. There is none where memory is refused or the tail-end is
-/// unknown.
+/// Grows a tree for the class of a request. The result is `None` if memory is refused or the tail-end
+/// is unknown.
 fn grown(alloc: Global, table: &Table, request: &Request) -> Option<Tree>
     ensures { IfSome result (λ tree. (r : Asked)
         → ShareTrees request.now r → IsTree table.now r tree) }
@@ -64,7 +64,8 @@ fn grown(alloc: Global, table: &Table, request: &Request) -> Option<Tree>
     }
 }
 
-/// Whether a tree is due at so many asks.
+/// Whether a tree is due after this many asks. `due` is how many are needed, or `None` if no tree may
+/// be grown.
 fn is_due(due: Option<u32>, asks: u32) -> bool
     ensures { due ≡ None → result ≡ false }
 {
@@ -74,8 +75,8 @@ fn is_due(due: Option<u32>, asks: u32) -> bool
     }
 }
 
-/// Counts one more ask of the class of a request. Its tree is grown at the ask when it is due, if one
-/// may be grown.
+/// Counts one more ask for the class of a request. The tree of the class is grown when the asks reach
+/// `due`. If `due` is `None`, no tree is grown.
 fn count(alloc: Global, table: &Table, request: &Request, due: Option<u32>, row: &mut TreeRow)
     requires class { HasClass request.now row.old.class }
     requires row { HasTreeOf table.now row.old.generation row.old }
@@ -92,9 +93,10 @@ fn count(alloc: Global, table: &Table, request: &Request, due: Option<u32>, row:
     }
 }
 
-/// Asks a row for the class of a request. A row of another class is counted down, and taken over once
-/// its asks are used up. A request with hops changes no row, since a tree spares it its last leg alone.
-/// Returns whether the row is of the class now. Where no tree is due, it has no tree that it didn't have.
+/// Asks a row for the class of a request. Returns whether the row is of that class then. An ask without
+/// hops counts down a row of another class, or takes it over if no asks are left there. A request with
+/// hops changes no row, since a tree helps only with its last leg. If `due` is `None`, no tree is
+/// grown.
 pub(crate) fn ask(
     alloc: Global,
     table: &Table,
@@ -142,7 +144,8 @@ pub(crate) fn trees_of(row: &TreeRow) -> usize
     }
 }
 
-/// How many asks a row of some other class has left to be counted down.
+/// How many asks a row has left before another class may take it over. A row of an earlier generation
+/// has none.
 fn asks_left(row: &TreeRow, generation: u64) -> u32 {
     if row.generation == generation {
         row.asks
@@ -151,7 +154,8 @@ fn asks_left(row: &TreeRow, generation: u64) -> u32 {
     }
 }
 
-/// The row of a class among some, which begin at an index, or else the one with the fewest asks.
+/// The index of the row of a class, among `WAYS` rows from the index `first` on. If no row is of the
+/// class, it is the row with the fewest asks.
 pub(crate) fn find(rows: &[TreeRow], first: usize, class: &Class, generation: u64) -> usize
     requires { first + WAYS ≤ length rows.now }
     ensures { result < length rows.now }

@@ -14,12 +14,13 @@ use cspf_model::{Batch, Outcome, Refusal, Request};
 use std::alloc::{AllocError, Global};
 use std::marker::Model;
 
-/// A table that answers requests, and keeps trees of its database for those that are asked for often.
+/// A table that answers requests. It keeps trees of its database for tail-ends and affinities that are
+/// asked for often.
 #[derive(Drop)]
 pub struct TreeTable {
     /// The table.
     table: Table,
-    /// Trees of its database.
+    /// Trees of the table's database.
     trees: Trees,
 }
 
@@ -38,7 +39,7 @@ impl Model for TreeTable {
 }
 
 impl TreeTable {
-    /// An empty table, and no trees.
+    /// An empty table without trees.
     pub fn new(alloc: Global) -> Result<TreeTable, AllocError>
         ensures { IfOk result (λ table.
             table ≡ record { database = no_links; most_trees = MOST_TREES }) }
@@ -46,7 +47,7 @@ impl TreeTable {
         TreeTable::with_trees(alloc, MOST_TREES)
     }
 
-    /// As `new`, with at most this many trees.
+    /// Makes a table as `new` does, with at most `most` trees.
     pub fn with_trees(alloc: Global, most: usize) -> Result<TreeTable, AllocError>
         ensures { IfOk result (λ table.
             table ≡ record { database = no_links; most_trees = most }) }
@@ -73,8 +74,8 @@ impl TreeTable {
         self.trees.best(alloc, &self.table, request)
     }
 
-    /// As `Table::try_absorb`. Trees are kept over a batch of unreserved bandwidths alone, and over
-    /// no other that is absorbed.
+    /// Absorbs a batch as `Table::try_absorb` does. The trees are kept if an absorbed batch changes
+    /// only unreserved bandwidths. After any other absorbed batch they are forgotten.
     pub fn try_absorb(&mut self, batch: &Batch) -> Result<(), Refusal>
         ensures ok { OnOk result (Fits self.old.database batch.now) }
         ensures changed { OnOk result (self.new ≡ record self.old {

@@ -15,26 +15,27 @@ use cspf_model::{Batch, Outcome, Request};
 use cspf_search::{best, best_by_tree};
 use std::alloc::{AllocError, Global};
 
-/// Trees of one database, at most as many as `new` is told and `MOST_TREES`, with `TREE_BYTES` of bounds
-/// each. A tree is grown at the sixth ask of its tail-end and affinities without hops. Where there are
-/// as many, or memory for it is refused, requests are searched without it.
+/// Trees of one database. There are at most as many trees as `new` was given, and at most `MOST_TREES`.
+/// The bounds of each tree take `TREE_BYTES` bytes. A tree is grown at the sixth ask for its tail-end
+/// and affinities without hops. If there are as many trees already, or memory is refused, requests are
+/// searched without a tree.
 ///
-/// Beside them are the rows that count asks, which take 393,216 bytes from the first ask on. The rows of
-/// routers that alone own the prefixes of hops take 49,152 bytes from the first such hop on. Where there
-/// may be no trees there are no rows.
+/// The rows that count asks take 393,216 bytes from the first ask on. The rows of prefixes with only
+/// one owner take 49,152 bytes from the first such prefix on. If no trees are allowed, there are no
+/// rows.
 #[derive(Drop)]
 pub struct Trees {
-    /// The rows: none, or all of them.
+    /// The rows: either none or `MOST_TREES`.
     rows: Vec<TreeRow>,
-    /// The generation of the trees that are of the database. Rows of earlier ones count as empty.
+    /// The generation of the trees of the database. Rows of earlier generations count as empty.
     generation: u64,
     /// How many trees there are at most.
     most: usize,
-    /// The ask of its class at which a tree is grown.
+    /// A tree is grown at this ask for its class, counted from 1.
     due: u32,
-    /// How many there are, of any generation.
+    /// How many trees there are, of any generation.
     count: usize,
-    /// The routers that alone own the prefixes of hops.
+    /// The only owners of the prefixes of hops.
     owners: Owners,
     ghost past: { All (λ row. row.generation ≤ generation) rows.items },
     ghost counted: { tree_count rows.items ≡ count },
@@ -53,7 +54,8 @@ impl Trees {
     ghost use Rattle.cspf_trees.specs.TreeRows.{IsAskedOf};
     ghost use Rattle.cspf_trees.specs.Trees.{AreTreesOf};
 
-    /// No trees, so they are of any database, and later at most this many. It takes no memory.
+    /// An empty set of trees, which is right for each database. Later there are at most `most` trees.
+    /// The call takes no memory.
     pub fn new(alloc: Global, most: usize) -> Trees
         ensures trees { (d : Database) → AreTreesOf d result }
         ensures most { result.most ≡ most }
@@ -61,8 +63,8 @@ impl Trees {
         Trees::from_ask(alloc, most, ASKS_FOR_A_TREE)
     }
 
-    /// As `new`, but a tree is grown at this ask of its tail-end and affinities without hops, at 64 at
-    /// the latest.
+    /// Does what `new` does, but a tree is grown at the ask `due` for its tail-end and affinities
+    /// without hops. A `due` above 64 counts as 64.
     pub fn from_ask(alloc: Global, most: usize, due: u32) -> Trees
         ensures trees { (d : Database) → AreTreesOf d result }
         ensures most { result.most ≡ most }
@@ -77,8 +79,8 @@ impl Trees {
         }
     }
 
-    /// Leaves no tree to search by and no owner of a prefix, so the trees are of any database. Memory is
-    /// kept for later ones.
+    /// Forgets all trees and owners, which is right for each database. The memory is kept for later
+    /// trees and owners.
     pub fn clear(&mut self)
         ensures trees { (d : Database) → AreTreesOf d self.new }
         ensures most { self.new.most ≡ self.old.most }
@@ -92,14 +94,15 @@ impl Trees {
         }
     }
 
-    /// Keeps the trees of a table's database and the owners of prefixes for the one after a batch, if that
-    /// differs in unreserved bandwidths alone. Else it leaves none.
+    /// Keeps the trees and the owners for the database after a batch, if the batch changes only
+    /// unreserved bandwidths. Otherwise the call forgets the trees and the owners. The table has the
+    /// database before the batch.
     pub(crate) fn keep_over(&mut self, table: &Table, batch: &Batch)
         requires { AreTreesOf table.now self.old }
         ensures trees { AreTreesOf (after_changes table.now batch.now.changes) self.new }
         ensures most { self.new.most ≡ self.old.most }
     {
-        // Law: a tree of a database is one of each with the same shape.
+        // Law: a tree of a database is also a tree of each database with the same shape.
         trees_outlast_bandwidth();
         if !table.changes_shape(batch) {
             return;
@@ -130,8 +133,9 @@ impl Trees {
         }
     }
 
-    /// Asks for the class of a request. Returns the index of its row, unless other classes have all
-    /// rows that it may be in, there may be no trees, or memory for the rows is refused.
+    /// Counts an ask for the class of a request, and returns the index of its row. The result is `None`
+    /// if other classes have all rows that the class may be in. The result is also `None` if no trees
+    /// are allowed, or if memory for the rows is refused.
     fn ask_row(&mut self, alloc: Global, table: &Table, request: &Request) -> Option<usize>
         requires { AreTreesOf table.now self.old }
         ensures trees { AreTreesOf table.now self.new }
@@ -159,7 +163,7 @@ impl Trees {
         if asked { Some(at) } else { None }
     }
 
-    /// The best answer to a request by the tree of its class, if its row has one.
+    /// The best answer to a request, by the tree of its class if there is one.
     #[tactic(auto, unfolding(crate::specs::Trees::AreTreesOf))]
     pub(crate) fn best_by_row(
         &mut self,
@@ -182,7 +186,8 @@ impl Trees {
         }
     }
 
-    /// The router that alone owns a prefix, unless none or several do. It is kept for the next hop.
+    /// The only owner of a prefix. The result is `None` if no router or several routers own the prefix.
+    /// An owner is kept for later hops.
     #[tactic(auto, unfolding(crate::specs::Trees::AreTreesOf))]
     pub(crate) fn sole_owner(
         &mut self,
@@ -198,9 +203,9 @@ impl Trees {
         self.owners.sole_owner(alloc, table, prefix)
     }
 
-    /// The best answer to a request in the database of the trees, which is the table's: the answer
-    /// of `best` of `cspf_search`. Where all hops are loose and owned by one router each, each leg is
-    /// answered by the tree of its own class.
+    /// The best answer to a request in the table's database, which is the database of the trees. The
+    /// answer is that of `best` of `cspf_search`. If all hops are loose, each owned by only one router,
+    /// each leg is answered by the tree of its class.
     pub fn best(
         &mut self,
         alloc: Global,

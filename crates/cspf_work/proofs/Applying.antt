@@ -1,4 +1,4 @@
--- Batches that are applied one after the other.
+-- Batches that are applied in order, one more at each step.
 use Rattle.std.proofs.Common.{◌≡◌, ℕ, ◌<◌, List, [], ◌∷◌, ◌++◌, length, take, Option, Some, None, slice_get, refl, sym, ap, ◌∙◌, subst, arith, length-append, append_assoc, append-nil, flat_map, false}
 use Rattle.std.proofs.KnownBytes.{Appends-nil, Appends-trans}
 use Rattle.std.proofs.lemmas.Grind.{flat_map-append}
@@ -51,7 +51,7 @@ applied_refused contents p q r batches applied n b e count inside at source same
       stop = (b, ap (slice_get batches) count ∙ at, why);
     }
 
--- no batch is left
+-- all batches are applied
 pub applied_all : {W : Type 0} (contents : W → Option (List ℕ)) (p q : PublisherState W) (batches : List NumberedChanges) (applied n : ℕ)
     → applied ≡ n → n ≡ length batches → AreApplied contents p q (take n batches) → IsAppliedUpTo contents p q batches applied None
 applied_all contents p q batches applied n count all is =

@@ -1,4 +1,4 @@
--- A worker's replies stay right while its asker learns more.
+-- The replies of a worker stay right while its asker learns more batches.
 use Rattle.std.proofs.Common.{◌≡◌, ℕ, ◌-◌, ◌<◌, ◌≤◌, List, [], ◌∷◌, ◌++◌, length, take, Some, get_or, All, sym, ap, ◌∙◌, subst, arith, length-append, append_assoc, slice_get}
 use Rattle.std.proofs.lemmas.List.{take-append-le}
 use Rattle.std.proofs.lemmas.List.Elements.{All-push}
@@ -15,7 +15,7 @@ use Rattle.cspf_work.specs.declared.worker.Worker.{Worker}
 use Rattle.cspf_work.specs.Served.{IsAnswerWithin, KnowsNoLess}
 use Rattle.cspf_work.specs.Working.{HasDone, IsDone}
 
--- a prefix of a prefix
+-- a prefix of a prefix of a list is a prefix of the list
 pub begins_through : (xs ys zs : List NumberedChanges) → BeginsWith ys xs → BeginsWith zs ys → BeginsWith zs xs
 begins_through xs ys zs p q = (p.0 ++ q.0, q.1 ∙ (ap (λ w. w ++ q.0) p.1 ∙ append_assoc xs p.0 q.0))
 
@@ -28,7 +28,7 @@ knows_through a b c p q = record {
 pub length_begins : (all first : List NumberedChanges) → BeginsWith all first → length first ≤ length all
 length_begins all first p = omega (arith, ap length p.1, length-append first p.0)
 
--- the first `n` of a prefix are the first `n` of the list
+-- a list and a prefix of it have the same first `n` items, if the prefix has as many
 pub take_begins : (n : ℕ) (all first : List NumberedChanges) → BeginsWith all first → n ≤ length first → take n all ≡ take n first
 take_begins n all first p le = ap (take n) p.1 ∙ take-append-le n first p.0 le
 
@@ -57,7 +57,7 @@ done_later requests before known later r p is = record {
 all_done_later : (requests : List Request) (before known later : List NumberedChanges) (done : List Reply) → BeginsWith later known → All (IsDone requests before known) done → All (IsDone requests before later) done
 all_done_later requests before known later done p all k d l = done_later requests before known later (get_or done k d) p (all k d l)
 
--- the asker knows more, and nothing else changed
+-- the asker has learnt more batches, and nothing else changed
 pub done_more_known : (requests : List Request) (before : AskerState) (w v : Worker)
     → KnowsNoLess w.asker v.asker → v.done.items ≡ w.done.items → HasDone requests before w → HasDone requests before v
 done_more_known requests before w v knows same is = record {
@@ -66,7 +66,7 @@ done_more_known requests before w v knows same is = record {
   versions = rw same is.versions;
 }
 
--- the asker knows more, and one more request is answered
+-- the asker has learnt more batches, and one more request is answered
 pub done_next : (requests : List Request) (before : AskerState) (w v : Worker) (q : Request) (r : Reply)
     → KnowsNoLess w.asker v.asker → v.done.items ≡ w.done.items ++ r ∷ []
     → r.index < length requests → slice_get requests r.index ≡ Some q → IsAnswerAfter v.asker.batches q r.answer

@@ -1,4 +1,4 @@
--- The first fault of several workers.
+-- The first fault of a list of workers.
 use Rattle.std.proofs.Common.{◌≡◌, List, [], ◌∷◌, ◌++◌, Option, Some, None, IfSome, IsNone, refl, ap, ◌∙◌}
 use Rattle.core.specs.Option.{option_or}
 use Rattle.cspf_work.specs.declared.serve_error.ServeError.{ServeError}
@@ -14,17 +14,17 @@ option_or-assoc : (a b c : Option ServeError) → option_or a (option_or b c) �
 option_or-assoc None b c = refl
 option_or-assoc (Some e) b c = refl
 
--- the first fault of some workers and one more
+-- the first fault after one more worker is added to the list
 pub first_fault-push : (ws : List Worker) (w : Worker) → first_fault (ws ++ w ∷ []) ≡ option_or (first_fault ws) w.fault
 first_fault-push [] w = option_or-none w.fault
 first_fault-push (v ∷ ws) w = ap (option_or v.fault) (first_fault-push ws w) ∙ option_or-assoc v.fault (first_fault ws) w.fault
 
--- the earlier of two faults is a worker's where both are
+-- if two faults can be faults of a worker, so can the one of them that `option_or` takes
 pub fault_of_either : (found next : Option ServeError) → IfSome found IsFaultOfWorker → IfSome next IsFaultOfWorker → IfSome (option_or found next) IsFaultOfWorker
 fault_of_either None next a b = b
 fault_of_either (Some e) next a b = a
 
--- and there is none where neither is there
+-- if `option_or` takes no fault, neither of the two is there
 pub none_of_either : (found next : Option ServeError) → IsNone (option_or found next) → IsNone found × IsNone next
 none_of_either None next none = (refl, none)
 none_of_either (Some e) next none = absurd cc

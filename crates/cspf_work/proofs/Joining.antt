@@ -1,4 +1,4 @@
--- What all workers answered, put together.
+-- The answers of all workers, collected into one list.
 use Rattle.std.proofs.Common.{◌≡◌, ℕ, zero, suc, ◌<◌, ◌≤◌, List, [], ◌∷◌, length, map, Option, Some, None, get_or, All, Vec, refl, sym, ap, ◌∙◌, subst, arith, slice_get}
 use Rattle.std.specs.Global.{Global}
 use Rattle.std.specs.Option.{option_map}
@@ -58,7 +58,7 @@ map-map : {A B C : Type 0} (f : A → B) (g : B → C) (xs : List A) → map g (
 map-map f g [] = refl
 map-map f g (x ∷ xs) = ap (λ l. g (f x) ∷ l) (map-map f g xs)
 
--- what is known of the workers' results once they are collected
+-- the answers and the indexes that were collected from workers
 pub record AreCollected (workers : List Worker) (lists : List (Vec Reply Global)) (list : List Answer) (drawn : List (Vec ℕ Global)) : Type 0 where
   pub lists_are : lists ≡ map (λ w. w.done) workers
   pub drawn_are : map (λ v. v.items) drawn ≡ map (λ l. indexes l.items) lists

@@ -1,4 +1,4 @@
--- What all workers did, one by one.
+-- What all workers have done, worker by worker.
 use Rattle.std.proofs.Common.{◌≡◌, ℕ, zero, suc, ◌<◌, List, [], ◌∷◌, ◌++◌, All, IfSome, IsNone, take, length, map, Option, Some, None, get_or, refl, sym, ap, ◌∙◌, subst, arith, slice_get}
 use Rattle.std.specs.Option.{option_map}
 use Rattle.std.proofs.lemmas.List.{length-map}
@@ -14,13 +14,13 @@ use Rattle.cspf_work.specs.declared.worker.Results.{Results}
 use Rattle.cspf_work.specs.Served.{AreSameAskers, IsFaultOfWorker, KnowsNoLess}
 use Rattle.cspf_work.specs.Working.{HasDrawnAll, IsWorkerRun, AreReady, AreResults, AreRun, AreLeft}
 
--- the element at a place inside
+-- an index within a list has an item
 pub at_place : {X : Type 0} (xs : List X) (i : ℕ) → i < length xs → (x : X) × (slice_get xs i ≡ Some x)
 at_place [] i less = absurd (omega arith)
 at_place (x ∷ xs) zero less = (x, refl)
 at_place (x ∷ xs) (suc i) less = at_place xs i (omega arith)
 
--- what each worker did, by its place
+-- what each worker has done, by the worker's index
 abbrev pub AreRunByPlace : CounterId → List Request → List Worker → List Worker → Type 0
 AreRunByPlace counter requests old new = (i : ℕ) (d : Worker) → i < length old → IsWorkerRun counter requests (get_or old i d).asker (get_or new i d)
 
@@ -40,7 +40,7 @@ run_each counter requests old new some same run = record {
   each = λ i known after at there. run_at counter requests old new run i known after (slice_get old i) refl (sym (slice_get-map (λ (w : Worker). w.asker) old i) ∙ at) there;
 }
 
--- one worker's part
+-- what the worker at an index has done
 run_of : (counter : CounterId) (requests : List Request) (before : List AskerState) (workers : List Worker) → AreRun counter requests before workers → (i : ℕ) (d : Worker) → i < length workers
     → (known : AskerState) × IsWorkerRun counter requests known (get_or workers i d)
 run_of counter requests before workers run i d less =
@@ -54,18 +54,18 @@ pub run_inside : (counter : CounterId) (requests : List Request) (before : List 
     → All (λ (w : Worker). All (λ (r : Reply). r.index < length requests) w.done.items) workers
 run_inside counter requests before workers run i d less k e inside = ((run_of counter requests before workers run i d less).1.done.done k e inside).inside
 
--- whose drawers are all of this counter
+-- all workers drew from this counter
 pub run_counters : (counter : CounterId) (requests : List Request) (before : List AskerState) (workers : List Worker) → AreRun counter requests before workers
     → All (λ (d : DrawnNumbers). d.counter ≡ counter) (map (λ (w : Worker). w.drawer) workers)
 run_counters counter requests before workers run =
     All-map (λ (d : DrawnNumbers). d.counter ≡ counter) (λ (w : Worker). w.drawer) workers (λ i d less. (run_of counter requests before workers run i d less).1.counter)
 
--- and who have drawn all, where none has a fault
+-- if no worker has a fault, all have drawn until the indexes ran out
 pub run_drawn : (counter : CounterId) (requests : List Request) (before : List AskerState) (workers : List Worker) → AreRun counter requests before workers
     → All (λ (w : Worker). IsNone w.fault) workers → All (λ (w : Worker). HasDrawnAll (length requests) w) workers
 run_drawn counter requests before workers run none i d less = (run_of counter requests before workers run i d less).1.drawn (none i d less)
 
--- each asker knows no less than before
+-- each asker knows at least the batches that it knew before
 pub run_askers : (counter : CounterId) (requests : List Request) (before : List AskerState) (workers : List Worker) (after : List AskerState)
     → after ≡ map (λ w. w.asker) workers → AreRun counter requests before workers → AreSameAskers before after
 run_askers counter requests before workers after askers run = record {
@@ -78,11 +78,11 @@ run_askers counter requests before workers after askers run = record {
     asker_at i old new (Some w) here at there = subst (λ (k : AskerState). KnowsNoLess old k) (cc there) ((run.each i old w at here).done.asker)
     asker_at i old new None here at there = absurd (cc there)
 
--- the list after a slice of all of it was written back
+-- if a slice is written back to a list, the first `n` items of the list are the items of the slice
 written_back : {X : Type 0} (new rest : List X) (n : ℕ) → n ≡ length new → take n (new ++ rest) ≡ new
 written_back new rest n long = ap (λ m. take m (new ++ rest)) long ∙ take-append_seam new rest
 
--- workers that were lent as a slice
+-- the workers after they were lent as a slice
 pub run_written_back : (counter : CounterId) (requests : List Request) (before : List AskerState) (workers lent new rest : List Worker) (n : ℕ)
     → lent ≡ workers → n ≡ length workers → AreReady counter requests before workers
     → (AreReady counter requests before lent → AreRun counter requests before new) → AreRun counter requests before (take n (new ++ rest))
@@ -91,7 +91,7 @@ run_written_back counter requests before workers lent new rest n same long ready
     let count : n ≡ length new = (let each = of_all.count in let all = ap length ready.askers in let map_long = length-map workers (λ (w : Worker). w.asker) in omega arith) in
     subst (λ (all : List Worker). AreRun counter requests before all) (sym (written_back new rest n count)) of_all
 
--- the results of workers whose counter is this one
+-- the results of workers that drew from this counter
 pub results_of : (own id : CounterId) (requests : List Request) (before : List AskerState) (idle : List Worker) (numbers : List ℕ) (results : Results)
     → own ≡ id → AreReady id requests before idle → AreLeft own requests idle numbers results
     → (workers : List Worker) × AreResults id requests before numbers results workers
@@ -99,7 +99,7 @@ results_of own id requests before idle numbers results same ready run =
     subst (λ (k : CounterId). (workers : List Worker) × AreResults k requests before numbers results workers) same
     (run before (subst (λ (k : CounterId). AreReady k requests before idle) (sym same) ready))
 
--- and what their askers knew
+-- what the askers of these workers know
 pub left_of : (own id : CounterId) (requests : List Request) (before : List AskerState) (idle : List Worker) (numbers : List ℕ) (results : Results)
     → own ≡ id → AreReady id requests before idle → AreLeft own requests idle numbers results
     → (known : List AskerState) × (workers : List Worker) × AreResults id requests known numbers results workers
@@ -107,7 +107,7 @@ left_of own id requests before idle numbers results same ready run =
     let is = results_of own id requests before idle numbers results same ready run in
     (before, is.0, is.1)
 
--- what holds of all possible results holds of what their askers knew
+-- what holds of all results that these workers may have holds of what their askers know
 pub of_results : (P : List AskerState → Type 0) (own id : CounterId) (requests : List Request) (before : List AskerState) (idle : List Worker) (numbers : List ℕ) (results : Results)
     → own ≡ id → AreReady id requests before idle → AreLeft own requests idle numbers results
     → ((known : List AskerState) (workers : List Worker) → AreResults id requests known numbers results workers → P known)

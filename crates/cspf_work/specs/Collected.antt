@@ -1,4 +1,4 @@
--- Private: how the answers of workers are put into the order of the requests.
+-- Private: how the workers' answers are put into the order of the requests.
 use Rattle.std.specs.Prelude.{◌≡◌, ℕ, ◌<◌, ◌⊎◌, List, Option, Some, None, slice_get, All, sum_by, Vec}
 use Rattle.std.specs.Global.{Global}
 use Rattle.cspf_publish.specs.declared.answer.Answer.{Answer}
@@ -8,26 +8,28 @@ use Rattle.cspf_work.specs.declared.worker.Reply.{Reply}
 use Rattle.cspf_draw.specs.EachOnce.{times}
 use Rattle.cspf_work.specs.Working.{indexes}
 
--- the places hold these replies, each in the place of its index and no index twice, and nothing else
+-- Each reply's answer is in the place of its index. No two replies have the same index, and the
+-- other places are empty.
 pub record AreFilled (slots : List (Option Answer)) (done : List Reply) : Type 0 where
   pub placed : All (λ r. slice_get slots r.index ≡ Some (Some r.answer)) done
   pub some : (x : ℕ) (a : Answer) → slice_get slots x ≡ Some (Some a) → times x (indexes done) ≡ 1
   pub none : (x : ℕ) → slice_get slots x ≡ Some None → times x (indexes done) ≡ 0
   pub past : (x : ℕ) → slice_get slots x ≡ None → times x (indexes done) ≡ 0
 
--- the answer is in the list at the index
+-- the list has the answer at the index of the reply
 abbrev pub IsPlaced : List Answer → Reply → Type 0
 IsPlaced list r = slice_get list r.index ≡ Some r.answer
 
--- the error names an index that more than one of these replies have
+-- the error names an index that at least two of these replies have
 abbrev pub IsTwice : List Reply → ServeError → Type 0
 IsTwice done e = (index : ℕ) × (e ≡ Twice index) × (1 < times index (indexes done))
 
--- how often an index is in lists of replies
+-- how often an index is in these lists of replies
 abbrev pub times_in : ℕ → List (Vec Reply Global) → ℕ
 times_in x lists = sum_by (λ (list : Vec Reply Global). times x (indexes list.items)) lists
 
--- Why answers can't be collected: memory was refused, a request has none, or one has more than one.
+-- Why answers can't be collected: memory was refused, or a request has no answer, or it has more
+-- than one answer.
 abbrev pub IsCollectError : ℕ → List (Vec Reply Global) → ServeError → Type 0
 IsCollectError count lists e =
     (e ≡ Memory)

@@ -1,4 +1,4 @@
--- The words of this crate's contracts.
+-- The definitions that this crate's contracts cite.
 pub mod AskingErrors
 pub mod Served
 pub mod Working

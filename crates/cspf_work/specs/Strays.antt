@@ -4,7 +4,8 @@ use Rattle.cspf_publish.specs.declared.answer.Answer.{Answer}
 use Rattle.cspf_work.specs.declared.serve_error.ServeError.{ServeError}
 use Rattle.cspf_work.specs.declared.serve_error.ServeError.TheVariants.{Unaccounted}
 
--- The error names the first answer of the list whose version isn't one of these: its index, and its version.
+-- The error names the first answer in the list whose version `MayBe` doesn't allow, by its index
+-- and its version.
 pub record IsFirstStray (list : List Answer) (MayBe : ℕ → Type 0) (e : ServeError) : Type 0 where
   pub index : ℕ
   pub answer : Answer

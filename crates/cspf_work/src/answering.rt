@@ -12,13 +12,13 @@ use cspf_publish::{Asker, MOST_ASKERS};
 use std::alloc::Global;
 use std::thread::Threads;
 
-/// Answers requests by one worker for each asker. A worker draws the index of a request, answers it
-/// and draws the next, as long as there is one. Each index is drawn once, and those of a worker
-/// rise. All workers run at once, each in its thread. Where no thread can be made they run one
+/// Answers requests by one worker for each asker. A worker draws the index of a request and answers
+/// it, until no index is left. Each index is drawn once, and the indexes that a worker draws are
+/// rising. All workers run at once, each in its own thread. If no thread can be made, they run one
 /// after the other.
 ///
-/// All askers are handed back in order, after an error too. They then know no less than before.
-/// Where several workers have faults, the fault of the first of them is returned.
+/// All askers are handed back in order, after an error too, and know at least what they knew
+/// before. If several workers have faults, the fault of the first of them is returned.
 pub fn answer_all<G: Gate + Sync, R: Threads + Sync>(
     rt: &R,
     alloc: Global,
@@ -32,7 +32,7 @@ pub fn answer_all<G: Gate + Sync, R: Threads + Sync>(
         askers.items all.askers.items all.list.items all.drawn.items) }
     ensures rising { IfOk result (λ all. All (λ v. IsStrictlyIncreasing v.items) all.drawn.items) }
     ensures askers { IfOk result (λ all. AreSameAskers askers.items all.askers.items) }
-    // Each index is drawn once, so no request is left out and none is answered twice.
+    // Each index is drawn once, so each request has exactly one answer.
     ensures error { IfErr result (λ e. IsFaultOfWorker e.0) }
     ensures back { IfErr result (λ e. AreSameAskers askers.items e.1.items) }
 {

@@ -12,11 +12,11 @@ use std::alloc::Global;
 use std::io::Write;
 use std::thread::Threads;
 
-/// Answers requests as `answer_all` does, at the last published version: each asker first learns
-/// the published batches. An answer of a later version is `Unaccounted`.
+/// Answers requests as `answer_all` does, at the last published version: before that, each asker
+/// learns the published batches. An answer with a later version is the error `Unaccounted`.
 ///
-/// The askers are those of the publisher's `open`. All of them are handed back in order, after an
-/// error too. They then know the published batches.
+/// The askers are those that `open` made for this publisher. All of them are handed back in order,
+/// after an error too, and know the published batches.
 pub fn answer_latest<W: Write, G: Gate + Sync, R: Threads + Sync>(
     rt: &R,
     alloc: Global,

@@ -1,4 +1,4 @@
-//! Workers that answer requests while this thread publishes batches.
+//! Workers answer requests while this thread publishes batches.
 
 ghost use Rattle.std.specs.Prelude.{◌⊎◌, ◌<◌, ◌≤◌, ◌≡◌, List, length, All, IfOk, IfErr, vec_len};
 ghost use Rattle.std.specs.List.Sorted.{IsStrictlyIncreasing};
@@ -27,7 +27,7 @@ use std::thread;
 use std::thread::Threads;
 
 /// Applies batches in order, up to the first that is refused. Returns how many were applied, and
-/// why the next one wasn't.
+/// why the next batch was refused, if one was.
 fn apply_all<W: Write, R: Wait>(
     rt: &R,
     alloc: Global,
@@ -46,7 +46,7 @@ fn apply_all<W: Write, R: Wait>(
     (applied, None)
 }
 
-/// Applies batches in this thread while the workers answer.
+/// Applies batches in this thread while the workers answer requests.
 fn apply_and_run<W: Write, G: Gate + Sync, R: Threads + Wait + Sync>(
     rt: &R,
     alloc: Global,
@@ -76,7 +76,8 @@ fn apply_and_run<W: Write, G: Gate + Sync, R: Threads + Wait + Sync>(
     thread::join_mut(rt, &mut answer, &mut apply).1
 }
 
-/// The workers' results after they answered all requests while this thread applied batches.
+/// The results of the workers, after they have answered all requests and this thread has applied
+/// the batches.
 fn run_beside<W: Write, G: Gate + Sync, R: Threads + Wait + Sync>(
     rt: &R,
     alloc: Global,
@@ -156,14 +157,14 @@ fn run_lent<W: Write, G: Gate + Sync, R: Threads + Wait + Sync>(
     }
 }
 
-/// Answers requests as `answer_all` does, while this thread applies batches in order up to the
-/// first that is refused. When all are done each asker learns the published batches. An answer of a
-/// later version is `Unaccounted`.
+/// Answers requests as `answer_all` does, while this thread applies batches in order, up to the
+/// first that is refused. Afterwards each asker learns the published batches. An answer with a
+/// version that isn't published is the error `Unaccounted`.
 ///
-/// The askers are those of the publisher's `open`. All of them are handed back in order, and so is
-/// the publisher, after an error too. After an error either nothing has happened, or the batches
-/// were applied up to the first that was refused. Then a fault of the journal may have stopped the
-/// publisher, and each asker has learnt the published batches.
+/// The askers are those that `open` made for this publisher. All of them are handed back in order,
+/// and so is the publisher, after an error too. After an error either nothing has happened, or the
+/// batches were applied up to the first that was refused. In the second case a fault of the journal
+/// may have stopped the publisher, and each asker has learnt the published batches.
 pub fn run_live<W: Write, G: Gate + Sync, R: Threads + Wait + Sync>(
     rt: &R,
     alloc: Global,

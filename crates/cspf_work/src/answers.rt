@@ -5,8 +5,8 @@ use cspf_publish::{Answer, Asker};
 pub struct Answers {
     /// The answers, in the order of the requests.
     pub list: Vec<Answer>,
-    /// For each worker the indexes of the requests that it answered, in the order of its asks.
+    /// For each worker, the indexes of the requests that it answered, in the order of its asks.
     pub drawn: Vec<Vec<usize>>,
-    /// The askers, in their order.
+    /// The askers, in the order in which they were given.
     pub askers: Vec<Asker>,
 }

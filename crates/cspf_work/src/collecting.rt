@@ -1,5 +1,5 @@
-//! Puts the answers of all workers into the requests' order. A missing or a second answer is an
-//! error.
+//! Puts the answers of all workers into the order of the requests. A request without an answer, or
+//! with two answers, is an error.
 
 ghost use Rattle.std.specs.Prelude.{◌≡◌, ℕ, ◌+◌, ◌<◌, ◌⊎◌, ◌++◌, List, [], ◌∷◌, Some, None, map, All, IfOk, OnOk, IfErr, slice_get, vec_len};
 ghost use Rattle.cspf_work.specs.declared.worker.Reply.{Reply as Done};
@@ -12,7 +12,7 @@ use crate::worker::Reply;
 use cspf_publish::Answer;
 use std::alloc::{AllocError, Global};
 
-/// A place for the answer of each request.
+/// An empty place for the answer of each request.
 fn empty_slots(alloc: Global, count: usize) -> Result<Vec<Option<Answer>>, AllocError>
     ensures count { IfOk result (λ slots. vec_len slots ≡ count) }
     ensures none { IfOk result (λ slots. All (λ slot. slot ≡ None) slots.items) }
@@ -94,7 +94,7 @@ fn take_over(
     put_list(list, slots)
 }
 
-/// The answers, where each place has one.
+/// The answers in the places, if each place has one.
 fn answers_of(alloc: Global, slots: Vec<Option<Answer>>) -> Result<Vec<Answer>, ServeError>
     ensures ok { IfOk result (λ list. map (λ a. Some a) list.items ≡ slots.items) }
     ensures error { IfErr result (λ e. (e ≡ ServeError.Memory)
@@ -114,8 +114,8 @@ fn answers_of(alloc: Global, slots: Vec<Option<Answer>>) -> Result<Vec<Answer>, 
     Ok(list)
 }
 
-/// The answers of `count` requests in the requests' order, and the indexes that each worker
-/// answered in the order of its asks. Each request has to have one answer.
+/// The answers to `count` requests in the order of the requests, and for each worker the indexes
+/// that it answered, in the order of its asks. A request must have exactly one answer.
 pub(crate) fn collect(
     alloc: Global,
     lists: Vec<Vec<Reply>>,

@@ -1,4 +1,4 @@
-//! Workers: their seats at the counter, the memory that they take, and their results.
+//! Workers: their seats at the counter from which they draw, their memory, and their results.
 ghost use Rattle.std.specs.Prelude.{◌≡◌, ◌+◌, ◌<◌, ◌≤◌, [], List, length, map, All, IfOk, IfErr, IfSome, IsNone, vec_len, vec_capacity};
 ghost use Rattle.cspf_model.specs.declared.request.Request.{Request as OneRequest};
 ghost use Rattle.cspf_draw.specs.declared.limits.TheConstants.{MOST_DRAWERS};
@@ -11,8 +11,8 @@ use cspf_draw::{Counter, Drawer, FirstSeat, LastSeat};
 use cspf_publish::Asker;
 use std::alloc::{AllocError, Global};
 
-/// Room for the results of workers. It is taken before any work, so that all askers can be handed
-/// back after every error.
+/// Memory for the results of workers. It is taken before any work begins, so that all askers can be
+/// handed back after every error.
 #[derive(Drop)]
 pub(crate) struct Room<'a> {
     pub(crate) askers: Vec<Asker>,
@@ -20,7 +20,8 @@ pub(crate) struct Room<'a> {
     pub(crate) lists: Vec<Vec<Reply>>,
 }
 
-/// Workers, the counter that they draw from with its last seat, and room for their results.
+/// The workers, the counter from which they draw, and the memory for their results. `first` is the
+/// counter's seat with the draws that no worker was given.
 #[derive(Drop)]
 pub(crate) struct Crew<'a> {
     pub(crate) counter: &'a Counter,
@@ -32,7 +33,7 @@ pub(crate) struct Crew<'a> {
     ghost enough: { IsRoomFor (vec_len workers) room },
 }
 
-/// Room for `count` workers, and for their results.
+/// Memory for `count` workers, and for their results.
 fn room_for<'a>(alloc: Global, count: usize) -> Result<(Vec<Worker<'a>>, Room<'a>), AllocError>
     ensures workers { IfOk result (λ all. (all.0.items ≡ []) × (count ≤ vec_capacity all.0)) }
     ensures room { IfOk result (λ all. IsRoomFor count all.1) }
@@ -51,7 +52,7 @@ fn room_for<'a>(alloc: Global, count: usize) -> Result<(Vec<Worker<'a>>, Room<'a
     ))
 }
 
-/// An idle worker for each asker.
+/// Makes an idle worker for each asker.
 fn workers_of<'a>(
     alloc: Global,
     counter: &'a Counter,
@@ -82,8 +83,8 @@ fn workers_of<'a>(
     workers
 }
 
-/// An idle worker for each asker, with all memory that they take before they ask. Where memory is
-/// refused the askers are handed back.
+/// Makes an idle worker for each asker, with all memory that the workers take before they ask. If
+/// memory is refused, the askers are handed back.
 pub(crate) fn employ<'a>(
     alloc: Global,
     counter: &'a Counter,
@@ -111,7 +112,7 @@ pub(crate) fn employ<'a>(
     })
 }
 
-/// The askers, the replies and the drawers of workers that are done, and the first fault.
+/// Splits workers that are done into their askers, replies and drawers, and finds the first fault.
 fn part<'a>(workers: Vec<Worker<'a>>, room: Room<'a>) -> (Results, Vec<Drawer<'a>>)
     requires room { IsRoomFor (vec_len workers) room }
     requires faults { All (λ w. IfSome w.fault IsFaultOfWorker) workers.items }
@@ -148,7 +149,8 @@ fn part<'a>(workers: Vec<Worker<'a>>, room: Room<'a>) -> (Results, Vec<Drawer<'a
     (results, drawers)
 }
 
-/// The results of workers that are done, and the seat that has merged their draws.
+/// The results of workers that are done, and the counter's last seat after it has merged their
+/// draws.
 pub(crate) fn dismiss(crew: Crew<'_>) -> (Results, LastSeat)
     requires { (requests : List OneRequest) × (before : List AskerState)
         × AreRun crew.counter.now requests before crew.workers.items }

@@ -1,4 +1,4 @@
-//! Ends the workers: the draws are closed, and the answers are collected.
+//! Ends the work: merges the workers' draws, closes the counter, and collects the answers.
 
 ghost use Rattle.std.specs.Prelude.{◌≡◌, ◌⊎◌, List, Some, All, IfOk, IfErr, IsNone};
 ghost use Rattle.std.specs.List.Sorted.{IsStrictlyIncreasing};
@@ -22,7 +22,7 @@ pub(crate) struct Collected {
     pub(crate) drawn: Vec<Vec<usize>>,
 }
 
-/// The askers of workers that are done, and the workers' answers. The counter is closed.
+/// The askers of workers that are done, and the collected answers. Closes the counter.
 pub(crate) fn finish(
     alloc: Global,
     counter: Counter,
@@ -41,7 +41,7 @@ pub(crate) fn finish(
         → AreAnsweredByWorkers requests.now before result.0.items all.list.items all.drawn.items) }
     ensures rising { IfOk result.1 (λ all. All (λ v. IsStrictlyIncreasing v.items) all.drawn.items) }
     ensures error { IfErr result.1 IsFaultOfWorker }
-    // A worker's fault keeps its name, and memory is refused where none has one.
+    // A worker's fault keeps its name. If no worker has a fault, memory was refused.
     ensures fault { IfErr result.1 (λ e. (results.fault ≡ Some e)
         ⊎ (IsNone results.fault × (e ≡ ServeError.Memory))) }
 {

@@ -1,13 +1,14 @@
-/// A callback at each request of a worker. All workers share it.
+/// Callbacks before and after each request of a worker. All workers share them.
 pub trait Gate {
-    /// The worker comes to the request with this index, from 0, and hasn't asked it yet.
+    /// The worker has drawn the request with this index, and hasn't asked it yet. Indexes count
+    /// from 0.
     fn reached(&self, worker: usize, index: usize);
 
-    /// The worker has the answer of the request with this index.
+    /// The worker has got the answer to the request with this index.
     fn answered(&self, worker: usize, index: usize);
 }
 
-/// Does nothing.
+/// A gate that does nothing.
 #[derive(Clone, Copy, Debug)]
 pub struct NoGate;
 

@@ -1,11 +1,11 @@
-//! Workers answer many requests at once, beside a publisher that applies batches or without one.
-//! Each worker has an asker and a thread.
+//! Workers answer many requests at once. Meanwhile a publisher may apply batches. Each worker has
+//! an asker and a thread.
 //!
-//! Each worker draws the indexes of its requests from one word, by `cspf_draw`.
+//! The workers draw the indexes of their requests from one counter, which `cspf_draw` defines.
 //!
-//! `specs/Served.antt` says which answers are right and which worker answered which request.
-//! `specs/Applied.antt` has the state after batches are applied up to the first that is refused.
-//! `specs/AskingErrors.antt` has the error of the workers for each error of an ask.
+//! `specs/Served.antt` defines which answers are right, and which worker answered which request.
+//! `specs/Applied.antt` defines the state after batches are applied up to the first that is
+//! refused. `specs/AskingErrors.antt` has the error of a worker for each error of an ask.
 #![tactic(auto)]
 
 mod answering;

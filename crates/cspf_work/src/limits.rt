@@ -1,4 +1,4 @@
-//! The limit of the requests of workers.
+//! The limit on the requests of one call.
 
-/// How many requests are answered at once at most.
+/// The most requests that one call answers.
 pub const MOST_REQUESTS: usize = 1_000_000;

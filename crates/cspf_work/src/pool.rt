@@ -1,4 +1,4 @@
-//! Runs all workers at once, one thread for each where threads can be made.
+//! Runs all workers at once, each in a thread, if threads can be made.
 
 ghost use Rattle.std.specs.Prelude.{◌≡◌, List, length};
 ghost use Rattle.cspf_draw.specs.DrawnNumbers.{CounterId};
@@ -16,8 +16,8 @@ use std::alloc::Global;
 use std::thread;
 use std::thread::Threads;
 
-/// Each worker answers what it draws, all at once: one thread for each, where threads can be made,
-/// and else one after the other.
+/// Each worker answers the requests that it draws. All workers run at once, each in a thread. If
+/// threads can't be made, they run one after the other.
 pub(crate) fn run_all<G: Gate + Sync, R: Threads + Sync>(
     rt: &R,
     alloc: Global,
@@ -44,7 +44,7 @@ pub(crate) fn run_all<G: Gate + Sync, R: Threads + Sync>(
     );
 }
 
-/// The workers' results after they have answered all requests.
+/// The results of the workers, after they have answered all requests.
 pub(crate) fn run_workers<G: Gate + Sync, R: Threads + Sync>(
     rt: &R,
     alloc: Global,

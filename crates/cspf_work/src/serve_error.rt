@@ -1,4 +1,4 @@
-//! Why workers do not answer all requests.
+//! Why workers don't answer all requests.
 
 ghost use Rattle.std.specs.Prelude.{◌≡◌};
 
@@ -6,7 +6,7 @@ use cspf_publish::AskError;
 use std::alloc::AllocError;
 use thiserror::Error;
 
-/// Why requests aren't answered.
+/// Why workers don't answer all requests.
 #[derive(Clone, Copy, Debug, PartialEq, Eq, Error)]
 pub enum ServeError {
     /// Out of memory.
@@ -30,7 +30,7 @@ pub enum ServeError {
         /// The request's index, from 0.
         index: usize,
     },
-    /// An answer is of a version that isn't published.
+    /// An answer has a version that isn't published.
     #[error("request {index} is answered at version {version}, which is not published")]
     Unaccounted {
         /// The request's index, from 0.

@@ -9,8 +9,8 @@ pub(crate) struct Reply {
     pub(crate) answer: Answer,
 }
 
-/// An asker at work: the drawer of its requests' indexes, its answers in the order of its asks, and
-/// the fault that stopped it.
+/// An asker at work. It has a drawer of request indexes, its answers in the order of its asks, and
+/// the fault that stopped it, if there was one.
 #[derive(Drop)]
 pub(crate) struct Worker<'a> {
     pub(crate) asker: Asker,
@@ -19,7 +19,7 @@ pub(crate) struct Worker<'a> {
     pub(crate) fault: Option<ServeError>,
 }
 
-/// The results of workers: the askers, each worker's answers, and the first fault.
+/// The results of workers: all askers, the answers of each worker, and the first fault.
 #[derive(Drop)]
 pub(crate) struct Results {
     pub(crate) askers: Vec<Asker>,

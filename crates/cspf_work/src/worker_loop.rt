@@ -27,7 +27,7 @@ fn serve_one<G: Gate>(
     ensures next { OnOk result (indexes worker.new.done.items
         ≡ indexes worker.old.done.items ++ index ∷ []) }
     ensures error { IfErr result IsFaultOfWorker }
-    // Where memory is refused, more may be known than before.
+    // If memory is refused, the asker may have learnt more batches.
     ensures no_entry { IfErr result (λ e. e ≡ ServeError.NoEntry → worker.new ≡ worker.old) }
 {
     gate.reached(number, index);
@@ -39,8 +39,8 @@ fn serve_one<G: Gate>(
     Ok(())
 }
 
-/// Answers the requests at the indexes that the worker draws, up to a number that is no request's, or
-/// up to the first fault.
+/// Answers the requests at the indexes that the worker draws, until it draws a number that is no
+/// request's index, or until its first fault.
 pub(crate) fn serve<G: Gate>(
     alloc: Global,
     number: usize,

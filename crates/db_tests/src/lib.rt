@@ -1,5 +1,5 @@
-//! Tests of links, requests and the table: its rows, routers, reverses, marks and owners of prefixes,
-//! after batches in any order, batches that fill it, and batches that it refuses.
+//! Tests of links, requests and the table: the table's rows, routers, reverses, marks and owners of
+//! prefixes. Batches come in any order, fill the table, or are refused.
 #![tactic(auto)]
 
 #[cfg(test)]

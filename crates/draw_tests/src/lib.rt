@@ -1,4 +1,4 @@
-//! Tests of what is drawn: in turn, and from several threads.
+//! Tests of drawing numbers: by two drawers in turn, and by drawers in several threads.
 #![tactic(auto)]
 
 #[cfg(test)]

@@ -1,4 +1,4 @@
-//! What is drawn: in turn, and from several threads.
+//! Drawing numbers: by two drawers in turn, and by drawers in several threads.
 
 ghost use Rattle.std.specs.Prelude.{◌≡◌, ◌+◌, ◌<◌, ◌≤◌, length, IfOk, vec_len};
 
@@ -10,8 +10,8 @@ use std::test::Fail;
 use std::thread;
 use std::thread::Threads;
 
-/// How many numbers a drawer may draw, the one that it draws, and how many it may draw then. All are 0
-/// where it may draw none.
+/// How often the drawer may draw, the number that it draws, and how often it may draw afterwards. All are 0
+/// if it may not draw.
 fn drawn(drawer: &mut Drawer<'_>) -> [u64; 3]
     ensures { drawer.new.counter ≡ drawer.old.counter }
 {
@@ -35,7 +35,7 @@ fn in_turn(rt: HostRuntime) -> Result<(), Fail> {
     Ok(())
 }
 
-/// Without requests a drawer draws once, and the number is no request's.
+/// Without requests a drawer draws once, and its number belongs to no request.
 #[test]
 fn no_requests(rt: HostRuntime) -> Result<(), Fail> {
     let (counter, mut first) = Counter::open(rt.alloc(), 0)?;
@@ -49,7 +49,7 @@ fn no_requests(rt: HostRuntime) -> Result<(), Fail> {
     Ok(())
 }
 
-/// A number of drawers.
+/// This many new drawers.
 fn drawers_of<'a>(
     alloc: Global,
     counter: &'a Counter,
@@ -67,7 +67,7 @@ fn drawers_of<'a>(
     Ok(all)
 }
 
-/// Draws up to a number that is no request's, and counts those that are.
+/// Draws until a number belongs to no request, and counts each number before.
 fn count_drawn(counts: &[AtomicU64], drawer: &mut Drawer<'_>) {
     while drawer.left() != 0 {
         let number = drawer.draw();
@@ -78,7 +78,7 @@ fn count_drawn(counts: &[AtomicU64], drawer: &mut Drawer<'_>) {
     }
 }
 
-/// Drawers, each in another thread, draw each request once.
+/// Drawers in several threads draw the number of each request once.
 fn each_is_drawn_once<R: Threads + Abort + Sync>(
     rt: &R,
     alloc: Global,
@@ -104,13 +104,13 @@ fn each_is_drawn_once<R: Threads + Abort + Sync>(
     Ok(())
 }
 
-/// Eight threads draw 1,000 numbers.
+/// Eight threads draw the numbers of 1,000 requests.
 #[test]
 fn from_eight_threads(rt: HostRuntime) -> Result<(), Fail> {
     each_is_drawn_once(&rt, rt.alloc(), 1000, 8)
 }
 
-/// One request and as many drawers as there may be.
+/// There are one request and as many drawers as a counter can have.
 #[test]
 fn one_request_and_all_drawers(rt: HostRuntime) -> Result<(), Fail> {
     each_is_drawn_once(&rt, rt.alloc(), 1, MOST_DRAWERS)

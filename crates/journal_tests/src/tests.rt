@@ -1,4 +1,5 @@
-//! What the tests share: the one assertion, and readers in pieces, that repeat a row, and that fail.
+//! What the tests share: the assertion, and a reader that gives a text in pieces or many times over,
+//! and may fail at its end.
 
 mod audits;
 mod batches;
@@ -20,7 +21,7 @@ use std::io;
 use std::io::{ErrorKind, Read};
 use std::process::Abort;
 
-/// Stops at a case that doesn't hold, with its text.
+/// Stops the test, and prints `text`, if the case doesn't hold.
 fn assert_case(rt: &impl Abort, text: &[u8], holds: bool) {
     assert!(rt; holds, "{text:?}");
 }
@@ -33,12 +34,13 @@ fn empty_batch(alloc: Global) -> Batch {
     }
 }
 
-/// Whether a batch has this text.
+/// Whether the batch is written as this text.
 fn has_text(alloc: Global, batch: &Batch, text: &[u8]) -> Result<bool, AllocError> {
     Ok(batch_text(alloc, batch)?.as_slice() == text)
 }
 
-/// Gives a text `times` times over, at most `width` bytes a read, and then ends or fails.
+/// A reader that gives a text `times` times over, at most `width` bytes in each read. Then it ends, or
+/// fails if `fails` is set.
 #[derive(Drop)]
 struct Pieces<'a> {
     text: &'a [u8],
@@ -68,7 +70,7 @@ impl<'a> Read for Pieces<'a> {
     }
 }
 
-/// A reader of the text, one byte at a time.
+/// A reader that gives the text one byte at a time.
 fn by_bytes(text: &[u8]) -> Pieces<'_> {
     Pieces {
         text,
@@ -79,7 +81,7 @@ fn by_bytes(text: &[u8]) -> Pieces<'_> {
     }
 }
 
-/// A reader of `times` rows that are all the same.
+/// A reader that gives the same row `times` times.
 fn repeated(row: &[u8], times: u32) -> Pieces<'_> {
     Pieces {
         text: row,
@@ -90,7 +92,7 @@ fn repeated(row: &[u8], times: u32) -> Pieces<'_> {
     }
 }
 
-/// A reader of the text that fails at its end.
+/// A reader that gives the text, and then fails.
 fn failing(text: &[u8]) -> Pieces<'_> {
     Pieces {
         text,

@@ -1,5 +1,5 @@
-//! Tests of a publisher and its askers: what is published and refused, the journal and its faults,
-//! what askers learn and are answered on other threads, and refused memory.
+//! Tests of a publisher and its askers: which batches are published and refused, the journal and its
+//! faults, what askers learn and answer on other threads, and refused memory.
 #![tactic(auto)]
 
 #[cfg(test)]

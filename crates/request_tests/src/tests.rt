@@ -15,12 +15,12 @@ mod replies;
 use std::alloc::AllocError;
 use std::process::Abort;
 
-// Stops at a case that doesn't hold, with its name and its number.
+// Stops the test if the case doesn't hold, and prints its name and number.
 fn assert_case(rt: &impl Abort, name: &str, number: usize, holds: bool) {
     assert!(rt; holds, "{name} {number}");
 }
 
-// Whether the text is written, and is this one.
+// Whether memory was given for the text, and it is the wanted text.
 fn is_text(text: Result<String, AllocError>, wanted: &str) -> bool {
     match text {
         Ok(text) => text.as_str() == wanted,

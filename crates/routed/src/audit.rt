@@ -54,8 +54,8 @@ Status:
   3  out of memory, or a file or another device failed; the last line of standard error is
      routed: stopped, and with --explain the line before it says why";
 
-/// Checks the replies, and writes each fault on standard output. All files are opened before a row is
-/// read.
+/// Checks the replies, and writes each fault on standard output. All files are opened before the first
+/// row is read.
 pub(crate) fn judge(call: &Call<'_, '_>, out: &mut Output<'_>) -> Ran {
     let mut journal = opened(call, JOURNAL)?;
     let mut requests = opened(call, REQUESTS)?;

@@ -48,8 +48,8 @@ Status:
   3  out of memory, or a file or another device failed; the last line of standard error is
      routed: stopped, and with --explain the line before it says why";
 
-/// Applies the batches and answers the requests on standard output. The files are opened before a row
-/// is read.
+/// Applies the batches and answers the requests on standard output. The files are opened before the
+/// first row is read.
 pub(crate) fn answer<T: Threads + Wait + Sync>(
     call: &Call<'_, '_>,
     handle: &T,

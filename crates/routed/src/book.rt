@@ -1,4 +1,5 @@
-//! `routed book` answers the rows of standard input over a book of placements, each line when it is known.
+//! `routed book` places requests of standard input, and counts the bandwidth that they hold. Each line
+//! is written as soon as it is known.
 
 use crate::devices::{INPUT, OUTPUT, created, flushed, held_places};
 use crate::noted::Noted;
@@ -64,7 +65,8 @@ Status:
 /// to a new file. Lines that were written before a fault stay written.
 pub(crate) fn answer(call: &Call<'_, '_>) -> Ran {
     if call.gives(KEEP) {
-        // The new file isn't taken for a standard stream that is closed.
+        // The closed standard streams are held by other files, so the new file isn't taken for one of
+        // them.
         let _held = held_places(call.rt);
         let mut keep = created(call, KEEP)?;
         let ran = answer_rows(call.rt, &mut keep);
@@ -74,7 +76,7 @@ pub(crate) fn answer(call: &Call<'_, '_>) -> Ran {
     }
 }
 
-/// Answers the rows of standard input, and writes those that are accepted.
+/// Answers the rows of standard input. The accepted rows are written to `keep`.
 fn answer_rows<K: Write>(rt: &HostRuntime, keep: &mut Noted<K>) -> Ran {
     let mut reader = Noted::new(INPUT, rt.reader());
     let mut out = Noted::new(OUTPUT, io::writer(rt));

@@ -1,5 +1,5 @@
-//! A client's rows with bounds: no line is too long, and none has a quotation mark, after which no line
-//! feed would end a row.
+//! Reads a client's rows within bounds: no line is too long, and none has a quotation mark. After a
+//! quotation mark a line feed wouldn't end the row.
 ghost use Rattle.std.specs.Prelude.{◌≤◌, length};
 
 use std::alloc::{AllocError, Global};
@@ -11,12 +11,12 @@ use std::{fmt, io};
 /// The most bytes of a line, without the line feed or the carriage return that ends it.
 const MOST_LINE_BYTES: usize = 1_048_576;
 
-/// Why a client's rows are read no further.
+/// Why no more of a client's rows are read.
 #[derive(Clone, Copy)]
 pub enum Unfit {
     /// A line has more than `MOST_LINE_BYTES` bytes.
     Line,
-    /// There is a quotation mark.
+    /// A row has a quotation mark.
     Quote,
 }
 
@@ -29,16 +29,16 @@ impl fmt::Display for Unfit {
     }
 }
 
-/// Why a reader stopped, if it did. The thread that reads sets it, and another one reads it.
+/// Why a reader stopped, if it did. The thread that reads sets the cause, and another thread reads it.
 pub type Cause = Arc<AtomicU8, Global>;
 
-/// No cause.
+/// The reader didn't stop.
 const NO_CAUSE: u8 = 0;
 
-/// That of a line which is too long.
+/// The reader stopped at a line that is too long.
 const LINE: u8 = 1;
 
-/// That of a quotation mark.
+/// The reader stopped at a quotation mark.
 const QUOTE: u8 = 2;
 
 /// Why a reader stopped, if it did.
@@ -50,18 +50,18 @@ pub(crate) fn unfit_of(cause: &Cause) -> Option<Unfit> {
     }
 }
 
-/// A reader of rows that fails before a quotation mark or a byte too many of a line. It passes on what
-/// comes before.
+/// A reader that passes the bytes of rows on. Its reads fail at a quotation mark, and at the byte that
+/// makes a line too long.
 #[derive(Drop)]
 pub struct Bounded<R> {
     rows: R,
-    /// How many bytes of the last line have been passed on.
+    /// How many bytes of the last line were passed on.
     length: usize,
     cause: Cause,
 }
 
 impl<R: Drop> Bounded<R> {
-    /// Nothing has been read yet. The cause is for whoever asks why the rows end.
+    /// A reader that has read nothing yet, and the cause at which another thread sees why the rows end.
     pub(crate) fn new(alloc: Global, rows: R) -> Result<(Bounded<R>, Cause), AllocError> {
         let cause = Arc::new(alloc, AtomicU8::new(NO_CAUSE))?;
         let bounded = Bounded {
@@ -74,7 +74,8 @@ impl<R: Drop> Bounded<R> {
 }
 
 impl<R> Bounded<R> {
-    /// Counts a byte and passes it on, or answers why it doesn't.
+    /// Counts a byte that may be passed on, and returns `NO_CAUSE`. Otherwise it returns why the byte
+    /// isn't passed on.
     fn take(&mut self, byte: u8) -> u8 {
         match byte {
             b'"' => return QUOTE,
@@ -85,7 +86,7 @@ impl<R> Bounded<R> {
         NO_CAUSE
     }
 
-    /// How many of these bytes are passed on.
+    /// How many of these bytes may be passed on.
     fn take_all(&mut self, bytes: &[u8]) -> usize
         ensures { result ≤ length bytes.now }
     {

@@ -1,5 +1,5 @@
-//! The files of the clients of `serve`: their names, what is refused before any is opened, and how
-//! they are opened.
+//! The files of the clients of `serve`: their names, which files are refused before any file is opened,
+//! and how they are opened.
 ghost use Rattle.std.specs.Prelude.{◌≡◌, ◌<◌, ◌≤◌, length, IfOk, vec_len};
 
 use crate::bounded::{Bounded, Cause};
@@ -23,14 +23,14 @@ const REPLIES: &str = "a client's replies";
 /// The files of a client.
 #[derive(Clone, Copy)]
 pub struct ClientNames<'a> {
-    /// The path of the file of its requests.
+    /// The path of the file of the client's requests.
     pub requests: &'a str,
-    /// The path of the file of its replies.
+    /// The path of the file of the client's replies.
     pub replies: &'a str,
 }
 
 impl<'a> ClientNames<'a> {
-    /// The files that a word `IN=OUT` names. Where it doesn't, both names are empty.
+    /// The files that an argument `IN=OUT` names. Both names are empty if the argument has no `=`.
     pub(crate) fn read(word: &'a str) -> ClientNames<'a> {
         match word.split_once('=') {
             Some((requests, replies)) => ClientNames { requests, replies },
@@ -42,8 +42,8 @@ impl<'a> ClientNames<'a> {
     }
 }
 
-/// Refuses no clients, too many, and files that can't be used. Nothing is opened, so that a refusal
-/// leaves all files as they are.
+/// Refuses a call without clients, with more than `MOST_ASKERS` clients, or with files that can't be
+/// used. It opens no file, so a refusal leaves all files as they are.
 pub(crate) fn check_clients(call: &Call<'_, '_>, words: &[&str]) -> Result<(), Stopped>
     ensures { IfOk result (λ _. (0 < length words.now) × (length words.now ≤ MOST_ASKERS)) }
 {
@@ -56,7 +56,7 @@ pub(crate) fn check_clients(call: &Call<'_, '_>, words: &[&str]) -> Result<(), S
     check_empty(call.rt, words)
 }
 
-/// Refuses a client without two names.
+/// Refuses a client whose argument doesn't give two names.
 fn check_names(rt: &HostRuntime, words: &[&str]) -> Result<(), Stopped> {
     for word in words {
         let names = ClientNames::read(word);
@@ -68,7 +68,7 @@ fn check_names(rt: &HostRuntime, words: &[&str]) -> Result<(), Stopped> {
     Ok(())
 }
 
-/// Refuses two names of one file, of which one is written.
+/// Refuses two names that lead to one file, if the run writes to that file.
 fn check_shared(call: &Call<'_, '_>, words: &[&str]) -> Result<(), Stopped> {
     let mut all = Vec::new(call.rt.alloc());
     add(call.rt, &mut all, call.value(JOURNAL), true)?;
@@ -78,7 +78,7 @@ fn check_shared(call: &Call<'_, '_>, words: &[&str]) -> Result<(), Stopped> {
     Ok(())
 }
 
-/// Adds the files of a client to those that a run names.
+/// Adds the two files of a client to the files that a run names.
 fn add_client<'a>(
     rt: &HostRuntime,
     all: &mut Vec<Named<'a>>,
@@ -88,7 +88,7 @@ fn add_client<'a>(
     add(rt, all, names.replies, true)
 }
 
-/// Adds a file, unless an earlier one shares it.
+/// Adds a file, or refuses it if an earlier name leads to the same file.
 fn add<'a>(
     rt: &HostRuntime,
     all: &mut Vec<Named<'a>>,
@@ -110,7 +110,7 @@ fn add<'a>(
     }
 }
 
-/// Refuses a file of replies that has bytes, which the replies would write over.
+/// Refuses a file of replies that has bytes already, since the replies would overwrite them.
 fn check_empty(rt: &HostRuntime, words: &[&str]) -> Result<(), Stopped> {
     for word in words {
         let path = ClientNames::read(word).replies;
@@ -122,8 +122,8 @@ fn check_empty(rt: &HostRuntime, words: &[&str]) -> Result<(), Stopped> {
     Ok(())
 }
 
-/// Where a file is: its device and inode, or those of its folder and its name there while it isn't
-/// there.
+/// Where a file is: its device and inode. If the file doesn't exist yet, these are the device and inode
+/// of its folder, and `new` is the file's name there.
 #[derive(Clone, Copy)]
 struct Place<'a> {
     device: u64,
@@ -132,7 +132,7 @@ struct Place<'a> {
 }
 
 impl<'a> Place<'a> {
-    /// Where the file of this name is, if the system says.
+    /// The place of an existing file, if the system gives it.
     fn read(rt: &HostRuntime, path: &str, new: Option<&'a str>) -> Option<Place<'a>> {
         match fs::metadata(rt, path) {
             Ok(found) => Some(Place {
@@ -144,13 +144,13 @@ impl<'a> Place<'a> {
         }
     }
 
-    /// Whether both are one.
+    /// Whether both places are the same.
     fn is(self, other: Place<'_>) -> bool {
         self.device == other.device && self.inode == other.inode && self.new == other.new
     }
 }
 
-/// Where the file of this name is, if the system says.
+/// Where the file of this name is, or will be made, if the system gives it.
 fn place_of<'a>(rt: &HostRuntime, path: &'a str) -> Option<Place<'a>> {
     let found = Place::read(rt, path, None);
     if found.is_some() {
@@ -160,7 +160,7 @@ fn place_of<'a>(rt: &HostRuntime, path: &'a str) -> Option<Place<'a>> {
     Place::read(rt, folder, Some(name))
 }
 
-/// The folder of a file, and its name there.
+/// The folder of a file, and the file's name in it.
 fn folder_of(path: &str) -> (&str, &str) {
     match path.rsplit_once('/') {
         Some(("", name)) => ("/", name),
@@ -178,7 +178,7 @@ struct Named<'a> {
 }
 
 impl<'a> Named<'a> {
-    /// Whether both are one name, or one file of which one is written.
+    /// Whether both files have the same name, or both names lead to one file that the run writes.
     fn is_shared(&self, other: &Named<'a>) -> bool {
         if self.path == other.path {
             return true;
@@ -191,7 +191,7 @@ impl<'a> Named<'a> {
         }
     }
 
-    /// Whether one of these is it.
+    /// Whether some file of the list is shared with this one.
     fn is_among(&self, others: &[Named<'a>]) -> bool {
         for other in others {
             if self.is_shared(other) {
@@ -202,7 +202,7 @@ impl<'a> Named<'a> {
     }
 }
 
-/// Whether this is a plain file with bytes.
+/// Whether this path is a plain file with bytes.
 fn has_bytes(rt: &HostRuntime, path: &str) -> bool {
     match fs::metadata(rt, path) {
         Ok(found) => found.is_file() && found.len() > 0,
@@ -210,11 +210,12 @@ fn has_bytes(rt: &HostRuntime, path: &str) -> bool {
     }
 }
 
-/// A file of replies. It is closed once they have ended, so that a pipe's reader sees its end.
+/// A file of replies. The file is closed once the client has ended, so that a pipe's reader sees the
+/// end of the file.
 #[derive(Drop)]
 pub struct Closing {
     file: Option<File>,
-    /// Why the client's requests were read no further.
+    /// Why no more of the client's requests were read.
     pub cause: Cause,
 }
 
@@ -244,10 +245,10 @@ impl Replies for Closing {
     }
 }
 
-/// What `serve` takes of a client: its files, opened.
+/// What `serve` takes of a client: its two opened files.
 pub type OpenClient = Client<Bounded<File>, Closing>;
 
-/// A file of a client, if it could be opened. With `--explain` it says why not.
+/// The opened file of a client, or an error. With `--explain` the error is written first.
 fn opened(
     call: &Call<'_, '_>,
     word: &'static str,
@@ -270,7 +271,7 @@ fn opened(
     }
 }
 
-/// The files of a client, opened: that of its requests first.
+/// Opens the files of a client, the file of requests first.
 fn open_client(call: &Call<'_, '_>, names: ClientNames<'_>) -> Result<OpenClient, Stopped> {
     let made = File::open(call.rt, names.requests);
     let file = opened(call, REQUESTS, names.requests, made)?;
@@ -289,7 +290,7 @@ fn open_client(call: &Call<'_, '_>, names: ClientNames<'_>) -> Result<OpenClient
     }
 }
 
-/// The files of all clients, opened one after the other.
+/// Opens the files of all clients, one client after the other.
 pub(crate) fn open_clients(call: &Call<'_, '_>, words: &[&str]) -> Result<Vec<OpenClient>, Stopped>
     ensures { IfOk result (λ clients. vec_len clients ≡ length words.now) }
 {

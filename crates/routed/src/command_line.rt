@@ -1,4 +1,4 @@
-//! The command line: which command it names, and how that is run.
+//! The command line: which command it names, and how that command is run.
 
 use crate::devices::{finish, held_places, output};
 use crate::ends::end;
@@ -17,7 +17,8 @@ const VERSION: &str = "0.9.0";
 /// What help says of the program.
 const ABOUT: &str = "A path computation server over a traffic engineering database";
 
-/// The commands, in the order of help. No other function names their texts, which are dear to prove.
+/// The commands, in the order of help. No other function names their texts, since a proof over these
+/// texts takes long.
 fn texts() -> &'static [CommandText] {
     &[
         solve::COMMAND,
@@ -53,7 +54,7 @@ pub(crate) fn parse<'a>(alloc: Global, words: &'a [String]) -> Result<ArgMatches
     program(alloc)?.try_get_matches_from(words)
 }
 
-/// Does what a command line that was accepted asks for, and returns the status.
+/// Runs the command of an accepted command line, and returns the status.
 pub(crate) fn obey<'m, T: Threads + Wait + Sync>(
     rt: &'m HostRuntime,
     handle: &T,
@@ -77,7 +78,8 @@ fn run<T: Threads + Wait + Sync>(call: &Call<'_, '_>, handle: &T, text: &Command
         Asked::Book => book::answer(call),
         Asked::Serve => serve::answer(call, handle),
         Asked::Live => {
-            // The new journal isn't taken for a standard stream that is closed.
+            // The closed standard streams are held by other files, so the new journal isn't taken for
+            // one of them.
             let _held = held_places(call.rt);
             run_buffered(call, handle, Asked::Live)
         }
@@ -86,7 +88,7 @@ fn run<T: Threads + Wait + Sync>(call: &Call<'_, '_>, handle: &T, text: &Command
     end(call, ran, text.options)
 }
 
-/// Runs a command whose lines are written when they fill a buffer.
+/// Runs a command whose output is buffered.
 fn run_buffered<T: Threads + Wait + Sync>(call: &Call<'_, '_>, handle: &T, asked: Asked) -> Ran {
     let mut out = output(call.rt)?;
     let ran = match asked {

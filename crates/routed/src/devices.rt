@@ -14,13 +14,13 @@ pub const INPUT: &str = "standard input";
 /// Standard output, as `--explain` names it.
 pub const OUTPUT: &str = "standard output";
 
-/// What reads as nothing.
+/// A device whose reader finds no bytes.
 const NOTHING: &str = "/dev/null";
 
 /// Standard output with a buffer.
 pub type Output<'r> = Noted<BufWriter<Printer<'r, HostRuntime>>>;
 
-/// A file that is made.
+/// A file that the run makes.
 pub type NewFile = Noted<Limited<File>>;
 
 /// Standard output with a buffer.
@@ -31,13 +31,13 @@ pub(crate) fn output<'r>(rt: &'r HostRuntime) -> Result<Output<'r>, Stopped> {
     }
 }
 
-/// A file that reads as nothing, if it can be had.
+/// An open file without bytes, if the system gives one.
 fn held_place(rt: &HostRuntime) -> Option<File> {
     File::open(rt, NOTHING).ok()
 }
 
-/// Three files that take the places of standard streams which are closed. So no file that is opened
-/// later is taken for one of these.
+/// Three files that take the descriptors of closed standard streams. A file that is opened later then
+/// gets another descriptor, so it isn't taken for a standard stream.
 #[derive(Drop)]
 pub(crate) struct HeldPlaces {
     _input: Option<File>,
@@ -54,7 +54,7 @@ pub(crate) fn held_places(rt: &HostRuntime) -> HeldPlaces {
     }
 }
 
-/// The file that an option gives, to read.
+/// Opens the file that an option gives for reading.
 pub(crate) fn opened(call: &Call<'_, '_>, option: &'static str) -> Result<Noted<File>, Stopped> {
     match File::open(call.rt, call.value(option)) {
         Ok(file) => Ok(Noted::new(option, file)),
@@ -62,7 +62,7 @@ pub(crate) fn opened(call: &Call<'_, '_>, option: &'static str) -> Result<Noted<
     }
 }
 
-/// The file that an option gives, to write. It isn't there yet.
+/// Makes the file that an option gives, for writing. The file must not exist yet.
 pub(crate) fn created(call: &Call<'_, '_>, option: &'static str) -> Result<NewFile, Stopped> {
     let made = OpenOptions::new()
         .write(true)
@@ -74,7 +74,8 @@ pub(crate) fn created(call: &Call<'_, '_>, option: &'static str) -> Result<NewFi
     }
 }
 
-/// What a run answers once a writer is flushed. An error of the writer comes before one of the run.
+/// Flushes a writer, and returns what the run answered. If the flush fails, its error takes the place
+/// of the run's error.
 pub(crate) fn flushed<W: Write>(writer: &mut Noted<W>, ran: Ran) -> Ran {
     match writer.flush() {
         Ok(()) => ran,
@@ -82,8 +83,8 @@ pub(crate) fn flushed<W: Write>(writer: &mut Noted<W>, ran: Ran) -> Ran {
     }
 }
 
-/// What a run answers once standard output is flushed. Where it stops for a device that hasn't been
-/// named, that is standard output.
+/// Flushes standard output, and returns what the run answered. If the run stopped for a device without
+/// a name, that device is standard output.
 pub(crate) fn finish(out: &mut Output<'_>, ran: Ran) -> Ran {
     match flushed(out, ran) {
         Ok(status) => Ok(status),

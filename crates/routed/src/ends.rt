@@ -1,4 +1,4 @@
-//! How a run ends: its status, and what is said of it on standard error.
+//! How a run ends: its status, and its lines on standard error.
 
 use crate::options::{Call, CommandOption, EXPLAIN};
 use crate::refused_rows::explain_rows;
@@ -6,29 +6,29 @@ use crate::statuses::{STOPPED, UNFIT};
 use crate::stopped::{Ran, Stopped};
 use std::fmt;
 
-/// Says something.
+/// Writes a line on standard error.
 pub(crate) fn say<W: fmt::Display>(rt: &HostRuntime, what: &W) {
     let _ = eprintln!(rt; "routed: {what}");
 }
 
-/// Says something of what has this name.
+/// Writes a line about the device or file with this name.
 pub(crate) fn say_of<W: fmt::Display>(rt: &HostRuntime, name: &str, what: &W) {
     let _ = eprintln!(rt; "routed: {name}: {what}");
 }
 
-/// Says something of a file: the option that gives it or what it is for, and its path.
+/// Writes a line about a file: its option or its use, and its path.
 pub(crate) fn say_at<W: fmt::Display>(rt: &HostRuntime, word: &str, path: &str, what: &W) {
     let _ = eprintln!(rt; "routed: {word} {path}: {what}");
 }
 
-/// Says that a run stops, and answers its status.
+/// Writes that the run stops, and returns the status.
 pub(crate) fn stop(rt: &HostRuntime) -> u8 {
     let _ = eprintln!(rt; "routed: stopped");
     STOPPED
 }
 
-/// The status of a run. With `--explain` it says why the run stopped, or which row its files are
-/// refused for. These are the command's options.
+/// Returns the status of a run. With `--explain` it first writes why the run stopped, or which row of
+/// its files is refused. `options` are the command's options.
 pub(crate) fn end(call: &Call<'_, '_>, ran: Ran, options: &[CommandOption]) -> u8 {
     let explain = call.has(EXPLAIN);
     match ran {
@@ -48,7 +48,7 @@ pub(crate) fn end(call: &Call<'_, '_>, ran: Ran, options: &[CommandOption]) -> u
     }
 }
 
-/// Says why a run stopped.
+/// Writes why a run stopped.
 fn explain_stop(call: &Call<'_, '_>, why: Stopped) {
     let rt = call.rt;
     match why {

@@ -1,16 +1,17 @@
-//! A new file that stops at the process's limit of a file's size, as a full device does.
+//! A new file whose writes fail at the process's limit of file size, as on a full device.
 ghost use Rattle.std.specs.Prelude.{◌≡◌};
 
 use std::io::{ErrorKind, Write};
 use std::{fs, io};
 
-/// Where the system has the limits of a process (proc(5)).
+/// The file in which the system lists the limits of a process (proc(5)).
 const LIMITS: &str = "/proc/self/limits";
 
-/// What begins the line of a file's size. The limit in force follows, in bytes or `unlimited`.
+/// The text that begins the line of the limit of file size. After it comes the limit in force, in bytes
+/// or `unlimited`.
 const FILE_SIZE: &str = "Max file size";
 
-/// The most bytes that a file of this process may have, if the system says.
+/// The most bytes that a file of this process may have, if the system gives that limit.
 fn most_bytes(rt: &HostRuntime) -> Option<u64> {
     match fs::read_to_string(rt, LIMITS) {
         Ok(limits) => limit_in(limits.as_str()),
@@ -18,7 +19,7 @@ fn most_bytes(rt: &HostRuntime) -> Option<u64> {
     }
 }
 
-/// The limit that the lines of a process's limits say.
+/// The limit of file size in the text of a process's limits.
 fn limit_in(limits: &str) -> Option<u64> {
     for line in limits.lines() {
         if let Some(limit) = line.strip_prefix(FILE_SIZE) {
@@ -28,13 +29,13 @@ fn limit_in(limits: &str) -> Option<u64> {
     None
 }
 
-/// The number that a text begins with, after spaces.
+/// The first number of a text, after spaces.
 fn first_number(text: &str) -> Option<u64> {
     text.split_whitespace().next()?.parse().ok()
 }
 
-/// A writer to a new file. A write that begins at the limit of a file's size is an error, where the
-/// system's own ends the process by a signal.
+/// A writer to a new file. A write at the limit of file size returns an error. Without this writer, the
+/// system would end the process by a signal.
 #[derive(Drop)]
 pub struct Limited<W> {
     file: W,
@@ -42,7 +43,7 @@ pub struct Limited<W> {
 }
 
 impl<W> Limited<W> {
-    /// Nothing has been written to the file.
+    /// The writer of a file to which nothing has been written.
     pub(crate) fn new(rt: &HostRuntime, file: W) -> Limited<W>
         ensures { result.file ≡ file }
     {

@@ -54,8 +54,8 @@ Status:
   3  out of memory, a file or another device failed, or the journal exists already; the last line of
      standard error is routed: stopped, and with --explain the line before it says why";
 
-/// Applies the batches and answers the requests on standard output. The files are opened before a row
-/// is read, the journal last. A journal that is there already is left as it is.
+/// Applies the batches and answers the requests on standard output. The files are opened before the
+/// first row is read, the journal last. A journal that exists already is left as it is.
 pub(crate) fn answer<T: Threads + Wait + Sync>(
     call: &Call<'_, '_>,
     handle: &T,
@@ -75,7 +75,7 @@ pub(crate) fn answer<T: Threads + Wait + Sync>(
         &NoGate,
         call.run_options(),
     );
-    // A write to the journal that fails refuses a batch, and stops nothing.
+    // A failed write to the journal refuses a batch, and the run goes on.
     flushed(
         &mut journal,
         ended(ran, updates.fault().or(requests.fault())),

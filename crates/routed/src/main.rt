@@ -1,9 +1,9 @@
-//! `routed` answers route requests over a traffic engineering database. `command_line.rt` reads
-//! which of the seven commands is meant: `solve`, `batch`, `live`, `serve`, `snapshot`, `audit` or
-//! `book`. Each has its file.
+//! `routed` answers route requests over a traffic engineering database. `command_line.rt` reads which
+//! of the seven commands is meant: `solve`, `batch`, `live`, `serve`, `snapshot`, `audit` or `book`.
+//! Each command has a file with its name.
 //!
-//! The status is 0, or 2 where anything was refused or a fault was found. It is 1 where the command
-//! line was refused, and 3 where memory was refused or a device failed.
+//! The status is 0 if nothing was refused, 1 if the command line was refused, and 2 if anything else
+//! was refused or a fault was found. The status is 3 if memory was refused or a device failed.
 #![tactic(auto)]
 
 mod audit;
@@ -35,8 +35,8 @@ use std::sync::Wait;
 use std::thread::Threads;
 use std::{env, io};
 
-/// Does what the words of the command line ask for. Where standard error is closed, nobody sees why
-/// they are refused.
+/// Runs the command that the arguments name. If standard error is closed, nobody sees why the arguments
+/// are refused.
 fn run<T: Threads + Wait + Sync>(rt: &HostRuntime, handle: &T, words: &[String]) -> u8 {
     match parse(rt.alloc(), words) {
         Ok(found) => obey(rt, handle, &found),
@@ -48,7 +48,7 @@ fn run<T: Threads + Wait + Sync>(rt: &HostRuntime, handle: &T, words: &[String])
     }
 }
 
-/// Reads the command line and does what it asks for.
+/// Reads the command line and runs its command.
 fn start<T: Threads + Wait + Sync>(rt: &HostRuntime, handle: &T) -> u8 {
     match env::args(rt) {
         Ok(args) => {

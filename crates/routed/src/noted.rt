@@ -1,4 +1,4 @@
-//! A device that fails is remembered, so that it can be named.
+//! Remembers which call on a device failed, so that `--explain` can name the device.
 ghost use Rattle.std.specs.Prelude.{◌≡◌};
 
 use std::io::{Read, Write};
@@ -7,9 +7,9 @@ use std::{fmt, io};
 /// A call on a file or a stream that failed.
 #[derive(Clone, Copy)]
 pub struct Fault {
-    /// What the device is called: the option that gives a file, or what a stream is.
+    /// The device's name: the option that gives a file, or the name of a standard stream.
     pub device: &'static str,
-    /// The call: `open`, `read`, `write` or `flush`.
+    /// The call that failed: `open`, `read`, `write` or `flush`.
     pub action: &'static str,
     pub error: io::Error,
 }
@@ -20,7 +20,8 @@ impl fmt::Display for Fault {
     }
 }
 
-/// A reader or a writer that notes the last call that failed. Bytes and errors pass as they are.
+/// A reader or a writer that notes the last call that failed. The bytes and the errors of a call are
+/// passed on unchanged.
 #[derive(Drop)]
 pub struct Noted<D> {
     name: &'static str,
@@ -29,7 +30,7 @@ pub struct Noted<D> {
 }
 
 impl<D> Noted<D> {
-    /// No call on this device has failed yet.
+    /// A device on which no call has failed yet.
     pub(crate) fn new(name: &'static str, device: D) -> Noted<D>
         ensures { result.device ≡ device }
     {
@@ -40,17 +41,17 @@ impl<D> Noted<D> {
         }
     }
 
-    /// What the device is called.
+    /// The device's name.
     pub(crate) fn name(&self) -> &'static str {
         self.name
     }
 
-    /// The last call that failed.
+    /// The last call that failed, if any.
     pub(crate) fn fault(&self) -> Option<Fault> {
         self.fault
     }
 
-    /// Notes a call that failed, and passes its answer on.
+    /// Notes the call if it failed, and returns its answer unchanged.
     fn note<T>(&mut self, action: &'static str, answer: io::Result<T>) -> io::Result<T>
         ensures device { self.new.device ≡ self.old.device }
         ensures answer { result ≡ answer }

@@ -6,7 +6,7 @@ use clap::{Arg, ArgAction, ArgMatches, Command, value_parser};
 use cspf_serve::{MOST_ASKERS, MOST_TREE_MEGABYTES, RunOptions, TREE_MEGABYTES, trees_in};
 use std::alloc::{AllocError, Global};
 
-/// The option that names the file of batches, which `live` and `serve` make.
+/// The option that names the journal. `live` and `serve` make that file.
 pub const JOURNAL: &str = "journal";
 
 /// The option that names the file of requests.
@@ -21,27 +21,27 @@ pub const REPLIES: &str = "replies";
 /// The option that names the file of the rows that `book` accepts.
 pub const KEEP: &str = "keep";
 
-/// The flag that leaves out the rows after the last whole batch.
+/// The flag to skip the rows after the last whole batch.
 pub const ACCEPT_TORN: &str = "accept-torn";
 
-/// The flag that has a run that stops say why.
+/// The flag to say why a run stops.
 pub const EXPLAIN: &str = "explain";
 
 /// The option that names the two files of a client.
 pub const CLIENT: &str = "client";
 
-/// The option that says how many workers answer.
+/// The option that gives the number of workers.
 const WORKERS: &str = "workers";
 
-/// The option that says how many megabytes the bounds of trees may take, 2^20 bytes each.
+/// The option that bounds the memory of trees, in megabytes of 2^20 bytes.
 const TREES: &str = "trees";
 
 /// An option of a command.
 #[derive(Clone, Copy)]
 pub enum CommandOption {
-    /// The journal that is read.
+    /// The journal to read.
     Journal,
-    /// The journal that is made.
+    /// The journal to make.
     NewJournal,
     /// The batches to apply.
     Updates,
@@ -49,22 +49,22 @@ pub enum CommandOption {
     Requests,
     /// The replies.
     Replies,
-    /// The file of accepted rows, which is made.
+    /// The file to make of the accepted rows.
     Keep,
     /// The two files of each client.
     Clients,
-    /// How many workers answer.
+    /// The number of workers.
     Workers,
-    /// How many megabytes the bounds of trees may take.
+    /// The most megabytes of memory that trees may take.
     Trees,
-    /// Whether the rows after the last whole batch of a journal are left out.
+    /// Whether to skip the rows after the last whole batch of a journal.
     AcceptTorn,
-    /// Whether a run that stops says why.
+    /// Whether to say why a run stops.
     Explain,
 }
 
 impl CommandOption {
-    /// Its name.
+    /// The option's name on the command line.
     pub(crate) fn name(self) -> &'static str {
         match self {
             CommandOption::Journal | CommandOption::NewJournal => JOURNAL,
@@ -80,7 +80,7 @@ impl CommandOption {
         }
     }
 
-    /// What help says of it.
+    /// The option's line of help.
     fn help(self) -> &'static str {
         match self {
             CommandOption::Journal => "The file of batches",
@@ -103,7 +103,7 @@ impl CommandOption {
         }
     }
 
-    /// Whether it gives a file of rows which may be refused.
+    /// Whether the option gives a file of rows that may be refused.
     pub(crate) fn has_rows(self) -> bool {
         matches!(
             self,
@@ -111,7 +111,7 @@ impl CommandOption {
         )
     }
 
-    /// The option as `clap` takes it.
+    /// The option in the form that `clap` takes.
     fn arg<'a>(self, alloc: Global) -> Arg<'a> {
         let arg = named(alloc, self.name(), self.help());
         match self {
@@ -125,24 +125,24 @@ impl CommandOption {
     }
 }
 
-/// An option by its name, and what help says of it.
+/// An option with this name and this line of help.
 fn named<'a>(alloc: Global, name: &'static str, help: &'static str) -> Arg<'a> {
     Arg::new(alloc, name).long(name).help(help)
 }
 
-/// The option with a value that is required, which help calls so.
+/// Makes the option required, and names its value in help.
 fn required<'a>(arg: Arg<'a>, value: &'static str) -> Arg<'a> {
     arg.value_name(value).required(true)
 }
 
-/// The option with a number of workers.
+/// The option that takes a number of workers.
 fn workers<'a>(arg: Arg<'a>) -> Arg<'a> {
     arg.value_name("N")
         .value_parser(value_parser!(u8).range(1..=MOST_ASKERS as i64))
         .default_value("1")
 }
 
-/// The option with a number of megabytes.
+/// The option that takes a number of megabytes.
 fn trees<'a>(arg: Arg<'a>) -> Arg<'a> {
     arg.value_name("MB")
         .value_parser(value_parser!(u16).range(0..=MOST_TREE_MEGABYTES as i64))
@@ -161,7 +161,7 @@ pub enum Asked {
     Book,
 }
 
-/// What help says of a command, and its options.
+/// A command's texts of help, and its options.
 #[derive(Clone, Copy)]
 pub struct CommandText {
     pub asked: Asked,
@@ -172,7 +172,7 @@ pub struct CommandText {
 }
 
 impl CommandText {
-    /// The command as `clap` takes it.
+    /// The command in the form that `clap` takes.
     pub(crate) fn command<'a>(&self, alloc: Global) -> Result<Command<'a>, AllocError> {
         let mut command = Command::new(alloc, self.name)
             .about(self.about)
@@ -184,7 +184,7 @@ impl CommandText {
     }
 }
 
-/// A call of a command: the process, and the words after the command's.
+/// A call of a command: the process `rt`, and the arguments `words` after the command's name.
 #[derive(Clone, Copy)]
 pub struct Call<'m, 'a> {
     pub rt: &'m HostRuntime,
@@ -192,7 +192,8 @@ pub struct Call<'m, 'a> {
 }
 
 impl<'m, 'a> Call<'m, 'a> {
-    /// The value of an option. `clap` refuses a command line that lacks one, and none is read as empty.
+    /// The value of an option, or an empty text if the option isn't given. `clap` refuses a command
+    /// line without a required option.
     pub(crate) fn value(&self, option: &str) -> &'a str {
         self.words.get_str(option).unwrap_or("")
     }
@@ -207,7 +208,7 @@ impl<'m, 'a> Call<'m, 'a> {
         self.words.get_flag(flag)
     }
 
-    /// How many workers answer. `clap` refuses a number outside these bounds itself.
+    /// How many workers answer. `clap` itself refuses a number outside these bounds.
     pub(crate) fn workers(&self) -> usize
         ensures { (0 < result) × (result ≤ MOST_ASKERS) }
     {
@@ -215,12 +216,12 @@ impl<'m, 'a> Call<'m, 'a> {
         count.clamp(1, MOST_ASKERS)
     }
 
-    /// How many trees there may be in the run.
+    /// How many trees the run may keep.
     pub(crate) fn trees(&self) -> usize {
         trees_in(self.words.get_one::<u16>(TREES).unwrap_or(TREE_MEGABYTES))
     }
 
-    /// What the run may keep.
+    /// The options of the run: how many trees it may keep.
     pub(crate) fn run_options(&self) -> RunOptions {
         RunOptions {
             trees: self.trees(),

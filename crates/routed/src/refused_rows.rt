@@ -1,4 +1,4 @@
-//! Which row a file of rows is refused for, as `--explain` says it. The file is read once more for it.
+//! Finds the refused row of a file, for `--explain`. The file is read a second time.
 
 use crate::ends::say_at;
 use crate::options::{ACCEPT_TORN, Call, CommandOption, REQUESTS};
@@ -12,15 +12,15 @@ use std::{fmt, fs};
 /// Why a row is refused.
 #[derive(Clone, Copy)]
 enum Why {
-    /// It can't be read, or is of a kind that the file doesn't have.
+    /// The row can't be read, or this kind of file has no such row.
     Row(RowError),
-    /// It ends a batch by another number than the next.
+    /// The row ends a batch, but not by the next number.
     Number { expected: u32 },
-    /// It ends a batch by another count than that of the changes.
+    /// The row ends a batch, but its count isn't the number of the batch's changes.
     Count { counted: u32 },
-    /// It is the last row, and no `end` row takes this many changes.
+    /// The row is the last row, and no `end` row follows this many changes.
     Unended { changes: u32 },
-    /// It follows the last row that a file may have.
+    /// The file already has the most rows that a file may have.
     TooMany,
 }
 
@@ -36,7 +36,7 @@ impl fmt::Display for Why {
     }
 }
 
-/// A row that is refused, by its number from 1 on.
+/// A refused row. Rows are numbered from 1.
 #[derive(Clone, Copy)]
 pub struct RefusedRow {
     row: u32,
@@ -49,7 +49,7 @@ impl fmt::Display for RefusedRow {
     }
 }
 
-/// How far the rows of a file have come: a journal, or a file of requests.
+/// The state after some rows of a file, which is a journal or a file of requests.
 #[derive(Clone, Copy)]
 struct Progress {
     is_journal: bool,
@@ -60,7 +60,7 @@ struct Progress {
 }
 
 impl Progress {
-    /// Takes the next row, unless one is refused.
+    /// Checks the next row, unless an earlier row is refused.
     fn take(&mut self, row: u32, fields: &ByteRecord) {
         if self.refused.is_none() {
             if let Some(why) = self.refusal(Row::read(fields)) {
@@ -69,7 +69,7 @@ impl Progress {
         }
     }
 
-    /// Takes a row, or says why it is refused.
+    /// Counts a row, or returns why the row is refused.
     fn refusal(&mut self, read: Result<Row, RowError>) -> Option<Why> {
         match read {
             Err(error) => Some(Why::Row(error)),
@@ -83,7 +83,7 @@ impl Progress {
         }
     }
 
-    /// Takes the end of a batch.
+    /// Counts a batch at its end row, or returns why that row is refused.
     fn end(&mut self, number: u32, count: u32) -> Option<Why> {
         let expected = self.batches.saturating_add(1);
         if number != expected {
@@ -99,7 +99,8 @@ impl Progress {
         None
     }
 
-    /// The row that is refused where this is the last one: changes may be left.
+    /// The refused row of a file that ends with row `row`, if any. That last row is refused if changes
+    /// are left without an `end` row.
     fn last(&self, row: u32) -> Option<RefusedRow> {
         if self.refused.is_some() || self.changes == 0 {
             return self.refused;
@@ -113,20 +114,20 @@ impl Progress {
     }
 }
 
-/// Whether there is a next row, if it can be read.
+/// Whether there is a next row. The result is `None` if the row can't be read.
 fn is_next<R: Read>(rows: &mut Reader<R>, fields: &mut ByteRecord) -> Option<bool> {
     rows.read_byte_record(fields).ok()
 }
 
-/// The row that a file is refused for: a journal, or a file of requests. None where it can't be read to
-/// its end.
+/// The refused row of a file, which is a journal or a file of requests. The result is `None` if no row
+/// is refused, or if the file can't be read to its end.
 fn refused_row<R: Read + Drop>(alloc: Global, file: R, is_journal: bool) -> Option<RefusedRow> {
     let mut rows = open_records(alloc, file);
     let mut fields = ByteRecord::new(alloc);
     refused_of(&mut rows, &mut fields, is_journal)
 }
 
-/// The row that these are refused for.
+/// The first of these rows that is refused, if any.
 fn refused_of<R: Read>(
     rows: &mut Reader<R>,
     fields: &mut ByteRecord,
@@ -143,7 +144,8 @@ fn refused_of<R: Read>(
             return progress.last(row - 1);
         }
         progress.take(row, fields);
-        // More rows of a journal are refused, whatever came before them.
+        // A journal is read on after a refused row: if it has too many rows, the row that is too many
+        // is the refused one.
         if !is_journal && progress.refused.is_some() {
             return progress.refused;
         }
@@ -157,7 +159,7 @@ fn refused_of<R: Read>(
     }
 }
 
-/// A file that can be read once more. What isn't a plain file can't.
+/// Opens a file a second time. Only a plain file can be read again.
 fn again(rt: &HostRuntime, path: &str) -> Option<File> {
     if !fs::metadata(rt, path).ok()?.is_file() {
         return None;
@@ -165,8 +167,8 @@ fn again(rt: &HostRuntime, path: &str) -> Option<File> {
     File::open(rt, path).ok()
 }
 
-/// Says which row the first of the files that are refused is refused for. Some of these options give
-/// files.
+/// Finds the first refused file of a run, and writes which of its rows is refused. The options are
+/// those of the command.
 pub(crate) fn explain_rows(call: &Call<'_, '_>, options: &[CommandOption]) {
     for option in options {
         if option.has_rows() && !is_accepted(call, option.name()) {
@@ -175,8 +177,8 @@ pub(crate) fn explain_rows(call: &Call<'_, '_>, options: &[CommandOption]) {
     }
 }
 
-/// Says which row the file that an option gives is refused for. Returns whether the next file may be
-/// refused.
+/// Writes which row of an option's file is refused, if any. Returns whether the next file is to be read
+/// as well.
 fn is_accepted(call: &Call<'_, '_>, option: &'static str) -> bool {
     let is_journal = option != REQUESTS;
     if is_journal && call.has(ACCEPT_TORN) {

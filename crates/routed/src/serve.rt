@@ -63,7 +63,7 @@ Status:
      error is routed: stopped, and with --explain the line before it says why
 With --explain a line says of each client that ended before its rows did why it ended.";
 
-/// Serves if the files can be used.
+/// Serves the clients if their files can be used.
 pub(crate) fn answer<T: Threads + Wait + Sync>(call: &Call<'_, '_>, handle: &T) -> Ran {
     let words = call.words.get_strs(CLIENT).unwrap_or(&[]);
     check_clients(call, words)?;
@@ -74,8 +74,8 @@ pub(crate) fn answer<T: Threads + Wait + Sync>(call: &Call<'_, '_>, handle: &T) 
     serve(call, handle, words)
 }
 
-/// Publishes the updates of standard input, each in the new journal first, and answers the clients
-/// meanwhile. The files are opened before a row is read, the journal last.
+/// Publishes the updates of standard input and answers the clients meanwhile. Each batch is written to
+/// the new journal first. All files are opened before the first row is read, the journal last.
 fn serve<T: Threads + Wait + Sync>(call: &Call<'_, '_>, handle: &T, words: &[&str]) -> Ran
     requires { (0 < length words.now) × (length words.now ≤ MOST_ASKERS) }
 {
@@ -85,8 +85,8 @@ fn serve<T: Threads + Wait + Sync>(call: &Call<'_, '_>, handle: &T, words: &[&st
     flushed(&mut journal, ran)
 }
 
-/// Runs over the updates and the clients. With `--explain` it says which clients ended before their
-/// rows did.
+/// Reads the updates and serves the clients. With `--explain` it writes which clients ended before
+/// their rows did.
 fn run<T: Threads + Wait + Sync>(
     call: &Call<'_, '_>,
     handle: &T,
@@ -130,7 +130,7 @@ fn run<T: Threads + Wait + Sync>(
     }
 }
 
-/// Says which clients ended before their rows did, and why.
+/// Writes which clients ended before their rows did, and why.
 fn explain_ends(rt: &HostRuntime, words: &[&str], clients: &[ServedClient<Closing>]) {
     for index in 0..words.len() {
         if let Some(client) = clients.get(index) {
@@ -139,8 +139,8 @@ fn explain_ends(rt: &HostRuntime, words: &[&str], clients: &[ServedClient<Closin
     }
 }
 
-/// Says why a client ended before its rows did, if it did: its rows aren't fit, or an error came. The
-/// file is said too, if it is of one.
+/// If a client ended before its rows did, writes why: its rows aren't fit, or there was an error. An
+/// error of a file is written with the file's name.
 fn explain_end(rt: &HostRuntime, number: usize, word: &str, client: &ServedClient<Closing>) {
     let Err(error) = client.end else {
         return;
@@ -160,7 +160,7 @@ fn explain_end(rt: &HostRuntime, number: usize, word: &str, client: &ServedClien
     }
 }
 
-/// Says at which of its files a client ended, and why.
+/// Writes why a client ended, with the name of the file at which it ended.
 fn say_end<W: fmt::Display>(rt: &HostRuntime, number: usize, path: &str, why: &W) {
     let _ = eprintln!(rt; "routed: client {number}: {path}: {why}");
 }

@@ -1,4 +1,5 @@
-//! `routed snapshot` writes a few batches that make the last database of a journal from an empty one.
+//! `routed snapshot` writes a few batches. From an empty database they make the database after the last
+//! batch of a journal.
 
 use crate::devices::{Output, opened};
 use crate::options::{ACCEPT_TORN, Asked, Call, CommandOption, CommandText, JOURNAL};

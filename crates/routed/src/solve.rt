@@ -1,4 +1,4 @@
-//! `routed solve` answers the rows of standard input, each line when it is known.
+//! `routed solve` answers the rows of standard input. Each line is written as soon as it is known.
 
 use crate::devices::{INPUT, OUTPUT, flushed};
 use crate::noted::Noted;
@@ -16,7 +16,7 @@ pub const COMMAND: CommandText = CommandText {
     options: &[CommandOption::Trees, CommandOption::Explain],
 };
 
-/// What help says below its options, and below those of the program.
+/// What help says below the options of `solve`, and below the options of the program.
 pub const HELP: &str = "\
 Rows of standard input, fields separated by commas:
   put,router,local,neighbor,remote,metric,group,u0,u1,u2,u3,u4,u5,u6,u7

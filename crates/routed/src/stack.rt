@@ -1,16 +1,17 @@
-//! The stack of a run with threads, which has to grow before they begin.
+//! The stack of a run with threads, which has to grow before the threads begin.
 
-/// How many bytes of the stack are used at once. A run of `serve` with 64 clients needs fewer.
+/// How many bytes of the stack are used at once. A run of `serve` with 64 clients needs fewer bytes.
 const STACK_BYTES: usize = 393_216;
 
-/// Whether all bytes have this value. It isn't inlined, so that they are on the stack.
+/// Whether all bytes have this value. The function isn't inlined, so that the bytes are on the stack.
 #[inline(never)]
 fn have_all(bytes: &[u8], value: u8) -> bool {
     bytes.iter().all(|byte| *byte == value)
 }
 
-/// Grows the stack, and returns whether it holds what was written there. Threads may take all of the
-/// address space that a limit leaves, and a stack that can't grow then ends the program by a signal.
+/// Grows the stack, and returns whether the stack holds the bytes that were written there. Threads may
+/// take all of the address space that a limit leaves. If the stack can't grow then, the program ends by
+/// a signal.
 #[inline(never)]
 pub(crate) fn grow_stack(value: u8) -> bool {
     let room = [value; STACK_BYTES];

@@ -1,4 +1,4 @@
-//! The exit statuses of the program, beside 0.
+//! The exit statuses of the program, except 0.
 
 /// The command line was refused.
 pub const REFUSED: u8 = 1;

@@ -1,4 +1,4 @@
-//! Why the program stops: what `--explain` says before its last line.
+//! Why the program stops: what `--explain` writes before the last line of standard error.
 
 use crate::noted::Fault;
 use cspf_book_run::BookError;
@@ -13,7 +13,7 @@ pub enum Stopped {
     Memory,
     /// A call on a file or a stream failed.
     Device(Fault),
-    /// An error of `solve`, or one of `book` that `solve` has, too.
+    /// An error of `solve`, or an error of `book` that `solve` has as well.
     Solve(SolveError),
     /// Another error of `book`.
     Book(BookError),
@@ -23,7 +23,7 @@ pub enum Stopped {
     Run(RunError),
     /// An error of `serve` before it began.
     Serve(ServedError),
-    /// All has been said, and this is the status.
+    /// All lines have been written, and this is the status.
     Said(u8),
 }
 
@@ -31,7 +31,7 @@ pub enum Stopped {
 pub type Ran = Result<u8, Stopped>;
 
 impl Stopped {
-    /// This call on this device failed.
+    /// Why the program stops: this call on this device failed.
     pub(crate) fn at(device: &'static str, action: &'static str, error: io::Error) -> Stopped {
         Stopped::Device(Fault {
             device,
@@ -40,8 +40,9 @@ impl Stopped {
         })
     }
 
-    /// Names the device of a run that stops for one. These are the last calls that failed, if any: of
-    /// the devices that are read, and of those that are written.
+    /// Adds the device's name to a reason that is about a device. `read` is the last call that failed
+    /// on the devices that are read, if any. `written` is the last call that failed on the devices that
+    /// are written.
     pub(crate) fn by(self, read: Option<Fault>, written: Option<Fault>) -> Stopped {
         let noted = match self {
             Stopped::Run(RunError::Device) => read.or(written),
@@ -58,8 +59,8 @@ impl Stopped {
     }
 }
 
-/// What a run of `batch`, `live`, `snapshot` or `audit` answered, where this is the last call on its
-/// inputs that failed, if any.
+/// The answer of a run of `batch`, `live`, `snapshot` or `audit`. `read` is the last call that failed
+/// on its inputs, if any.
 pub(crate) fn ended(ran: Result<u8, RunError>, read: Option<Fault>) -> Ran {
     match ran {
         Ok(status) => Ok(status),

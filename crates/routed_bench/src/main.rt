@@ -1,7 +1,8 @@
-//! Times a publisher and its askers, `routed_bench JOURNAL REQUESTS LOAD`, or the table and both
-//! searches, `routed_bench JOURNAL REQUESTS LOAD ROUNDS`.
+//! `routed_bench JOURNAL REQUESTS LOAD` times a publisher and its askers. `routed_bench JOURNAL REQUESTS
+//! LOAD ROUNDS` times the table and both searches.
 //!
-//! The first LOAD batches of the journal make the network. `runs.rt` and `searches.rt` say what is timed. `bench/run` makes the files and reads the lines.
+//! The first LOAD batches of the journal make the network. `runs.rt` and `searches.rt` say what is timed.
+//! `bench/run` makes the files and reads the lines.
 #![tactic(auto)]
 
 mod published;
@@ -27,7 +28,7 @@ fn refused() -> io::Error {
     io::Error::from(ErrorKind::InvalidInput)
 }
 
-/// The batches of a journal, and the requests of a file.
+/// The batches of the journal, and the requests of the other file.
 fn read(rt: &HostRuntime, journal: &str, requests: &str) -> io::Result<(Vec<Batch>, Vec<Request>)> {
     let Ok(journal) = read_journal(rt.alloc(), File::open(rt, journal)?) else {
         return Err(refused());
@@ -38,7 +39,7 @@ fn read(rt: &HostRuntime, journal: &str, requests: &str) -> io::Result<(Vec<Batc
     Ok((journal.batches, requests))
 }
 
-/// The table of these batches.
+/// The table after these batches.
 fn loaded(alloc: Global, load: &[Batch]) -> Result<Table, AllocError> {
     let mut table = Table::new(alloc)?;
     for batch in load {
@@ -47,8 +48,8 @@ fn loaded(alloc: Global, load: &[Batch]) -> Result<Table, AllocError> {
     Ok(table)
 }
 
-/// Times the searches over the network of the first batches, and then the further batches. Without a
-/// number of rounds it times the requests by themselves, and a publisher.
+/// Makes the network of the batches `load`, and times the searches on it and then the batches `more`. Without
+/// a number of rounds it times the requests alone, and then a publisher.
 fn time<R: AllocGlobal + Clock + Print + Threads + Wait + Sync>(
     rt: &R,
     (load, more): (&[Batch], &[Batch]),
@@ -69,12 +70,12 @@ fn time<R: AllocGlobal + Clock + Print + Threads + Wait + Sync>(
     }
 }
 
-/// The number that a word gives.
+/// The number in an argument.
 fn number(word: &str) -> io::Result<usize> {
     word.parse().map_err(|_| refused())
 }
 
-/// The numbers of batches and of rounds that the words after the files give.
+/// How many batches make the network, and how many requests are answered by rounds, from the last arguments.
 fn numbers(words: &[String]) -> io::Result<(usize, Option<usize>)> {
     match words {
         [load] => Ok((number(load.as_str())?, None)),

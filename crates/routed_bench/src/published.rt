@@ -1,4 +1,4 @@
-//! A publisher whose journal keeps nothing, and the times of its batches.
+//! A publisher whose journal keeps no bytes, and how long its batches take.
 
 use cspf_model::Batch;
 use cspf_publish::Publisher;
@@ -8,7 +8,7 @@ use std::rt::Clock;
 use std::sync::Wait;
 use std::time::Instant;
 
-/// A journal that keeps nothing.
+/// A journal that keeps no bytes.
 #[derive(Drop)]
 pub(crate) struct Nothing;
 
@@ -22,7 +22,7 @@ impl Write for Nothing {
     }
 }
 
-/// Applies batches, and counts those that are published.
+/// Applies the batches, and returns how many were published.
 pub(crate) fn apply_all<R: AllocGlobal + Wait>(
     rt: &R,
     batches: &[Batch],
@@ -37,7 +37,7 @@ pub(crate) fn apply_all<R: AllocGlobal + Wait>(
     published
 }
 
-/// Applies each batch by itself, and prints how long it took: `apply CHANGES MICROSECONDS`.
+/// Applies each batch, and prints how long it took: `apply CHANGES MICROSECONDS`.
 pub(crate) fn time_batches<R: AllocGlobal + Clock + Print + Wait>(
     rt: &R,
     batches: &[Batch],

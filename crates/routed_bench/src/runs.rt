@@ -1,8 +1,8 @@
-//! The runs of publishers that are timed.
+//! The timed runs of publishers.
 //!
-//! Each further batch is published and timed by itself. Then 1, 2 and 4 askers at once each ask all
-//! requests while the further batches are published. Last the requests are divided among 1, 2 and 4
-//! workers: in fixed shares, in which each of n workers asks every nth request, and by draws.
+//! First each batch after those of the network is published and timed. Then 1, 2 and 4 askers at once each ask all
+//! requests while these batches are published. Last the requests are divided among 1, 2 and 4 workers. In
+//! fixed shares each of n workers asks every nth request. By draws each worker draws its next request.
 
 use crate::published::{Nothing, apply_all, time_batches};
 use crate::workers::{time_askers, time_draws, time_shares};
@@ -23,7 +23,7 @@ enum Timed {
     Draws,
 }
 
-/// What is timed, by how many askers.
+/// What is timed, in order, and with how many askers.
 const ALL: [(Timed, usize); 10] = [
     (Timed::Batches, 1),
     (Timed::Askers, 1),
@@ -37,7 +37,7 @@ const ALL: [(Timed, usize); 10] = [
     (Timed::Draws, 4),
 ];
 
-/// Times one thing over a publisher that has the first batches.
+/// Times one run on a publisher that has published the network.
 fn time_one<R: AllocGlobal + Clock + Print + Threads + Wait + Sync>(
     rt: &R,
     (load, more): (&[Batch], &[Batch]),
@@ -59,7 +59,7 @@ fn time_one<R: AllocGlobal + Clock + Print + Threads + Wait + Sync>(
     printed
 }
 
-/// Times all of it.
+/// Times all runs.
 pub(crate) fn time_publisher<R: AllocGlobal + Clock + Print + Threads + Wait + Sync>(
     rt: &R,
     load: &[Batch],

@@ -1,9 +1,9 @@
 //! Times the table and both searches.
 //!
-//! `best` answers all requests, several times: `best ANSWERS COST MICROSECONDS`, with the sum of the
-//! routes' costs. Both calls answer the first ROUNDS of them: `rounds ANSWERS COST MICROSECONDS`, and
-//! `agreed ANSWERS`, the number of requests on which the two agree. Then each further batch is checked
-//! and absorbed, and timed by itself: `absorb CHANGES MICROSECONDS`.
+//! `best` answers all requests several times, and prints `best ANSWERS COST MICROSECONDS`. COST is the sum of
+//! the routes' costs. The search by rounds answers the first ROUNDS requests: `rounds ANSWERS COST
+//! MICROSECONDS`. `agreed ANSWERS` is the number of these requests on which both searches agree. Then each
+//! batch after those of the network is checked, absorbed and timed: `absorb CHANGES MICROSECONDS`.
 
 use cspf_db::Table;
 use cspf_model::{Batch, Outcome, Request};
@@ -14,10 +14,10 @@ use std::io::ErrorKind;
 use std::rt::Clock;
 use std::time::Instant;
 
-/// How often the requests are answered.
+/// How often `best` answers all requests.
 const TIMES: usize = 5;
 
-/// The cost of the route, 0 where there is none.
+/// The cost of the route, or 0 if there is no route.
 fn cost(outcome: &Outcome) -> u64 {
     match outcome {
         Outcome::Route(route) => route.cost(),
@@ -25,7 +25,7 @@ fn cost(outcome: &Outcome) -> u64 {
     }
 }
 
-/// Whether both outcomes agree: the same links, or the same reason why there are none.
+/// Whether both outcomes are the same route, or give the same reason why there is no route.
 fn agree(one: &Outcome, other: &Outcome) -> bool {
     match (one, other) {
         (Outcome::Route(a), Outcome::Route(b)) => a.links() == b.links(),
@@ -36,7 +36,7 @@ fn agree(one: &Outcome, other: &Outcome) -> bool {
     }
 }
 
-/// What a request is answered: by `best`, or round by round.
+/// The answer to a request, by `best` or by rounds.
 fn answer(
     alloc: Global,
     table: &Table,
@@ -50,7 +50,7 @@ fn answer(
     }
 }
 
-/// Answers each request: how many are answered, and the sum of the costs.
+/// Answers each request. Returns how many are answered, and the sum of the costs.
 fn answer_each(
     alloc: Global,
     table: &Table,
@@ -78,7 +78,7 @@ fn is_agreed(alloc: Global, table: &Table, request: &Request) -> bool {
     }
 }
 
-/// Times the requests from the table: how many are answered, the sum of the costs, and microseconds.
+/// Times all requests. Returns how many are answered, the sum of the costs, and the microseconds.
 fn timed<R: AllocGlobal + Clock + Print>(
     rt: &R,
     table: &Table,
@@ -90,7 +90,7 @@ fn timed<R: AllocGlobal + Clock + Print>(
     Ok((answers, sum, start.elapsed(rt)?.as_micros()))
 }
 
-/// Prints how long the requests take from a plain table: `plain ANSWERS MICROSECONDS`.
+/// Prints how long the requests take in a table without trees: `plain ANSWERS MICROSECONDS`.
 pub(crate) fn time_plain<R: AllocGlobal + Clock + Print>(
     rt: &R,
     table: &Table,
@@ -100,7 +100,7 @@ pub(crate) fn time_plain<R: AllocGlobal + Clock + Print>(
     println!(rt; "plain {answers} {took}")
 }
 
-/// Times `best` at all requests, and both searches at a few.
+/// Times `best` on all requests, and the search by rounds on a few of them.
 pub(crate) fn time_searches<R: AllocGlobal + Clock + Print>(
     rt: &R,
     table: &Table,
@@ -119,7 +119,7 @@ pub(crate) fn time_searches<R: AllocGlobal + Clock + Print>(
     println!(rt; "agreed {}", agreed.count())
 }
 
-/// Times each batch: the check whether it fits, and its changes.
+/// Times each batch: the check that it fits, and its changes.
 pub(crate) fn time_batches<R: AllocGlobal + Clock + Print>(
     rt: &R,
     table: &mut Table,

@@ -1,5 +1,5 @@
-//! Times askers beside a publisher, workers with fixed shares of the requests, and workers that draw
-//! them.
+//! Times askers beside a publisher, workers that ask fixed shares of the requests, and workers that draw their
+//! requests.
 
 ghost use Rattle.std.specs.Prelude.{◌<◌};
 
@@ -25,7 +25,7 @@ struct Seat {
     answers: usize,
 }
 
-/// The askers with no request answered yet.
+/// A seat for each asker, with no request answered yet.
 fn seats_of(alloc: Global, askers: Vec<Asker>) -> Result<Vec<Seat>, AllocError> {
     let mut seats = Vec::with_capacity(alloc, askers.len())?;
     for asker in askers {
@@ -34,7 +34,7 @@ fn seats_of(alloc: Global, askers: Vec<Asker>) -> Result<Vec<Seat>, AllocError> 
     Ok(seats)
 }
 
-/// How many requests were answered.
+/// How many requests all seats have answered.
 fn answers_of(seats: &[Seat]) -> usize {
     let mut answers = 0usize;
     for seat in seats {
@@ -43,7 +43,7 @@ fn answers_of(seats: &[Seat]) -> usize {
     answers
 }
 
-/// Asks the requests of a share: those whose index modulo the count is this number.
+/// Asks the requests whose index modulo `count` is `number`.
 fn ask_share(alloc: Global, number: usize, count: usize, requests: &[Request], seat: &mut Seat)
     requires { 0 < count }
 {
@@ -59,7 +59,7 @@ fn ask_all(alloc: Global, requests: &[Request], seat: &mut Seat) {
     ask_share(alloc, 0, 1, requests, seat);
 }
 
-/// Publishes batches while each seat asks every request. How many are published is the result.
+/// Publishes batches while each seat asks every request. Returns how many were published.
 fn ask_and_publish<R: AllocGlobal + Threads + Wait + Sync>(
     rt: &R,
     batches: &[Batch],
@@ -80,7 +80,7 @@ fn ask_and_publish<R: AllocGlobal + Threads + Wait + Sync>(
     thread::join_mut(rt, &mut asking, &mut publishing).1
 }
 
-/// Times the askers of a publisher while it publishes batches: `askers COUNT ANSWERS PUBLISHED
+/// Times askers that ask while a publisher publishes batches: `askers COUNT ANSWERS PUBLISHED
 /// MICROSECONDS`.
 pub(crate) fn time_askers<R: AllocGlobal + Clock + Print + Threads + Wait + Sync>(
     rt: &R,
@@ -100,7 +100,7 @@ pub(crate) fn time_askers<R: AllocGlobal + Clock + Print + Threads + Wait + Sync
     )
 }
 
-/// Each seat asks its share of the requests.
+/// Each seat asks its fixed share of the requests.
 fn ask_shares<R: AllocGlobal + Threads + Sync>(rt: &R, requests: &[Request], seats: &mut [Seat]) {
     let (alloc, count) = (rt.alloc(), seats.len());
     if count == 0 {
@@ -116,8 +116,8 @@ fn ask_shares<R: AllocGlobal + Threads + Sync>(rt: &R, requests: &[Request], sea
     );
 }
 
-/// Times the requests over fixed shares, of which each of n askers has every nth request: `shares COUNT
-/// ANSWERS MICROSECONDS`.
+/// Times the requests in fixed shares, where each of n askers asks every nth request: `shares COUNT ANSWERS
+/// MICROSECONDS`.
 pub(crate) fn time_shares<R: AllocGlobal + Clock + Print + Threads + Sync>(
     rt: &R,
     requests: &[Request],
@@ -130,8 +130,7 @@ pub(crate) fn time_shares<R: AllocGlobal + Clock + Print + Threads + Sync>(
     println!(rt; "shares {} {} {took}", seats.len(), answers_of(&seats))
 }
 
-/// Times the requests over workers that draw them, as in `answer_all`: `draws COUNT ANSWERS
-/// MICROSECONDS`.
+/// Times the requests by workers that draw them as `answer_all` does: `draws COUNT ANSWERS MICROSECONDS`.
 pub(crate) fn time_draws<R: AllocGlobal + Clock + Print + Threads + Sync>(
     rt: &R,
     requests: &[Request],

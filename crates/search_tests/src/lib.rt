@@ -1,5 +1,5 @@
-//! Tests of both searches, and of the search by trees: worked networks with ties, affinities, hops,
-//! reverses and marks, and drawn networks in which all give the same answer.
+//! Tests of both searches and of the search by trees. Some ask in small networks with known answers: ties,
+//! affinities, hops, reverses and marks. Others draw networks, in which all searches have to agree.
 #![tactic(auto)]
 
 #[cfg(test)]

@@ -1,5 +1,5 @@
-//! Answers of both searches, and by trees, on small networks and on drawn ones: ties, reverses, unknown
-//! ends and hops.
+//! Answers of both searches and of trees, in small networks and in drawn ones: ties, reverses, unknown
+//! head-ends and tail-ends, and hops.
 
 mod drawn;
 mod legs;
@@ -26,8 +26,8 @@ const THREE: u32 = 0x0303_0303;
 
 const FOUR: u32 = 0x0404_0404;
 
-// A link by its ends, its local and its remote address, its metric and its unreserved bandwidth at
-// all priorities but 7, where it has none. It is of the groups 0x6.
+// A link: its two routers, each followed by its interface address, the metric, and the unreserved bandwidth
+// at all priorities but 7. At priority 7 none is unreserved. The groups are 0x6.
 type Row = (u32, u32, u32, u32, u32, u64);
 
 fn link(row: &Row) -> Result<Link, Fail> {
@@ -45,14 +45,14 @@ fn table_of(alloc: Global, changes: &[Change]) -> Result<Table, AllocError> {
     Ok(table)
 }
 
-// Makes changes, which fit, in one batch.
+// Applies changes, all of which fit, as one batch.
 fn change(alloc: Global, table: &mut Table, changes: &[Change]) -> Result<(), AllocError> {
     let changes = Vec::from_slice(alloc, changes)?;
     table.absorb(&Batch { number: 1, changes });
     Ok(())
 }
 
-// A table of these links alone.
+// A table of these links, without their reverses.
 fn one_way(alloc: Global, rows: &[Row]) -> Result<Table, Fail> {
     let mut changes = Vec::new(alloc);
     for row in rows {
@@ -61,13 +61,13 @@ fn one_way(alloc: Global, rows: &[Row]) -> Result<Table, Fail> {
     Ok(table_of(alloc, &changes)?)
 }
 
-// The reverse of a link, with no unreserved bandwidth.
+// The reverse of a link, without unreserved bandwidth.
 fn reverse(row: &Row) -> Row {
     let (from, local, to, remote, metric, _free) = *row;
     (to, remote, from, local, metric, 0)
 }
 
-// Whether one of these links runs the same way over the same interfaces as another.
+// Whether `rows` has a link between the same routers over the same interfaces, in the same direction.
 fn runs(rows: &[Row], other: &Row) -> bool {
     let mut found = false;
     for row in rows {
@@ -77,7 +77,7 @@ fn runs(rows: &[Row], other: &Row) -> bool {
     found
 }
 
-// A table of these links, with the reverse of each where it is none of them.
+// A table of these links. Each link whose reverse isn't among them gets a reverse.
 fn table(alloc: Global, rows: &[Row]) -> Result<Table, Fail> {
     let mut both = Vec::new(alloc);
     for row in rows {
@@ -90,7 +90,7 @@ fn table(alloc: Global, rows: &[Row]) -> Result<Table, Fail> {
     one_way(alloc, &both)
 }
 
-// A mark of a router as without transit, or its end.
+// A change that marks a router as without transit, or removes its mark.
 fn node(router: u32, transit: bool) -> Change {
     Change::Node {
         router: Addr::new(router),
@@ -107,7 +107,7 @@ fn mark(alloc: Global, table: &mut Table, routers: &[u32]) -> Result<(), AllocEr
     change(alloc, table, &changes)
 }
 
-// A request for 1,000 bytes per second with a setup priority, the three affinities and hops.
+// A request for 1,000 bytes per second with this setup priority, these three affinity masks and hops.
 fn request(
     ends: (u32, u32),
     setup: u8,
@@ -120,7 +120,7 @@ fn request(
     Ok(Request::new(1, from, to, setup, 1000, exclude, any, all, hops)?)
 }
 
-// The same request without its hops.
+// The request without its hops.
 fn without_hops(request: &Request) -> Request {
     Request {
         id: request.id,
@@ -135,7 +135,7 @@ fn without_hops(request: &Request) -> Request {
     }
 }
 
-// The next of a row of numbers that look drawn.
+// The next pseudo-random number.
 fn draw(seed: &mut u32) -> u32 {
     let mut x = *seed;
     x ^= (x & 0x7_ffff) << 13;
@@ -145,7 +145,7 @@ fn draw(seed: &mut u32) -> u32 {
     x
 }
 
-// A failure that names both, unless two outcomes are one.
+// Fails with both outcomes unless they are the same.
 fn check_same(outcome: &Outcome, other: &Outcome) -> Result<(), Fail> {
     if is_same(outcome, other) {
         Ok(())
@@ -154,7 +154,7 @@ fn check_same(outcome: &Outcome, other: &Outcome) -> Result<(), Fail> {
     }
 }
 
-// What a request is answered by a tree, unless its tail-end is unknown.
+// The answer by a tree, or `None` if the tail-end is unknown.
 fn by_tree(alloc: Global, table: &Table, request: &Request) -> Result<Option<Outcome>, Fail> {
     match Tree::grow(alloc, table, request)? {
         Some(tree) => Ok(Some(best_by_tree(alloc, table, request, &tree)?)),
@@ -162,7 +162,7 @@ fn by_tree(alloc: Global, table: &Table, request: &Request) -> Result<Option<Out
     }
 }
 
-// What a request is answered, by both searches and by a tree.
+// The answer of `best`. Fails unless the search by rounds and a tree give the same answer.
 fn answered(alloc: Global, table: &Table, request: &Request) -> Result<Outcome, Fail> {
     let outcome = best(alloc, table, request)?;
     check_same(&outcome, &best_by_rounds(alloc, table, request)?)?;
@@ -172,7 +172,7 @@ fn answered(alloc: Global, table: &Table, request: &Request) -> Result<Outcome, 
     Ok(outcome)
 }
 
-// Whether two outcomes are one.
+// Whether two outcomes are the same.
 fn is_same(a: &Outcome, b: &Outcome) -> bool {
     match (a, b) {
         (Outcome::Route(x), Outcome::Route(y)) => {
@@ -185,19 +185,19 @@ fn is_same(a: &Outcome, b: &Outcome) -> bool {
     }
 }
 
-// What a request is answered.
+// The answer that a request should get.
 #[derive(Clone, Copy, Debug)]
 enum Wanted {
     // The route of this cost along the links with these remote addresses.
     Route(u64, &'static [u32]),
-    // One that is at the tail-end, leaves it and comes back.
+    // The route of this cost along these links. It reaches the tail-end, leaves it and comes back.
     Again(u64, &'static [u32]),
     NoRoute,
     UnknownFrom,
     UnknownTo,
 }
 
-// Whether it is the route of this cost along the links with these remote addresses.
+// Whether the outcome is the route of this cost along the links with these remote addresses.
 fn is_route(outcome: &Outcome, cost: u64, again: bool, remotes: &[u32]) -> bool {
     let Outcome::Route(route) = outcome else {
         return false;
@@ -209,7 +209,7 @@ fn is_route(outcome: &Outcome, cost: u64, again: bool, remotes: &[u32]) -> bool 
     same && route.cost() == cost && route.again() == again
 }
 
-// Whether an outcome is the wanted one.
+// Whether the outcome is as wanted.
 fn is_wanted(outcome: &Outcome, wanted: Wanted) -> bool {
     match wanted {
         Wanted::Route(cost, remotes) => is_route(outcome, cost, false, remotes),
@@ -220,13 +220,13 @@ fn is_wanted(outcome: &Outcome, wanted: Wanted) -> bool {
     }
 }
 
-// The routers that are marked, the ends and the hops of a request, and its answer.
+// A case: the marked routers, the head-end and the tail-end, the hops, and the answer that is wanted.
 type Case = (&'static [u32], (u32, u32), &'static [u8], Wanted);
 
-// Links, whether there are their reverses too, and requests there.
+// A network: its links, whether it has their reverses too, and its cases.
 type Network = (&'static [Row], bool, &'static [Case]);
 
-// What a case's request is answered in a network of these links.
+// The answer to a case's request in a network of these links.
 fn answer_of(alloc: Global, rows: &[Row], both: bool, case: &Case) -> Result<Outcome, Fail> {
     let (marks, ends, hops, _) = *case;
     let mut table = if both {
@@ -238,7 +238,7 @@ fn answer_of(alloc: Global, rows: &[Row], both: bool, case: &Case) -> Result<Out
     answered(alloc, &table, &request(ends, 0, (0, 0, 0), hops)?)
 }
 
-// The requests in each network are answered as its cases say.
+// Each case of each network is answered as wanted.
 fn assert_networks(rt: &impl Abort, alloc: Global, networks: &[Network]) -> Result<(), Fail> {
     for (rows, both, cases) in networks {
         for case in *cases {

@@ -1,6 +1,6 @@
-//! Tests of the runs over rows, of workers and of clients: scripts, batch runs and live runs, their
-//! limits, who answers and in which order, and what is written where a read, a write or an
-//! allocation fails.
+//! Tests of the runs over rows, of workers and of clients. The tests cover scripts, batch runs and live
+//! runs, the limits of a run, and which worker answers in which order. They also cover what is written
+//! when a read, a write or an allocation fails.
 #![tactic(auto)]
 
 #[cfg(test)]

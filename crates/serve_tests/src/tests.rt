@@ -1,4 +1,5 @@
-//! What the tests of runs share: scripts and tables, readers in pieces, and writers that take so much.
+//! What the tests of runs share: scripts and tables, readers in pieces, and writers that take a given
+//! number of bytes.
 
 mod batches;
 mod clients;
@@ -13,10 +14,10 @@ use std::io;
 use std::io::{ErrorKind, Read, Write};
 
 /// What a byte of a script stands for. `P` is the row that puts the link from 1.1.1.1 to 2.2.2.2, and
-/// `Q` the one that puts its reverse with no bandwidth. `F` is
-/// eight bandwidths of 1000, and `O` eight of 0. `Z` is three masks of no group, `H` seven hops, and
-/// `B` a byte order mark. `X` and `Y` are bytes that are no text, and `N` is the byte 0. `R` is a
-/// carriage return, `|` a line feed, and `_` nothing.
+/// `Q` the row that puts its reverse, with no bandwidth. `F` is eight bandwidths of 1000, and `O` eight
+/// of 0. `Z` is three masks without a group, `H` seven hops, and `B` a byte order mark. `X` and `Y` are
+/// bytes that aren't UTF-8, and `N` is the byte 0. `R` is a carriage return, `|` a line feed, and `_`
+/// nothing.
 fn spelled(byte: &u8) -> &[u8] {
     match *byte {
         b'P' => {
@@ -47,7 +48,7 @@ fn bytes_of(alloc: Global, script: &[u8]) -> Result<Vec<u8>, AllocError> {
     Ok(bytes)
 }
 
-/// The first field of a line of a table, and the others.
+/// The first field of a line of a table, and the other fields.
 fn cut(line: &str) -> (&str, &str) {
     line.split_once(" > ").unwrap_or((line, ""))
 }
@@ -58,7 +59,7 @@ fn cut_bytes(alloc: Global, line: &str) -> Result<(Vec<u8>, &str), AllocError> {
     Ok((bytes_of(alloc, field.as_bytes())?, others))
 }
 
-/// Up to four numbers of a field, which has a space between each two.
+/// The numbers of a field, at most four, with one space between two numbers.
 fn numbers_of(field: &str) -> [u32; 4] {
     let mut numbers = [0u32; 4];
     let mut index = 0usize;
@@ -73,7 +74,8 @@ fn numbers_of(field: &str) -> [u32; 4] {
     numbers
 }
 
-/// Gives its text a number of times, a few bytes a read, and fails after a number of bytes.
+/// A reader that gives `rest` and then `left` copies of `text`, at most `width` bytes a read. The
+/// reader fails after `last` bytes.
 #[derive(Drop)]
 struct Pieces<'a> {
     text: &'a [u8],
@@ -83,7 +85,7 @@ struct Pieces<'a> {
     last: usize,
 }
 
-/// The text once, a few bytes a read, with a fault after some bytes.
+/// A reader that gives the text once, at most `width` bytes a read, and fails after `last` bytes.
 fn in_pieces(text: &[u8], width: usize, last: usize) -> Pieces<'_> {
     Pieces {
         text,
@@ -94,7 +96,7 @@ fn in_pieces(text: &[u8], width: usize, last: usize) -> Pieces<'_> {
     }
 }
 
-/// A number of copies of a row.
+/// A reader that gives `left` copies of a row.
 fn copies(text: &[u8], left: u32) -> Pieces<'_> {
     Pieces {
         text,
@@ -123,7 +125,7 @@ impl<'a> Read for Pieces<'a> {
     }
 }
 
-/// Takes a few bytes a write, and fails once it holds as many as it may.
+/// A writer that takes at most `width` bytes a write, and fails once it holds `most` bytes.
 #[derive(Drop)]
 struct Narrow {
     held: Vec<u8>,

@@ -178,7 +178,8 @@ def main(given: list[str] | None = None) -> int:
     """Takes the words of a command line, and answers the status."""
     words = argparse.ArgumentParser(prog="listen", description=__doc__, formatter_class=argparse.RawDescriptionHelpFormatter)
     words.add_argument("--journal", required=True, metavar="FILE", help="a new file, for the batches of this run")
-    words.add_argument("--begin", metavar="FILE", help="batches that are published before any connection is taken: a snapshot of the run before")
+    words.add_argument("--begin", metavar="FILE",
+                       help="batches that are published before any connection is taken: a snapshot of the run before")
     words.add_argument("--ask", required=True, type=Endpoint, metavar="PLACE", help="where clients ask")
     words.add_argument("--updates", required=True, type=Endpoint, metavar="PLACE", help="where updates come in")
     words.add_argument("--clients", type=int, choices=range(1, 65), default=64, metavar="N", help="how many ask at once, 1 to 64 (64)")

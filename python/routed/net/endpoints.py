@@ -42,8 +42,8 @@ class Endpoint:
     def __init__(self, text: str) -> None:
         port = re.fullmatch(r"(?:(?:([^/:\[\]]+)|\[([^/\[\]]+)\]):)?([0-9]+)", text)
         if not text or port and int(port[3]) >= 1 << 16 or not port and ":" in text and "/" not in text:
-            raise argparse.ArgumentTypeError(f"{text!r} is no place: that is the path of a UNIX socket (with a slash where it has a colon), "
-                                             "a port from 0 to 65535, ADDRESS:PORT or [ADDRESS]:PORT")
+            raise argparse.ArgumentTypeError(f"{text!r} is no place: that is the path of a UNIX socket (with a slash where it has a colon),"
+                                             " a port from 0 to 65535, ADDRESS:PORT or [ADDRESS]:PORT")
         self.text, self.path, self.port = text, None if port else text, int(port[3]) if port else None
         self.family = socket.AF_UNIX if not port else socket.AF_INET6 if port[2] else socket.AF_INET
         self.address: tuple[str, int] | str = (port[1] or port[2] or "127.0.0.1", int(port[3])) if port else text

@@ -1,4 +1,4 @@
--- A plan of rows and marks, from what a look at the rows finds, and what it says of the rows.
+-- The plan of a batch for rows and marks, from the result of checking the batch against the rows.
 use Rattle.std.proofs.Common.{◌≡◌, ℕ, true, List, All, refl, sym, subst, ◌∙◌}
 use Rattle.std.specs.List.{count_by}
 use Rattle.cspf_model.specs.declared.link.Link.{Link}
@@ -17,13 +17,13 @@ use Rattle.cspf_columns.proofs.RouterLists.{routers_marked}
 use Rattle.cspf_columns.proofs.RowOrder.{links_of-database_of}
 
 module _ (rows : List Link) (marks : List ℕ) where
-  -- marks are no links
+  -- Whether a change adds a link doesn't depend on the marks.
   adds_marked : (c : Change) → adds_link (database_of rows) c ≡ adds_link (marked_database rows marks) c
   adds_marked (Put l) = refl
   adds_marked (Remove from local) = refl
   adds_marked (Node router transit) = refl
 
-  -- so as many are added
+  -- So how many links are added doesn't depend on the marks.
   added_marked : (cs : List Change) → count_by (adds_link (database_of rows)) cs ≡ count_by (adds_link (marked_database rows marks)) cs
   added_marked cs = λ i. count_by (λ c. adds_marked c i) cs
 

@@ -1,4 +1,4 @@
--- Private: the unbroken range of the addresses that a prefix covers.
+-- Private: the range of the addresses that a prefix covers. It has no gaps.
 use Rattle.std.specs.Prelude.{◌<◌, ◌≤◌, ◌↔◌, ℕ}
 use Rattle.cspf_addr.specs.PrefixParts.{PrefixParts}
 use Rattle.cspf_addr.specs.Prefixes.{Covers}
@@ -8,6 +8,6 @@ use Rattle.cspf_db.specs.declared.table.address_range.AddressRange.{AddressRange
 abbrev pub IsInRange : AddressRange → ℕ → Type 0
 IsInRange range address = (range.first ≤ address) × (address < range.end)
 
--- the addresses in the range are those that the prefix covers
+-- The range has exactly the addresses that the prefix covers.
 abbrev pub IsRangeOf : PrefixParts → AddressRange → Type 0
 IsRangeOf prefix range = (address : ℕ) → Covers prefix address ↔ IsInRange range address

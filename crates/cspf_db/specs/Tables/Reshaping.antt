@@ -7,14 +7,15 @@ use Rattle.cspf_model.specs.declared.batch.Change.TheVariants.{Put, Remove, Node
 use Rattle.cspf_model.specs.Database.{Database, key_of, link_at}
 use Rattle.cspf_db.specs.Shapes.{Shape, shape_of}
 
--- whether the shapes are one
+-- whether two shapes are equal
 abbrev pub is_shape : Shape → Shape → Bool
 is_shape s t =
     nat_eq s.from t.from && nat_eq s.local t.local && nat_eq s.to t.to && nat_eq s.remote t.remote
     && nat_eq s.metric t.metric && nat_eq s.group t.group
 
--- A put changes the shape unless a link of this shape is there. A removal changes it where a link is
--- there. A change of a mark changes it unless the router is marked so already.
+-- Whether a change changes the shape. A put does unless the database has a link of this shape at the key. A
+-- removal does if the database has a link at the key. A change of a mark does unless it leaves the router as it
+-- is.
 abbrev pub reshapes : Database → Change → Bool
 reshapes d (Put l) = not (option_map_or (λ m. is_shape (shape_of m) (shape_of l)) (link_at d (key_of l)) false)
 reshapes d (Remove from local) = is_some (link_at d (from, local))

@@ -1,4 +1,4 @@
--- Private: sets of routers that are kept in place.
+-- Private: sets of routers that are kept in arrays of fixed size.
 use Rattle.std.specs.Prelude.{◌≡◌, ◌≤◌, take, length}
 use Rattle.std.specs.Ordering.{nat_cmp, eq_by_cmp}
 use Rattle.std.specs.List.{IsDistinct}
@@ -7,11 +7,11 @@ use Rattle.cspf_db.specs.declared.table.fit.router_set.TheConstants.{SLOTS}
 use Rattle.cspf_db.specs.declared.table.fit.router_set.Routers.TheInside.{Inside}
 use Rattle.cspf_model.specs.declared.limits.TheConstants.{MOST_ROUTERS}
 
--- the set of those found so far
+-- the set of the routers that were added
 abbrev pub routers_in : Inside → FinSet nat_cmp
 routers_in a = from_list (take a.count a.found)
 
--- at most 1,024, each once
+-- The arrays have their sizes, and the first `count` numbers are at most 1,024 routers, each once.
 pub record AreRouters (a : Inside) : Type 0 where
   pub room : length a.found ≡ MOST_ROUTERS
   pub slots : length a.places ≡ SLOTS

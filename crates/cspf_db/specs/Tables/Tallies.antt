@@ -1,4 +1,4 @@
--- Private: the rows that changes are on, and what a tally of changes says.
+-- Private: which row each change affects, and what a tally of changes says.
 use Rattle.std.specs.Prelude.{◌≡◌, ◌≢◌, ◌*◌, ◌<◌, ◌≤◌, ℕ, Bool, true, false, Option, IfSome, IfNone, List, All, length, count_by, take, slice_index_or, slice_set}
 use Rattle.std.specs.List.{AllWithin, HoldsAt}
 use Rattle.cspf_columns.specs.AlikeChanges.{IsAlike}
@@ -14,25 +14,25 @@ use Rattle.cspf_model.specs.Lemmas.RepeatedKeys.{IsNewAt}
 use Rattle.cspf_model.specs.Lemmas.RowsLeft.{adds_link, is_untouched}
 use Rattle.cspf_model.specs.Refusals.{AreOnceEach, RemovesNothing}
 
--- the index of the row that the change is on, if there is one
+-- the index of the row with the change's key, if there is one
 pub record IsRowOf (rows : List Link) (change : Change) (row : Option ℕ) : Type 0 where
   pub bound : IfSome row (λ at. at < length rows)
   pub some : IfSome row (HoldsAt (λ l. link_key (key_of l) ≡ key_changed change) rows)
   pub none : IfNone row (All (λ l. link_key (key_of l) ≢ key_changed change) rows)
 
--- one row more is seen
+-- This row wasn't seen before, and is seen now.
 pub record IsSeenAt (old new : List Bool) (row : ℕ) : Type 0 where
   pub within : row < length old
   pub unseen : slice_index_or old row true ≡ false
   pub seen : new ≡ slice_set old row true
 
--- none of the changes below an index is on the key of an earlier one, or of a row that isn't seen
+-- None of the changes below an index has the key of an earlier change, or of a row that isn't seen.
 pub record AreOnSeenRows (rows : List Link) (changes : List Change) (seen : List Bool) (at : ℕ) : Type 0 where
   pub new : (k : ℕ) → k < at → IsNewAt changes k
   pub untouched : (row : ℕ) (d : Link) → row < length rows → slice_index_or seen row true ≡ false
       → is_untouched (take at changes) (slice_index_or rows row d) ≡ true
 
--- what the changes do to the rows, and to the routers
+-- what the changes do to the rows and to the routers
 pub record IsTallyOf (c : Columns) (changes : List Change) (tally : Tally) : Type 0 where
   pub present : All (IsPresent (database_of c.rows.items)) changes
   pub added : tally.added ≡ count_by (adds_link (database_of c.rows.items)) changes
@@ -42,7 +42,7 @@ pub record IsTallyOf (c : Columns) (changes : List Change) (tally : Tally) : Typ
   pub alike : tally.alike ≡ true → All (IsAlike c.rows.items) changes
   pub apart : tally.apart ≡ true → AreOnceEach changes
 
--- the index of the first removal of a link that the database doesn't have
+-- The index is that of the first change that removes a link which the database doesn't have.
 pub record IsFirstAbsent (d : Database) (changes : List Change) (at : ℕ) : Type 0 where
   pub bound : at < length changes
   pub absent : HoldsAt (RemovesNothing d) changes at

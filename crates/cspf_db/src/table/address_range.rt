@@ -1,17 +1,17 @@
-//! The addresses that a prefix covers, which are an unbroken range.
+//! The addresses that a prefix covers. They are a range without gaps.
 ghost use Rattle.std.specs.Prelude.{◌≡◌, ◌<◌, ◌≤◌, ◌↔◌, ℕ, true, IsTrue};
 ghost use Rattle.cspf_db.specs.Tables.AddressRanges.{IsInRange, IsRangeOf};
 
 use cspf_addr::{Addr, Prefix};
 
-/// The addresses whose number is from the first one up to before the end.
+/// The addresses from `first` up to, but not including, `end`.
 #[derive(Clone, Copy, Debug)]
 pub struct AddressRange {
     pub first: u64,
     pub end: u64,
 }
 
-/// The addresses that the prefix covers.
+/// The range of the addresses that the prefix covers.
 pub(super) fn range_of(prefix: Prefix) -> AddressRange
     ensures { IsRangeOf prefix result }
 {
@@ -24,7 +24,7 @@ pub(super) fn range_of(prefix: Prefix) -> AddressRange
 }
 
 impl AddressRange {
-    /// Whether the address is one of them.
+    /// Whether the address is in the range.
     pub(super) fn contains(&self, address: Addr) -> bool
         ensures { IsTrue result ↔ IsInRange self.now address }
     {
@@ -32,7 +32,7 @@ impl AddressRange {
         self.first <= number && number < self.end
     }
 
-    /// Whether none of them is between two others.
+    /// Whether the range has no address from `lowest` to `highest`.
     pub(super) fn misses(&self, lowest: Addr, highest: Addr) -> bool
         ensures { result ≡ true
             → (address : ℕ) → lowest ≤ address → address ≤ highest → ¬ IsInRange self.now address }

@@ -1,4 +1,4 @@
-//! What changes say by themselves: on which key each is, and which links they put or take out.
+//! Tests of changes by themselves: which keys they have, and at which routers they put links.
 ghost use Rattle.std.specs.Prelude.{◌≡◌, ◌<◌};
 ghost use Rattle.std.specs.Ordering.{eq_by_cmp};
 ghost use Rattle.cspf_model.specs.Changes.{change_key_cmp, key_changed};
@@ -10,7 +10,8 @@ ghost use Rattle.cspf_model.specs.Lemmas.GoneRouters.{puts_at};
 use cspf_addr::Addr;
 use cspf_model::{Change, Link};
 
-/// Whether the change is on this key.
+/// Whether the change has this key. A change of a link has the link's key, and a change of a mark
+/// has the router and `None`.
 fn is_on(change: &Change, key: (Addr, Option<Addr>)) -> bool
     ensures { result ≡ eq_by_cmp change_key_cmp key (key_changed change.now) }
 {
@@ -18,21 +19,21 @@ fn is_on(change: &Change, key: (Addr, Option<Addr>)) -> bool
     key.0 == other.0 && key.1 == other.1
 }
 
-/// Whether one of the changes is on this key.
+/// Whether one of the changes has this key.
 pub(super) fn any_on(changes: &[Change], key: (Addr, Option<Addr>)) -> bool
     ensures { result ≡ is_changed changes.now key }
 {
     changes.iter().any(|change| is_on(change, key))
 }
 
-/// Whether none of the changes is on the key of the row.
+/// Whether none of the changes has the key of the row.
 pub(super) fn is_untouched(row: &Link, changes: &[Change]) -> bool
     ensures { result ≡ is_untouched changes.now row.now }
 {
     !any_on(changes, (row.from, Some(row.local)))
 }
 
-/// Whether the change puts a link that ends at the router.
+/// Whether the router is an endpoint of the link that the change puts.
 fn puts_at(change: &Change, router: Addr) -> bool
     ensures { result ≡ puts_at router change.now }
 {
@@ -42,7 +43,7 @@ fn puts_at(change: &Change, router: Addr) -> bool
     }
 }
 
-/// Whether one of the changes does.
+/// Whether the router is an endpoint of a link that one of the changes puts.
 pub(super) fn any_puts_at(changes: &[Change], router: Addr) -> bool
     ensures { result ≡ list_any (puts_at router) changes.now }
 {

@@ -1,4 +1,4 @@
-//! Whether a batch fits the table, and the first reason why it doesn't.
+//! Whether a batch fits the table, and if not, the first reason.
 
 ghost use Rattle.std.specs.Prelude.{count_by, ◌≡◌, ◌+◌, ◌<◌, ◌≤◌, ◌↔◌, true, length, IfOk, IfErr, IsOkAnd, IsTrue};
 ghost use Rattle.cspf_model.specs.Database.{link_count};
@@ -26,7 +26,8 @@ use repeats::repeat;
 use router_count::has_too_many_routers;
 use tally::{Tally, tally_all};
 
-/// Whether there are more than 16,384 links after the changes, `added` of which add one.
+/// Whether there are more than 16,384 links after the changes. `added` is how many of the changes
+/// add a link.
 fn has_too_many_links(columns: &Columns, changes: &[Change], added: usize) -> bool
     requires columns { AreColumns columns.now }
     requires short { length changes.now ≤ MOST_CHANGES }
@@ -40,7 +41,7 @@ fn has_too_many_links(columns: &Columns, changes: &[Change], added: usize) -> bo
     after > MOST_LINKS
 }
 
-/// Whether the tally tells that no two changes are on one key.
+/// Whether the tally says that no two changes have the same key.
 fn tells_apart(tally: &Result<Tally, usize>) -> bool
     ensures { result ≡ true → IsOkAnd tally.now (λ tally. tally.apart ≡ true) }
 {
@@ -50,8 +51,8 @@ fn tells_apart(tally: &Result<Tally, usize>) -> bool
     }
 }
 
-/// Whether the batch fits the rows and the marks, with what it does to the rows, and else the first
-/// reason why it doesn't.
+/// Whether the batch fits the rows and the marks. If it does, returns what it does to the rows, and
+/// otherwise the first reason why it doesn't fit.
 pub(super) fn fits(columns: &Columns, marks: &[Addr], batch: &Batch) -> Result<Tally, Refusal>
     requires columns { AreColumns columns.now }
     requires rising { AreRising marks.now }

@@ -1,4 +1,4 @@
-//! The marks of routers without transit, which rise, and how changes change them.
+//! The marks of routers without transit, in rising order, and how changes affect them.
 ghost use Rattle.std.specs.Prelude.{◌≡◌, ◌+◌, ◌<◌, ◌≤◌, ◌↔◌, IsTrue, length, vec_len};
 ghost use Rattle.std.specs.Vec.{vec_capacity};
 ghost use Rattle.std.specs.FinSet as set;
@@ -22,7 +22,7 @@ pub(super) fn is_marked(marks: &[Addr], router: Addr) -> bool
     search(marks, router).is_ok()
 }
 
-/// Whether the change marks a router that isn't marked.
+/// Whether the change marks a router that isn't marked yet.
 fn adds_mark(marks: &[Addr], change: &Change) -> bool
     requires { AreRising marks.now }
     ensures { result ≡ adds_mark (marks_in marks.now) change.now }
@@ -33,7 +33,7 @@ fn adds_mark(marks: &[Addr], change: &Change) -> bool
     }
 }
 
-/// Whether the change takes the mark of a router away that is marked.
+/// Whether the change removes the mark of a router that is marked.
 fn removes_mark(marks: &[Addr], change: &Change) -> bool
     requires { AreRising marks.now }
     ensures { result ≡ removes_mark (marks_in marks.now) change.now }
@@ -64,7 +64,7 @@ pub(super) fn has_too_many_marks(marks: &[Addr], changes: &[Change]) -> bool
     after > MOST_MARKS
 }
 
-/// Marks the router, or takes its mark away. There is room, so this takes no memory.
+/// Marks the router, or removes its mark. There is room, so this takes no memory.
 fn set_mark(marks: &mut Vec<Addr>, router: Addr, transit: bool)
     requires rising { AreRising marks.old.items }
     requires room { vec_len marks.old < vec_capacity marks.old }
@@ -87,7 +87,8 @@ fn set_mark(marks: &mut Vec<Addr>, router: Addr, transit: bool)
     }
 }
 
-/// Makes the changes of marks among the changes. There is room, so this takes no memory.
+/// Makes the changes of marks, and leaves out all other changes. There is room, so this takes no
+/// memory.
 pub(super) fn change_marks(marks: &mut Vec<Addr>, changes: &[Change])
     requires rising { AreRising marks.old.items }
     requires room { vec_len marks.old + length changes.now ≤ vec_capacity marks.old }

@@ -1,4 +1,4 @@
-//! Whether a batch changes more of a database than unreserved bandwidths.
+//! Whether a batch changes anything of a database except unreserved bandwidths.
 ghost use Rattle.std.specs.Prelude.{◌≡◌, true, false};
 ghost use Rattle.std.specs.List.{list_any};
 ghost use Rattle.cspf_model.specs.Changes.{after_changes, Fits};
@@ -8,13 +8,13 @@ ghost use Rattle.cspf_db.specs.Tables.Reshaping.{is_shape, reshapes};
 use crate::Table;
 use cspf_model::{Batch, Change, Link};
 
-/// Law: databases with the same marks, whose links differ in their unreserved bandwidths alone,
-/// have one list of routers.
+/// Law: two databases have the same list of routers if they have the same marks and their links
+/// differ only in their unreserved bandwidths.
 pub fn shapes_tell_routers()
     ensures { ShapesTellRouters }
 {}
 
-/// Whether the links differ in their unreserved bandwidths at most.
+/// Whether the links differ at most in their unreserved bandwidths.
 fn is_shaped_as(link: &Link, other: &Link) -> bool
     ensures { result ≡ is_shape (shape_of link.now) (shape_of other.now) }
 {
@@ -27,7 +27,7 @@ fn is_shaped_as(link: &Link, other: &Link) -> bool
 }
 
 impl Table {
-    /// Whether the change changes more than unreserved bandwidths.
+    /// Whether the change changes anything except unreserved bandwidths.
     fn reshapes(&self, change: &Change) -> bool
         ensures { result ≡ reshapes self.now change.now }
     {
@@ -41,17 +41,18 @@ impl Table {
         }
     }
 
-    /// Whether one of the changes does.
+    /// Whether one of the changes changes anything except unreserved bandwidths.
     fn any_reshapes(&self, changes: &[Change]) -> bool
         ensures { result ≡ list_any (reshapes self.now) changes.now }
     {
         changes.iter().any(|change| self.reshapes(change))
     }
 
-    /// Whether the batch changes more of the database than unreserved bandwidths: which links or
-    /// marks there are, where a link ends, its metric or its groups. Whether the batch fits isn't
-    /// looked at: of one that doesn't, `true` says nothing. It takes no memory, and at most one
-    /// binary search for each change, up to the first that changes more.
+    /// Whether the batch changes anything of the database except unreserved bandwidths: which links
+    /// or marks there are, where a link ends, its metric or its groups. It isn't checked whether
+    /// the batch fits. For a batch that doesn't fit, `true` says nothing. It takes no memory. It
+    /// takes at most one binary search for each change, up to the first change for which the answer
+    /// is yes.
     pub fn changes_shape(&self, batch: &Batch) -> bool
         ensures kept { result ≡ false
             → HaveOneShape self.now (after_changes self.now batch.now.changes) }

@@ -1,4 +1,4 @@
-//! The column that says beside each router whether it has transit.
+//! The column that has, for each router, whether it has transit.
 ghost use Rattle.std.specs.Prelude.{◌≡◌, ℕ, ◌<◌, ◌≤◌, length, not, slice_index};
 ghost use Rattle.std.specs.Vec.{vec_capacity};
 ghost use Rattle.std.specs.FinSet as set;
@@ -9,7 +9,7 @@ ghost use Rattle.cspf_model.specs.declared.limits.TheConstants.{MOST_ROUTERS};
 
 use cspf_addr::Addr;
 
-/// The index after the marks below the router that follow each other from an index on.
+/// The index of the first mark, from index `first` on, that isn't below the router.
 fn skip_below(marks: &[Addr], first: usize, router: Addr) -> usize
     requires { first ≤ length marks.now }
     ensures bound { result ≤ length marks.now }
@@ -23,8 +23,8 @@ fn skip_below(marks: &[Addr], first: usize, router: Addr) -> usize
     at
 }
 
-/// Whether the router isn't marked, where the marks before an index are below it, and the others
-/// aren't.
+/// Whether the router isn't marked. `at` is the index of the first mark that isn't below the
+/// router.
 fn is_unmarked_at(marks: &[Addr], at: usize, router: Addr) -> bool
     requires rising { AreRising marks.now }
     requires below { (k : ℕ) → k < at → slice_index marks.now k < router }
@@ -34,7 +34,7 @@ fn is_unmarked_at(marks: &[Addr], at: usize, router: Addr) -> bool
     at >= marks.len() || marks[at] != router
 }
 
-/// Lists whether each router has transit. This passes over the routers and the marks once.
+/// Lists for each router whether it has transit, in one pass over the routers and the marks.
 pub(crate) fn list_transits(transits: &mut Vec<bool>, routers: &[Addr], marks: &[Addr])
     requires routers { AreRising routers.now }
     requires marks { AreRising marks.now }

@@ -1,4 +1,4 @@
--- The first batch that doesn't fit.
+-- The first batch of a list that doesn't fit.
 use Rattle.std.proofs.Common.{◌≡◌, ℕ, ◌+◌, ◌<◌, List, ◌∷◌, ◌++◌, length, take, drop, get_or, sym, ap, ◌∙◌}
 use Rattle.std.proofs.lemmas.List.{take-append-drop, drop_more}
 use Rattle.cspf_model.specs.Numbered.{NumberedChanges}
@@ -6,14 +6,15 @@ use Rattle.cspf_model.specs.Changes.{AreLawful, database_after}
 use Rattle.cspf_model.specs.declared.refusal.Refusal.{Refusal}
 use Rattle.cspf_model.specs.Refusals.{IsRefusal, IsFirstUnfit}
 
--- the batches before an index, the one there, and those after it
+-- A list of batches is the batches before an index, the batch there, and the batches after it.
 pub parted : (batches : List NumberedChanges) (i : ℕ) (b : NumberedChanges) → i < length batches
     → b ≡ get_or batches i b → batches ≡ take i batches ++ (b ∷ drop (i + 1) batches)
 parted batches i b within is_next =
     sym (take-append-drop i batches)
     ∙ ap (λ rest. take i batches ++ rest) (drop_more batches i b within ∙ ap (λ next. next ∷ drop (i + 1) batches) (sym is_next))
 
--- a batch that doesn't fit after lawful ones is the first that doesn't fit
+-- If the batches before an index are lawful, and the batch there doesn't fit, it is the first that
+-- doesn't fit.
 abbrev pub first_unfit : (batches : List NumberedChanges) (i : ℕ) (b : NumberedChanges) → i < length batches
     → b ≡ get_or batches i b → (number : ℕ) (why : Refusal) → number ≡ b.number
     → AreLawful (take i batches) → IsRefusal (database_after (take i batches)) b why

@@ -1,4 +1,4 @@
--- Lists of batches that are lawful.
+-- Which lists of batches are lawful.
 use Rattle.std.proofs.Common.{◌↔◌, List, [], ◌∷◌, ◌++◌, sym, subst}
 use Rattle.cspf_model.specs.Numbered.{NumberedChanges}
 use Rattle.cspf_model.specs.Database.{Database}
@@ -6,7 +6,8 @@ use Rattle.cspf_model.specs.Changes.{changes_of, no_links, after_changes, AreLaw
 use Rattle.cspf_model.specs.Laws.{LawfulByOneMore, FirstBatchesAreLawful}
 use Rattle.cspf_model.proofs.Databases.LastChanges.{after_changes-append}
 
--- batches are lawful where a prefix is, and the others are lawful after that prefix
+-- A list of batches is lawful exactly if a prefix is lawful, and the other batches are lawful after
+-- that prefix.
 AreLawfulAfter-append : (d : Database) (bs cs : List NumberedChanges)
     → AreLawfulAfter d (bs ++ cs) ↔ (AreLawfulAfter d bs × AreLawfulAfter (after_changes d (changes_of bs)) cs)
 AreLawfulAfter-append d [] cs = ((λ more. (tt, more)), λ both. both.1)
@@ -17,12 +18,12 @@ AreLawfulAfter-append d (b ∷ bs) cs =
       λ both. (both.0.0, rest.1 (both.0.1, subst (λ e. AreLawfulAfter e cs) same both.1)),
     )
 
--- one more batch keeps a lawful list lawful where it fits
+-- A lawful list with one more batch is lawful exactly if the batch fits.
 pub one_more : LawfulByOneMore
 one_more bs b =
     let parts = AreLawfulAfter-append no_links bs (b ∷ []) in
     ((λ all. let both = parts.0 all in (both.0, both.1.0)), λ both. parts.1 (both.0, (both.1, tt)))
 
--- a prefix of lawful batches is lawful
+-- A prefix of a lawful list of batches is lawful.
 pub first_batches : FirstBatchesAreLawful
 first_batches bs more all = ((AreLawfulAfter-append no_links bs more).0 all).0

@@ -1,4 +1,4 @@
--- The first reason why a batch does not fit, and that there is one at most.
+-- The first reason why a batch doesn't fit, and why there is at most one reason.
 use Rattle.cspf_model.specs.Laws.{OneRefusal}
 use mathlib.Core.Bool.{true≢false}
 use Rattle.std.proofs.Common.{◌≡◌, ℕ, zero, suc, ◌+◌, ◌<◌, ◌≤◌, inl, inr, ◌||◌, true, Option, Some, None, option_map, List, [], ◌∷◌, length, map, take, refl, sym, ap, subst, ◌∙◌, add-one, arith, length-take-le, is_some, IfNone}
@@ -21,16 +21,16 @@ use Rattle.cspf_model.specs.Lemmas.RepeatedKeys.{is_changed, IsNewAt, IsRepeated
 use Rattle.cspf_model.specs.Refusals.{change_at, RepeatsAt, RemovesNothing, RemovesNothingAt, IsLeastPlace, AreOnceEach, ArePresent, IsRefusal}
 use Rattle.cspf_model.proofs.Databases.Keys.{change_keys_total, change_keys_same, change_key_itself}
 
--- equal keys tie
+-- Equal keys tie.
 tie_from : (j k : ChangeKey) → j ≡ k → eq_by_cmp change_key_cmp j k ≡ true
 tie_from j k e = ap (eq_by_cmp change_key_cmp j) (sym e) ∙ change_key_itself j
 
--- a change at an index is at the next place
+-- The change at an index has the next greater number as its place.
 at_place : (cs : List Change) (at : ℕ) (d : Change) → at < length cs
     → change_at cs (at + 1) ≡ Some (slice_index_or cs at d)
 at_place cs at d within = ap (change_at cs) (add-one at) ∙ slice_get-get_or cs at d within
 
--- where the index of an earlier change shows that the key is repeated
+-- A change repeats a key if a change at a lower index has the same key.
 repeated_before : (cs : List Change) (at earlier : ℕ) (d : Change) → at < length cs → earlier < at
     → key_changed (slice_index_or cs earlier d) ≡ key_changed (slice_index_or cs at d)
     → is_changed (take at cs) (key_changed (slice_index_or cs at d)) ≡ true
@@ -40,7 +40,7 @@ repeated_before cs at earlier d within before same =
     (λ c. eq_by_cmp change_key_cmp (key_changed (slice_index_or cs at d)) (key_changed c)) (take at cs)
     (earlier, slice_index_or cs earlier d, omega (arith, long, before), get_or_default (take at cs) earlier _ d (omega (arith, long, before)) ∙ get_or-take at cs earlier d before, tie_from _ _ (sym same))
 
--- a place before the first repeat repeats nothing
+-- If no change before the index `at` repeats a key, none of the first `at` places repeats a key.
 new_before : (cs : List Change) (at : ℕ) → ((k : ℕ) → k < at → IsNewAt cs k) → (place : ℕ)
     → place < at + 1 → ¬ RepeatsAt cs place
 new_before cs at new zero within r = absurd (none-some (r.is_second))
@@ -57,7 +57,7 @@ new_before cs at new (suc n) within r = earlier_cases r.earlier r.is_earlier r.i
         true≢false
         (sym (repeated_before cs n m r.second (slice_get_within cs n r.second r.is_second) (omega (arith, before)) (ap key_changed first ∙ r.one_key ∙ ap key_changed (sym second))) ∙ new n (omega (arith, within)) r.second)
 
--- the first index that repeats a key is the least such place
+-- The first index at which a key is repeated gives the least place of a repeat.
 pub least_repeat : (cs : List Change) (at : ℕ) → at < length cs → IsRepeatedAt cs at
     → ((k : ℕ) → k < at → IsNewAt cs k) → IsLeastPlace (RepeatsAt cs) (at + 1)
 least_repeat [] at within repeated new = absurd (omega (arith, within))
@@ -81,13 +81,13 @@ least_repeat (c ∷ cs) at within repeated new = record {
   none_before = new_before (c ∷ cs) at new;
 }
 
--- a key is changed where it is among the keys of the changes
+-- A key is changed exactly if it is among the keys of the changes.
 any-keys : (k : ChangeKey) (cs : List Change)
     → list_any (eq_by_cmp change_key_cmp k) (map key_changed cs) ≡ is_changed cs k
 any-keys k [] = refl
 any-keys k (c ∷ cs) = ap (λ b. eq_by_cmp change_key_cmp k (key_changed c) || b) (any-keys k cs)
 
--- changes up to an index, none of which repeats a key, are on different keys
+-- If no change repeats a key, the first `n` changes have different keys.
 once_below : (cs : List Change) (d : Change) → ((k : ℕ) → k < length cs → IsNewAt cs k) → (n : ℕ)
     → n ≤ length cs → AreOnceEach (take n cs)
 unfolding IsDistinct
@@ -99,7 +99,7 @@ once_below cs d new (suc n) within =
     (IsDistinct-push (eq_by_cmp_equiv change_keys_total) (map key_changed (take n cs)) (key_changed (slice_index_or cs n d)) (once_below cs d new n (omega (arith, within)))
     (any-keys _ (take n cs) ∙ new n (omega (arith, within)) d))))
 
--- where no index repeats a key, each key is changed once
+-- If no change repeats a key, all changes have different keys.
 pub once_from_new : (cs : List Change) → ((k : ℕ) → k < length cs → IsNewAt cs k) → AreOnceEach cs
 unfolding IsDistinct
 once_from_new [] new = tt
@@ -107,20 +107,20 @@ once_from_new (c ∷ cs) new =
     subst AreOnceEach (take_all (length (c ∷ cs)) (c ∷ cs) (omega arith))
     (once_below (c ∷ cs) c new (length (c ∷ cs)) (omega arith))
 
--- where a search finds no repeat, each key is changed once
+-- If a search finds no repeat, all changes have different keys.
 pub once_if_none : (cs : List Change) (r : Option ℕ)
     → IfNone r ((k : ℕ) → k < length cs → IsNewAt cs k) → IfNone r (AreOnceEach cs)
 once_if_none cs None new = once_from_new cs new
 once_if_none cs (Some at) new = tt
 
--- the key of a removal that removes nothing isn't in the database
+-- If a removal removes nothing, its key isn't in the database.
 absent_not_present : (d : Database) (c : Change) → RemovesNothing d c → ¬ IsPresent d c
 absent_not_present d (Put l) absent present = absent
 absent_not_present d (Node router transit) absent present = absent
 absent_not_present d (Remove from local) absent present =
     true≢false (sym present ∙ ap is_some absent)
 
--- the first index that removes nothing is the least such place
+-- The first index at which a change removes nothing gives the least such place.
 pub least_absent : (d : Database) (cs : List Change) (at : ℕ) → at < length cs
     → HoldsAt (RemovesNothing d) cs at → AllWithin (IsPresent d) cs 0 at
     → IsLeastPlace (RemovesNothingAt d cs) (at + 1)
@@ -140,14 +140,14 @@ least_absent d (c ∷ cs) at within absent present = record {
         absent_not_present d r.change r.removes_nothing
         (subst (IsPresent d) (get_or_from_slice_get (c ∷ cs) n r.change r.change r.is_change) (present n r.change (omega arith) (omega (arith, before))))
 
--- the key at a place
+-- The key at a place.
 key_there : (cs : List Change) (n : ℕ) (c : Change) (d : ChangeKey) → slice_get cs n ≡ Some c
     → slice_index_or (map key_changed cs) n d ≡ key_changed c
 key_there cs n c d is =
     get_or_from_slice_get (map key_changed cs) n (key_changed c) d
     (slice_get-map key_changed cs n ∙ ap (option_map key_changed) is)
 
--- where a change repeats a key not each key is changed once
+-- If some change repeats a key, the changes don't all have different keys.
 repeats_not_once : (cs : List Change) (place : ℕ) → RepeatsAt cs place → ¬ AreOnceEach cs
 repeats_not_once cs zero r once = absurd (none_there r.is_second)
   where
@@ -167,7 +167,7 @@ repeats_not_once cs (suc n) r once = earlier_cases r.earlier r.is_earlier r.is_f
         ∙ apart_from_distinct (eq_by_cmp change_key_cmp) (map key_changed cs) m n (key_changed r.first)
         once (omega (arith, before)) within)
 
--- where a removal removes nothing not all are present
+-- If some removal removes nothing, not every removal's key is in the database.
 removes_not_present : (d : Database) (cs : List Change) (place : ℕ) → RemovesNothingAt d cs place
     → ¬ ArePresent d cs
 removes_not_present d cs zero r present = absurd (none_there r.is_change)
@@ -178,7 +178,7 @@ removes_not_present d cs (suc n) r present =
     absent_not_present d r.change r.removes_nothing
     (subst (IsPresent d) (get_or_from_slice_get cs n r.change r.change r.is_change) (present n r.change (slice_get_within cs n r.change r.is_change)))
 
--- a batch that is refused doesn't fit
+-- A batch that is refused doesn't fit.
 pub refused_unfit : (d : Database) (b : NumberedChanges) (e : Refusal) → IsRefusal d b e
     → ¬ Fits d b
 refused_unfit d b TooLong why fits = absurd (omega (arith, why, fits.short))
@@ -188,7 +188,7 @@ refused_unfit d b Full why fits = absurd (omega (arith, why.1, fits.links))
 refused_unfit d b TooManyRouters why fits = absurd (omega (arith, why.2, fits.routers))
 refused_unfit d b TooManyMarks why fits = absurd (omega (arith, why.3, fits.marks))
 
--- there is at most one least place
+-- There is at most one least place.
 one_least : (P : ℕ → Type 0) (m n : ℕ) → IsLeastPlace P m → IsLeastPlace P n → m ≡ n
 one_least P m n is also =
     not_apart m n (λ before. also.none_before m before is.here)
@@ -197,7 +197,7 @@ one_least P m n is also =
     not_apart : (m n : ℕ) → (m < n → ⊥) → (n < m → ⊥) → m ≡ n
     not_apart m n below above = omega (arith, below, above)
 
--- which reason comes first
+-- The position of a reason in the order of reasons.
 rank : Refusal → ℕ
 rank TooLong = 0
 rank (Duplicate at) = 1
@@ -206,7 +206,7 @@ rank Full = 3
 rank TooManyRouters = 4
 rank TooManyMarks = 5
 
--- a reason is the only one, where none of those before it is one
+-- A later reason is excluded by an earlier one, so the two are equal.
 one_upto : (d : Database) (b : NumberedChanges) (e f : Refusal) → rank e ≤ rank f → IsRefusal d b e → IsRefusal d b f → e ≡ f
 unfolding rank
 one_upto d b TooLong TooLong low is also = refl
@@ -235,7 +235,7 @@ one_upto d b (Absent m) TooManyRouters low is also = absurd (removes_not_present
 one_upto d b (Absent m) TooManyMarks low is also = absurd (removes_not_present d b.changes m is.2.here also.0.present)
 one_upto d b e f low is also = absurd (omega (arith, low))
 
--- a batch is refused for one reason at most
+-- A batch is refused for at most one reason.
 pub one_reason : OneRefusal
 one_reason d b e f is also = elim (cases_lt (rank e) (rank f)) [
   | inl below ↦ one_upto d b e f (omega (arith, below)) is also

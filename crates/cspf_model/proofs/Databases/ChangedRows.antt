@@ -1,4 +1,4 @@
--- The database after changes: the rows that they leave, and the links that they put.
+-- The database after changes is made of the rows that they leave alone and the links that they put.
 use Rattle.std.proofs.Common.{◌≡◌, zero, suc, ◌||◌, Bool, true, false, cond, not, Option, Some, None, List, [], ◌∷◌, ◌++◌, Contains, map, refl, sym, ap, ◌∙◌, arith}
 use Rattle.std.specs.Ordering.{eq_by_cmp}
 use Rattle.std.specs.List.{IsDistinct, AllByRecursion}
@@ -22,36 +22,36 @@ use Rattle.cspf_model.proofs.Databases.LastChanges.{link_at-after_change}
 use Rattle.cspf_model.proofs.Databases.LinksOfRows.{link_at-database_of}
 use Rattle.cspf_model.proofs.Databases.OneChange.{same_database, same_options, found_too}
 
--- what the entries of links have at a key
+-- The link at a key among the entries of a list of links.
 at_key : List Link → Key → Option Link
 at_key links k = find key_cmp k (map entry_of links)
 
--- the rows that changes leave, and the links that they put
+-- The rows that the changes leave alone, followed by the links that they put.
 abbrev pub rows_after : List Link → List Change → List Link
 rows_after rows changes = rows_untouched rows changes ++ links_put changes
 
--- keys that tie are changed alike
+-- Keys that tie are changed by the same changes.
 changed_alike : (cs : List Change) (j k : Key) → eq_by_cmp key_cmp j k ≡ true
     → is_changed cs (link_key j) ≡ is_changed cs (link_key k)
 changed_alike cs j k tie = ap (λ q. is_changed cs (link_key q)) (keys_same j k tie)
 
--- nothing is found at a row with another key, nor after it
+-- If neither the row nor the rows after it have the key, nothing is found.
 none_found : (b : Bool) (x : Link) (o : Option Link) → b ≡ false → o ≡ None
     → cond b (Some x) o ≡ None
 none_found true x o off none = absurd (cc)
 none_found false x o off none = none
 
--- the first of two tests that both fail
+-- If the disjunction of two tests is false, the first test is false.
 or_first : (a b : Bool) → (a || b) ≡ false → a ≡ false
 or_first true b e = e
 or_first false b e = refl
 
--- the second of two tests that both fail
+-- If the disjunction of two tests is false, the second test is false.
 or_second : (a b : Bool) → (a || b) ≡ false → b ≡ false
 or_second true b e = absurd (cc)
 or_second false b e = e
 
--- a key that isn't changed isn't put
+-- If no change has a key, no link with this key is put.
 not_put : (cs : List Change) (k : Key) → is_changed cs (link_key k) ≡ false → at_key (links_put cs) k ≡ None
 unfolding at_key
 not_put [] k off = refl
@@ -61,7 +61,8 @@ not_put (Put l ∷ cs) k off =
 not_put (Remove from local ∷ cs) k off = not_put cs k (or_second _ _ off)
 not_put (Node router transit ∷ cs) k off = not_put cs k (or_second _ _ off)
 
--- the rows that are left have what all rows have at a key that isn't changed, and nothing at others
+-- At a key without a change, the rows left alone have the same link as all rows. At a changed key they
+-- have none.
 at_left : (rows : List Link) (cs : List Change) (k : Key)
     → at_key (rows_untouched rows cs) k ≡ cond (is_changed cs (link_key k)) None (at_key rows k)
 unfolding at_key
@@ -90,12 +91,12 @@ at_left (l ∷ rows) cs k =
         → at_key (rows_untouched (l ∷ rows) cs) k ≡ at_key (l ∷ rows_untouched rows cs) k
     stayed off = ap (λ b. at_key (cond (not b) (l ∷ rows_untouched rows cs) (rows_untouched rows cs)) k) off
 
--- the first of two options that has something
+-- The first option, unless it is empty. Then the second option.
 first_of : Option Link → Option Link → Option Link
 first_of None p = p
 first_of (Some x) p = Some x
 
--- what two lists of links have at a key
+-- The link at a key in two lists of links, one after the other.
 at_both : (xs ys : List Link) (k : Key) → at_key (xs ++ ys) k ≡ first_of (at_key xs k) (at_key ys k)
 unfolding at_key first_of
 at_both [] ys k = refl
@@ -105,7 +106,7 @@ at_both (x ∷ xs) ys k =
       | false ↦ at_both xs ys k
     ]
 
--- a changed key has what is put, another one what the row had
+-- At a changed key it is the link that is put. At another key it is the row's link.
 chosen : (b : Bool) (row put : Option Link) → (b ≡ false → put ≡ None)
     → first_of (cond b None row) put ≡ cond b put row
 unfolding first_of
@@ -113,7 +114,7 @@ chosen true row put none = refl
 chosen false None put none = none refl
 chosen false (Some x) put none = refl
 
--- what the rows after changes have at a key
+-- The link at a key in the rows after the changes.
 at_after : (rows : List Link) (cs : List Change) (k : Key)
     → at_key (rows_after rows cs) k ≡ cond (is_changed cs (link_key k)) (at_key (links_put cs) k) (at_key rows k)
 at_after rows cs k =
@@ -121,7 +122,7 @@ at_after rows cs k =
     ∙ ap (λ o. first_of o (at_key (links_put cs) k)) (at_left rows cs k)
     ∙ chosen (is_changed cs (link_key k)) (at_key rows k) (at_key (links_put cs) k) (not_put cs k)
 
--- none of the later changes is on the key of the first
+-- If all changes have different keys, no later change has the key of the first.
 not_again : (c : Change) (cs : List Change) → AreOnceEach (c ∷ cs)
     → is_changed cs (key_changed c) ≡ false
 unfolding IsDistinct
@@ -133,27 +134,27 @@ not_again c cs once = none_on (key_changed c) cs once.0
     none_on k [] all = refl
     none_on k (c ∷ cs) all = ap (λ b. b || is_changed cs k) all.0 ∙ none_on k cs all.1
 
--- what is at a key after one change
+-- The link at a key after one change.
 pub link_at-relinked : (d : Database) (c : Change) (k : Key)
     → link_at (relinked d c) k ≡ cond (eq_by_cmp change_key_cmp (link_key k) (key_changed c)) (link_left c) (link_at d k)
 link_at-relinked d (Put l) k = link_at-after_change d (Put l) k
 link_at-relinked d (Remove from local) k = link_at-after_change d (Remove from local) k
 link_at-relinked d (Node router transit) k = link_at-after_change d (Node router transit) k
 
--- some changes, then others
+-- A list of changes that is followed by another list.
 pub all_relinked-append : (d : Database) (bs cs : List Change)
     → all_relinked d (bs ++ cs) ≡ all_relinked (all_relinked d bs) cs
 all_relinked-append d [] cs = refl
 all_relinked-append d (b ∷ bs) cs = all_relinked-append (relinked d b) bs cs
 
--- changes of links leave the marks
+-- Changes to links leave the marks.
 pub marks-all_relinked : (d : Database) (cs : List Change) → (all_relinked d cs).marks ≡ d.marks
 marks-all_relinked d [] = refl
 marks-all_relinked d (Put l ∷ cs) = marks-all_relinked (relinked d (Put l)) cs
 marks-all_relinked d (Remove from local ∷ cs) = marks-all_relinked (relinked d (Remove from local)) cs
 marks-all_relinked d (Node router transit ∷ cs) = marks-all_relinked d cs
 
--- what is at a key after changes on different keys
+-- The link at a key after changes with different keys.
 at_changed_by : (d : Database) (cs : List Change) (k : Key) → AreOnceEach cs
     → link_at (all_relinked d cs) k ≡ cond (is_changed cs (link_key k)) (at_key (links_put cs) k) (link_at d k)
 unfolding IsDistinct at_key
@@ -188,7 +189,7 @@ at_changed_by d (Node router transit ∷ cs) k once =
     at_changed_by d cs k once.1
     ∙ ap (λ b. cond (b || is_changed cs (link_key k)) (at_key (links_put cs) k) (link_at d k)) (sym (link_apart k router))
 
--- the rows after changes make the database after them
+-- The rows after the changes make the database after the changes.
 pub database-rows_after : (rows : List Link) (cs : List Change) → AreOnceEach cs
     → database_of (rows_after rows cs) ≡ all_relinked (database_of rows) cs
 unfolding at_key
@@ -197,7 +198,7 @@ database-rows_after rows cs once =
     ∙ ap (cond (is_changed cs (link_key k)) (at_key (links_put cs) k)) (sym (link_at-database_of rows k))
     ∙ sym (at_changed_by (database_of rows) cs k once))
 
--- a key that no row has is not that of a row that is left
+-- A key that no row has is not the key of a row left alone.
 apart_left : (k : Key) (rows : List Link) (cs : List Change)
     → AllByRecursion (λ y. eq_by_cmp key_cmp k y ≡ false) (map key_of rows)
     → AllByRecursion (λ y. eq_by_cmp key_cmp k y ≡ false) (map key_of (rows_untouched rows cs))
@@ -208,7 +209,7 @@ apart_left k (l ∷ rows) cs all =
       | false ↦ apart_left k rows cs all.1
     ]
 
--- a key that is not changed is not that of a link that is put
+-- A key that no change has is not the key of a link that is put.
 apart_put : (k : Key) (cs : List Change) → is_changed cs (link_key k) ≡ false
     → AllByRecursion (λ y. eq_by_cmp key_cmp k y ≡ false) (map key_of (links_put cs))
 apart_put k [] off = tt
@@ -216,7 +217,7 @@ apart_put k (Put l ∷ cs) off = (or_first _ _ off, apart_put k cs (or_second _ 
 apart_put k (Remove from local ∷ cs) off = apart_put k cs (or_second _ _ off)
 apart_put k (Node router transit ∷ cs) off = apart_put k cs (or_second _ _ off)
 
--- links that are put have different keys
+-- The links that are put have different keys.
 puts_apart : (cs : List Change) → AreOnceEach cs → HaveOwnKeys (links_put cs)
 unfolding IsDistinct
 puts_apart [] once = tt
@@ -225,13 +226,13 @@ puts_apart (Put l ∷ cs) once =
 puts_apart (Remove from local ∷ cs) once = puts_apart cs once.1
 puts_apart (Node router transit ∷ cs) once = puts_apart cs once.1
 
--- what holds of the keys of two lists holds of those of both
+-- What holds of the keys of two lists holds of the keys of the joined list.
 all_both : (P : Key → Type 0) (xs ys : List Link) → AllByRecursion P (map key_of xs)
     → AllByRecursion P (map key_of ys) → AllByRecursion P (map key_of (xs ++ ys))
 all_both P [] ys all also = also
 all_both P (x ∷ xs) ys all also = (all.0, all_both P xs ys all.1 also)
 
--- the rows after changes have different keys
+-- The rows after the changes have different keys.
 pub apart-rows_after : (rows : List Link) (cs : List Change) → HaveOwnKeys rows → AreOnceEach cs
     → HaveOwnKeys (rows_after rows cs)
 unfolding IsDistinct
@@ -242,11 +243,11 @@ apart-rows_after (l ∷ rows) cs apart once =
       | false ↦ λ off. (all_both (λ y. eq_by_cmp key_cmp (key_of l) y ≡ false) (rows_untouched rows cs) (links_put cs) (apart_left (key_of l) rows cs apart.0) (apart_put (key_of l) cs off), apart-rows_after rows cs apart.1 once)
     ] refl
 
--- an item of a list is an item of the list with one more in front
+-- An item of a list is an item of the list with one more item in front.
 behind : {X : Type 0} (x : X) (xs : List X) (y : X) → Contains xs y → Contains (x ∷ xs) y
 behind x xs y has = (suc has.0, omega (arith, has.1), has.2)
 
--- a link that changes put is put by one of them
+-- A link among the links that are put is put by one of the changes.
 put_from : (cs : List Change) (l : Link) → Contains (links_put cs) l → Contains cs (Put l)
 put_from [] l has = absurd (omega (arith, has.1))
 put_from (Put m ∷ cs) l (zero, h, is) = (0, omega arith, ap Put is)
@@ -256,7 +257,7 @@ put_from (Remove from local ∷ cs) l has = behind (Remove from local) cs (Put l
 put_from (Node router transit ∷ cs) l has =
     behind (Node router transit) cs (Put l) (put_from cs l has)
 
--- a link that one of the changes puts is among those that they put
+-- A link that one of the changes puts is among the links that are put.
 put_among : (cs : List Change) (l : Link) → Contains cs (Put l) → Contains (links_put cs) l
 put_among [] l has = absurd (omega (arith, has.1))
 put_among (Put m ∷ cs) l (zero, h, is) = (0, omega arith, same_link is)
@@ -270,14 +271,14 @@ put_among (Remove from local ∷ cs) l (suc k, h, is) = put_among cs l (k, omega
 put_among (Node router transit ∷ cs) l (zero, h, is) = absurd (cc)
 put_among (Node router transit ∷ cs) l (suc k, h, is) = put_among cs l (k, omega (arith, h), is)
 
--- changes on different keys have one result in any order
+-- Changes with different keys have the same result in any order.
 module _ (cs ys : List Change) (moved : IsPermutation cs ys) (once : AreOnceEach cs) where
-  -- in the other order too
+  -- The changes in the other order have different keys too.
   still_once : AreOnceEach ys
   still_once =
       IsDistinct-IsPermutation (eq_by_cmp change_key_cmp) (eq_by_cmp_equiv change_keys_total).symm (map key_changed cs) (map key_changed ys) (IsPermutation-map key_changed cs ys moved) once
 
-  -- they put the same at each key
+  -- The changes in the other order put the same link at each key.
   same_put : (k : Key) → at_key (links_put ys) k ≡ at_key (links_put cs) k
   unfolding at_key
   same_put k =

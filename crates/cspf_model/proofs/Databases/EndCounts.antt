@@ -28,7 +28,7 @@ use Rattle.cspf_model.proofs.Databases.LinksOfRows.{link_at-database_of}
 use Rattle.cspf_model.proofs.Databases.OneChange.{find-behind}
 use Rattle.cspf_model.proofs.Databases.ChangedRows.{rows_after, database-rows_after, apart-rows_after}
 
--- there are as many rows with different keys as links in their database
+-- The database of rows with different keys has as many links as there are rows.
 pub link_count-database_of : (rows : List Link) → HaveOwnKeys rows
     → link_count (database_of rows) ≡ length rows
 unfolding IsDistinct
@@ -39,25 +39,26 @@ link_count-database_of (l ∷ rows) apart =
     (link_at-database_of rows (key_of l) ∙ find-behind l rows apart)
     ∙ ap (λ n. n + 1) (link_count-database_of rows apart.1) ∙ omega arith
 
--- tests grouped the other way
+-- Three tests, grouped in the other way.
 or_assoc : (a b c : Bool) → (a || (b || c)) ≡ ((a || b) || c)
 or_assoc true b c = refl
 or_assoc false b c = refl
 
--- two tests in the other order
+-- Three tests, of which the first two change places.
 or_swap : (a b c : Bool) → (a || (b || c)) ≡ (b || (a || c))
 or_swap true true c = refl
 or_swap true false c = refl
 or_swap false b c = refl
 
--- an end of some links passes a test where one of the links has such an end
+-- Some end in the list of ends passes a test exactly if some link has an end that passes it.
 pub any-ends_of : (p : ℕ → Bool) (links : List Link)
     → list_any p (ends_of links) ≡ list_any (λ l. p l.from || p l.to) links
 any-ends_of p [] = refl
 any-ends_of p (l ∷ links) =
     ap (λ b. p l.from || (p l.to || b)) (any-ends_of p links) ∙ or_assoc (p l.from) (p l.to) _
 
--- an entry with a new key is added
+-- After an entry with a new key is added, some link passes a test exactly if the new link or an old
+-- link passes it.
 any-put : (p : Link → Bool) (k : Key) (v : Link) (es : List (Key × Link))
     → map.find key_cmp k es ≡ None
     → list_any p (map (λ e. e.1) (put key_cmp k v es)) ≡ (p v || list_any p (map (λ e. e.1) es))
@@ -70,7 +71,7 @@ any-put p k v (e ∷ es) none =
       | Greater ↦ λ rest. ap (λ b. p e.1 || b) (any-put p k v es rest) ∙ or_swap (p e.1) (p v) _
     ] none
 
--- the links of the database of rows are the rows
+-- The links of the database of rows are the rows.
 any-values : (p : Link → Bool) (rows : List Link) → HaveOwnKeys rows
     → list_any p (map.values (database_of rows).links) ≡ list_any p rows
 unfolding IsDistinct
@@ -85,11 +86,11 @@ any-values p (l ∷ rows) apart =
     (sym (map.get-entries (database_of rows).links (key_of l)) ∙ link_at-database_of rows (key_of l) ∙ find-behind l rows apart)
     ∙ ap (λ b. p l || b) (any-values p rows apart.1)
 
--- the set of the ends of links
+-- The set of the ends of these links.
 ends_set : List Link → set.FinSet nat_cmp
 ends_set links = set.from_list (ends_of links)
 
--- the routers of the database of rows are the ends of the rows
+-- The routers of the database of rows are the ends of the rows.
 pub router_count-database_of : (rows : List Link) → HaveOwnKeys rows
     → router_count (database_of rows) ≡ set.len (set.from_list {R = nat_cmp} (ends_of rows))
 router_count-database_of rows apart =
@@ -98,12 +99,12 @@ router_count-database_of rows apart =
     ∙ any-values _ rows apart ∙ sym (any-ends_of (eq_by_cmp nat_cmp q) rows)
     ∙ sym (set.contains-from_list nat_cmp_total _ q)))
 
--- a test that fails adds nothing
+-- A test that fails adds nothing to a disjunction.
 or_false : (a : Bool) → a ≡ (a || false)
 or_false true = refl
 or_false false = refl
 
--- four tests in another order
+-- Four tests in another order.
 turn : (a b s rest : Bool) → ((b || (a || s)) || rest) ≡ (s || (a || (b || rest)))
 turn true true true rest = refl
 turn true true false rest = refl
@@ -114,7 +115,7 @@ turn false true false rest = refl
 turn false false true rest = refl
 turn false false false rest = refl
 
--- what a set with the ends of links contains
+-- What a set contains after the ends of links were added to it.
 pub contains-with_ends : (s : set.FinSet nat_cmp) (links : List Link) (q : ℕ)
     → set.contains (with_ends s links) q ≡ (set.contains s q || list_any (eq_by_cmp nat_cmp q) (ends_of links))
 contains-with_ends s [] q = or_false _
@@ -124,7 +125,7 @@ contains-with_ends s (l ∷ links) q =
     (set.contains-insert nat_cmp_total (set.insert s l.from) l.to q ∙ ap (λ b. eq_by_cmp nat_cmp q l.to || b) (set.contains-insert nat_cmp_total s l.from q))
     ∙ turn (eq_by_cmp nat_cmp q l.from) (eq_by_cmp nat_cmp q l.to) (set.contains s q) _
 
--- the ends of links, added one by one
+-- The ends of links, added to the empty set one after the other.
 with_ends-empty : (links : List Link) → with_ends set.empty links ≡ set.from_list (ends_of links)
 with_ends-empty links =
     set.same_set nat_cmp_total set.nat_cmp-IsAntisymmetric _ _ (λ q.
@@ -132,13 +133,13 @@ with_ends-empty links =
     ∙ ap (λ b. b || list_any (eq_by_cmp nat_cmp q) (ends_of links)) (set.contains-empty nat_cmp q)
     ∙ sym (set.contains-from_list nat_cmp_total _ q))
 
--- the ends of some links, then of others
+-- The ends of some links are added, and then the ends of other links.
 pub with_ends-append : (s : set.FinSet nat_cmp) (xs ys : List Link)
     → with_ends (with_ends s xs) ys ≡ with_ends s (xs ++ ys)
 with_ends-append s [] ys = refl
 with_ends-append s (x ∷ xs) ys = with_ends-append (set.insert (set.insert s x.from) x.to) xs ys
 
--- to add a router makes no set smaller
+-- Adding a router makes no set smaller.
 pub len-insert-le : (s : set.FinSet nat_cmp) (k : ℕ) → set.len s ≤ set.len (set.insert s k)
 len-insert-le s k =
     let n = set.len-insert nat_cmp_total s k in rw n (no_less (set.contains s k) (set.len s))
@@ -147,7 +148,7 @@ len-insert-le s k =
     no_less true n = omega arith
     no_less false n = omega arith
 
--- to add ends makes no set smaller
+-- Adding the ends of links makes no set smaller.
 pub len-with_ends-le : (s : set.FinSet nat_cmp) (links : List Link)
     → set.len s ≤ set.len (with_ends s links)
 len-with_ends-le s [] = omega arith
@@ -155,18 +156,18 @@ len-with_ends-le s (l ∷ links) =
     omega
     (arith, len-with_ends-le (set.insert (set.insert s l.from) l.to) links, len-insert-le (set.insert s l.from) l.to, len-insert-le s l.from)
 
--- the second test is enough
+-- If the second of two tests passes, their disjunction is true.
 pub or_right : (a b : Bool) → b ≡ true → (a || b) ≡ true
 or_right true b e = refl
 or_right false b e = e
 
--- a member that does not tie with the one that is removed stays in the set
+-- A member that doesn't tie with the removed number stays in the set.
 stays_inside : (tie found there : Bool) → (tie ≡ true → found ≡ false) → found ≡ true → there ≡ true
     → (not tie && there) ≡ true
 stays_inside true found there apart is inside = absurd (cc (apart refl))
 stays_inside false found there apart is inside = inside
 
--- a set with an item has one more than without it
+-- A set with an item has one member more than the set without it.
 len-without : (t : set.FinSet nat_cmp) (x : ℕ) → set.contains t x ≡ true
     → set.len (set.remove t x) + 1 ≡ set.len t
 len-without t x there =
@@ -174,7 +175,7 @@ len-without t x there =
     let some : set.len t ≡ 0 → ⊥ = λ none. true≢false (sym there ∙ ap (λ s. set.contains s x) (set.empty_of_len t none) ∙ set.contains-empty nat_cmp x) in
     omega (arith, shorter, some)
 
--- the set of a list within a set is no larger
+-- The set of a list whose items are all in another set is at most as large as that set.
 len-within : (xs : List ℕ) (t : set.FinSet nat_cmp)
     → ((q : ℕ) → list_any (eq_by_cmp nat_cmp q) xs ≡ true → set.contains t q ≡ true)
     → set.len (set.from_list {R = nat_cmp} xs) ≤ set.len t
@@ -197,7 +198,7 @@ len-within (x ∷ xs) t inside =
       )
     ] refl)
 
--- a row that is left is a row
+-- A row that is left alone is one of the rows.
 any_left : (p : Link → Bool) (rows : List Link) (cs : List Change)
     → list_any p (rows_untouched rows cs) ≡ true → list_any p rows ≡ true
 any_left p [] cs is = is
@@ -211,7 +212,7 @@ any_left p (l ∷ rows) cs is =
     or_either true b c e f = refl
     or_either false b c e f = f e
 
--- a router that one of the links ends at is among their ends
+-- A router at which one of the rows begins or ends is among the ends of the rows.
 pub known_end : (rows : List Link) (router q : ℕ) → AnyEndsAt rows router
     → eq_by_cmp nat_cmp q router ≡ true
     → list_any (λ l. eq_by_cmp nat_cmp q l.from || eq_by_cmp nat_cmp q l.to) rows ≡ true
@@ -231,14 +232,14 @@ known_end rows router q (at, within, ends) tie =
     found (l ∷ rows) at within ends =
         (at, slice_index_or (l ∷ rows) at l, within, get_or_default (l ∷ rows) at (slice_index_or (l ∷ rows) at l) l within, one_end (slice_index_or (l ∷ rows) at l) (ends l))
 
--- one of two tests passes
+-- If a disjunction is true, one of the two tests passes.
 or_split : {P : Type 0} (a b : Bool) → (a || b) ≡ true → (a ≡ true → P) → (b ≡ true → P) → P
 or_split true b e f g = f refl
 or_split false b e f g = g e
 
--- how many routers there are after changes
+-- How many routers the database has after changes.
 module _ (rows : List Link) (cs : List Change) (apart : HaveOwnKeys rows) (once : AreOnceEach cs) where
-  -- as many as the ends of the rows that are left and of the links that are put
+  -- It has as many routers as there are ends of the rows left alone and of the links that are put.
   pub router_count-after : router_count (all_relinked (database_of rows) cs) ≡ set.len (with_ends (with_ends set.empty (rows_untouched rows cs)) (links_put cs))
   router_count-after =
       ap router_count (sym (database-rows_after rows cs once))
@@ -246,7 +247,7 @@ module _ (rows : List Link) (cs : List Change) (apart : HaveOwnKeys rows) (once 
       ∙ ap set.len
       (sym (with_ends-append set.empty (rows_untouched rows cs) (links_put cs) ∙ with_ends-empty (rows_after rows cs)))
 
-  -- their ends are ends of the rows, or of links that are put
+  -- Each end of the rows after the changes is an end of a row, or of a link that is put.
   in_grown : (q : ℕ) → list_any (eq_by_cmp nat_cmp q) (ends_of (rows_after rows cs)) ≡ true → set.contains (with_ends (set.from_list (ends_of rows)) (links_put cs)) q ≡ true
   in_grown q is =
       let all : set.FinSet nat_cmp = set.from_list (ends_of rows) in
@@ -256,8 +257,7 @@ module _ (rows : List Link) (cs : List Change) (apart : HaveOwnKeys rows) (once 
       (λ left. ap (λ b. b || list_any (eq_by_cmp nat_cmp q) (ends_of (links_put cs))) (set.contains-from_list nat_cmp_total (ends_of rows) q ∙ any-ends_of (eq_by_cmp nat_cmp q) rows ∙ any_left _ rows cs left))
       (λ put. or_right (set.contains all q) _ (any-ends_of (eq_by_cmp nat_cmp q) (links_put cs) ∙ put))
 
-  -- where the changes bring at most `most` new routers, there are at most that many more than
-  -- before
+  -- If the changes bring at most `most` new routers, the count grows by at most `most`.
   pub router_count-brought : (routers : List ℕ) (most : ℕ) → All (λ r. set.contains (set.from_list {R = nat_cmp} (ends_of rows)) r ≡ true) routers → BringsAtMost routers cs most
       → router_count (all_relinked (database_of rows) cs) ≤ router_count (database_of rows) + most
   router_count-brought routers most inside brings =
@@ -265,7 +265,7 @@ module _ (rows : List Link) (cs : List Change) (apart : HaveOwnKeys rows) (once 
       omega
       (arith, len-within (ends_of (rows_after rows cs)) (with_ends all (links_put cs)) in_grown, brings all inside, ap router_count (database-rows_after rows cs once), router_count-database_of (rows_after rows cs) (apart-rows_after rows cs apart once), router_count-database_of rows apart)
 
-  -- and one fewer where a router goes
+  -- If also some router is gone after the changes, the count grows by less than `most`.
   pub router_count-gone : (routers : List ℕ) (most : ℕ) → All (λ r. set.contains (set.from_list {R = nat_cmp} (ends_of rows)) r ≡ true) routers → BringsAtMost routers cs most
       → HasGone rows routers cs → router_count (all_relinked (database_of rows) cs) + 1 ≤ router_count (database_of rows) + most
   router_count-gone routers most inside brings (g, known, gone) =
@@ -285,7 +285,7 @@ module _ (rows : List Link) (cs : List Change) (apart : HaveOwnKeys rows) (once 
       omega
       (arith, within, len-without grown g there, brings all inside, ap router_count (database-rows_after rows cs once), router_count-database_of (rows_after rows cs) (apart-rows_after rows cs apart once), router_count-database_of rows apart)
 
--- to add a router adds one at most
+-- Adding a router makes a set larger by at most one.
 len-insert-most : (s : set.FinSet nat_cmp) (k : ℕ) → set.len (set.insert s k) ≤ set.len s + 1
 len-insert-most s k =
     let n = set.len-insert nat_cmp_total s k in rw n (one_more (set.contains s k) (set.len s))
@@ -294,19 +294,19 @@ len-insert-most s k =
     one_more true n = omega arith
     one_more false n = omega arith
 
--- to add a router that is there adds none
+-- Adding a router that the set has already doesn't make it larger.
 pub one_end : (s : set.FinSet nat_cmp) (k most : ℕ) → (most ≡ 0 → set.contains s k ≡ true) → set.len (set.insert s k) ≤ set.len s + most
 one_end s k zero there = omega (arith, set.len-insert nat_cmp_total s k ∙ ap (λ b. cond b (set.len s) (set.len s + 1)) (there refl))
 one_end s k (suc most) there = omega (arith, len-insert-most s k)
 
--- a put brings those of its ends that are not among the routers
+-- A put brings at most those of its ends that aren't among the routers.
 pub brings_put : (routers : List ℕ) (l : Link) (m n : ℕ) → (m ≡ 0 → Contains routers l.from) → (n ≡ 0 → Contains routers l.to) → BringsAtMost routers (Put l ∷ []) (m + n)
 brings_put routers l m n from to s inside =
     let there : (r : ℕ) → Contains routers r → set.contains s r ≡ true = λ r. All-contains (λ q. set.contains s q ≡ true) routers r inside in
     omega
     (arith, one_end s l.from m (λ e. there l.from (from e)), one_end (set.insert s l.from) l.to n (λ e. set.contains-insert nat_cmp_total s l.from l.to ∙ or_right (eq_by_cmp nat_cmp l.to l.from) _ (there l.to (to e))))
 
--- three tests in another order
+-- Three tests, of which the last two change places.
 turn_last : (a b e : Bool) → ((a || b) || e) ≡ ((a || e) || b)
 turn_last true b e = refl
 turn_last false true true = refl
@@ -314,7 +314,7 @@ turn_last false true false = refl
 turn_last false false true = refl
 turn_last false false false = refl
 
--- the ends of some links and of others, whichever come first
+-- The ends of two lists of links may be added in either order.
 with_ends-turned : (s : set.FinSet nat_cmp) (xs ys : List Link) → with_ends (with_ends s xs) ys ≡ with_ends (with_ends s ys) xs
 with_ends-turned s xs ys =
     set.same_set nat_cmp_total set.nat_cmp-IsAntisymmetric _ _ (λ q.
@@ -323,18 +323,18 @@ with_ends-turned s xs ys =
     ∙ turn_last (set.contains s q) _ _
     ∙ sym (contains-with_ends (with_ends s ys) xs q ∙ ap (λ b. b || list_any (eq_by_cmp nat_cmp q) (ends_of xs)) (contains-with_ends s ys q)))
 
--- the number of routers, by a set that all ends were added to
+-- The number of routers, counted by a set to which all ends were added.
 module _ (rows : List Link) (cs : List Change) (apart : HaveOwnKeys rows) (once : AreOnceEach cs) where
-  -- they are the ends of the links that are put and of the rows that are left
+  -- The routers are the ends of the links that are put and of the rows left alone.
   counted : router_count (all_relinked (database_of rows) cs) ≡ set.len (with_ends (with_ends set.empty (links_put cs)) (rows_untouched rows cs))
   counted = router_count-after rows cs apart once ∙ ap set.len (with_ends-turned set.empty (rows_untouched rows cs) (links_put cs))
 
-  -- where the ends of the links that are put are too many
+  -- The case in which the ends of the links that are put are already too many.
   pub many_put : 1024 < set.len (with_ends set.empty (links_put cs))
       → 1024 < router_count (all_relinked (database_of rows) cs)
   many_put many = omega (arith, many, len-with_ends-le (with_ends set.empty (links_put cs)) (rows_untouched rows cs), counted)
 
-  -- where both were added
+  -- The case in which the ends of both were added.
   pub tells_both : (b : Bool) (first second : set.FinSet nat_cmp)
       → first ≡ with_ends set.empty (links_put cs)
       → OnTrue b (second ≡ with_ends first (rows_untouched rows cs)) → OnTrue b (set.len second ≤ 1024)

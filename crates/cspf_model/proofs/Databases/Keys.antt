@@ -1,4 +1,4 @@
--- Keys of links and of changes: equal keys, and their order.
+-- The keys of links and of changes: their order, and which keys tie.
 use Rattle.std.proofs.Common.{◌≡◌, ◌≢◌, ℕ, true, false, Option, Some, None, refl, ap}
 use Rattle.std.specs.Ordering.{nat_cmp, eq_by_cmp, is_eq, ordering_then}
 use Rattle.std.specs.declared.cmp.Ordering.{Ordering}
@@ -12,21 +12,21 @@ use Rattle.std.proofs.lemmas.Cmp.{then_total, on_total, eq_by_cmp_equiv}
 use Rattle.cspf_model.specs.Database.{Key, key_cmp}
 use Rattle.cspf_model.specs.Changes.{ChangeKey, change_key_cmp, link_key, mark_key}
 
--- the order of keys is total
+-- The order of keys is total.
 pub keys_total : IsTotalOrder key_cmp
 keys_total =
     then_total (on_total (λ (k : Key). k.0) nat_cmp_total)
     (on_total (λ (k : Key). k.1) nat_cmp_total)
 
--- a key ties with itself
+-- A key ties with itself.
 pub key_itself : (k : Key) → eq_by_cmp key_cmp k k ≡ true
 key_itself k = (eq_by_cmp_equiv keys_total).refl k
 
--- keys that do not tie do not tie the other way round
+-- If one key doesn't tie with another, the other doesn't tie with it.
 pub keys_apart : (j k : Key) → eq_by_cmp key_cmp j k ≡ false → eq_by_cmp key_cmp k j ≡ false
 keys_apart j k e = rw ((eq_by_cmp_equiv keys_total).symm k j) e
 
--- only equal keys tie
+-- Only equal keys tie.
 pub keys_antisymmetric : IsAntisymmetric key_cmp
 keys_antisymmetric j k e =
     elim (nat_cmp j.0 k.0) as (λ r. nat_cmp j.0 k.0 ≡ r → ordering_then r (nat_cmp j.1 k.1) ≡ Equal → j ≡ k) [
@@ -35,38 +35,38 @@ keys_antisymmetric j k e =
       | Greater ↦ λ _ off. absurd (cc)
     ] refl e
 
--- keys that tie are one key
+-- Keys that tie are equal.
 pub keys_same : (j k : Key) → eq_by_cmp key_cmp j k ≡ true → j ≡ k
 keys_same j k e = keys_antisymmetric j k ((Equal-is (key_cmp j k)).0 e)
 
--- keys that are not one key do not tie
+-- Different keys don't tie.
 pub keys_apart_from : (j k : Key) → j ≢ k → eq_by_cmp key_cmp j k ≡ false
 keys_apart_from j k apart =
     elim (eq_by_cmp key_cmp j k) as (λ b. eq_by_cmp key_cmp j k ≡ b → b ≡ false) [ true ↦ λ tie. absurd (apart (keys_same j k tie)) | false ↦ λ _. refl ] refl
 
--- the order of the keys of changes is total
+-- The order of the keys of changes is total.
 pub change_keys_total : IsTotalOrder change_key_cmp
 change_keys_total =
     then_total (on_total (λ (k : ChangeKey). k.0) nat_cmp_total)
     (on_total (λ (k : ChangeKey). k.1) (options_total nat_cmp_total))
 
--- a key of changes ties with itself
+-- The key of a change ties with itself.
 pub change_key_itself : (k : ChangeKey) → eq_by_cmp change_key_cmp k k ≡ true
 change_key_itself k = (eq_by_cmp_equiv change_keys_total).refl k
 
--- keys of changes that do not tie do not tie the other way round
+-- If one key of changes doesn't tie with another, the other doesn't tie with it.
 pub change_keys_apart : (j k : ChangeKey) → eq_by_cmp change_key_cmp j k ≡ false
     → eq_by_cmp change_key_cmp k j ≡ false
 change_keys_apart j k e = rw ((eq_by_cmp_equiv change_keys_total).symm k j) e
 
--- only equal interfaces tie, and a router alone with none
+-- Only equal interfaces tie, and a missing interface ties only with a missing one.
 options_antisymmetric : (o p : Option ℕ) → option_cmp nat_cmp o p ≡ Equal → o ≡ p
 options_antisymmetric None None e = refl
 options_antisymmetric None (Some n) e = absurd (cc)
 options_antisymmetric (Some m) None e = absurd (cc)
 options_antisymmetric (Some m) (Some n) e = λ i. Some (nat_cmp-IsAntisymmetric m n e i)
 
--- only equal keys of changes tie
+-- Only equal keys of changes tie.
 change_keys_antisymmetric : IsAntisymmetric change_key_cmp
 change_keys_antisymmetric j k e =
     elim (nat_cmp j.0 k.0) as (λ r. nat_cmp j.0 k.0 ≡ r → ordering_then r (option_cmp nat_cmp j.1 k.1) ≡ Equal → j ≡ k) [
@@ -75,18 +75,18 @@ change_keys_antisymmetric j k e =
       | Greater ↦ λ _ off. absurd (cc)
     ] refl e
 
--- keys of changes that tie are one key
+-- Keys of changes that tie are equal.
 pub change_keys_same : (j k : ChangeKey) → eq_by_cmp change_key_cmp j k ≡ true → j ≡ k
 change_keys_same j k e =
     change_keys_antisymmetric j k ((Equal-is (change_key_cmp j k)).0 e)
 
--- where the second order does not tie, neither do both
+-- If the second of two orders doesn't tie, both together don't tie.
 untied_behind : (o p : Ordering) → is_eq p ≡ false → is_eq (ordering_then o p) ≡ false
 untied_behind Less p e = refl
 untied_behind Equal p e = e
 untied_behind Greater p e = refl
 
--- the key of a link does not tie with that of a router alone
+-- The key of a change to a link doesn't tie with that of a change of transit.
 pub link_apart : (k : Key) (router : ℕ)
     → eq_by_cmp change_key_cmp (link_key k) (mark_key router) ≡ false
 link_apart k router = untied_behind (nat_cmp k.0 router) Greater refl
@@ -95,7 +95,7 @@ pub mark_apart : (router : ℕ) (k : Key)
     → eq_by_cmp change_key_cmp (mark_key router) (link_key k) ≡ false
 mark_apart router k = untied_behind (nat_cmp router k.0) Less refl
 
--- links with one key of changes have one key
+-- Two links whose changes have the same key have the same key.
 pub link_keys_same : (j k : Key) → link_key j ≡ link_key k → j ≡ k
 link_keys_same j k e =
     let from : j.0 ≡ k.0 = ap (λ (q : ChangeKey). q.0) e in
@@ -103,7 +103,7 @@ link_keys_same j k e =
     let local : j.1 ≡ k.1 = cc in
     λ i. (from i, local i)
 
--- the key of a link is not that of a router alone
+-- The key of a change to a link isn't that of a change of transit.
 pub link_not_mark : (k : Key) (router : ℕ) → link_key k ≡ mark_key router → ⊥
 link_not_mark k router e = some_none (ap (λ (q : ChangeKey). q.1) e)
   where

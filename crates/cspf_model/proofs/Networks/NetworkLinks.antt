@@ -1,4 +1,4 @@
--- The links and the marks of the database that a batch of puts and marks makes.
+-- The links and the marks of the database that one batch of puts and marks makes.
 use Rattle.std.proofs.Common.{◌≡◌, ℕ, true, false, cond, Some, None, List, [], ◌∷◌, ◌++◌, map, refl, sym, ap, subst, ◌∙◌}
 use Rattle.std.specs.Ordering.{eq_by_cmp}
 use Rattle.std.specs.List.{AllByRecursion}
@@ -12,7 +12,7 @@ use Rattle.cspf_model.specs.NetworkLaws.{network_batch, network}
 use Rattle.cspf_model.proofs.Databases.Keys.{keys_total}
 use Rattle.cspf_model.proofs.Databases.LastChanges.{last_decides}
 
--- marks change no links
+-- Marks change no links.
 marks_over : (d : Database) (marks : List ℕ) → (after_changes d (map (λ r. Node r false) marks ++ [])).links ≡ d.links
 marks_over d [] = refl
 marks_over d (r ∷ marks) = marks_over (after_change d (Node r false)) marks
@@ -23,19 +23,19 @@ links_alone : (d : Database) (links : List Link) (marks : List ℕ)
 links_alone d [] marks = marks_over d marks
 links_alone d (l ∷ links) marks = links_alone (after_change d (Put l)) links marks
 
--- what is at a key, whatever the marks are
+-- The link at a key, which doesn't depend on the marks.
 pub link_at-network : (links : List Link) (marks : List ℕ) (k : Key)
     → link_at (network links marks) k ≡ link_after (last_on (link_key k) ((network_batch links []).changes ++ [])) None
 link_at-network links marks k =
     ap (λ (m : finite.FinMap key_cmp Link). finite.get m k) (links_alone no_links links marks)
     ∙ (last_decides (network_batch links [] ∷ [])).at k
 
--- whether a router is marked
+-- Whether a router is marked.
 pub marks-network : (links : List Link) (marks : List ℕ) (router : ℕ)
     → set.contains (network links marks).marks router ≡ mark_after (last_on (mark_key router) ((network_batch links marks).changes ++ [])) false
 marks-network links marks router = (last_decides (network_batch links marks ∷ [])).marked router
 
--- what holds of each link before a put and of the link that is put holds of each link after it
+-- A put keeps what holds of all links, if it holds of the link that is put.
 module _ (P : Link → Type 0) where
   put_one : (d : Database) (m : Link) → P m → ((l : Link) → IsLinkOf d l → P l)
       → (l : Link) → IsLinkOf (after_change d (Put m)) l → P l
@@ -56,7 +56,7 @@ module _ (P : Link → Type 0) where
   puts d [] marks all before l is = marks_alone d marks before l is
   puts d (m ∷ links) marks all before l is = puts (after_change d (Put m)) links marks all.1 (put_one d m all.0 before) l is
 
-  -- what holds of each of the links holds of each link of the network
+  -- What holds of each link of the list holds of each link of the network.
   pub each_link : (links : List Link) (marks : List ℕ) → AllByRecursion P links
       → (l : Link) → IsLinkOf (network links marks) l → P l
   each_link links marks all l is = puts no_links links marks all none l is

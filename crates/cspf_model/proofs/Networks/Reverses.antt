@@ -9,11 +9,11 @@ use Rattle.cspf_model.specs.NetworkLaws.{network_batch, network, back_to_other_a
 use Rattle.cspf_model.proofs.Routes.ExampleRoutes.{made, admitted}
 use Rattle.cspf_model.proofs.Networks.NetworkLinks.{link_at-network}
 
--- where a reverse of the link has to be
+-- The key that a reverse of the link has.
 abbrev reverse_key : Key
 reverse_key = (router 2, address 10 0 12 2)
 
--- a reverse is what these links have at that key
+-- A reverse of the link is what the database has at that key.
 found : (links : List Link) (r : Link) → IsLinkOf (network links []) r → IsReverse from_1_to_2 r
     → link_after (last_on (link_key reverse_key) ((network_batch links []).changes ++ [])) None ≡ Some r
 found links r is same =
@@ -26,7 +26,7 @@ none_some l e = cc
 same_Some : (l m : Link) → Some l ≡ Some m → l ≡ m
 same_Some l m e = cc
 
--- without a link at that key it is not usable
+-- If there is no link at that key, the link from 1.1.1.1 to 2.2.2.2 isn't usable.
 pub one_way : IsUnusableAmong (from_1_to_2 ∷ [])
 one_way q usable =
     let r = usable.reverse in none_some r.0 (found (from_1_to_2 ∷ []) r.0 r.1 r.2)
@@ -39,7 +39,8 @@ pub other_from : IsUnusableAmong (from_1_to_2 ∷ back_from_other_router ∷ [])
 other_from q usable =
     let r = usable.reverse in none_some r.0 (found (from_1_to_2 ∷ back_from_other_router ∷ []) r.0 r.1 r.2)
 
--- nor with one there that runs to another address or router
+-- If the link at that key ends at another address or router, the link from 1.1.1.1 to 2.2.2.2 isn't
+-- usable either.
 pub other_remote : IsUnusableAmong (from_1_to_2 ∷ back_to_other_address ∷ [])
 other_remote q usable =
     let r = usable.reverse in
@@ -52,7 +53,7 @@ other_to q usable =
     let same = same_Some back_to_other_router r.0 (found (from_1_to_2 ∷ back_to_other_router ∷ []) r.0 r.1 r.2) in
     eqb-false (router 3) (router 1) refl (ap (λ (l : Link). l.to) same ∙ r.2.to)
 
--- with its reverse it is
+-- With its reverse, the link from 1.1.1.1 to 2.2.2.2 is usable.
 pub with_reverse : IsUsableAmong (from_1_to_2 ∷ back from_1_to_2 ∷ [])
 with_reverse q is = record {
   admitted = is;
@@ -63,7 +64,7 @@ with_reverse q is = record {
   );
 }
 
--- a request that it is admitted for
+-- A request that admits the link from 1.1.1.1 to 2.2.2.2.
 pub may_be_admitted : MayBeAdmitted from_1_to_2
 may_be_admitted =
     let two_ends = eqb-false (router 1) (router 3) refl in

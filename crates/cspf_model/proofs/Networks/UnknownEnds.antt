@@ -1,4 +1,4 @@
--- The routers of small networks, and the best answers to requests between unknown ends.
+-- The routers of small networks, and the best answers to requests with unknown ends.
 use Rattle.std.proofs.Common.{◌≡◌, ◌↔◌, ℕ, List, [], ◌∷◌, refl, sym, subst, inl, inr}
 use Rattle.std.proofs.lemmas.Bool.{eqb-false}
 use Rattle.std.specs.List.{AllByRecursion}
@@ -11,24 +11,24 @@ use Rattle.cspf_model.specs.NetworkLaws.{network, from_2_to_1, IsAnswerBetween}
 use Rattle.cspf_model.proofs.Routes.WalkOrder.{one_answer}
 use Rattle.cspf_model.proofs.Networks.NetworkLinks.{link_at-network, each_link}
 
--- a router at which no link ends is none of the network
+-- If no link begins or ends at a router, the router isn't one of the network.
 no_router : (links : List Link) (marks : List ℕ) (r : ℕ) → AllByRecursion (λ l. ¬ EndsAt r l) links → ¬ IsRouterOf (network links marks) r
 no_router links marks r none known = each_link (λ l. ¬ EndsAt r l) links marks none known.0 known.1 known.2
 
--- the one link makes both of its ends routers
+-- One link makes the routers at both of its ends routers of the network.
 pub is_router_1 : IsRouterOf (network (from_1_to_2 ∷ []) []) (router 1)
 is_router_1 = (from_1_to_2, link_at-network (from_1_to_2 ∷ []) [] (router 1, from_1_to_2.local), inl refl)
 
 pub is_router_2 : IsRouterOf (network (from_1_to_2 ∷ []) []) (router 2)
 is_router_2 = (from_1_to_2, link_at-network (from_1_to_2 ∷ []) [] (router 1, from_1_to_2.local), inr refl)
 
--- a mark makes none
+-- A mark alone makes no router.
 pub no_router_3 : ¬ IsRouterOf (network (from_1_to_2 ∷ []) (router 3 ∷ [])) (router 3)
 no_router_3 =
     no_router (from_1_to_2 ∷ []) (router 3 ∷ []) (router 3)
     ((λ ends. elim ends [ inl e ↦ eqb-false (router 1) (router 3) refl e | inr e ↦ eqb-false (router 2) (router 3) refl e ]), tt)
 
--- the network of one link and its reverse
+-- The network of one link and its reverse.
 abbrev d : Database
 d = network (from_1_to_2 ∷ from_2_to_1 ∷ []) []
 
@@ -49,12 +49,12 @@ unknown_9 =
       ((λ ends. elim ends [ inl e ↦ eqb-false (router 2) (router 9) refl e | inr e ↦ eqb-false (router 1) (router 9) refl e ]), tt),
     )
 
--- where there is a best answer, each best answer is that one
+-- If an answer is a best answer, every best answer is equal to it.
 alone : (q : Request) (answer other : Answer) → IsBestAnswer d q answer → IsBestAnswer d q other ↔ (other ≡ answer)
 alone q answer other is =
     ((λ also. one_answer d q other answer also is), λ same. subst (IsBestAnswer d q) (sym same) is)
 
--- an unknown head-end is the answer, whatever the tail-end is
+-- If the head-end is unknown, the answer says so, whatever the tail-end is.
 head_end_first : (to : ℕ) → IsAnswerBetween (router 8) to unknown_from
 head_end_first to q from _ other =
     alone q unknown_from other (subst (λ r. ¬ IsRouterOf d r) (sym from) unknown_8)
@@ -65,7 +65,7 @@ both_unknown = head_end_first (router 9)
 pub head_end_unknown : IsAnswerBetween (router 8) (router 1) unknown_from
 head_end_unknown = head_end_first (router 1)
 
--- an unknown tail-end is the answer where the head-end is known
+-- If the head-end is known and the tail-end is unknown, the answer says that the tail-end is unknown.
 pub tail_end_unknown : IsAnswerBetween (router 1) (router 9) unknown_to
 tail_end_unknown q from to other =
     alone q unknown_to other

@@ -1,4 +1,4 @@
--- Without hops the routes are the walks to the tail-end.
+-- Without hops, the routes are exactly the walks that end at the tail-end.
 use Rattle.std.proofs.Common.{◌≡◌, ℕ, None, List, [], ◌∷◌, length, slice_get, sym, ap, subst, ◌∙◌, inl, append-nil, arith}
 use Rattle.std.specs.List.{AllByRecursion}
 use Rattle.cspf_model.specs.declared.link.Link.{Link}
@@ -9,11 +9,11 @@ use Rattle.cspf_model.specs.Targets.{IsTargetOf, IsLoose, IsInside}
 use Rattle.cspf_model.specs.Legs.{IsCutInto}
 use Rattle.cspf_model.specs.HopLaws.{AreRoutesWithoutHops}
 
--- without hops there is no first one
+-- Without hops there is no first hop.
 no_first_hop : (q : Request) → q.hops ≡ [] → slice_get q.hops 0 ≡ None
 no_first_hop q none = ap (λ hops. slice_get hops 0) none
 
--- the only leg is the whole walk
+-- The only leg is the whole walk.
 only_leg_arrives : (d : Database) (q : Request) (walk : List Link) → q.hops ≡ []
     → (legs : List (List Link)) → IsCutInto d q walk legs → end_of q.from walk ≡ q.to
 only_leg_arrives d q walk none [] cut = absurd (omega (arith, cut.number))
@@ -24,14 +24,14 @@ only_leg_arrives d q walk none (leg ∷ []) cut =
 only_leg_arrives d q walk none (leg ∷ next ∷ legs) cut =
     absurd (omega (arith, cut.number, ap length none))
 
--- the leg to the tail-end may visit any router
+-- The leg to the tail-end may visit any router.
 stays_inside : (d : Database) (q : Request) → q.hops ≡ [] → (routers : List ℕ)
     → AllByRecursion (IsInside d q 1) routers
 stays_inside d q none [] = tt
 stays_inside d q none (router ∷ routers) =
     (inl (subst IsLoose (sym (no_first_hop q none)) tt), stays_inside d q none routers)
 
--- a walk to the tail-end is cut into one leg
+-- A walk that ends at the tail-end is cut into one leg.
 one_leg : (d : Database) (q : Request) (walk : List Link) → q.hops ≡ [] → end_of q.from walk ≡ q.to
     → IsCutInto d q walk (walk ∷ [])
 one_leg d q walk none arrives = record {
@@ -47,7 +47,7 @@ one_leg d q walk none arrives = record {
   );
 }
 
--- without hops the routes are the walks to the tail-end
+-- Without hops, the routes are exactly the walks that end at the tail-end.
 pub routes_without_hops : AreRoutesWithoutHops
 routes_without_hops d q walk none = (
   (λ route. record { is_walk = route.is_walk; arrives = only_leg_arrives d q walk none route.cut.0 route.cut.1 }),

@@ -6,12 +6,12 @@ use Rattle.std.proofs.lemmas.Map.Keys.{IsDistinct-head, IsDistinct-tail, IsDisti
 use Rattle.cspf_model.specs.declared.link.Link.{Link}
 use Rattle.cspf_model.specs.RouteLinks.{VisitsTwice}
 
--- How a router that a route visits twice is found.
+-- How it is found that a route visits a router twice.
 
 abbrev pub ends : List Link → List ℕ
 ends links = map (λ l. l.to) links
 
--- no link ends at the router exactly where each end differs from it
+-- No link ends at the router exactly if the end of each link differs from it.
 
 pub clear : (router : ℕ) (links : List Link) → list_any (λ l. nat_eq router l.to) links ≡ false → AllByRecursion (λ y. nat_eq router y ≡ false) (ends links)
 clear router [] e = tt
@@ -21,7 +21,7 @@ pub none_ends : (router : ℕ) (links : List Link) → AllByRecursion (λ y. nat
 none_ends router [] all = refl
 none_ends router (l ∷ ls) all = or_from _ _ all.0 (none_ends router ls all.1)
 
--- one more link was looked at: its end differs from the ends after it, or ties with one
+-- One more link was looked at. Its end differs from all ends after it, or ties with one of them.
 module _ (links : List Link) (i : ℕ) (within : i < length links) (l : Link) (is : l ≡ slice_index_or links i l)
     (whole : IsDistinct nat_eq (ends (drop i links)) ↔ IsDistinct nat_eq (ends links)) where
   behind : IsDistinct nat_eq (ends (drop i links)) ≡ IsDistinct nat_eq (l.to ∷ ends (drop (i + 1) links))
@@ -38,14 +38,14 @@ module _ (links : List Link) (i : ℕ) (within : i < length links) (l : Link) (i
       let head = IsDistinct-head nat_eq l.to (ends (drop (i + 1) links)) (coe 0 1 (k. behind k) (whole.1 all)) in
       false≢true (sym (none_ends l.to (drop (i + 1) links) head) ∙ e)
 
--- where a link ends at the router that the first link runs from, that router is visited twice
+-- If a link ends at the router where the first link begins, the route visits that router twice.
 pub meets_start : (links : List Link) (d : Link) → 0 < length links → list_any (λ l. nat_eq (slice_index_or links 0 d).from l.to) links ≡ true → VisitsTwice links
 meets_start [] d some e = absurd (omega arith)
 meets_start (l ∷ ls) d some e = λ all.
     let head = IsDistinct-head nat_eq l.from (ends (l ∷ ls)) all in
     false≢true (sym (none_ends l.from (l ∷ ls) head) ∙ e)
 
--- any other router is visited twice where two links end at it
+-- Otherwise the route visits a router twice exactly if two links end at the same router.
 pub meets_elsewhere : (links : List Link) (d : Link) → 0 < length links → list_any (λ l. nat_eq (slice_index_or links 0 d).from l.to) links ≡ false → (b : Bool)
     → IsTrue b ↔ (¬ IsDistinct nat_eq (ends links)) → IsTrue b ↔ VisitsTwice links
 meets_elsewhere [] d some e b same = absurd (omega arith)

@@ -16,13 +16,13 @@ use Rattle.cspf_model.specs.Walks.{AreJoined, cost_of, locals_of, walk_cmp}
 use Rattle.cspf_model.specs.Best.{unknown_from, unknown_to, no_route, route, IsBestRoute}
 use Rattle.cspf_model.specs.Laws.{WalksAreTold, RoutesAreRanked, OneBestAnswer}
 
--- the order of walks is total
+-- The order of walks is total.
 pub walks_total : IsTotalOrder walk_cmp
 walks_total =
     then_total (on_total cost_of nat_cmp_total)
     (then_total (on_total (λ (walk : List Link). length walk) nat_cmp_total) (on_total locals_of nat_list_cmp_total))
 
--- joined links of a database with the same local addresses are the same
+-- Joined links of a database with the same local addresses are equal.
 one_walk : (d : Database) (q : Request) (router : ℕ) (v w : List Link)
     → AllByRecursion (IsAdmissible d q) v → AllByRecursion (IsAdmissible d q) w → AreJoined router v
     → AreJoined router w → locals_of v ≡ locals_of w → v ≡ w
@@ -40,24 +40,24 @@ one_walk d q router (l ∷ ls) (m ∷ ms) all also joined too same =
     same_Some : (x y : Link) → Some x ≡ Some y → x ≡ y
     same_Some x y e = cc
 
--- walks of one request with the same local addresses are equal
+-- Walks of the same request with the same local addresses are equal.
 pub walks_told : WalksAreTold
 walks_told d q v w is also same =
     one_walk d q q.from v w is.links also.links is.joined also.joined same
 
--- where two tests tie the second one does
+-- If two orders together tie, the second one ties.
 last_tie : (a b : Ordering) → ordering_then a b ≡ Equal → b ≡ Equal
 last_tie Less b e = absurd (cc)
 last_tie Equal b e = e
 last_tie Greater b e = absurd (cc)
 
--- only equal routes of one request tie
+-- Two routes of the same request that tie are equal.
 pub routes_ranked : RoutesAreRanked
 routes_ranked d q v w is also tie =
     walks_told d q v w is.is_walk also.is_walk
     (slice_cmp-IsAntisymmetric nat_cmp-IsAntisymmetric (locals_of v) (locals_of w) (last_tie _ _ (last_tie _ _ tie)))
 
--- two walks, neither of which is before the other, tie
+-- If neither of two walks comes before the other, they tie.
 neither_first : (a b : Ordering) → a ≡ ordering_reverse b → a ≢ Less → b ≢ Less → a ≡ Equal
 neither_first Less b e first second = absurd (first refl)
 neither_first Equal b e first second = refl
@@ -65,14 +65,14 @@ neither_first Greater Less e first second = absurd (second refl)
 neither_first Greater Equal e first second = absurd (cc)
 neither_first Greater Greater e first second = absurd (cc)
 
--- no two routes are both the best
+-- There is at most one best route.
 pub one_best : (d : Database) (q : Request) (v w : List Link) → IsBestRoute d q v
     → IsBestRoute d q w → v ≡ w
 one_best d q v w is also =
     routes_ranked d q v w is.is_route also.is_route
     (neither_first (walk_cmp v w) (walk_cmp w v) (walks_total.antisymm v w) (also.least v is.is_route) (is.least w also.is_route))
 
--- a request has at most one best answer
+-- A request has at most one best answer.
 pub one_answer : OneBestAnswer
 one_answer d q unknown_from unknown_from is also = refl
 one_answer d q unknown_from unknown_to is also = absurd (is also.0)

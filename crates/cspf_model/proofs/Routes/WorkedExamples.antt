@@ -1,4 +1,4 @@
--- The worked orders, changes and admissions of `specs/Laws`.
+-- Proofs of the worked orders, changes and admissions of `specs/Laws`.
 use Rattle.std.specs.Int.Bits.{and_zero_r}
 use Rattle.std.proofs.Common.{◌≡◌, ◌+◌, true, cond, Some, None, [], ◌∷◌, sym, ap, ◌∙◌, inl, bit_and, arith}
 use Rattle.std.specs.Ordering.{nat_cmp, eq_by_cmp, ordering_then}
@@ -10,7 +10,7 @@ use Rattle.cspf_model.specs.Changes.{link_key, last_on, link_after}
 use Rattle.cspf_model.specs.Laws.{AddressesCompareAsNumbers, FewerLinksComeFirst, CheaperLinksComeFirst, LastPutStands, LastRemovalStands, ExactBandwidthIsEnough, LessBandwidthIsNot}
 use Rattle.cspf_model.proofs.Databases.Keys.{key_itself}
 
--- 10.0.0.9 before 10.0.0.10
+-- The address 10.0.0.9 comes before 10.0.0.10.
 pub as_numbers : AddressesCompareAsNumbers
 as_numbers l m cost nine ten =
     ap (λ o. ordering_then o (ordering_then Equal (ordering_then (nat_cmp l.local m.local) Equal)))
@@ -18,32 +18,32 @@ as_numbers l m cost nine ten =
     ∙ ap (λ n. ordering_then (nat_cmp n m.local) Equal) nine
     ∙ ap (λ n. ordering_then (nat_cmp 167772169 n) Equal) ten
 
--- one link before two
+-- A walk of one link comes before a walk of two links with the same cost.
 pub fewer_first : FewerLinksComeFirst
 fewer_first l m n twenty ten also =
     ap (λ a. ordering_then (nat_cmp (0 + a) (0 + m.metric + n.metric)) Less) twenty
     ∙ ap (λ a. ordering_then (nat_cmp 20 (0 + a + n.metric)) Less) ten
     ∙ ap (λ a. ordering_then (nat_cmp 20 (10 + a)) Less) also
 
--- two links of 1 before one of 3
+-- Two links of metric 1 come before one link of metric 3.
 pub cheaper_first : CheaperLinksComeFirst
 cheaper_first l m n one also three =
     ap (λ a. ordering_then (nat_cmp (0 + a + m.metric) (0 + n.metric)) Greater) one
     ∙ ap (λ a. ordering_then (nat_cmp (1 + a) (0 + n.metric)) Greater) also
     ∙ ap (λ a. ordering_then (nat_cmp 2 (0 + a)) Greater) three
 
--- the last put decides
+-- If the last change of a key is a put, the database has the link that it puts.
 pub put_stands : LastPutStands
 put_stands l m same =
     let tie : eq_by_cmp key_cmp (key_of l) (key_of m) ≡ true = ap (eq_by_cmp key_cmp (key_of l)) (sym same) ∙ key_itself (key_of l) in
     ap (λ b. link_after (cond b (Some (Put m)) (last_on (link_key (key_of l)) (Put l ∷ Remove l.from l.local ∷ []))) None) tie
 
--- the last removal decides
+-- If the last change of a key is a removal, the database has no link there.
 pub removal_stands : LastRemovalStands
 removal_stands l m same =
     ap (λ b. link_after (cond b (Some (Remove l.from l.local)) (last_on (link_key (key_of l)) (Put l ∷ Put m ∷ []))) None) (key_itself (key_of l))
 
--- 1,000 is enough for 1,000
+-- A link with 1,000 bytes per second is admitted for a request of 1,000 bytes per second.
 pub enough : ExactBandwidthIsEnough
 enough q l groups free request_fields = record {
   affinity = record {
@@ -54,6 +54,6 @@ enough q l groups free request_fields = record {
   room = omega (arith, free, request_fields);
 }
 
--- 1,000 is too little for 1,001
+-- A link with 1,000 bytes per second isn't admitted for a request of 1,001 bytes per second.
 pub too_little : LessBandwidthIsNot
 too_little q l free request_fields is = absurd (omega (arith, free, request_fields, is.room))

@@ -1,4 +1,4 @@
--- Private: routers at which no link ends after changes.
+-- Private: routers at which no link begins or ends after changes.
 use Rattle.std.specs.Prelude.{◌≡◌, ℕ, Bool, ◌||◌, false, List, Contains, nat_eq}
 use Rattle.std.specs.List.{list_any}
 use Rattle.cspf_model.specs.declared.link.Link.{Link}
@@ -6,21 +6,21 @@ use Rattle.cspf_model.specs.declared.batch.Change.{Change}
 use Rattle.cspf_model.specs.declared.batch.Change.TheVariants.{Put, Remove, Node}
 use Rattle.cspf_model.specs.Lemmas.RowsLeft.{rows_untouched, links_put}
 
--- the link begins or ends at the router
+-- Whether the link begins or ends at the router.
 abbrev pub is_at : ℕ → Link → Bool
 is_at router l = nat_eq l.from router || nat_eq l.to router
 
--- the change puts a link that does
+-- Whether the change puts a link that begins or ends at the router.
 abbrev pub puts_at : ℕ → Change → Bool
 puts_at router (Put l) = is_at router l
 puts_at router (Remove from local) = false
 puts_at router (Node r transit) = false
 
--- no link does after the changes
+-- After the changes no link begins or ends at the router.
 pub record IsGone (rows : List Link) (changes : List Change) (router : ℕ) : Type 0 where
   pub left : list_any (is_at router) (rows_untouched rows changes) ≡ false
   pub put : list_any (is_at router) (links_put changes) ≡ false
 
--- at one of the routers no link ends after the changes
+-- After the changes there is a router in the list at which no link begins or ends.
 abbrev pub HasGone : List Link → List ℕ → List Change → Type 0
 HasGone rows routers changes = (router : ℕ) × Contains routers router × IsGone rows changes router

@@ -1,17 +1,17 @@
--- Private: what changes make of the links of a database, with its marks left as they are.
+-- Private: how changes act on the links of a database while its marks stay.
 use Rattle.std.specs.Prelude.{List, [], ◌∷◌}
 use Rattle.std.specs.FinMap.{insert, remove}
 use Rattle.cspf_model.specs.declared.batch.Change.{Change}
 use Rattle.cspf_model.specs.declared.batch.Change.TheVariants.{Put, Remove, Node}
 use Rattle.cspf_model.specs.Database.{Database, key_of}
 
--- the database after one change to its links
+-- The database after one change, of which only a change to a link counts.
 abbrev pub relinked : Database → Change → Database
 relinked d (Put l) = record { links = insert d.links (key_of l) l; marks = d.marks }
 relinked d (Remove from local) = record { links = remove d.links (from, local); marks = d.marks }
 relinked d (Node router transit) = d
 
--- the database after some changes to its links, in order
+-- The database after these changes, in order, of which only changes to links count.
 abbrev pub all_relinked : Database → List Change → Database
 all_relinked d [] = d
 all_relinked d (c ∷ cs) = all_relinked (relinked d c) cs

@@ -1,4 +1,4 @@
--- Private: the database that rows of links and a list of marks make.
+-- Private: the database that is made of rows of links and a list of marks.
 use Rattle.std.specs.Prelude.{ℕ, IsTrue, List, map}
 use Rattle.std.specs.Ordering.{nat_cmp}
 use Rattle.std.specs.FinMap.{from_entries, is_sorted}
@@ -6,22 +6,22 @@ use Rattle.std.specs.FinSet as set
 use Rattle.cspf_model.specs.declared.link.Link.{Link}
 use Rattle.cspf_model.specs.Database.{Database, Key, key_of, key_cmp}
 
--- a row with its key
+-- A row together with its key.
 abbrev pub entry_of : Link → Key × Link
 entry_of l = (key_of l, l)
 
--- the database that rows make, with no marks
+-- The database of these rows, without marks.
 abbrev pub database_of : List Link → Database
 database_of rows = record { links = from_entries {R = key_cmp} (map entry_of rows); marks = set.empty }
 
--- each row's key is above those before it
+-- The rows are in increasing order of their keys.
 abbrev pub AreByKey : List Link → Type 0
 AreByKey rows = IsTrue (is_sorted key_cmp (map entry_of rows))
 
--- the set of some addresses
+-- The set of these addresses.
 abbrev pub marks_in : List ℕ → set.FinSet nat_cmp
 marks_in marks = set.from_list marks
 
--- the database of rows and of marks
+-- The database of these rows and marks.
 abbrev pub marked_database : List Link → List ℕ → Database
 marked_database rows marks = record { links = (database_of rows).links; marks = marks_in marks }

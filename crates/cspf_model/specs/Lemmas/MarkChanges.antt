@@ -1,4 +1,4 @@
--- Private: what changes make of the marks of a database.
+-- Private: how changes act on the marks of a database.
 use Rattle.std.specs.Prelude.{Bool, false, not, ◌&&◌, List, [], ◌∷◌}
 use Rattle.std.specs.Ordering.{nat_cmp}
 use Rattle.std.specs.FinSet as set
@@ -6,24 +6,24 @@ use Rattle.cspf_model.specs.declared.batch.Change.{Change}
 use Rattle.cspf_model.specs.declared.batch.Change.TheVariants.{Put, Remove, Node}
 use Rattle.cspf_model.specs.Changes.{marks_after}
 
--- the marks after one change
+-- The marks after one change.
 abbrev pub marked : set.FinSet nat_cmp → Change → set.FinSet nat_cmp
 marked marks (Put l) = marks
 marked marks (Remove from local) = marks
 marked marks (Node router transit) = marks_after marks router transit
 
--- the marks after some changes, in order
+-- The marks after these changes, in order.
 abbrev pub all_marked : set.FinSet nat_cmp → List Change → set.FinSet nat_cmp
 all_marked marks [] = marks
 all_marked marks (c ∷ cs) = all_marked (marked marks c) cs
 
--- the change marks a router that isn't marked
+-- Whether the change marks a router that isn't marked yet.
 abbrev pub adds_mark : set.FinSet nat_cmp → Change → Bool
 adds_mark marks (Put l) = false
 adds_mark marks (Remove from local) = false
 adds_mark marks (Node router transit) = not transit && not (set.contains marks router)
 
--- the change takes a mark away
+-- Whether the change takes away a mark that is there.
 abbrev pub removes_mark : set.FinSet nat_cmp → Change → Bool
 removes_mark marks (Put l) = false
 removes_mark marks (Remove from local) = false

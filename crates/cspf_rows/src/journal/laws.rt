@@ -3,9 +3,8 @@ ghost use Rattle.cspf_rows.specs.JournalLaws.{AreTextsCut, AreJournalsReadBack, 
 use crate::laws::rows_are_read_back;
 use cspf_addr::masks_are_spelled;
 
-/// Law: take the texts of batches that are numbered from 1 on, of at most `MOST_ROWS` rows in all.
-/// They are cut into the records of these batches, and read as these batches with nothing left
-/// after them.
+/// Law: the text of batches is read as these batches, with nothing left after them, and it is cut
+/// into their records. The batches are numbered from 1 on and have at most `MOST_ROWS` rows in all.
 pub fn journals_are_read_back()
     ensures cut { AreTextsCut }
     ensures back { AreJournalsReadBack }
@@ -14,7 +13,7 @@ pub fn journals_are_read_back()
     masks_are_spelled();
 }
 
-/// Law: records are one list of batches at most, with one rest.
+/// Law: no records are two different lists of batches, or have two different rests.
 pub fn journals_are_one()
     ensures { IsOneJournal }
 {}

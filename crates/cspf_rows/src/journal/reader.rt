@@ -50,9 +50,9 @@ impl<R: Read> JournalReader<R> {
     }
 
     /// Reads the next whole batch into `batch`, whose memory is used again, or comes to the end of
-    /// the batches. At the end the stream is read to its end, or to its row after `MOST_ROWS`,
-    /// which is refused as `TooManyRows`. Rows after the batches take no memory. After the end or
-    /// an error nothing more is read.
+    /// the batches. To find the end, the stream is read to its last row; rows after the batches
+    /// take no memory. If there are more than `MOST_ROWS` rows, they are refused as `TooManyRows`.
+    /// After the end or an error nothing more is read.
     pub fn read_batch(&mut self, batch: &mut Batch) -> Result<JournalStep, ReadError>
         requires { CanRead self.old }
         ensures can { result ≡ Ok JournalStep.Batch → CanRead self.new }
@@ -156,7 +156,7 @@ impl<R: Read> JournalReader<R> {
     }
 }
 
-/// What follows the batches where there are no more rows.
+/// What follows the batches of a journal that has no more rows.
 fn rest_of(changes: &[Change]) -> Rest
     ensures clean { result ≡ Rest.Clean → changes.now ≡ [] }
     ensures torn { result ≡ Rest.Torn → changes.now ≢ [] }

@@ -1,4 +1,4 @@
-//! How the next row of a journal is taken by the batch that is being read.
+//! How the next row of a journal changes the batch that is being read.
 
 ghost use Rattle.std.specs.Prelude.{◌≡◌, ◌↔◌, ℕ, IsTrue, IfOk, length};
 ghost use Rattle.csv.specs.Records.{fields_of};
@@ -11,7 +11,7 @@ use cspf_model::{Batch, Change};
 use csv::ByteRecord;
 use std::alloc::AllocError;
 
-/// What a row after the open changes of a batch is.
+/// What a row is that comes after the open changes of a batch.
 #[derive(Clone, Copy)]
 pub(super) enum Taken {
     /// One more open change.
@@ -22,8 +22,8 @@ pub(super) enum Taken {
     Behind,
 }
 
-/// Takes a row after the open changes of the batch with the next number. It takes no memory where
-/// the row is no change.
+/// Takes a row after the open changes of the batch with the number `next`. It takes memory only if
+/// the row is a change.
 pub(super) fn take(fields: &ByteRecord, next: u32, batch: &mut Batch) -> Result<Taken, AllocError>
     ensures { IfOk result (IsTaken (row_of (fields_of fields.now)) next batch.old batch.new) }
 {
@@ -61,7 +61,7 @@ fn take_row(row: &Row, next: u32, batch: &mut Batch) -> Result<Taken, AllocError
     }
 }
 
-/// One more open change.
+/// Adds an open change.
 fn add(change: Change, batch: &mut Batch) -> Result<Taken, AllocError>
     ensures { IfOk result (λ taken. (next : ℕ)
         → IsTaken (Ok (change_row change)) next batch.old batch.new taken) }

@@ -14,9 +14,9 @@ use std::alloc::{AllocError, Global};
 use std::io::Read;
 
 /// Reads a journal: the longest prefix of its rows that is whole batches with the numbers 1, 2, 3
-/// and so on, and whether rows are left after it. The stream is read to its end, or to its row
-/// after `MOST_ROWS`, which is refused as `TooManyRows`. The changes of a batch take the memory
-/// that they need, and no row after the batches is kept.
+/// and so on, and whether rows are left after them. A stream of more than `MOST_ROWS` rows is
+/// refused as `TooManyRows`. Each batch takes only the memory that its changes need, and no row
+/// after the batches is kept.
 pub fn read_journal<R: Read + Drop>(alloc: Global, reader: R) -> Result<Journal, ReadError>
     ensures whole { IfOk result (λ journal. IfSome (R.remaining reader) (λ bytes.
         IsJournal (rows_of bytes) journal.batches.items journal.rest)) }
@@ -34,7 +34,7 @@ pub fn read_journal<R: Read + Drop>(alloc: Global, reader: R) -> Result<Journal,
     read_whole(alloc, &mut journal, &mut batch)
 }
 
-/// Reads the batches that a reader has left, through memory for one batch.
+/// Reads the batches that a reader has left. One batch at a time is read into the same memory.
 fn read_whole<R: Read>(
     alloc: Global,
     journal: &mut JournalReader<R>,
@@ -80,7 +80,7 @@ fn read_batches<R: Read>(
     }
 }
 
-/// Adds a batch, with as much memory as it needs.
+/// Adds a copy of a batch, with only as much memory as it needs.
 fn add(alloc: Global, batch: &Batch, batches: &mut Vec<Batch>) -> Result<(), AllocError>
     ensures { OnOk result (batches.new.items ≡ batches.old.items ++ batch.now ∷ []) }
 {

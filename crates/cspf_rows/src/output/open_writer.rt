@@ -3,7 +3,7 @@ ghost use Rattle.std.specs.Io.KnownBytes.{Appends, Keeps};
 
 use std::io::Write;
 
-/// A writer until its first write that takes nothing. It can do nothing but write.
+/// A writer that can be used up to its first failed write. It can only write.
 #[derive(Drop)]
 pub(super) struct OpenWriter<'a, W> {
     to: &'a mut W,
@@ -11,7 +11,7 @@ pub(super) struct OpenWriter<'a, W> {
 }
 
 impl<'a, W: Write> OpenWriter<'a, W> {
-    /// The writer, before the first write.
+    /// The writer, which has made no write.
     pub(super) fn new(to: &'a mut W) -> OpenWriter<'a, W>
         ensures writer { result.to.ghost_name ≡ to.entry.ghost_name }
         ensures contents { result.to.now ≡ to.old }
@@ -23,7 +23,7 @@ impl<'a, W: Write> OpenWriter<'a, W> {
         }
     }
 
-    /// Makes one write, and returns how many bytes of the text it took. Where it took none or
+    /// Makes one write, and returns how many bytes of the text it took. If it took no byte or
     /// failed in any way, no further write can be made.
     pub(super) fn write_some(&mut self, text: &[u8]) -> Option<usize>
         requires { self.old.has_failed ≡ false }

@@ -1,4 +1,4 @@
-//! Answers the requests of a run in parts, so that only the answers of one part are kept in memory.
+//! Answers the requests of a run in parts, so that only the answers of one part are in memory.
 
 ghost use Rattle.std.specs.Prelude.{◌≡◌, ℕ, ◌+◌, ◌<◌, ◌≤◌, ◌⊎◌, length, take, drop, All, IfOk, IfErr, OnOk, OnErr, vec_len};
 ghost use Rattle.cspf_model.specs.Changes.{database_after};
@@ -17,14 +17,14 @@ use std::alloc::Global;
 use std::io::Write;
 use std::thread::Threads;
 
-/// How many requests are answered before their lines are written, so that no more answers are kept.
+/// The most requests in a part. The lines of a part are written before the next part is answered.
 const MOST_AT_ONCE: usize = 32_768;
 
-/// The gate of a part of a list of requests. It sees their indexes in the whole list.
+/// The gate for a part of a list of requests. It gets each request's index in the whole list.
 #[derive(Drop)]
 struct PartGate<'a, G> {
     gate: &'a G,
-    /// The index of the part's first request.
+    /// The index of the part's first request in the whole list.
     first: usize,
 }
 
@@ -38,7 +38,7 @@ impl<G: Gate> Gate for PartGate<'_, G> {
     }
 }
 
-/// Answers requests at the last published version and writes their lines, a part of them at a time.
+/// Answers requests at the last published version, and writes their lines after each part.
 pub(super) fn answer_in_parts<J: Write, W: Write, G: Gate + Sync, T: Threads + Sync>(
     rt: &T,
     alloc: Global,
@@ -71,7 +71,7 @@ pub(super) fn answer_in_parts<J: Write, W: Write, G: Gate + Sync, T: Threads + S
     Ok(())
 }
 
-/// Answers the requests from this index on, writes their lines, and hands the askers back.
+/// Answers the requests from `first` on, writes their lines, and hands the askers back.
 #[tactic(auto, using(crate::proofs::StreamFaults::judged))]
 fn answer_from<J: Write, W: Write, G: Gate + Sync, T: Threads + Sync>(
     rt: &T,
@@ -110,8 +110,8 @@ fn answer_from<J: Write, W: Write, G: Gate + Sync, T: Threads + Sync>(
     }
 }
 
-/// The error of a part whose first request has this index, with the index of a request in the whole
-/// list.
+/// The error of a part, in which a request's index in the part is replaced by its index in the
+/// whole list. `first` is the index of the part's first request.
 fn error_of_list(first: usize, error: ServeError) -> ServeError
     ensures { IsErrorOfPart first error result }
 {

@@ -1,4 +1,4 @@
-//! The run of `batch`: a journal and requests in, the lines of both out.
+//! The run of `batch`: reads a journal and requests, and writes the lines of both.
 
 ghost use Rattle.std.specs.Prelude.{◌≡◌, ℕ, ◌<◌, ◌⊎◌, ◌≤◌, ◌++◌, List, [], length, All, Ok, IfOk, IfErr, IfSome, OnOk, OnErr, vec_len, false};
 ghost use Rattle.std.specs.Io.KnownBytes.{Appends};
@@ -38,15 +38,16 @@ use std::thread::Threads;
 struct Streams<R, Q> {
     journal: R,
     requests: Q,
-    /// Whether rows after the batches of the journal are skipped, and not refused.
+    /// Whether rows after the journal's batches are skipped; otherwise they are refused.
     accept_torn: bool,
 }
 
 /// Publishes the batches of a journal, one after the other, and then answers the requests of a
-/// stream at the last version by this many workers: `IsBatchRun`. They keep as many trees as the askers
-/// of `open`. One batch is kept at a time. Both streams are read before the first line is written. The status is 2 where anything was refused, and else 0. After an error the writer has
-/// nothing more, or the beginning of those lines, up to the reply to some request:
-/// `IsBatchRunInPart`. The writer isn't flushed.
+/// stream at the last version by the given number of workers: `IsBatchRun`. The workers keep as
+/// many trees as the askers of `open`. One batch at a time is in memory. Both streams are read
+/// before the first line is written. The status is 2 if anything was refused, and 0 otherwise.
+/// After an error the writer has got nothing, or the beginning of those lines, up to the reply to
+/// some request: `IsBatchRunInPart`. The writer isn't flushed.
 pub fn run_batch<
     R: Read + Drop,
     Q: Read + Drop,
@@ -70,7 +71,7 @@ pub fn run_batch<
         × Appends (W.contents writer.old) (W.contents writer.new) lines))) }
     ensures stopped { OnErr result (HasBegunBatch accept_torn (R.remaining journal)
         (Q.remaining requests) (W.contents writer.old) (W.contents writer.new)) }
-    // The lines are those of one script of both streams.
+    // If the status is 0, the lines are those of one script of both streams.
     ensures script { result ≡ Ok 0 → IfSome (R.remaining journal) (λ kept.
         IfSome (Q.remaining requests) (λ asked. IsCleanJournal (rows_of kept)
         → length (rows_of kept ++ rows_of asked) ≤ MOST_ROWS → (lines : List ℕ) × (counts : Counts)
@@ -93,7 +94,7 @@ pub fn run_batch<
     )
 }
 
-/// As `run_batch`, but the workers have at most as many trees together as the options say.
+/// As `run_batch`, but the options limit the number of trees that all workers have together.
 pub fn run_batch_with<
     R: Read + Drop,
     Q: Read + Drop,
@@ -118,7 +119,7 @@ pub fn run_batch_with<
         × Appends (W.contents writer.old) (W.contents writer.new) lines))) }
     ensures stopped { OnErr result (HasBegunBatch accept_torn (R.remaining journal)
         (Q.remaining requests) (W.contents writer.old) (W.contents writer.new)) }
-    // The lines are those of one script of both streams.
+    // If the status is 0, the lines are those of one script of both streams.
     ensures script { result ≡ Ok 0 → IfSome (R.remaining journal) (λ kept.
         IfSome (Q.remaining requests) (λ asked. IsCleanJournal (rows_of kept)
         → length (rows_of kept ++ rows_of asked) ≤ MOST_ROWS → (lines : List ℕ) × (counts : Counts)
@@ -127,7 +128,7 @@ pub fn run_batch_with<
     ensures error { IfErr result
         (IsBatchFault accept_torn (R.remaining journal) (Q.remaining requests)) }
 {
-    // Law: where nothing is refused the lines are those of a script.
+    // Law: if nothing is refused, the lines are those of a script.
     lines_of_a_script();
     let streams = Streams {
         journal,
@@ -137,8 +138,8 @@ pub fn run_batch_with<
     answer(rt, alloc, streams, writer, workers, options.trees, gate)
 }
 
-/// Publishes the batches of a journal over a journal that keeps nothing, and then answers requests
-/// at the last version. Returns the status.
+/// Publishes the batches of a journal, and then answers requests at the last version. The
+/// publisher's journal keeps nothing. Returns the status.
 fn answer<R: Read + Drop, Q: Read + Drop, W: Write, G: Gate + Sync, T: Threads + Wait + Sync>(
     rt: &T,
     alloc: Global,
@@ -170,7 +171,7 @@ fn answer<R: Read + Drop, Q: Read + Drop, W: Write, G: Gate + Sync, T: Threads +
     }
 }
 
-/// Publishes the batches of a journal and answers requests, with a borrowed publisher.
+/// Publishes the batches of a journal and answers requests, by a publisher that is lent.
 fn answer_lent<
     T: Threads + Wait + Sync,
     J: Write,
@@ -207,10 +208,10 @@ fn answer_lent<
     }
 }
 
-/// What was read of the inputs of a run.
+/// What was read of the streams of a run.
 #[derive(Drop)]
 struct ReadStreams {
-    /// The line of the first batch that doesn't fit.
+    /// The line of the first batch that doesn't fit, if there is one.
     unfit: Option<JudgeLine>,
     requests: Vec<Request>,
 }
@@ -245,8 +246,8 @@ fn publish_and_read<J: Write, R: Read + Drop, Q: Read + Drop, T: Wait>(
     Ok(ReadStreams { unfit, requests })
 }
 
-/// Writes the versions that are published, and then the line of the batch that doesn't fit, or
-/// answers requests where all fit. Returns the status.
+/// Writes the published versions. Then it writes the line of the batch that doesn't fit, or answers
+/// the requests if all batches fit. Returns the status.
 #[tactic(auto, using(crate::proofs::StreamFaults::judged))]
 fn answer_read<J: Write, W: Write, G: Gate + Sync, T: Threads + Sync>(
     rt: &T,

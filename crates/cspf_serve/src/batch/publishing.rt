@@ -1,4 +1,4 @@
-//! Publishes the batches of a journal as they are read, up to the first one that does not fit.
+//! Publishes the batches of a journal as they are read, up to the first one that doesn't fit.
 
 ghost use Rattle.std.specs.Prelude.{◌≡◌, ◌+◌, ◌≤◌, ◌∷◌, ◌++◌, List, Option, ℕ, [], None, length, IfOk, IfErr, IfSome, OnOk, OnErr, false};
 ghost use Rattle.cspf_model.specs.Numbered.{NumberedChanges, AreNumberedFrom};
@@ -19,10 +19,10 @@ use std::alloc::Global;
 use std::io::{Read, Write};
 use std::sync::Wait;
 
-/// Publishes the batches of a journal as they are read, one after the other, and keeps one at a
-/// time. From the first one on that doesn't fit none is published, and its line is returned. The
-/// journal is read to its end. Rows after the batches are skipped where that is asked for, and else
-/// refused.
+/// Publishes the batches of a journal as they are read, with one batch at a time in memory. The
+/// first batch that doesn't fit isn't published, and its line is returned. No later batch is
+/// published either. The journal is read to its end. Rows after the batches are skipped if
+/// `accept_torn` says so, and refused otherwise.
 pub(super) fn publish_journal<R: Read + Drop, J: Write, T: Wait>(
     rt: &T,
     alloc: Global,
@@ -83,8 +83,8 @@ fn publish_all<R: Read, J: Write, T: Wait>(
     }
 }
 
-/// Publishes the next batch, or returns its line where it doesn't fit. It does nothing where an
-/// earlier one didn't fit.
+/// Publishes the next batch, or returns its line if it doesn't fit. Does nothing if an earlier
+/// batch didn't fit.
 fn publish<J: Write, T: Wait>(
     rt: &T,
     alloc: Global,
@@ -114,7 +114,7 @@ fn publish<J: Write, T: Wait>(
     }
 }
 
-/// How a run ends at a batch that isn't published.
+/// How a run ends at a batch that wasn't published.
 fn end_of(number: u32, error: ApplyError) -> EarlyEnd
     ensures refused { IfRefused result (IsOwnFaultLine error number) }
     ensures failed { IfFailed result (IsFaultBeyond error) }

@@ -9,7 +9,7 @@ use cspf_stream::StreamLine;
 use std::alloc::Global;
 use std::io::Write;
 
-/// Writes the versions that this many batches make, which are 1, 2, 3 and so on.
+/// Writes the lines of the first `count` versions: 1, 2, 3 and so on.
 pub(super) fn write_versions<W: Write>(
     alloc: Global,
     count: u32,

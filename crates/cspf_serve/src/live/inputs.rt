@@ -11,14 +11,15 @@ use cspf_model::{Batch, Request};
 use std::alloc::Global;
 use std::io::Read;
 
-/// The contents of the two streams of a run.
+/// What was read of the two streams of a run.
 #[derive(Drop)]
 pub(super) struct Inputs {
     pub(super) batches: Vec<Batch>,
     pub(super) requests: Vec<Request>,
 }
 
-/// The batches of updates and the requests of a stream. Rows after the batches are refused.
+/// Reads the batches of the updates, and the requests of the other stream. Rows after the batches
+/// are refused.
 pub(super) fn inputs_of<R: Read + Drop, Q: Read + Drop>(
     alloc: Global,
     updates: R,

@@ -1,5 +1,5 @@
-//! The run of `live`: it publishes updates while workers answer requests, and writes the lines
-//! of both.
+//! The run of `live`: publishes updates while workers answer requests, and writes the lines of
+//! both.
 
 ghost use Rattle.std.specs.Prelude.{◌≡◌, ℕ, ◌<◌, ◌≤◌, ◌⊎◌, List, [], length, All, IfOk, IfErr, IfSome, Err, OnOk, slice_get, vec_len, false};
 ghost use Rattle.std.specs.Io.KnownBytes.{Appends};
@@ -29,13 +29,12 @@ use std::io::{Read, Write};
 use std::sync::Wait;
 use std::thread::Threads;
 
-/// Publishes the batches of updates over a journal while this many workers answer the requests of
-/// a stream: `IsLiveRun`. They keep as many trees as the askers of `open`. Both streams are first read
-/// whole.
-/// The status is 2 where anything was refused, and else 0. The journal's writer is handed back,
-/// after an error too. It then has the text of each published batch, and after a fault of the
-/// journal a prefix of one more. After an error the contents of the other writer are unspecified.
-/// Neither is flushed.
+/// Publishes the batches of updates to a journal, while the given number of workers answer the
+/// requests of a stream: `IsLiveRun`. The workers keep as many trees as the askers of `open`. Both
+/// streams are read whole before any batch is published. The status is 2 if anything was refused,
+/// and 0 otherwise. The journal's writer is handed back, after an error too. It has got the text of
+/// each published batch, and after a fault of the journal also a prefix of the next batch's text.
+/// After an error the contents of the other writer are unspecified. Neither writer is flushed.
 pub fn run_live_rows<
     R: Read + Drop,
     Q: Read + Drop,
@@ -70,7 +69,7 @@ pub fn run_live_rows<
     )
 }
 
-/// As `run_live_rows`, but the workers have at most as many trees together as the options say.
+/// As `run_live_rows`, but the options limit the number of trees that all workers have together.
 pub fn run_live_rows_with<
     R: Read + Drop,
     Q: Read + Drop,
@@ -143,8 +142,8 @@ fn answer_opened<J: Write, W: Write, G: Gate + Sync, T: Threads + Wait + Sync>(
     end_live(rt, alloc, ran, batches, writer)
 }
 
-/// Writes the lines of the answers and of the applied batches, if there are answers, and closes the
-/// publisher.
+/// If there are answers, writes their lines and the line that counts the applied batches. Closes
+/// the publisher.
 fn end_live<J: Write, W: Write, T: Wait>(
     rt: &T,
     alloc: Global,
@@ -159,7 +158,7 @@ fn end_live<J: Write, W: Write, T: Wait>(
     ensures journal { IfOk ran (λ live. result.1 ≡ live.publisher.journal) }
     ensures history { IfOk ran (λ live. IsHistory live.publisher.batches) }
     ensures error { IfOk ran (λ live. IfErr result.0 IsStreamFault) }
-    // A worker's fault keeps its name.
+    // The error of a worker keeps its name.
     ensures fault { IfErr ran (λ e. result.0 ≡ Err (RunError.Serve e.0)) }
     ensures closed { IfErr ran (λ e. result.1 ≡ e.1.journal) }
 {
@@ -216,7 +215,7 @@ fn say<W: Write>(alloc: Global, line: Line, writer: &mut W) -> Result<(), JudgeE
     put(&bytes, writer)
 }
 
-/// The line of the batch that wasn't applied, if any.
+/// The line of the batch that wasn't applied, if there is one.
 fn fault_line(batches: &[Batch], applied: u32, fault: Option<ApplyError>) -> Option<Line>
     ensures { IsFaultShown (slice_get batches.now applied) fault
         (last_text result) (last_status result) }
@@ -225,7 +224,7 @@ fn fault_line(batches: &[Batch], applied: u32, fault: Option<ApplyError>) -> Opt
         return None;
     };
     let Some(batch) = batches.get(applied as usize) else {
-        // Never: the batch after those that were applied is the one that wasn't.
+        // Never: if there is a fault, there is a batch after the applied ones.
         return None;
     };
     let number = batch.number;

@@ -1,4 +1,4 @@
-//! The run of `serve`: this thread answers the updates, and a thread for each client answers
+//! The run of `serve`: this thread answers the updates, and each client has a thread that answers
 //! its requests.
 
 ghost use Rattle.std.specs.Prelude.{◌≡◌, ◌≤◌, ◌<◌, ◌↔◌, [], false, All, IfOk, IfErr, IsTrue, List, vec_len, vec_capacity};
@@ -36,40 +36,41 @@ use thiserror::Error;
 /// Why no run over updates and clients began.
 #[derive(Clone, Copy, Debug, PartialEq, Eq, Error)]
 pub enum ServedError {
-    /// Its publisher wasn't opened, or memory was refused.
+    /// The publisher wasn't opened, or memory was refused.
     #[error("{0}")]
     Run(RunError),
-    /// No thread could be had for a client.
+    /// The system had no thread for a client.
     #[error("client {client}: no thread")]
     NoThread {
-        /// The number of the client, from 1.
+        /// The number of the client; clients count from 1.
         client: usize,
     },
 }
 
 /// The result of a run over updates and clients.
 pub struct Served<W, J, V> {
-    /// 0 where all rows and batches of all streams were accepted and no change was left open, and
-    /// else 2.
+    /// 0 if all rows and batches of all streams were accepted and no change was left open, and 2
+    /// otherwise.
     pub status: u8,
-    /// How the updates ended.
+    /// How the stream of updates ended.
     pub updates: Result<(), StreamError>,
-    /// The writer of the updates' lines.
+    /// The writer of the lines that answer updates.
     pub said: W,
-    /// The journal's writer.
+    /// The writer of the journal.
     pub journal: J,
-    /// The results of the clients, in order.
+    /// The results of the clients, in the order of the clients.
     pub clients: Vec<ServedClient<V>>,
-    /// The steps of the journal: those that the updates and all clients saw. It takes no room.
+    /// The steps of the journal that the updates and all clients saw. They take no memory when the
+    /// program runs.
     pub steps: SeenSteps,
 }
 
-/// What answers a client, in a thread of its own.
+/// What the thread of a client needs to answer it.
 #[derive(Drop)]
 struct ClientSeat {
     alloc: Global,
     asker: Asker,
-    /// The number of the client, from 1.
+    /// The number of the client; clients count from 1.
     number: usize,
 }
 
@@ -92,8 +93,8 @@ impl<Q: Read + Drop, V: Replies> Doer<Client<Q, V>> for ClientSeat {
     }
 }
 
-/// What is allocated for each client before any is started: its seat, and a slot for its state and for
-/// its result.
+/// What is allocated for the clients before any of them is started: a seat, a slot for its state,
+/// and a slot for its result.
 #[derive(Drop)]
 struct Seats<Q, V> {
     seats: Vec<ClientSeat>,
@@ -101,7 +102,7 @@ struct Seats<Q, V> {
     served: Vec<ServedClient<V>>,
 }
 
-/// A seat for each asker, numbered from 1.
+/// A seat for each asker; the seats are numbered from 1.
 fn seat_all<Q: Drop, V: Drop>(alloc: Global, askers: Vec<Asker>) -> Result<Seats<Q, V>, AllocError>
     ensures { IfOk result (λ made. (source : Book) → All (λ a. a.source ≡ source) askers.items
         → AreSeats source (vec_len askers) made) }
@@ -125,7 +126,7 @@ fn seat_all<Q: Drop, V: Drop>(alloc: Global, askers: Vec<Asker>) -> Result<Seats
     })
 }
 
-/// One list of the journal's steps: all that the publisher and the clients have seen.
+/// The list of all steps of the journal that the publisher and the clients have seen.
 fn all_steps<J: Write, Q: Read + Drop, V: Replies + Drop>(
     updates: &Updates<J>,
     serving: &[ServingClient<Q, V>],
@@ -143,7 +144,7 @@ fn all_steps<J: Write, Q: Read + Drop, V: Replies + Drop>(
     all
 }
 
-/// The result of each client once it has met all published batches.
+/// Makes the result of each client, after it has met all published batches.
 fn close_all<J: Write, Q: Read + Drop, V: Replies + Drop>(
     updates: &mut Updates<J>,
     serving: Vec<ServingClient<Q, V>>,
@@ -172,7 +173,7 @@ fn are_accepted<V>(clients: &[ServedClient<V>]) -> bool
     clients.iter().all(|client| client.refused == 0)
 }
 
-/// 0 where no row and no batch was refused on any stream and no change is open, else 2.
+/// 0 if no row and no batch of any stream was refused and no change is open, and 2 otherwise.
 fn status_of<J: Write, V>(updates: &Updates<J>, clients: &[ServedClient<V>]) -> u8
     ensures { (first : PublisherState J) (t : UpdatesState) → KeepsUpdates J.contents first updates.now t
         → IsServedStatus t clients.now result }
@@ -183,7 +184,7 @@ fn status_of<J: Write, V>(updates: &Updates<J>, clients: &[ServedClient<V>]) -> 
     if are_accepted(clients) { 0 } else { 2 }
 }
 
-/// Says how many changes are still open at the end of the updates, if there are any.
+/// Writes the line that counts the open changes at the end of the updates, if there are any.
 fn say_last<W: Write, J: Write>(
     alloc: Global,
     said: &mut W,
@@ -198,7 +199,7 @@ fn say_last<W: Write, J: Write>(
     }
 }
 
-/// The updates of a run, which this thread answers.
+/// The stream of updates of a run, which this thread answers.
 struct Publishing<'a, R, W, J, T> {
     rt: &'a T,
     alloc: Global,
@@ -225,7 +226,7 @@ impl<'a, R: Read, W: Write, J: Write, T: Wait> Meanwhile for Publishing<'a, R, W
     }
 }
 
-/// Answers all rows of the updates, and says at their end how many changes are still open.
+/// Answers all rows of the updates, and then writes the line that counts the open changes, if any.
 fn answer_updates<R: Read, W: Write, J: Write, T: Wait>(
     rt: &T,
     alloc: Global,
@@ -244,7 +245,8 @@ fn answer_updates<R: Read, W: Write, J: Write, T: Wait>(
     }
 }
 
-/// A publisher over a journal, and a seat for each client. Together these have at most `trees` trees.
+/// Opens a publisher over a journal, and makes a seat for each client. The publisher and the
+/// clients' askers have at most `trees` trees together.
 fn open_seats<J: Write, Q: Drop, V: Drop, T: Wait>(
     rt: &T,
     alloc: Global,
@@ -268,7 +270,7 @@ fn open_seats<J: Write, Q: Drop, V: Drop, T: Wait>(
     }
 }
 
-/// The result of a run whose updates and clients have ended.
+/// Makes the result of a run after the updates and all clients have ended.
 fn close_run<W, J: Write, Q: Read + Drop, V: Replies + Drop, T: Wait>(
     rt: &T,
     ended: Result<(), StreamError>,
@@ -295,11 +297,12 @@ fn close_run<W, J: Write, Q: Read + Drop, V: Replies + Drop, T: Wait>(
     }
 }
 
-/// Publishes updates as they come in, each batch in the journal first, while one asker answers each
-/// client, in a thread of its own. No client waits for another, nor for the publisher. Together they
-/// have at most `trees` trees. It ends when the updates and all clients have ended: `IsServedRun`.
+/// Publishes updates as they come in, and writes each batch to the journal first. Each client has
+/// an asker and a thread that answer it, and waits neither for another client nor for the
+/// publisher. Publisher and askers have at most `trees` trees together. The run ends when the
+/// updates and all clients have ended: `IsServedRun`.
 ///
-/// An error comes before anything is read, and gives back all inputs except the updates.
+/// An error comes before anything is read. It gives back all inputs except for the updates.
 pub fn run_serve<
     R: Read + Drop,
     W: Write,

@@ -1,4 +1,4 @@
-//! How one row of the updates is answered, by a publisher that counts each published batch.
+//! Answers the rows of the updates, by a publisher that counts each batch that it publishes.
 
 ghost use Rattle.std.specs.Prelude.{◌≡◌, ◌<◌, ◌⊎◌, [], List, IsTrue, ◌↔◌, IfOk};
 ghost use Rattle.cspf_model.specs.declared.batch.Change.{Change as Changed};
@@ -19,7 +19,7 @@ use std::io::Write;
 use std::marker::Model;
 use std::sync::Wait;
 
-/// The publisher, and the steps of its journal up to the count of its last batch.
+/// The publisher, and the steps of its journal up to the one that counts its last batch.
 pub(super) struct Counted<J> {
     publisher: Publisher<J>,
     steps: SeenSteps,
@@ -36,7 +36,7 @@ impl<J> Model for Counted<J> {
 }
 
 impl<J: Write> Counted<J> {
-    /// A publisher of which nothing was asked yet.
+    /// A publisher from which nothing was asked yet.
     fn new(publisher: Publisher<J>) -> Counted<J>
         ensures { result.publisher ≡ publisher }
     {
@@ -44,7 +44,7 @@ impl<J: Write> Counted<J> {
         Counted { publisher, steps }
     }
 
-    /// The steps of the journal up to the count of the last batch.
+    /// The steps of the journal up to the one that counts the last batch.
     fn steps(&self) -> SeenSteps
         ensures same { result ≡ self.now.steps }
         ensures journal { AreJournalSteps result.steps }
@@ -83,8 +83,8 @@ impl<J: Write, R: Wait> Sink<R> for Counted<J> {
     }
 }
 
-/// The updates' side of a run: the publisher, the open changes, and how many rows and batches were
-/// refused.
+/// The state of a run's updates: the publisher, the open changes, and the number of refused rows
+/// and batches.
 pub(super) struct Updates<J> {
     rows: Rows<Counted<J>>,
 }
@@ -110,7 +110,7 @@ impl<J: Write, R: Wait> Answering<R> for Updates<J> {
 
     ghost fails = { IsUpdateFailed J.contents };
 
-    // Each row adds one at most.
+    // Each row adds at most 1 to each of these numbers.
     ghost may_stand = { λ place k. (k.changes.count < place) × (k.answers < place) × (k.refused < place) };
 
     fn answer(
@@ -127,7 +127,7 @@ impl<J: Write, R: Wait> Answering<R> for Updates<J> {
 }
 
 impl<J: Write> Updates<J> {
-    /// No change is open, and nothing was refused.
+    /// The state before the first row: no change is open, and nothing was refused.
     pub(crate) fn new(alloc: Global, publisher: Publisher<J>) -> Updates<J>
         ensures publisher { result.sink.publisher ≡ publisher }
         ensures open { AreOpen result.changes [] }
@@ -138,7 +138,8 @@ impl<J: Write> Updates<J> {
         }
     }
 
-    /// The line of changes that are still open at the end, an empty one where there are none.
+    /// The line that counts the open changes at the end of the updates; it is empty if there are
+    /// none.
     pub(crate) fn last_line(&self, alloc: Global) -> Result<Vec<u8>, AllocError>
         ensures { IfOk result (λ line. (all : List Changed) → AreOpen self.now.changes all
             → line.items ≡ end_line all) }
@@ -146,14 +147,14 @@ impl<J: Write> Updates<J> {
         self.rows.changes.last_line(alloc)
     }
 
-    /// Whether a row or a batch was refused, or changes are open.
+    /// Whether a row or a batch was refused, or a change is open.
     pub(super) fn has_refused(&self) -> bool
         ensures { IsTrue result ↔ ((0 < self.now.refused) ⊎ (0 < self.now.changes.count)) }
     {
         self.rows.refused > 0 || self.rows.changes.count > 0
     }
 
-    /// The steps of the journal up to the count of the last batch.
+    /// The steps of the journal up to the one that counts the last batch.
     pub(super) fn steps(&self) -> SeenSteps
         ensures same { result ≡ self.now.sink.steps }
         ensures journal { AreJournalSteps result.steps }
@@ -162,7 +163,7 @@ impl<J: Write> Updates<J> {
         self.rows.sink.steps()
     }
 
-    /// A token of the published batches.
+    /// A token by which a client learns of all published batches.
     pub(super) fn tell(&mut self) -> Told
         ensures batches { result.batches ≡ self.old.sink.publisher.batches }
         ensures source { result.source ≡ self.old.sink.publisher.source }
@@ -171,7 +172,8 @@ impl<J: Write> Updates<J> {
         self.rows.sink.publisher.tell()
     }
 
-    /// The journal's writer. May wait for clients that are inside an ask.
+    /// Closes the publisher, and hands its journal's writer back. It may wait for clients that are
+    /// inside an ask.
     pub(crate) fn close<R: Wait>(self, rt: &R) -> J
         ensures { result ≡ self.sink.publisher.journal }
     {

@@ -1,4 +1,4 @@
-//! Why a run over a publisher stops, and the conversions of the faults that stop it.
+//! Why a run with a publisher stops, and the conversions of other errors into this error.
 
 ghost use Rattle.std.specs.Prelude.{◌≡◌};
 ghost use Rattle.cspf_serve.specs.ErrorNames.{run_error_of};
@@ -11,7 +11,7 @@ use cspf_publish::OpenError;
 use std::alloc::AllocError;
 use thiserror::Error;
 
-/// Why a run over a journal or updates and requests stops.
+/// Why a run over a journal and requests, or over updates and requests, stops.
 #[derive(Clone, Copy, Debug, PartialEq, Eq, Error)]
 pub enum RunError {
     /// Memory was refused.
@@ -20,10 +20,11 @@ pub enum RunError {
     /// A read failed, or a write failed or took no bytes.
     #[error("a read or a write failed")]
     Device,
-    /// There was no place for a reader. No run shows it, since `open` makes a place for each.
+    /// The replicas of the database have no place left for a reader. No run shows it, since `open`
+    /// makes a place for each reader.
     #[error("no place for a reader")]
     Places,
-    /// The requests aren't answered.
+    /// The workers didn't answer all requests.
     #[error("{0}")]
     Serve(ServeError),
 }
@@ -53,7 +54,8 @@ impl From<OpenError> for RunError {
     fn from(refused: OpenError) -> RunError {
         match refused {
             OpenError::Memory => RunError::Memory,
-            // Never `Askers`: a run has 1 to 64 workers or clients, as many as may ask.
+            // Never `Askers`: a run has 1 to 64 workers or clients, which is as many askers as
+            // `open` allows.
             OpenError::Askers | OpenError::Places => RunError::Places,
         }
     }

@@ -9,8 +9,8 @@ use std::alloc::Global;
 use std::io::Write;
 use std::sync::Wait;
 
-/// A new publisher over a journal, and an asker for each worker. Together these have at most `trees`
-/// trees.
+/// Opens a publisher over a journal, with an asker for each worker. Publisher and askers have at
+/// most `trees` trees together.
 #[tactic(auto, using(crate::proofs::AnswerLines::sources_of, crate::proofs::StreamFaults::opening))]
 pub(crate) fn open_for<J: Write, T: Wait>(
     rt: &T,
@@ -25,7 +25,8 @@ pub(crate) fn open_for<J: Write, T: Wait>(
     ensures source { IfOk result (λ opened.
         All (λ a. a.source ≡ opened.0.source) opened.1.items) }
     ensures count { IfOk result (λ opened. vec_len opened.1 ≡ workers) }
-    // As many as that may ask, so only memory or a place for a reader can be refused.
+    // The number of askers is one that `open` allows, so only memory or a reader's place can be
+    // refused.
     ensures error { IfErr result (λ e. IsOpeningFault e.0) }
     ensures journal { IfErr result (λ e. e.1 ≡ journal) }
 {

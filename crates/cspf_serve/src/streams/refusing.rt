@@ -8,7 +8,7 @@ use cspf_judge::EarlyEnd;
 use std::alloc::Global;
 use std::io::Write;
 
-/// Writes the line by which a run is refused, and returns its status.
+/// Writes the line that refuses a stream, and returns the status of the run.
 #[tactic(auto, using(crate::proofs::StreamFaults::judged))]
 pub(crate) fn refuse<W: Write>(alloc: Global, end: EarlyEnd, writer: &mut W) -> Result<u8, RunError>
     ensures status { IfOk result (λ status. status ≡ 2) }

@@ -34,7 +34,7 @@ fn write_reply<W: Write>(alloc: Global, answer: &Answer, writer: &mut W) -> Resu
         (IsReply answer.now.id answer.now.version (answer_of answer.now.outcome))) }
     ensures begun { OnErr result (HasBegun (W.contents writer.old) (W.contents writer.new)
         (IsReply answer.now.id answer.now.version (answer_of answer.now.outcome))) }
-    // Memory is refused before the first byte is written.
+    // If memory is refused, no byte of the line is written.
     ensures memory { IfErr result (λ e. e ≡ JudgeError.Memory
         → HoldsAsBefore (W.contents writer.old) (W.contents writer.new)) }
 {

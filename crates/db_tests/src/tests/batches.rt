@@ -1,5 +1,5 @@
-//! What tables make of batches: links that are replaced, changes that are refused, and what fits a
-//! full table. The fields and keys of links and requests too.
+//! What a table does with batches: it replaces links, refuses changes, and takes what fits when it is
+//! full. Also the fields and keys of links and requests.
 use super::edits::Edit::{self, Node, Put, Remove};
 use super::edits::{answer, answers, assert_case, batch_of, link};
 use cspf_addr::{Addr, Hop, Hops, Mask, Prefix};
@@ -17,7 +17,7 @@ const THREE: u32 = 50529027; // 3.3.3.3
 
 const INTERFACE: u32 = 167775233; // 10.0.12.1
 
-// Puts of links from 1.1.1.1 to 2.2.2.2, each with its local address. The addresses of a link's two
+// Puts of links from 1.1.1.1 to 2.2.2.2 with different local addresses. The addresses of a link's two
 // interfaces differ in their last bit.
 const FIRST: Edit = Put(ONE, 0, TWO, 1);
 
@@ -27,7 +27,7 @@ const SEVEN: Edit = Put(ONE, 7, TWO, 6);
 
 const LAST: Edit = Put(ONE, 16384, TWO, 16385);
 
-// The link of one of these puts.
+// The link of such a put, by its local address.
 fn one_to_two(local: u32) -> Result<Link, LinkError> {
     link(ONE, local, TWO, local ^ 1)
 }
@@ -54,15 +54,15 @@ fn other_link() -> Result<Link, LinkError> {
     )
 }
 
-// Whether a link runs from 1.1.1.1 by the interface 5 to a router by an interface there, with this
-// metric, group and unreserved bandwidths.
+// Whether a link runs from 1.1.1.1 by the interface 5 to this router and its interface. The link has to
+// have this metric, group and unreserved bandwidths.
 fn has_fields(link: &Link, to: (u32, u32), of_links: (u32, u32), free: [u64; 8]) -> bool {
     let from = (link.from.number(), link.local.number());
     let ends = from == (ONE, 5) && (link.to.number(), link.remote.number()) == to;
     ends && (link.metric, link.group.bits()) == of_links && link.free == free
 }
 
-// Whether a change is on the key of the link from 1.1.1.1 by this interface.
+// Whether a change has the key of the link from 1.1.1.1 by this interface.
 fn is_on_key(edit: Edit, local: u32) -> Result<bool, LinkError> {
     let (from, interface) = edit.change()?.key();
     Ok(from.number() == ONE && interface == Some(Addr::new(local)))
@@ -87,20 +87,20 @@ fn links(rt: HostRuntime) -> Result<(), Fail> {
     Ok(())
 }
 
-// Why a request with the same ends and this setup priority is refused.
+// Why a request is refused whose head-end is its tail-end, with this setup priority.
 fn refusal(setup: u8) -> Option<RequestError> {
     let (one, none) = (Addr::new(ONE), Mask::new(0));
     Request::new(7, one, one, setup, 1, none, none, none, Hops::none()).err()
 }
 
-// A request of this number from 1.1.1.1 to 2.2.2.2.
+// A request with this id from 1.1.1.1 to 2.2.2.2.
 fn request(id: u64, hops: Hops) -> Result<Request, RequestError> {
     let (one, two) = (Addr::new(ONE), Addr::new(TWO));
     let (low, middle, high) = (Mask::new(1), Mask::new(2), Mask::new(4));
     Request::new(id, one, two, 7, 9, low, middle, high, hops)
 }
 
-// Whether a request has the fields of that one.
+// Whether a request has the fields that `request` gives it.
 fn is_request(request: &Request, id: u64, hops: Hops) -> bool {
     let numbers = request.id == id && request.setup == 7 && request.bandwidth == 9;
     let ends = request.from.number() == ONE && request.to.number() == TWO;
@@ -143,8 +143,8 @@ fn a_copied_batch(rt: HostRuntime) -> Result<(), Fail> {
     Ok(())
 }
 
-// Whether the changes fit the table, by one call or by two, and leave these links, which are found
-// by their keys.
+// Whether the changes fit the table, by one call or by two. The table has to have exactly these links
+// then, and find them by their keys.
 fn leaves(
     alloc: Global,
     table: &mut Table,
@@ -167,7 +167,7 @@ fn are_found(table: &Table, links: &[Link]) -> bool {
     true
 }
 
-// One of two links is replaced by another one with its key.
+// Replaces one of two links by another link with the same key.
 fn replace(rt: &impl Abort, alloc: Global, table: &mut Table) -> Result<(), Fail> {
     let (old, beside, new) = (one_to_two(5)?, one_to_two(7)?, other_link()?);
     let both = [Change::Put(old), Change::Put(beside)];
@@ -183,8 +183,8 @@ fn a_replaced_link(rt: HostRuntime) -> Result<(), Fail> {
     replace(&rt, rt.alloc(), &mut Table::new(rt.alloc())?)
 }
 
-// A link and its reverse come. Then the first has another metric, and the second nothing unreserved;
-// and then the first is as it was, and its router is marked.
+// Puts a link and its reverse. Then the link gets another metric, and the reverse has no unreserved
+// bandwidth. Then the link is as it was, and its router is marked.
 fn change_attributes(rt: &impl Abort, alloc: Global, table: &mut Table) -> Result<(), Fail> {
     let (old, mut full) = (link(ONE, 4, TWO, 5)?, link(TWO, 5, ONE, 4)?);
     let mut dear = old;
@@ -223,7 +223,7 @@ fn refuses(alloc: Global, batch: &Batch, refusal: Refusal) -> Result<bool, Fail>
     Ok(refuses && table.links().is_empty() && !table.has_router(Addr::new(ONE)))
 }
 
-// Two changes of which the second is on the first one's key, and a removal from an empty table.
+// Two changes with the same key, and a removal from an empty table.
 const REFUSED: &[(&[Edit], Refusal)] = &[
     (&[FIVE, FIVE], Refusal::Duplicate { at: 2 }),
     (&[Remove(ONE, 1), SEVEN], Refusal::Absent { at: 1 }),
@@ -251,8 +251,8 @@ fn full_table(alloc: Global) -> Result<Table, Fail> {
     Ok(table)
 }
 
-// Changes, what a full table answers, and whether it then has its first link and its last one. A put
-// and a removal, in either order, leave a full table as full as it was.
+// Changes, what a full table answers, and whether it then has its first link and its last link. A put
+// and a removal, in either order, leave a full table full.
 const FULL: &[(&[Edit], Result<(), Refusal>, bool, bool)] = &[
     (&[], Ok(()), true, false),
     (&[LAST], Err(Refusal::Full), true, false),
@@ -265,7 +265,7 @@ fn has_link(table: &Table, local: u32) -> bool {
     table.find(Addr::new(ONE), Addr::new(local)).is_some()
 }
 
-// Changes of a full table.
+// Makes the changes of `FULL` to a full table.
 fn change_full(rt: &impl Abort, alloc: Global, table: &mut Table) -> Result<(), Fail> {
     for (at, (edits, wanted, first, last)) in FULL.iter().enumerate() {
         let answers = answers(alloc, table, edits, *wanted)?;
@@ -281,7 +281,7 @@ fn a_full_table(rt: HostRuntime) -> Result<(), Fail> {
     change_full(&rt, rt.alloc(), &mut full_table(rt.alloc())?)
 }
 
-// Puts of a link from the router 0 to each of the routers 1 to `end`, which is left out.
+// Puts of a link from the router 0 to each router from 1 to `end` less 1.
 fn star(alloc: Global, end: u32) -> Result<Batch, Fail> {
     let mut changes = Vec::new(alloc);
     for to in 1..end {
@@ -290,7 +290,7 @@ fn star(alloc: Global, end: u32) -> Result<Batch, Fail> {
     Ok(Batch { number: 1, changes })
 }
 
-// Whether an empty table takes the batch only without its last change.
+// Whether an empty table refuses the batch, and accepts it without its last change.
 fn takes_one_less(table: &mut Table, batch: &mut Batch) -> bool {
     let more = table.check(batch);
     let _ = batch.changes.pop();
@@ -306,7 +306,8 @@ fn as_many_routers_as_are_kept(rt: HostRuntime) -> Result<(), Fail> {
     Ok(())
 }
 
-// Whether the table has 1,024 routers, these among them, or not.
+// Whether the table has 1,024 routers. Each of these routers has to be in the table if its flag is set,
+// and not otherwise.
 fn has_routers(table: &Table, routers: &[(u32, bool)]) -> bool {
     for (router, known) in routers {
         if table.has_router(Addr::new(*router)) != *known {
@@ -318,26 +319,26 @@ fn has_routers(table: &Table, routers: &[(u32, bool)]) -> bool {
 
 const TOO_MANY: Result<(), Refusal> = Err(Refusal::TooManyRouters);
 
-// Changes of a table with one link from the router 0 to each of the routers 1 to 1,023, what it
-// answers, and which routers it has then, or not.
+// Changes of a table with one link from the router 0 to each of the routers 1 to 1,023, and what the
+// table answers. The last item lists routers, and whether the table has each of them after the changes.
 const STAR: &[(&[Edit], Result<(), Refusal>, &[(u32, bool)])] = &[
-    // another router, alone and as one goes
+    // another router comes: alone, and as a router goes
     (&[Put(0, 1024, 1024, 1025)], TOO_MANY, &[(1024, false)]),
     (
         &[Put(0, 1024, 1024, 1025), Remove(0, 1023)],
         Ok(()),
         &[(1024, true), (1023, false)],
     ),
-    // a link turns to another router, which may have one too
+    // a link is moved to another router, which in the second case gets a link as well
     (&[Put(0, 5, 2000, 4)], Ok(()), &[(2000, true), (5, false)]),
     (
         &[Put(0, 6, 3000, 7), Put(3000, 3001, 0, 3000)],
         Ok(()),
         &[(3000, true), (6, false)],
     ),
-    // a router that stays has a link to another one
+    // a router that stays gets a link to another router
     (&[Put(7, 7, 4000, 6)], TOO_MANY, &[(4000, false)]),
-    // two links turn
+    // two links are moved to other routers
     (
         &[Put(0, 8, 5000, 9), Put(0, 9, 6000, 8)],
         Ok(()),
@@ -345,8 +346,8 @@ const STAR: &[(&[Edit], Result<(), Refusal>, &[(u32, bool)])] = &[
     ),
 ];
 
-// What such a table answers to the batch, by one call or by two, and whether it then has these
-// routers, or not.
+// What such a table answers to the batch, by one call or by two. The second result is whether the table
+// then has the routers whose flags are set, and lacks the others.
 fn change_star(
     alloc: Global,
     star: &Batch,
@@ -360,7 +361,7 @@ fn change_star(
     Ok((answer, has_routers(&table, routers)))
 }
 
-// The changes of a star, by two calls and by one.
+// Makes the changes of `STAR`, by two calls and by one.
 fn change_stars(rt: &impl Abort, alloc: Global, star: &Batch) -> Result<(), Fail> {
     for (at, (edits, wanted, routers)) in STAR.iter().enumerate() {
         let batch = batch_of(alloc, edits)?;
@@ -396,7 +397,7 @@ fn assert_owners(rt: &impl Abort, table: &Table) -> Result<(), Fail> {
     Ok(())
 }
 
-// Which routers own an interface and other addresses.
+// Which routers own prefixes of an interface and of other addresses.
 #[test]
 fn owners_of_prefixes(rt: HostRuntime) -> Result<(), Fail> {
     let one_link = [Put(ONE, INTERFACE, TWO, INTERFACE ^ 1)];

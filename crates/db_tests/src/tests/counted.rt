@@ -1,5 +1,6 @@
-//! A table at work and one at rest, beside the same batches. `tests/scarce` counts how often both take
-//! memory: as often, since to look at a batch, to absorb it and to read the table take none.
+//! One test works on a table, and one test leaves its table empty. Both make the same batches.
+//! `tests/scarce` counts how often each test takes memory. The counts are equal, since looking at a
+//! batch, absorbing it and reading the table take no memory.
 use super::edits::Edit::{self, Node, Put, Remove};
 use super::edits::{assert_case, batch_of, put};
 use cspf_addr::{Addr, Prefix};
@@ -8,28 +9,29 @@ use cspf_model::{Batch, MOST_ROUTERS};
 use std::alloc::Global;
 use std::test::Fail;
 
-// Batches of few changes, the last five of which don't fit.
+// Batches of few changes. The last five batches don't fit.
 const FEW: [&[Edit]; 10] = [
-    // nothing
+    // no change
     &[],
     // a link, its reverse and a mark
     &[Put(1, 10, 2, 20), Put(2, 20, 1, 10), Node(1, false)],
     // the same links
     &[Put(1, 10, 2, 20), Put(2, 20, 1, 10)],
-    // a link that turns to a new router
+    // a link that is moved to a new router
     &[Put(1, 10, 3, 30)],
     // a link that goes, with its router and a mark
     &[Remove(1, 10), Node(1, true)],
-    // one key twice
+    // two changes with the same key
     &[Put(1, 10, 2, 20), Remove(1, 10)],
     &[Node(5, false), Node(5, true)],
-    // a link that isn't there
+    // a removal of a link that the table doesn't have
     &[Remove(9, 9)],
     &[Put(1, 10, 2, 20), Remove(9, 9)],
     &[Remove(9, 9), Remove(9, 9)],
 ];
 
-// Puts of links from the router 0 to others, whose local addresses are the numbers of a range.
+// Puts of links from the router 0 to other routers. The links' local addresses are the numbers of a
+// range.
 fn many(alloc: Global, first: u32, end: u32, routers: u32) -> Result<Batch, Fail> {
     let mut changes = Vec::new(alloc);
     for local in first..end {
@@ -39,9 +41,10 @@ fn many(alloc: Global, first: u32, end: u32, routers: u32) -> Result<Batch, Fail
     Ok(Batch { number: 1, changes })
 }
 
-// Batches of one link of the router 0 after the other: the local addresses from a first one up to an
-// end, and how many other routers they lead to. The first four fill the table, the next ones change
-// its links, alike and turned, and the last ones bring too many routers, links and changes.
+// Batches of links from the router 0: the first local address, the local address after the last one,
+// and to how many other routers the links run. Four batches fill the table. The next two put the same
+// links, and links to other routers. The last three bring too many routers, too many links, and too
+// many changes.
 const MANY: [(u32, u32, u32); 9] = [
     (0, 4096, 1000),
     (4096, 8192, 1000),
@@ -54,7 +57,7 @@ const MANY: [(u32, u32, u32); 9] = [
     (0, 4097, 1000),
 ];
 
-// All of these batches.
+// All batches of `FEW` and `MANY`.
 fn batches(alloc: Global) -> Result<Vec<Batch>, Fail> {
     let mut all = Vec::new(alloc);
     for edits in &FEW {
@@ -66,7 +69,7 @@ fn batches(alloc: Global) -> Result<Vec<Batch>, Fail> {
     Ok(all)
 }
 
-// How much is found by all reads of a table.
+// How many items all reads of a table find.
 fn reads(table: &Table, prefix: Prefix) -> usize {
     let mut found = table.ends().len().wrapping_add(table.marks().len());
     for (at, router) in table.routers().iter().enumerate() {
@@ -82,7 +85,7 @@ fn reads(table: &Table, prefix: Prefix) -> usize {
     found.wrapping_add(reads_of_links(table))
 }
 
-// How many links are found, and their reverses.
+// How many links are found by their keys and have their reverses.
 fn reads_of_links(table: &Table) -> usize {
     let mut found = 0usize;
     for link in table.links() {

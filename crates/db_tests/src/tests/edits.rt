@@ -1,5 +1,5 @@
-//! What the tests share: links that differ in their ends alone, changes by their numbers, what a
-//! table answers to a batch, and the one assertion.
+//! What the tests share: links that differ only in their routers and interfaces, changes by their
+//! numbers, what a table answers to a batch, and the only assertion.
 use cspf_addr::{Addr, Mask};
 use cspf_db::Table;
 use cspf_model::{Batch, Change, Link, LinkError, Refusal};
@@ -7,19 +7,19 @@ use std::alloc::Global;
 use std::process::Abort;
 use std::test::Fail;
 
-// Stops at a case that doesn't hold, with its name and its number.
+// Fails if a case doesn't hold, with the case's name and number.
 pub(super) fn assert_case(rt: &impl Abort, name: &str, number: usize, holds: bool) {
     assert!(rt; holds, "{name} {number}");
 }
 
-// A change.
+// A change, by the numbers of its addresses.
 #[derive(Clone, Copy)]
 pub(super) enum Edit {
-    // A put of the link from a router by an interface there to another by an interface there.
+    // Puts the link from a router by a local interface to another router by a remote interface.
     Put(u32, u32, u32, u32),
-    // A removal of the link from a router by an interface there.
+    // Removes the link from a router by a local interface.
     Remove(u32, u32),
-    // Whether a router has transit.
+    // Sets whether a router has transit.
     Node(u32, bool),
 }
 
@@ -33,7 +33,7 @@ impl Edit {
     }
 }
 
-// A link from a router by an interface there to another by an interface there.
+// The link from a router by a local interface to another router by a remote interface.
 pub(super) fn link(from: u32, local: u32, to: u32, remote: u32) -> Result<Link, LinkError> {
     Link::new(
         Addr::new(from),
@@ -73,7 +73,7 @@ pub(super) fn batch_of(alloc: Global, edits: &[Edit]) -> Result<Batch, Fail> {
     Ok(Batch { number: 1, changes })
 }
 
-// What a table answers to a batch, which it absorbs if the batch fits: by one call, or by two.
+// What a table answers to a batch. If the batch fits, the table absorbs it, by one call or by two.
 pub(super) fn answer(table: &mut Table, batch: &Batch, at_once: bool) -> Result<(), Refusal> {
     if at_once {
         return table.try_absorb(batch);
@@ -83,7 +83,7 @@ pub(super) fn answer(table: &mut Table, batch: &Batch, at_once: bool) -> Result<
     answer
 }
 
-// Whether a table answers so to these changes in one batch, by two calls.
+// Whether a table gives this answer to a batch of these changes, by two calls.
 pub(super) fn answers(
     alloc: Global,
     table: &mut Table,

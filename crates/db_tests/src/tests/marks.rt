@@ -9,8 +9,8 @@ use std::alloc::{AllocError, Global};
 use std::process::Abort;
 use std::test::Fail;
 
-// Whether each router is known by its Router ID, and is marked by its index where its Router ID is one
-// of these.
+// Whether each router is known by its Router ID. A router has to be marked at its index exactly if its
+// Router ID is one of these.
 fn are_routers_marked(table: &Table, marks: &[u32]) -> bool {
     for (at, router) in table.routers().iter().enumerate() {
         let marked = marks.contains(&router.number());
@@ -21,8 +21,8 @@ fn are_routers_marked(table: &Table, marks: &[u32]) -> bool {
     true
 }
 
-// Whether the addresses below 2,048 that are marked are these. How many of them are routers is the
-// result, or none.
+// How many addresses below 2,048 are routers. The result is `None` if the marked addresses below 2,048
+// aren't exactly these.
 fn count_routers(table: &Table, marks: &[u32]) -> Option<usize> {
     let mut known = 0usize;
     for number in 0..2048 {
@@ -35,7 +35,7 @@ fn count_routers(table: &Table, marks: &[u32]) -> Option<usize> {
     Some(known)
 }
 
-// Whether the table lists these marks, and no others.
+// Whether the table lists exactly these marks.
 fn are_listed(table: &Table, marks: &[u32]) -> bool {
     for router in table.marks() {
         if !marks.contains(&router.number()) {
@@ -45,24 +45,25 @@ fn are_listed(table: &Table, marks: &[u32]) -> bool {
     table.marks().len() == marks.len()
 }
 
-// Whether the addresses that are marked, all below 2,048, are these by each call, and there are this
-// many routers, all below 2,048 too.
+// Whether exactly these addresses are marked, by each call of the table, and there are this many
+// routers. All addresses are below 2,048.
 fn are_marks(table: &Table, marks: &[u32], routers: usize) -> bool {
     let known = count_routers(table, marks) == Some(routers) && table.routers().len() == routers;
     known && are_listed(table, marks) && are_routers_marked(table, marks)
 }
 
-// A batch, what the table answers to it, and then which routers are marked, and how many there are.
+// A batch, what the table answers to it, which addresses are marked then, and how many routers there
+// are.
 type Step = (&'static [Edit], Result<(), Refusal>, &'static [u32], usize);
 
 const MARKS_THAT_COME: &[Step] = &[
     (&[], Ok(()), &[], 0),
-    // a mark makes no router, and may be set again
+    // a mark makes no router, and may be set twice
     (&[Node(1, false)], Ok(()), &[1], 0),
     (&[Node(1, false)], Ok(()), &[1], 0),
     // an address that isn't marked has transit already
     (&[Node(2, true)], Ok(()), &[1], 0),
-    // the router that is marked comes, and another one with its mark
+    // the marked router comes, and another router comes with its mark
     (
         &[Put(1, 7, 2, 7), Node(3, false), Put(3, 8, 1, 8)],
         Ok(()),
@@ -89,7 +90,7 @@ const MARKS_THAT_GO: &[Step] = &[
     (&[Node(3, true), Node(2, true)], Ok(()), &[], 0),
 ];
 
-// A router's key is that of none of its links, whatever their addresses there.
+// The key of a mark differs from the keys of the router's links, whatever their local addresses are.
 const KEYS_OF_MARKS: &[Step] = &[
     (
         &[Put(5, 0, 6, 0), Put(5, 5, 6, 5), Node(5, false)],
@@ -105,7 +106,8 @@ const KEYS_OF_MARKS: &[Step] = &[
     ),
 ];
 
-// A router twice in a batch, to whichever effect, and a batch that is refused for its links.
+// Batches that change the mark of a router twice, to the same value or not, and a batch that is refused
+// for its links.
 const REFUSED: &[Step] = &[
     (&[Node(9, false)], Ok(()), &[9], 0),
     (
@@ -156,7 +158,7 @@ const REFUSED: &[Step] = &[
 ];
 
 const ROUTERS_AND_MARKS: &[Step] = &[
-    // marks below, between, at and above the routers
+    // marks of addresses below, between and above the routers, and of a router
     (
         &[Put(3, 1, 6, 1), Node(1, false), Node(4, false)],
         Ok(()),
@@ -164,14 +166,14 @@ const ROUTERS_AND_MARKS: &[Step] = &[
         2,
     ),
     (&[Node(6, false), Node(9, false)], Ok(()), &[1, 4, 6, 9], 2),
-    // routers come before, between and after these, marked and unmarked ones
+    // marked and unmarked routers come before, between and after the other routers
     (
         &[Put(1, 1, 4, 1), Put(9, 1, 2, 1)],
         Ok(()),
         &[1, 4, 6, 9],
         6,
     ),
-    // routers and marks go in one batch, and others come
+    // routers and marks go in one batch, and other routers and marks come
     (
         &[Remove(1, 1), Node(6, true), Node(2, false)],
         Ok(()),
@@ -184,11 +186,11 @@ const ROUTERS_AND_MARKS: &[Step] = &[
         &[1, 2, 4, 8, 9],
         3,
     ),
-    // a router that stays follows one that goes before it
+    // a router goes, and the router after it stays
     (&[Remove(9, 1), Node(8, true)], Ok(()), &[1, 2, 4, 9], 2),
 ];
 
-// The steps, one after the other.
+// Takes the steps, one after the other.
 fn make(
     rt: &impl Abort,
     name: &str,
@@ -203,7 +205,7 @@ fn make(
     Ok(())
 }
 
-// The same on an empty table.
+// Takes the steps with an empty table.
 fn make_all(rt: &impl Abort, name: &str, steps: &[Step], alloc: Global) -> Result<(), Fail> {
     make(rt, name, steps, alloc, &mut Table::new(alloc)?)
 }
@@ -240,7 +242,8 @@ fn nodes(alloc: Global, first: u32, end: u32, transit: bool) -> Result<Vec<Chang
     Ok(changes)
 }
 
-// How many addresses below 4,096 are marked, how many marks the table lists, and how many routers.
+// How many addresses below 4,096 are marked, how many marks the table lists, and how many routers it
+// has.
 fn counts(table: &Table) -> [usize; 3] {
     let mut marked = 0usize;
     for number in 0..4096 {
@@ -251,7 +254,8 @@ fn counts(table: &Table) -> [usize; 3] {
     [marked, table.marks().len(), table.routers().len()]
 }
 
-// Whether each of the addresses 0 to 1,023 can be marked, twice.
+// Marks the addresses 0 to 1,023. Whether the table accepts this batch, then has exactly these marks,
+// and would accept the batch again.
 fn fill(alloc: Global, table: &mut Table) -> Result<bool, AllocError> {
     let changes = nodes(alloc, 0, 1024, false)?;
     let all = Batch { number: 1, changes };
@@ -267,10 +271,11 @@ fn transit_of(table: &Table, first: u32, second: u32) -> (bool, bool) {
 
 const TOO_MANY: Result<(), Refusal> = Err(Refusal::TooManyMarks);
 
-// Changes where each of the addresses 0 to 1,023 is marked, what the table answers, and whether 0 and
-// 1,024 then have transit.
+// Changes of a table in which the addresses 0 to 1,023 are marked, what the table answers, and whether
+// the addresses 0 and 1,024 have transit then.
 const MORE: &[(&[Edit], Result<(), Refusal>, (bool, bool))] = &[
-    // one more, and one more in place of one that isn't marked, or twice, or beside a link
+    // One mark more is too many. The mark comes with transit for an unmarked address, with a mark that
+    // is set already, and with a link.
     (
         &[Node(1024, false), Node(1025, true)],
         TOO_MANY,
@@ -286,17 +291,18 @@ const MORE: &[(&[Edit], Result<(), Refusal>, (bool, bool))] = &[
         TOO_MANY,
         (false, true),
     ),
-    // another in place of one, there and back
+    // a mark comes in place of another, and back
     (&[Node(1024, false), Node(0, true)], Ok(()), (true, false)),
     (&[Node(0, false), Node(1024, true)], Ok(()), (false, true)),
 ];
 
-// Whether a table has 1,024 marks and no routers, and 0 and 1,024, or other addresses, have transit so.
+// Whether a table has 1,024 marks and no routers, and whether these two addresses have transit as
+// given.
 fn is_full(table: &Table, (first, second): (u32, u32), transit: (bool, bool)) -> bool {
     counts(table) == [1024, 1024, 0] && transit_of(table, first, second) == transit
 }
 
-// All marks are set, and then others.
+// Sets all marks, and then makes the changes of `MORE`.
 fn change_full(rt: &impl Abort, alloc: Global, table: &mut Table) -> Result<(), Fail> {
     assert_case(rt, "marks", 1024, fill(alloc, table)?);
     for (at, (edits, wanted, transit)) in MORE.iter().enumerate() {
@@ -321,7 +327,7 @@ fn all_others(alloc: Global) -> Result<Batch, AllocError> {
     Ok(Batch { number: 1, changes })
 }
 
-// Whether all marks are set, and others then take their places.
+// Sets all marks, and then other marks in place of these. Whether the table has the other marks then.
 fn takes_others(alloc: Global, table: &mut Table) -> Result<bool, AllocError> {
     let is_filled = fill(alloc, table)?;
     table.absorb(&all_others(alloc)?);
@@ -345,7 +351,7 @@ fn star(alloc: Global, count: u32) -> Result<Vec<Change>, Fail> {
     Ok(changes)
 }
 
-// A batch of the links of a star, marks of the routers from 0 on, and more changes.
+// A batch of the links of a star, of marks for the routers from 0 on, and of more changes.
 fn star_with_marks(alloc: Global, links: u32, marks: u32, more: &[Edit]) -> Result<Batch, Fail> {
     let mut changes = star(alloc, links)?;
     for router in 0..marks {
@@ -357,8 +363,8 @@ fn star_with_marks(alloc: Global, links: u32, marks: u32, more: &[Edit]) -> Resu
     Ok(Batch { number: 1, changes })
 }
 
-// How many links and marks a batch has, more changes of it, what an empty table answers, and how many
-// marks and routers it has then.
+// How many links and marks a batch has, more changes of the batch, and what an empty table answers. The
+// last number is how many marks, and how many routers, the table has then.
 type Star = (u32, u32, &'static [Edit], Result<(), Refusal>, usize);
 
 const STARS: &[Star] = &[
@@ -381,11 +387,11 @@ const STARS: &[Star] = &[
     ),
     (0, 4096, &[], TOO_MANY, 0),
     (0, 4096, &[Node(0, true)], Err(Refusal::TooLong), 0),
-    // as many marks and routers as are kept
+    // as many marks and routers as a table keeps
     (1023, 1024, &[], Ok(()), 1024),
 ];
 
-// Whether the table answers so to the batch, and has as many marks and routers then.
+// Whether the table gives the wanted answer to the batch, and has `left` marks and `left` routers then.
 fn takes(
     alloc: Global,
     table: &mut Table,
@@ -411,8 +417,8 @@ fn marks_behind_other_refusals(rt: HostRuntime) -> Result<(), Fail> {
     take_stars(&rt, rt.alloc(), &mut Table::new(rt.alloc())?)
 }
 
-// A change: a new link between two of eight routers, a link of the table that is dropped, or whether
-// one of twelve addresses has transit.
+// A drawn change. The change puts a new link between two of eight routers, drops a link of the table,
+// or sets whether one of twelve addresses has transit.
 fn drawn_change(draw: &mut Draw, table: &Table) -> Result<Change, LinkError> {
     match (draw.below(6), draw.link_of(table)) {
         (0, Some(link)) => Ok(drop_of(link.from.number(), link.local.number())),
@@ -426,7 +432,7 @@ fn drawn_change(draw: &mut Draw, table: &Table) -> Result<Change, LinkError> {
     }
 }
 
-// A batch of one to four changes, two of which may be on one key.
+// A drawn batch of one to four changes. Two of the changes may have the same key.
 fn drawn_batch(alloc: Global, draw: &mut Draw, table: &Table) -> Result<Batch, Fail> {
     let mut changes = Vec::new(alloc);
     for _ in 0..draw.below(4).wrapping_add(1) {
@@ -435,7 +441,7 @@ fn drawn_batch(alloc: Global, draw: &mut Draw, table: &Table) -> Result<Batch, F
     Ok(Batch { number: 1, changes })
 }
 
-// Whether two of the changes are on one key.
+// Whether two of the changes have the same key.
 fn has_twins(changes: &[Change]) -> bool {
     for (at, change) in changes.iter().enumerate() {
         for other in &changes[..at] {
@@ -447,7 +453,7 @@ fn has_twins(changes: &[Change]) -> bool {
     false
 }
 
-// The marks that the changes leave of these, one change after the other.
+// Makes the changes to these marks, one change after the other.
 fn mark_plainly(marked: &mut [bool; 16], changes: &[Change]) {
     for change in changes {
         if let Change::Node { router, transit } = change {
@@ -456,7 +462,7 @@ fn mark_plainly(marked: &mut [bool; 16], changes: &[Change]) {
     }
 }
 
-// The marks as a list.
+// The numbers of the marked addresses.
 fn listed(alloc: Global, marked: &[bool; 16]) -> Result<Vec<u32>, AllocError> {
     let mut marks = Vec::new(alloc);
     for router in 0..16 {
@@ -467,8 +473,8 @@ fn listed(alloc: Global, marked: &[bool; 16]) -> Result<Vec<u32>, AllocError> {
     Ok(marks)
 }
 
-// Whether the table absorbs a drawn batch where no two of its changes are on one key, and else refuses
-// it, and then has the marks that the changes leave of these.
+// Whether the table absorbs a batch if `fits` is true, and refuses it otherwise. After that the table
+// has to have the marks that an accepted batch makes.
 fn absorbs(
     alloc: Global,
     table: &mut Table,
@@ -485,7 +491,8 @@ fn absorbs(
     Ok(answers && are_marks(table, &marks, routers))
 }
 
-// Drawn batches. How many are refused, and how many marks the table has after them, is the result.
+// Absorbs drawn batches. The result is how many batches are refused, and the sum, over the batches, of
+// how many marks the table has after a batch.
 fn absorb_drawn(rt: &impl Abort, alloc: Global, table: &mut Table) -> Result<(u32, usize), Fail> {
     let (mut marked, mut draw) = ([false; 16], Draw { state: 9 });
     let (mut refused, mut marks) = (0u32, 0usize);
@@ -508,8 +515,8 @@ fn marks_after_drawn_batches(rt: HostRuntime) -> Result<(), Fail> {
     Ok(())
 }
 
-// Changes that mark each second of the routers 0 to 1,023, from one on, and take the others' marks
-// away, after this many links of a star.
+// A batch of this many links of a star, and of changes to the marks of the routers 0 to 1,023. Each
+// second router, from `first` on, is marked, and the others lose their marks.
 fn each_second(alloc: Global, links: u32, first: u32) -> Result<Batch, Fail> {
     let mut changes = star(alloc, links)?;
     for router in 0..1024 {
@@ -518,7 +525,7 @@ fn each_second(alloc: Global, links: u32, first: u32) -> Result<Batch, Fail> {
     Ok(Batch { number: 1, changes })
 }
 
-// Whether each router has transit by its index where it has it by its Router ID.
+// Whether each router has the same transit by its index as by its Router ID.
 fn are_alike(table: &Table) -> bool {
     for (at, router) in table.routers().iter().enumerate() {
         if table.transit_at(at) != table.transit(*router) {
@@ -528,7 +535,8 @@ fn are_alike(table: &Table) -> bool {
     true
 }
 
-// Whether each second of 1,024 routers is marked from this one on, after a batch with as many links.
+// Absorbs a batch with this many links. Whether each second of 1,024 routers, from `first` on, is
+// marked then.
 fn marks_each_second(
     alloc: Global,
     table: &mut Table,
@@ -540,7 +548,8 @@ fn marks_each_second(
     Ok(transit && counts(table) == [512, 512, 1024] && are_alike(table))
 }
 
-// The routers are 0 to 1,023, and each second of them is marked, from 0 on and then from 1 on.
+// The routers are 0 to 1,023. Each second router is marked: first the even routers, then the odd
+// routers.
 fn mark_each_second(rt: &impl Abort, alloc: Global, table: &mut Table) -> Result<(), Fail> {
     let marks_even = marks_each_second(alloc, table, 1023, 0)?;
     assert_case(rt, "each second router from", 0, marks_even);

@@ -1,5 +1,5 @@
-//! Which routers own an address that a prefix covers, and where their links stand, after batches that
-//! put and drop links and that move rows.
+//! Which routers own an address that a prefix covers, and in which rows a router's links are. Batches
+//! put and drop links and move rows.
 use super::edits::Edit::{self, Put, Remove};
 use super::edits::{answer, assert_case, batch_of};
 use super::reverses::Draw;
@@ -17,7 +17,8 @@ const SECOND: u32 = 0x0a00_0002;
 
 const THIRD: u32 = 0x0a00_0003;
 
-// Interfaces 192.168.0.1, 192.168.1.1 and so on, and 172.16.0.1, which is the other one of each link.
+// The interfaces 192.168.0.1, 192.168.1.1 and so on. The interface 172.16.0.1 is the remote interface
+// of each link.
 const ZERO_1: u32 = 0xc0a8_0001;
 
 const ONE_1: u32 = 0xc0a8_0101;
@@ -32,14 +33,14 @@ const SEVEN_1: u32 = 0xc0a8_0701;
 
 const REMOTE: u32 = 0xac10_0001;
 
-// The routers that own the prefix.
+// The indexes of the routers that own the prefix.
 fn listed(alloc: Global, table: &Table, prefix: Prefix) -> Result<Vec<u16>, AllocError> {
     let mut owners = Vec::with_capacity(alloc, MOST_ROUTERS)?;
     table.list_owners(&mut owners, prefix);
     Ok(owners)
 }
 
-// Whether these routers, and no others, own the prefix by a look at each router.
+// Looks at each router. Whether exactly these routers own the prefix.
 fn are_owners(table: &Table, owners: &[u16], prefix: Prefix) -> bool {
     let mut count = 0usize;
     for (at, router) in table.routers().iter().enumerate() {
@@ -53,17 +54,17 @@ fn are_owners(table: &Table, owners: &[u16], prefix: Prefix) -> bool {
     count == owners.len()
 }
 
-// A prefix by its address and length, and the routers that own it by their indexes.
+// A prefix by its address and length, and the indexes of the routers that own it.
 type Case = (u32, u8, &'static [u16]);
 
-// Whether the routers of a case own its prefix, and no others.
+// Whether exactly the routers of a case own its prefix.
 fn is_owned(alloc: Global, table: &Table, (address, length, wanted): &Case) -> Result<bool, Fail> {
     let prefix = Prefix::new(Addr::new(*address), *length)?;
     let owners = listed(alloc, table, prefix)?;
     Ok(owners.as_slice() == *wanted && are_owners(table, &owners, prefix))
 }
 
-// A table with four links from the first router, one from the second, and none from the third.
+// Four links from the first router, one link from the second router, and no link from the third.
 const LINKS: &[Edit] = &[
     Put(FIRST, ONE_5, SECOND, REMOTE),
     Put(FIRST, ONE_1, SECOND, REMOTE),
@@ -72,9 +73,9 @@ const LINKS: &[Edit] = &[
     Put(SECOND, TWO_1, THIRD, REMOTE),
 ];
 
-// Owners by the router. Owners by an interface at either end of a router's rows, in their middle,
-// of another router's between them, and of several. None between a router's interfaces, below and
-// above them, and by the remote address.
+// Prefixes that routers own by their Router IDs. Prefixes that a router owns by an interface in its
+// first, last or middle row, or that another router or several routers own. Prefixes without an owner:
+// they cover no interface, or only a remote interface.
 const OWNERS: &[Case] = &[
     (FIRST, 32, &[0]),
     (SECOND, 32, &[1]),
@@ -94,7 +95,7 @@ const OWNERS: &[Case] = &[
     (REMOTE, 32, &[]),
 ];
 
-// The highest interface of a router goes, and a lower one comes.
+// The highest interface of a router goes, and a lower interface comes.
 const MOVE: &[Edit] = &[Remove(FIRST, SEVEN_1), Put(FIRST, ZERO_1, THIRD, REMOTE)];
 
 const OWNERS_AFTER_MOVE: &[Case] = &[
@@ -104,7 +105,7 @@ const OWNERS_AFTER_MOVE: &[Case] = &[
     (TWO_1, 32, &[1]),
 ];
 
-// A router goes.
+// A router goes with its links.
 const GO: &[Edit] = &[
     Remove(FIRST, ONE_1),
     Remove(FIRST, ONE_5),
@@ -120,19 +121,19 @@ const OWNERS_AFTER_GO: &[Case] = &[
     (0, 0, &[0, 1]),
 ];
 
-// A name, a batch after the links, and the owners then.
+// The name of a case, a batch after `LINKS`, and the owners after that batch.
 const STEPS: &[(&str, &[Edit], &[Case])] = &[
     ("owners", &[], OWNERS),
     ("owners after a move", MOVE, OWNERS_AFTER_MOVE),
     ("owners after a router goes", GO, OWNERS_AFTER_GO),
 ];
 
-// Whether the table takes these changes by one call.
+// Whether the table accepts a batch of these changes, by one call.
 fn takes(alloc: Global, table: &mut Table, edits: &[Edit]) -> Result<bool, Fail> {
     Ok(answer(table, &batch_of(alloc, edits)?, true) == Ok(()))
 }
 
-// The links, one batch after them, and the owners then.
+// Absorbs `LINKS` and then one batch, after which the owners have to be those of the case.
 fn make(
     rt: &impl Abort,
     alloc: Global,
@@ -147,7 +148,7 @@ fn make(
     Ok(())
 }
 
-// The same on an empty table.
+// Makes the case with an empty table.
 fn make_all(rt: &impl Abort, alloc: Global, step: &(&str, &[Edit], &[Case])) -> Result<(), Fail> {
     make(rt, alloc, &mut Table::new(alloc)?, step)
 }
@@ -160,7 +161,7 @@ fn owners_after_batches(rt: HostRuntime) -> Result<(), Fail> {
     Ok(())
 }
 
-// Whether the links from a router, and no others, are these.
+// Whether exactly these links run from a router.
 fn are_links_from(table: &Table, router: Addr, out: &[Link]) -> bool {
     let mut count = 0usize;
     for link in table.links() {
@@ -174,7 +175,7 @@ fn are_links_from(table: &Table, router: Addr, out: &[Link]) -> bool {
     count == out.len()
 }
 
-// Whether the links from each router stand where a look at each of the links finds them.
+// Whether the links that the table gives for each router are those that a look at each link finds.
 fn are_spans(table: &Table) -> bool {
     for (at, router) in table.routers().iter().enumerate() {
         if !are_links_from(table, *router, table.out_at(at)) {
@@ -184,7 +185,7 @@ fn are_spans(table: &Table) -> bool {
     true
 }
 
-// Whether a drawn prefix has its owners. How many there are is the result then.
+// How many routers own a prefix. The result is `None` if the table and a look at each router differ.
 fn count_owners(
     alloc: Global,
     table: &Table,
@@ -203,7 +204,8 @@ fn count_owners(
 // The lengths of drawn prefixes.
 const LENGTHS: &[u8] = &[0, 27, 29, 30, 31, 32];
 
-// Whether drawn prefixes of each length have their owners. The most that one has is the result then.
+// Draws prefixes of each length. The result is the most owners that one of them has, or `None` if the
+// owners of one are wrong.
 fn most_owners(alloc: Global, table: &Table, draw: &mut Draw) -> Result<Option<usize>, Fail> {
     let mut most = 0;
     for length in LENGTHS {
@@ -215,7 +217,7 @@ fn most_owners(alloc: Global, table: &Table, draw: &mut Draw) -> Result<Option<u
     Ok(Some(most))
 }
 
-// Drawn batches of a few changes. The most routers that own a drawn prefix is the result.
+// Absorbs drawn batches of a few changes. The result is the most routers that own a drawn prefix.
 fn absorb_drawn(rt: &impl Abort, alloc: Global, table: &mut Table) -> Result<usize, Fail> {
     let mut draw = Draw { state: 11 };
     let mut owners = 0;

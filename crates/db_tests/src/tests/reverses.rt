@@ -1,4 +1,4 @@
-//! Where the reverses of links are, after batches that put and drop them and that move rows.
+//! The indexes of the reverses of links. Batches put and drop links and reverses, and move rows.
 use super::edits::Edit::{self, Put, Remove};
 use super::edits::{answer, answers, assert_case, link};
 use cspf_addr::{Addr, Mask};
@@ -36,13 +36,13 @@ fn plain_reverse(links: &[Link], link: &Link) -> Option<usize> {
     None
 }
 
-// The index that stands for a reverse, or for none.
+// The index of a reverse, or `NO_LINK`.
 fn index_of(reverse: Option<usize>) -> usize {
     reverse.unwrap_or(usize::from(NO_LINK))
 }
 
-// Whether each of these links has the reverse that a plain search finds, or none. How many have one is
-// the result then.
+// How many of these links have a reverse. The result is `None` if the table and a plain search differ
+// about the reverse of a link.
 fn count_out(table: &Table, out: &[Link], reverses: &[u16]) -> Option<u32> {
     let mut both = 0u32;
     for (link, reverse) in out.iter().zip(reverses) {
@@ -60,7 +60,8 @@ fn count_out(table: &Table, out: &[Link], reverses: &[u16]) -> Option<u32> {
     }
 }
 
-// Whether so it is for each link of the table. How many have a reverse is the result then.
+// How many links of the table have a reverse. The result is `None` if the table and a plain search
+// differ about the reverse of a link.
 fn count_reverses(table: &Table) -> Option<u32> {
     let mut both = 0u32;
     for at in 0..table.routers().len() {
@@ -85,19 +86,19 @@ const THERE: Edit = Put(20, 1, 30, 2);
 
 const BACK: Edit = Put(30, 2, 20, 1);
 
-// A batch that fits, and then the indexes of the reverses of all links, and whether the table has the
-// reverse of the link there.
+// A batch that fits, the indexes of the reverses of all links after it, and whether the table then has
+// the reverse of `THERE`.
 type Step = (&'static [Edit], &'static [u16], bool);
 
-// A link alone, and its reverse in a later batch.
+// A link alone, and then its reverse in a later batch.
 const COME: &[Step] = &[
     (&[], &[], false),
     (&[THERE], &[NO_LINK], false),
     (&[BACK], &[1, 0], true),
 ];
 
-// Both come one after the other and in one batch, and one of the two goes: the table has the reverse
-// of a link that it doesn't have.
+// The link and its reverse come in two batches, and later in one batch. When only the link goes, the
+// table still has the reverse of a link that it lacks.
 const COME_AND_GO: &[Step] = &[
     (&[THERE], &[NO_LINK], false),
     (&[BACK], &[1, 0], true),
@@ -110,12 +111,12 @@ const COME_AND_GO: &[Step] = &[
 
 const REPLACED: &[Step] = &[
     (&[THERE, BACK], &[1, 0], true),
-    // either end has another remote address
+    // one of the two links gets another remote address
     (&[Put(20, 1, 30, 3)], &[NO_LINK, NO_LINK], true),
     (&[THERE], &[1, 0], true),
     (&[Put(30, 2, 20, 3)], &[NO_LINK, NO_LINK], false),
     (&[BACK], &[1, 0], true),
-    // or runs to another router
+    // one of the two links runs to another router
     (&[Put(20, 1, 40, 2)], &[NO_LINK, NO_LINK], true),
     (&[THERE], &[1, 0], true),
     (&[Put(30, 2, 10, 1)], &[NO_LINK, NO_LINK], false),
@@ -125,13 +126,13 @@ const REPLACED: &[Step] = &[
         &[NO_LINK, NO_LINK, NO_LINK],
         false,
     ),
-    // a second pair of interfaces, with its own reverse
+    // a link over a second pair of interfaces, which has its reverse
     (&[Put(20, 4, 30, 3)], &[NO_LINK, 2, 1, NO_LINK], false),
 ];
 
 const MOVED: &[Step] = &[
     (&[THERE, BACK], &[1, 0], true),
-    // rows before both, between them, and after them
+    // rows come before both links, between them, and after them
     (
         &[Put(10, 1, 20, 7), Put(10, 2, 30, 7)],
         &[NO_LINK, NO_LINK, 3, 2],
@@ -148,7 +149,7 @@ const MOVED: &[Step] = &[
         true,
     ),
     (&[Remove(10, 2)], &[NO_LINK, 3, NO_LINK, 1, NO_LINK], true),
-    // one comes as another goes, and the reverse of one that stays
+    // a link comes as another goes, and the reverse comes of a link that stays
     (
         &[Remove(10, 1), Put(20, 7, 10, 1), Put(20, 9, 40, 1)],
         &[4, NO_LINK, NO_LINK, 5, 0, 3],
@@ -161,7 +162,7 @@ const MOVED: &[Step] = &[
     ),
 ];
 
-// Whether the table takes the step's batch, and has these reverses then.
+// Whether the table accepts the step's batch, and then has the step's reverses.
 fn takes(alloc: Global, table: &mut Table, step: &Step) -> Result<bool, Fail> {
     let (edits, reverses, has_back) = step;
     let answers = answers(alloc, table, edits, Ok(()))?;
@@ -170,7 +171,7 @@ fn takes(alloc: Global, table: &mut Table, step: &Step) -> Result<bool, Fail> {
     Ok(holds && found.as_slice() == *reverses && count_reverses(table).is_some())
 }
 
-// The steps, one after the other.
+// Takes the steps, one after the other.
 fn make(
     rt: &impl Abort,
     alloc: Global,
@@ -183,7 +184,7 @@ fn make(
     Ok(())
 }
 
-// The same on an empty table.
+// Takes the steps with an empty table.
 fn make_all(rt: &impl Abort, alloc: Global, steps: &(&str, &[Step])) -> Result<(), Fail> {
     make(rt, alloc, &mut Table::new(alloc)?, steps)
 }
@@ -203,7 +204,7 @@ fn reverses_after_batches(rt: HostRuntime) -> Result<(), Fail> {
     Ok(())
 }
 
-// Whether one of the changes is on this change's key.
+// Whether one of the changes has the key of this change.
 fn has_key(changes: &[Change], change: &Change) -> bool {
     for other in changes {
         if other.key() == change.key() {
@@ -213,26 +214,26 @@ fn has_key(changes: &[Change], change: &Change) -> bool {
     false
 }
 
-// A put of a link with attributes of its own.
+// A put of a link with a third set of attributes.
 fn turned(from: Addr, local: Addr, to: Addr, remote: Addr) -> Result<Change, LinkError> {
     let link = Link::new(from, local, to, remote, 30, Mask::new(4), [5; 8])?;
     Ok(Change::Put(link))
 }
 
-// Draws numbers, the same each time.
+// Draws numbers, the same numbers in each run.
 #[derive(Drop)]
 pub(super) struct Draw {
     pub(super) state: u32,
 }
 
 impl Draw {
-    // A number below another, or 0.
+    // A drawn number below `most`, or 0 if `most` is 0.
     pub(super) fn below(&mut self, most: u32) -> u32 {
         self.state = self.state.wrapping_mul(1664525).wrapping_add(1013904223);
         (self.state >> 16).checked_rem(most).unwrap_or(0)
     }
 
-    // A link of the table, if it has one.
+    // A drawn link of the table, if the table has links.
     pub(super) fn link_of(&mut self, table: &Table) -> Option<Link> {
         let links = table.links();
         if links.is_empty() {
@@ -241,15 +242,15 @@ impl Draw {
         links.get(self.below(links.len() as u32) as usize).copied()
     }
 
-    // A link between two of eight routers, each of which has this many interfaces.
+    // A drawn link between two of eight routers, each of which has this many interfaces.
     fn new_link(&mut self, interfaces: u32) -> Result<Link, LinkError> {
         let from = self.below(8);
         let to = from.wrapping_add(1).wrapping_add(self.below(7)) % 8;
         link(from, self.below(interfaces), to, self.below(interfaces))
     }
 
-    // A change to the table: a new link, a reverse, a link back over other interfaces, one that is
-    // dropped, or one that runs elsewhere from then on.
+    // A drawn change to the table. The change puts a new link, a reverse, or a link back over other
+    // interfaces. Or it drops a link, or makes a link run to another router.
     fn change(&mut self, table: &Table, interfaces: u32) -> Result<Change, LinkError> {
         let kind = self.below(8);
         let Some(old) = self.link_of(table) else {
@@ -266,7 +267,7 @@ impl Draw {
         }
     }
 
-    // A batch of this many changes that fits the table.
+    // A drawn batch of this many changes that fits the table.
     pub(super) fn batch(
         &mut self,
         alloc: Global,
@@ -288,8 +289,8 @@ impl Draw {
     }
 }
 
-// Draws a batch of this many changes, which the table absorbs, so that each link has its reverse. How
-// many have one is the result then.
+// Draws a batch of this many changes, and has the table absorb it. The result is how many links have
+// reverses then, or `None` if a reverse is wrong.
 fn absorb_drawn(
     alloc: Global,
     table: &mut Table,
@@ -302,7 +303,8 @@ fn absorb_drawn(
     Ok(if fits { count_reverses(table) } else { None })
 }
 
-// Drawn batches of a few changes. How many links have reverses after them, all in all, is the result.
+// Absorbs drawn batches of a few changes. The result is the sum, over the batches, of how many links
+// have reverses after a batch.
 fn absorb_many(rt: &impl Abort, alloc: Global, table: &mut Table) -> Result<u32, Fail> {
     let mut draw = Draw { state: 7 };
     let mut all = 0u32;
@@ -322,7 +324,8 @@ fn reverses_after_drawn_batches(rt: HostRuntime) -> Result<(), Fail> {
     Ok(())
 }
 
-// Drawn batches of 300 changes. How many links have reverses after the last is the result.
+// Absorbs drawn batches of 300 changes. The result is how many links have reverses after the last
+// batch.
 fn absorb_long(rt: &impl Abort, alloc: Global, table: &mut Table) -> Result<u32, Fail> {
     let mut draw = Draw { state: 8 };
     let mut last = 0;
@@ -334,7 +337,7 @@ fn absorb_long(rt: &impl Abort, alloc: Global, table: &mut Table) -> Result<u32,
     Ok(last)
 }
 
-// A batch of this many changes rewrites the rows at once.
+// A batch of 300 changes rewrites all rows at once.
 #[test]
 fn reverses_after_a_long_batch(rt: HostRuntime) -> Result<(), Fail> {
     let both = absorb_long(&rt, rt.alloc(), &mut Table::new(rt.alloc())?)?;

@@ -7,7 +7,7 @@ use cspf_model::{Batch, Change, Link, LinkError};
 use std::alloc::Global;
 use std::test::Fail;
 
-// A link with its reverse, and marks of a router and of an address that is none.
+// A link with its reverse, and marks of a router and of an address without links.
 const START: [Edit; 4] = [
     Put(1, 10, 2, 20),
     Put(2, 20, 1, 10),
@@ -17,47 +17,48 @@ const START: [Edit; 4] = [
 
 // Changes of one batch that keep the shape.
 const KEPT: [&[Edit]; 5] = [
-    // nothing
+    // no change
     &[],
-    // links that are there
+    // links that the table has
     &[Put(1, 10, 2, 20), Put(2, 20, 1, 10)],
-    // marks that are there
+    // marks that the table has
     &[Node(1, false), Node(9, false)],
-    // transit that routers have
+    // transit for addresses that have it
     &[Node(2, true), Node(8, true)],
-    // all of these
+    // changes of all these kinds
     &[Node(2, true), Put(1, 10, 2, 20), Node(9, false)],
 ];
 
-// Changes of one batch that change it.
+// Changes of one batch that change the shape.
 const CHANGED: [&[Edit]; 11] = [
     // a link with another key
     &[Put(3, 10, 2, 20)],
     &[Put(1, 11, 2, 20)],
-    // one that ends elsewhere
+    // a link that ends elsewhere
     &[Put(1, 10, 3, 20)],
     &[Put(1, 10, 2, 21)],
-    // a link less
+    // one link less
     &[Remove(1, 10)],
-    // a mark less
+    // one mark less
     &[Node(1, true)],
     &[Node(9, true)],
-    // a mark more
+    // one mark more
     &[Node(2, false)],
     &[Node(8, false)],
-    // the first change of several, and the last one
+    // several changes, of which only the first or only the last changes the shape
     &[Remove(1, 10), Put(2, 20, 1, 10), Node(1, false)],
     &[Node(1, false), Put(2, 20, 1, 10), Put(1, 10, 3, 20)],
 ];
 
-// A table with the links and marks of the start.
+// A table with the links and marks of `START`.
 fn started(alloc: Global) -> Result<Table, Fail> {
     let mut table = Table::new(alloc)?;
     table.absorb(&batch_of(alloc, &START)?);
     Ok(table)
 }
 
-// How many of the first batches are said to change the shape, or not, as is wanted.
+// How many of the batches get the wanted answer, up to the first that doesn't. The answer says whether
+// a batch changes the shape.
 fn right(alloc: Global, batches: &[&[Edit]], wanted: bool) -> Result<usize, Fail> {
     let table = started(alloc)?;
     for (at, edits) in batches.iter().enumerate() {
@@ -68,20 +69,20 @@ fn right(alloc: Global, batches: &[&[Edit]], wanted: bool) -> Result<usize, Fail
     Ok(batches.len())
 }
 
-// The first link of the start, with this metric, group and unreserved bandwidths.
+// The first link of `START`, with this metric, group and unreserved bandwidths.
 fn valued(metric: u32, group: u32, free: [u64; 8]) -> Result<Link, LinkError> {
     let (from, local, to, remote) = (Addr::new(1), Addr::new(10), Addr::new(2), Addr::new(20));
     Link::new(from, local, to, remote, metric, Mask::new(group), free)
 }
 
-// Whether a batch of both links of the start, the first one with these values, changes the shape.
+// Whether a batch of both links of `START`, the first with these values, changes the shape.
 fn changes(alloc: Global, metric: u32, group: u32, free: [u64; 8]) -> Result<bool, Fail> {
     let first = Change::Put(valued(metric, group, free)?);
     let changes = vec![in alloc; put(2, 20, 1, 10)?, first]?;
     Ok(started(alloc)?.changes_shape(&Batch { number: 1, changes }))
 }
 
-// Whether each other bandwidth alone keeps the shape, and all at once.
+// Whether a batch keeps the shape that changes one unreserved bandwidth, or all of them.
 fn bandwidth_keeps(alloc: Global) -> Result<bool, Fail> {
     for at in 0..8 {
         let mut free = [1000; 8];

@@ -1,4 +1,4 @@
-//! What an audit finds of lines, and which journals and requests it refuses.
+//! The faults that an audit finds in lines of replies, and the journals and requests that it refuses.
 
 use super::assert_case;
 use cspf_audit::{Audit, AuditError, AuditFault, audit};
@@ -7,16 +7,16 @@ use cspf_rows::{RequestsError, RowError};
 use std::alloc::Global;
 use std::test::Fail;
 
-/// A link from 1.1.1.1 to 2.2.2.2, and its reverse with no bandwidth, are version 1.
+/// Version 1 has a link from 1.1.1.1 to 2.2.2.2, and its reverse without bandwidth.
 const JOURNAL: &[u8] = b"put,1.1.1.1,10.0.12.1,2.2.2.2,10.0.12.2,10,0x1,\
 1000,1000,1000,1000,1000,1000,1000,1000\n\
 put,2.2.2.2,10.0.12.2,1.1.1.1,10.0.12.1,10,0x1,0,0,0,0,0,0,0,0\nend,1,2\n";
 
-/// Two requests for that link, with the ids 7 and 8.
+/// Two requests for a route over that link, with the ids 7 and 8.
 const REQUESTS: &[u8] = b"ask,7,1.1.1.1,2.2.2.2,0,1000,0x0,0x0,0x0,\n\
 ask,8,1.1.1.1,2.2.2.2,0,1000,0x0,0x0,0x0,\n";
 
-/// Whether the audit of lines finds this.
+/// Whether the audit of the replies counts this many good lines, and finds these faults.
 fn finds(
     alloc: Global,
     replies: &[u8],
@@ -109,7 +109,7 @@ fn empty_streams(rt: HostRuntime) -> Result<(), Fail> {
     Ok(())
 }
 
-/// Why an audit of these streams is refused, if it is.
+/// The error of an audit of this journal and these requests, if it ends with an error.
 fn refusal(alloc: Global, journal: &[u8], requests: &[u8]) -> Option<AuditError> {
     audit(alloc, journal, requests, b"hello\n".as_slice()).err()
 }

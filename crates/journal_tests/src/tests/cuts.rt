@@ -1,4 +1,4 @@
-//! Rows that break off at each byte.
+//! Rows that are cut off after each of their bytes.
 
 use super::assert_case;
 use super::rows::is_said;
@@ -6,7 +6,8 @@ use std::alloc::Global;
 use std::process::Abort;
 use std::test::Fail;
 
-/// Rows, and from which number of bytes on their front is refused with which words, or read.
+/// Rows, each with the words for its prefixes. From this number of bytes on, up to the next number, a
+/// prefix is refused with these words, or read.
 const ROWS: &[(&[u8], &[(usize, &str)])] = &[
     (
         b"put,1.1.1.1,10.0.12.1,2.2.2.2,10.0.12.2,10,0x1,1000,1000,1000,1000,1000,1000,1000,1000",
@@ -42,7 +43,7 @@ const ROWS: &[(&[u8], &[(usize, &str)])] = &[
     ),
 ];
 
-/// The words for this many bytes.
+/// The words for the prefix of this many bytes.
 fn words_at(words: &[(usize, &'static str)], bytes: usize) -> &'static str {
     let mut found = "";
     for &(from, word) in words {
@@ -53,7 +54,7 @@ fn words_at(words: &[(usize, &'static str)], bytes: usize) -> &'static str {
     found
 }
 
-/// A row that is cut at each byte is read with its words.
+/// Each prefix of the row is refused with its words, or read.
 fn assert_cuts(
     rt: &impl Abort,
     alloc: Global,
@@ -74,11 +75,11 @@ fn rows_cut_at_each_byte(rt: HostRuntime) -> Result<(), Fail> {
     Ok(())
 }
 
-/// A request whose hops are an object of 20 bytes, after 41 bytes.
+/// A request of 85 bytes. Its hops are an object of 20 bytes, spelled after the first 41 bytes.
 const OBJECT: &[u8] = b"ask,7,1.1.1.1,2.2.2.2,0,1000,0x1,0x2,0x4,\
 ero:0014140181080a00000008010108040404042000";
 
-/// The words for this many bytes of it, 41 at least.
+/// The words for the prefix of `OBJECT` with this many bytes, at least 41.
 fn words_in_object(bytes: usize) -> &'static str {
     match bytes {
         41 | 85 => "read",

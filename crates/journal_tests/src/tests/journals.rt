@@ -1,4 +1,4 @@
-//! Journals: their texts, read in pieces and cut at each byte, counted, and read where reading fails.
+//! Journals: their texts, reading in pieces, at each cut and after failed reads, and the limit of rows.
 
 use super::{Pieces, assert_case, by_bytes, failing, has_text, repeated};
 use cspf_addr::{Addr, Mask};
@@ -9,7 +9,7 @@ use std::io::Read;
 use std::process::Abort;
 use std::test::Fail;
 
-/// The texts of the batches, one after the other.
+/// The texts of the journal's batches, one after the other.
 fn text_of(alloc: Global, journal: &Journal) -> Result<Vec<u8>, AllocError> {
     let mut text = Vec::new(alloc);
     for batch in &journal.batches {
@@ -18,7 +18,7 @@ fn text_of(alloc: Global, journal: &Journal) -> Result<Vec<u8>, AllocError> {
     Ok(text)
 }
 
-/// Whether a reader gives a journal of batches with these texts, and then nothing is left, or not.
+/// Whether the journal has batches with these texts, and is clean if `clean` is set and torn otherwise.
 fn is_journal<R: Read + Drop>(
     alloc: Global,
     reader: R,
@@ -30,11 +30,11 @@ fn is_journal<R: Read + Drop>(
     Ok(text_of(alloc, &journal)?.as_slice() == batches && is_clean == clean)
 }
 
-/// The text of a batch of one link, 102 bytes.
+/// The text of a batch that puts one link. It has 102 bytes.
 const ONE_PUT: &[u8] = b"put,1.1.1.1,10.0.12.1,2.2.2.2,10.0.12.2,10,0x00000001,\
 1000,1000,1000,1000,1000,1000,1000,1000\nend,1,1\n";
 
-/// That batch.
+/// The batch of `ONE_PUT`.
 fn one_put(alloc: Global) -> Result<Batch, Fail> {
     let link = Link::new(
         Addr::new(0x0101_0101),
@@ -56,7 +56,7 @@ fn text_of_one_put(rt: HostRuntime) -> Result<(), Fail> {
     Ok(())
 }
 
-/// A batch of two puts, at the least and the greatest numbers.
+/// A batch of two puts. The first has the greatest bandwidth, the second the greatest metric.
 const PUTS: &[u8] = b"put,1.1.1.1,10.0.12.1,2.2.2.2,10.0.12.2,10,0x00000001,\
 1,2,3,4,5,6,7,18446744073709551615\n\
 put,2.2.2.2,10.0.12.2,1.1.1.1,10.0.12.1,4294967295,0xffffff0a,0,0,0,0,0,0,0,0\nend,1,2\n";
@@ -70,8 +70,8 @@ drop,1.1.1.1,0.0.0.3\ndrop,1.1.1.1,0.0.0.4\ndrop,1.1.1.1,0.0.0.5\ndrop,1.1.1.1,0
 drop,1.1.1.1,0.0.0.7\ndrop,1.1.1.1,0.0.0.8\ndrop,1.1.1.1,0.0.0.9\ndrop,1.1.1.1,0.0.0.10\n\
 drop,1.1.1.1,0.0.0.11\nend,3,12\n";
 
-/// From which cut on how many bytes of the three batches are in whole batches, and whether nothing
-/// is left after these.
+/// What is read of the texts of the three batches if they are cut off. From this length on, up to the next
+/// length: how many bytes the whole batches have, and whether the journal is clean.
 const THREE_BATCHES: [(usize, usize, bool); 7] = [
     (0, 0, true),
     (1, 0, false),
@@ -82,7 +82,7 @@ const THREE_BATCHES: [(usize, usize, bool); 7] = [
     (468, 469, true),
 ];
 
-/// The same of the batches that say whether routers have transit.
+/// As `THREE_BATCHES`, but for the texts of `NODES`.
 const NODE_BATCHES: [(usize, usize, bool); 7] = [
     (0, 0, true),
     (1, 0, false),
@@ -93,7 +93,8 @@ const NODE_BATCHES: [(usize, usize, bool); 7] = [
     (114, 115, true),
 ];
 
-/// The whole part of a text that is cut here.
+/// The length of the whole batches in a text that is cut off after `cut` bytes, and whether the journal is
+/// clean.
 fn whole_part(parts: &[(usize, usize, bool)], cut: usize) -> (usize, bool) {
     let mut found = (0, true);
     for &(from, whole, clean) in parts {
@@ -104,7 +105,7 @@ fn whole_part(parts: &[(usize, usize, bool)], cut: usize) -> (usize, bool) {
     found
 }
 
-/// The text of the three batches.
+/// The texts of the three batches `PUTS`, `DROP` and `DROPS`.
 fn three_batches(alloc: Global) -> Result<Vec<u8>, AllocError> {
     let mut text = Vec::new(alloc);
     for one in [PUTS, DROP, DROPS] {
@@ -113,7 +114,7 @@ fn three_batches(alloc: Global) -> Result<Vec<u8>, AllocError> {
     Ok(text)
 }
 
-/// Whether a text that is cut here is read as its whole batches.
+/// Whether the first `cut` bytes of the text are read as their whole batches, and as clean or torn.
 fn is_cut(
     alloc: Global,
     text: &[u8],
@@ -125,7 +126,7 @@ fn is_cut(
     is_journal(alloc, text.get(..cut).unwrap_or(&[]), batches, clean)
 }
 
-/// The text, cut at each byte.
+/// Each prefix of the text is read as its whole batches.
 fn assert_cuts(
     rt: &impl Abort,
     alloc: Global,
@@ -152,25 +153,25 @@ fn nodes_cut_at_each_byte(rt: HostRuntime) -> Result<(), Fail> {
     assert_cuts(&rt, rt.alloc(), NODES, &NODE_BATCHES)
 }
 
-/// Whether a router has transit, and the text of a batch that says so of 1.1.1.1.
+/// Whether the router 1.1.1.1 has transit, and the text of a batch that sets this.
 const ONE_NODE: &[(bool, &[u8])] = &[
     (false, b"node,1.1.1.1,0\nend,1,1\n"),
     (true, b"node,1.1.1.1,1\nend,1,1\n"),
 ];
 
-/// The change of that batch.
+/// The change in the batch of `ONE_NODE`.
 fn node(transit: bool) -> Change {
     let router = Addr::new(0x0101_0101);
     Change::Node { router, transit }
 }
 
-/// That batch.
+/// The batch of `ONE_NODE`.
 fn one_node(alloc: Global, transit: bool) -> Result<Batch, AllocError> {
     let changes = Vec::from_slice(alloc, &[node(transit)])?;
     Ok(Batch { number: 1, changes })
 }
 
-/// Whether a journal is that batch.
+/// Whether the journal is clean and has only the batch `one_node(transit)`.
 fn is_one_node(journal: &Journal, transit: bool) -> bool {
     if journal.rest != Rest::Clean || journal.batches.len() != 1 {
         return false;
@@ -179,7 +180,7 @@ fn is_one_node(journal: &Journal, transit: bool) -> bool {
     batch.number == 1 && batch.changes.as_slice() == [node(transit)].as_slice()
 }
 
-/// Whether that batch has this text, and is read from it.
+/// Whether the batch `one_node(transit)` is written as this text, and read from it.
 fn has_node_text(alloc: Global, transit: bool, text: &[u8]) -> Result<bool, Fail> {
     let is_text = has_text(alloc, &one_node(alloc, transit)?, text)?;
     Ok(is_text && is_one_node(&read_journal(alloc, text)?, transit))
@@ -194,12 +195,12 @@ fn a_journal_of_one_node(rt: HostRuntime) -> Result<(), Fail> {
     Ok(())
 }
 
-/// Three batches that say whether routers have transit, one of them beside another change.
+/// Three batches with changes of transit. The second also removes a link.
 const NODES: &[u8] = b"node,1.1.1.1,0\nend,1,1\n\
 node,2.2.2.2,0\ndrop,1.1.1.1,10.0.12.1\nnode,1.1.1.1,1\nend,2,3\n\
 node,255.255.255.255,1\nend,3,1\n";
 
-/// Journals, the texts of their batches, and whether nothing is left after these.
+/// Journals, the texts of their whole batches, and whether they are clean.
 const JOURNALS: &[(&[u8], &[u8], bool)] = &[
     (b"", b"", true),
     (b"end,1,0", b"end,1,0\n", true),
@@ -257,7 +258,7 @@ fn journals_in_pieces(rt: HostRuntime) -> Result<(), Fail> {
 const CHANGES: &[u8] =
     b"drop,1.1.1.1,0.0.0.0\ndrop,1.1.1.1,0.0.0.1\ndrop,1.1.1.1,0.0.0.2\nend,1,3\n";
 
-/// Whether a journal has one batch of three changes, which take the room of three.
+/// Whether the journal has one batch of three changes, in memory for exactly three.
 fn takes_three(journal: &Journal) -> bool {
     match journal.batches.as_slice() {
         [batch] => batch.changes.len() == 3 && batch.changes.capacity() == 3,
@@ -275,7 +276,7 @@ fn changes_take_the_room_they_need(rt: HostRuntime) -> Result<(), Fail> {
 /// A row that is read as a change.
 const CHANGE: &[u8] = b"drop,1.1.1.1,10.0.0.1\n";
 
-/// Whether a journal of no batch is torn.
+/// Whether the journal has no batch and is torn.
 fn is_torn(journal: &Journal) -> bool {
     journal.batches.is_empty() && journal.rest == Rest::Torn
 }
@@ -287,7 +288,7 @@ fn rows_of_a_journal_are_counted(rt: HostRuntime) -> Result<(), Fail> {
     Ok(())
 }
 
-/// Why no journal is read.
+/// The error of reading a journal, if any.
 fn error_of(alloc: Global, reader: Pieces<'_>) -> Option<ReadError> {
     read_journal(alloc, reader).err()
 }
@@ -300,7 +301,7 @@ fn one_row_more_than_is_read(rt: HostRuntime) {
     }
 }
 
-/// Rows after which reading fails.
+/// Texts after which reading fails.
 const FAILING: &[&[u8]] = &[
     b"end,1,0\nend,2,0\n",
     b"drop,1.1.1.1,0.0.0.0\nend,1,1\ndrop,1.1.1.1,0.0.0.1\nend,2,1\n",

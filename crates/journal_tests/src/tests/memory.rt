@@ -1,4 +1,4 @@
-//! Readers and audits while memory is refused.
+//! Readers and audits, tested while memory is refused.
 
 mod audits;
 mod readers;

@@ -1,4 +1,4 @@
-//! Whole texts that are written in pieces, and what is written before a fault.
+//! Texts that a writer takes in pieces, and what it has taken before a fault.
 
 use super::assert_case;
 use cspf_rows::put_all;
@@ -8,15 +8,15 @@ use std::io::{ErrorKind, Write};
 
 const TEXT: &[u8] = b"version 1\nask 8 v1 none\n";
 
-/// How a write goes wrong.
+/// How a write fails: with an error, or by taking no bytes.
 #[derive(Clone, Copy)]
 enum Fault {
     Fail(ErrorKind),
     TakeNone,
 }
 
-/// Takes at most `width` bytes a write, but for the write once it holds `most`, which goes wrong,
-/// and counts its calls. Later writes would be taken again.
+/// A writer that takes at most `width` bytes in each write. Once it holds `most` bytes, the next write
+/// fails, and all later writes succeed. It counts its writes and flushes.
 #[derive(Drop)]
 struct Faulty {
     held: Vec<u8>,
@@ -55,8 +55,8 @@ impl Write for Faulty {
     }
 }
 
-/// Whether a writer that takes `width` bytes a write up to `most` is answered for so, in as many writes,
-/// and holds as much of the text.
+/// Whether `put_all` returns `wanted` after `writes` writes and no flush, and the writer holds the first
+/// `most` bytes of the text.
 fn is_put(
     alloc: Global,
     width: usize,
@@ -78,7 +78,7 @@ fn is_put(
     found == wanted && is_front && writer.writes == writes && writer.flushes == 0
 }
 
-/// How many bytes are taken a write, and how many writes that makes.
+/// How many bytes each write takes, and how many writes the whole text then needs.
 const WIDTHS: &[(usize, usize)] = &[(1, 24), (3, 8), (23, 2), (24, 1), (25, 1)];
 
 #[test]
@@ -101,11 +101,11 @@ const FAULTS: &[Fault] = &[
     Fault::Fail(ErrorKind::BrokenPipe),
 ];
 
-/// How many bytes are taken by three a write before the fault, and how many writes that makes with it.
+/// How many bytes the writer takes before the fault, three in each write, and how many writes there are.
+/// The failing write counts.
 const FRONTS: &[(usize, usize)] = &[(0, 1), (3, 2), (7, 4), (21, 8), (23, 9)];
 
-/// Nothing is written after a write that goes wrong, though it would be taken, and nothing is
-/// flushed.
+/// After a failed write nothing is written, though the writer would take it, and nothing is flushed.
 #[test]
 fn no_write_behind_a_fault(rt: HostRuntime) {
     for fault in FAULTS {

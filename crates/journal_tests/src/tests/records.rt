@@ -1,4 +1,4 @@
-//! Records of a stream that comes in pieces, and faults of reading.
+//! Records of a stream that is read in pieces, and reads that fail.
 
 use super::{Pieces, assert_case};
 use cspf_rows::{RecordError, next_record, open_records};
@@ -6,10 +6,10 @@ use csv::ByteRecord;
 use std::alloc::Global;
 use std::test::Fail;
 
-/// More rows than a text has.
+/// More rows than any text of `TEXTS` has.
 const MOST: usize = 5;
 
-/// A text, and its rows: their fields are joined by bars, and each row ends in a semicolon.
+/// Texts and their rows. The fields of a row are joined by bars, and each row ends with a semicolon.
 const TEXTS: &[(&[u8], &str)] = &[
     (b"", ""),
     (b"\n\r\n\n", ""),
@@ -22,7 +22,7 @@ const TEXTS: &[(&[u8], &str)] = &[
     (b" a , b\nc", " a | b;c;"),
 ];
 
-/// Adds the fields of a row.
+/// Adds the fields of a row to `found`, written as in `TEXTS`.
 fn add_row(found: &mut String, fields: &ByteRecord) -> Result<(), Fail> {
     for (at, field) in fields.iter().enumerate() {
         if at > 0 {
@@ -34,7 +34,7 @@ fn add_row(found: &mut String, fields: &ByteRecord) -> Result<(), Fail> {
     Ok(())
 }
 
-/// Adds the rows of a text that is read at most `width` bytes at a time.
+/// Adds the rows of a text to `found`. The text is read at most `width` bytes at a time.
 fn add_rows(
     alloc: Global,
     text: &[u8],
@@ -76,7 +76,7 @@ fn rows_in_pieces(rt: HostRuntime) -> Result<(), Fail> {
     Ok(())
 }
 
-/// Whether a row is read, and the next one fails.
+/// Whether the first row is read, and reading the second fails.
 fn fails_in_row_2(alloc: Global, reader: Pieces<'_>) -> bool {
     let mut rows = open_records(alloc, reader);
     let mut fields = ByteRecord::new(alloc);

@@ -1,4 +1,4 @@
-//! Requests that are read, refused and counted, and readers that fail.
+//! Requests that are read or refused, the limit of their rows, and readers that fail.
 
 use super::{Pieces, assert_case, by_bytes, failing, repeated};
 use cspf_model::Request;
@@ -10,10 +10,10 @@ use std::test::Fail;
 const ASKS: &[u8] = b"ask,7,1.1.1.1,2.2.2.2,0,1000,0x0,0x0,0x0,\n\n\
 ask,8,2.2.2.2,1.1.1.1,7,0,0x0,0x0,0x0,";
 
-/// The id, the setup priority and the bandwidth of each.
+/// The id, the setup priority and the bandwidth of each request of `ASKS`.
 const WANTED: [(u64, u8, u64); 2] = [(7, 0, 1000), (8, 7, 0)];
 
-/// Whether the requests have these numbers.
+/// Whether the requests have these ids, setup priorities and bandwidths.
 fn have_numbers(requests: &[Request], wanted: &[(u64, u8, u64)]) -> bool {
     for (request, (id, setup, bandwidth)) in requests.iter().zip(wanted) {
         if request.id != *id || request.setup != *setup || request.bandwidth != *bandwidth {
@@ -23,7 +23,7 @@ fn have_numbers(requests: &[Request], wanted: &[(u64, u8, u64)]) -> bool {
     requests.len() == wanted.len()
 }
 
-/// Texts, and how many of the requests are in each.
+/// Texts, and how many of the first requests of `WANTED` each has.
 const TEXTS: &[(&[u8], usize)] = &[
     (b"\n", 0),
     (b"ask,7,1.1.1.1,2.2.2.2,0,1000,0x0,0x0,0x0,", 1),
@@ -40,7 +40,7 @@ fn requests_in_pieces(rt: HostRuntime) -> Result<(), Fail> {
     Ok(())
 }
 
-/// Streams of requests, and how they are refused.
+/// Streams of requests, and the errors that refuse them.
 const REFUSED: &[(&[u8], RequestsError)] = &[
     (
         b"put,1.1.1.1,10.0.12.1,2.2.2.2,10.0.12.2,10,0x1,\
@@ -75,7 +75,7 @@ const REFUSED: &[(&[u8], RequestsError)] = &[
     ),
 ];
 
-/// Why no requests are read.
+/// The error of reading requests, if any.
 fn error_of(alloc: Global, reader: Pieces<'_>) -> Option<RequestsError> {
     read_requests(alloc, reader).err()
 }
@@ -100,7 +100,7 @@ fn requests_are_counted(rt: HostRuntime) -> Result<(), Fail> {
     Ok(())
 }
 
-/// Streams that fail at their end, and how reading their requests ends.
+/// Streams that fail at their end, and the error of reading their requests.
 const FAILING: &[(&[u8], RequestsError)] = &[
     (
         b"ask,7,1.1.1.1,2.2.2.2,0,0,0x0,0x0,0x0,\n",

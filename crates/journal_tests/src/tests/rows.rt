@@ -1,4 +1,4 @@
-//! What each kind of row says, and why others are refused.
+//! What each kind of row is read as, and the words with which rows are refused.
 
 use super::assert_case;
 use cspf_addr::{Addr, Mask, parse_hops};
@@ -9,8 +9,8 @@ use std::alloc::{AllocError, Global};
 use std::process::Abort;
 use std::test::Fail;
 
-/// The words of refusals, `read` where there is none, and the rows after them. `F` stands for eight
-/// bandwidths of 1000, `S` for seven, `Z` for three masks of no group, and `H` for seven hops.
+/// One case in each line: the words of the refusal, or `read`, and then the row. `F` stands for eight
+/// bandwidths of 1000, `S` for seven, `Z` for three affinity masks of 0, and `H` for seven hops.
 const ROWS: &str = "kind: foo
 kind: foo,1.1.1.1,10.0.0.1
 kind: PUT
@@ -94,7 +94,8 @@ number 3: node,1.1.1.1,
 number 3: node,1.1.1.1,4294967296
 number 3: node,1.1.1.1,18446744073709551617";
 
-/// The same for hops fields that begin as objects do. `U` stands for the digits of a subobject.
+/// Cases as in `ROWS`, but each row is a hops field that begins as objects do, or nearly so. `U` stands
+/// for the digits of a subobject.
 const OBJECTS: &str = "hops 1: ero
 hops 1: ERO:
 hops hex: ero:0
@@ -115,13 +116,13 @@ hops ero prefix-length: ero:000c140101080a000c022100
 read: ero:003c1401UUUUUUU
 read: ero:000C140101080A000C022000";
 
-/// The words and the row of a line of a table.
+/// Splits a line of a table into the words and the row.
 fn case(line: &str) -> (&str, &[u8]) {
     let (words, row) = line.split_once(": ").unwrap_or((line, ""));
     (words, row.as_bytes())
 }
 
-/// The row of a text of one.
+/// Reads the only row of a text.
 fn only_row(alloc: Global, text: &[u8]) -> Result<Result<Row, RowError>, csv::Error> {
     let mut fields = ByteRecord::new(alloc);
     ReaderBuilder::new()
@@ -132,7 +133,7 @@ fn only_row(alloc: Global, text: &[u8]) -> Result<Result<Row, RowError>, csv::Er
     Ok(Row::read(&fields))
 }
 
-/// The words of a row's refusal, `read` where there is none.
+/// The words of the row's refusal, or `read`.
 fn words_of(alloc: Global, read: Result<Row, RowError>) -> Result<String, AllocError> {
     match read {
         Ok(_) => format!(in alloc; "read"),
@@ -140,12 +141,12 @@ fn words_of(alloc: Global, read: Result<Row, RowError>) -> Result<String, AllocE
     }
 }
 
-/// Whether the row of a text is read or refused with these words.
+/// Whether the row of a text is refused with these words, or read if they are `read`.
 pub(super) fn is_said(alloc: Global, text: &[u8], words: &str) -> Result<bool, Fail> {
     Ok(words_of(alloc, only_row(alloc, text)?)?.as_str() == words)
 }
 
-/// The text of a row of a table, after a front.
+/// The text of a row of a table, with `front` before it and its letters spelled out.
 fn text_of(alloc: Global, front: &[u8], row: &[u8]) -> Result<Vec<u8>, AllocError> {
     let mut text = Vec::from_slice(alloc, front)?;
     for byte in row {
@@ -154,7 +155,7 @@ fn text_of(alloc: Global, front: &[u8], row: &[u8]) -> Result<Vec<u8>, AllocErro
     Ok(text)
 }
 
-/// What a byte of the table stands for.
+/// The text that a byte of the table stands for.
 fn spelled(byte: &u8) -> &[u8] {
     match *byte {
         b'F' => b"1000,1000,1000,1000,1000,1000,1000,1000",
@@ -166,7 +167,7 @@ fn spelled(byte: &u8) -> &[u8] {
     }
 }
 
-/// The rows of a table, each after a front, are read or refused as its lines say.
+/// Each row of the table, with `front` before it, is read or refused as its line says.
 fn assert_table(rt: &impl Abort, alloc: Global, front: &[u8], table: &str) -> Result<(), Fail> {
     for line in table.lines() {
         let (words, row) = case(line);
@@ -187,7 +188,7 @@ fn objects_and_refusals(rt: HostRuntime) -> Result<(), Fail> {
     assert_table(&rt, rt.alloc(), front, OBJECTS)
 }
 
-/// The row of a text is read as this one.
+/// The row of the text is read as `row`.
 fn assert_row(rt: &impl Abort, alloc: Global, text: &[u8], row: Row) -> Result<(), Fail> {
     let found = only_row(alloc, text)?;
     assert_case(rt, text, found == Ok(row));
@@ -198,11 +199,11 @@ const ROUTER: u32 = 0x0102_0304; // 1.2.3.4
 
 const INTERFACE: u32 = 0x0a00_0c01; // 10.0.12.1
 
-/// A put from that router by that interface.
+/// A row that puts a link from `ROUTER` by `INTERFACE`.
 const PUT: &[u8] =
     b"put,1.2.3.4,10.0.12.1,2.2.2.2,10.0.12.2,4294967295,0xA,1,2,3,4,5,6,7,18446744073709551615";
 
-/// What it says.
+/// What the row `PUT` is read as.
 fn put() -> Result<Row, LinkError> {
     let (from, local) = (Addr::new(ROUTER), Addr::new(INTERFACE));
     let (to, remote) = (Addr::new(0x0202_0202), Addr::new(0x0a00_0c02));
@@ -211,7 +212,7 @@ fn put() -> Result<Row, LinkError> {
     Ok(Row::Put(link))
 }
 
-/// What a row says that marks that router, or takes its mark away.
+/// The row that marks `ROUTER` as without transit, or removes its mark.
 fn node(transit: bool) -> Row {
     let router = Addr::new(ROUTER);
     Row::Node { router, transit }
@@ -230,7 +231,7 @@ fn what_changes_and_an_end_say(rt: HostRuntime) -> Result<(), Fail> {
     assert_row(&rt, alloc, b"node,1.2.3.4,1", node(true))
 }
 
-/// What a row says that asks for a route from that router with these masks and hops.
+/// The row that asks for a route from `ROUTER` with this bandwidth, these affinity masks and these hops.
 fn ask(bandwidth: u64, [exclude, any, all]: [u32; 3], hops: &[u8]) -> Result<Row, Fail> {
     let (from, to) = (Addr::new(ROUTER), Addr::new(0x0202_0202));
     let hops = parse_hops(hops)?;
@@ -239,7 +240,7 @@ fn ask(bandwidth: u64, [exclude, any, all]: [u32; 3], hops: &[u8]) -> Result<Row
     Ok(Row::Ask(request))
 }
 
-/// A request with a list of hops, and one with an object.
+/// A request with a list of hops.
 const LIST: &[u8] = b"ask,9,1.2.3.4,2.2.2.2,7,1000,0x1,0x2,0x4,10.9.0.1/16s 4.4.4.4/32l";
 
 const OBJECT: &[u8] =

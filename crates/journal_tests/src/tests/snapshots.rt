@@ -1,4 +1,4 @@
-//! Snapshots of tables, and the tables that are made of them again.
+//! Snapshots of tables, and the tables that are made from snapshots.
 
 mod replays;
 mod tables;
@@ -12,7 +12,7 @@ use std::process::Abort;
 use std::test::Fail;
 use tables::{node, put, table_of};
 
-/// Whether the batches have the numbers 1, 2 and so on, and these sizes.
+/// Whether the batches are numbered 1, 2 and so on, and have this many changes.
 fn have_sizes(batches: &[Batch], sizes: &[usize]) -> bool {
     let mut number = 0u32;
     for (batch, size) in batches.iter().zip(sizes) {
@@ -33,7 +33,7 @@ fn changes_of(alloc: Global, batches: &[Batch]) -> Result<Vec<Change>, AllocErro
     Ok(changes)
 }
 
-/// Whether batches make a table with the same links and the same marks.
+/// Whether the batches make a table with the same links and marks as `table`.
 fn make_again(alloc: Global, batches: &[Batch], table: &Table) -> bool {
     match replay(alloc, batches) {
         Ok(again) => again.links() == table.links() && again.marks() == table.marks(),
@@ -41,7 +41,7 @@ fn make_again(alloc: Global, batches: &[Batch], table: &Table) -> bool {
     }
 }
 
-/// Whether a table's snapshot has batches of these sizes with these changes, which make it again.
+/// Whether a table's snapshot has batches of these sizes with these changes, and makes the table again.
 fn has_snapshot(
     alloc: Global,
     table: &Table,
@@ -88,7 +88,7 @@ fn links_and_marks(rt: HostRuntime) -> Result<(), Fail> {
     Ok(())
 }
 
-/// Puts of this many links between 1,024 routers, and as many changes that mark routers, in order.
+/// Changes in order: puts of `links` links between 1,024 routers, then marks of `marks` routers.
 fn full_changes(
     rt: &impl Abort,
     alloc: Global,
@@ -114,7 +114,7 @@ fn reversed(alloc: Global, changes: &[Change]) -> Result<Vec<Change>, AllocError
     Ok(reversed)
 }
 
-/// The table after these changes, from the last to the first.
+/// The table after these changes, applied from the last to the first.
 fn table_of_reversed(
     rt: &impl Abort,
     alloc: Global,
@@ -124,7 +124,7 @@ fn table_of_reversed(
     table_of(rt, alloc, &reversed)
 }
 
-/// Whether so many links and marks make a table whose snapshot has batches of these sizes.
+/// Whether the snapshot of a table with this many links and marks has batches of these sizes.
 fn has_sizes(
     rt: &impl Abort,
     alloc: Global,

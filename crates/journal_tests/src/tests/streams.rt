@@ -1,4 +1,4 @@
-//! What the tests of streams share: who answers the rows, a reader of rows and a writer of lines.
+//! What the tests of streams share: an answerer of rows, a reader of rows and a writer of lines.
 
 mod dialogues;
 mod faults;
@@ -17,12 +17,12 @@ use std::cell::Cell;
 use std::io;
 use std::io::{ErrorKind, Read, Write};
 
-/// Answers a refused row its line, and any other row nothing.
+/// Answers a refused row with the line of its refusal, and any other row with an empty line.
 #[derive(Drop)]
 struct Refusals {
-    /// The rows that were refused.
+    /// How many rows were refused.
     refused: u64,
-    /// At this place memory is refused.
+    /// The place of the row at which memory is refused.
     no_memory_at: u64,
 }
 
@@ -56,16 +56,16 @@ impl Answering<()> for Refusals {
     }
 }
 
-/// What happens to both ends of a stream.
+/// What the reader and the writer of a stream record.
 #[derive(Drop)]
 struct Events {
-    /// The bytes that are written.
+    /// How many bytes were written.
     written: Cell<usize>,
-    /// The bytes that were written at the last flush.
+    /// How many of these bytes were written before the last flush.
     flushed: Cell<usize>,
-    /// The flushes.
+    /// How many flushes there were.
     flushes: Cell<u32>,
-    /// There was a read at which something was written and not flushed.
+    /// There was a read while written bytes weren't flushed.
     is_late: Cell<bool>,
 }
 
@@ -78,19 +78,19 @@ fn no_events() -> Events {
     }
 }
 
-/// Gives rows, no two of them in one read, and then ends or fails.
+/// A reader that gives one row in each read. Then it ends, or fails if `fails` is set.
 #[derive(Drop)]
 struct Rows<'a> {
     rows: &'a [&'a [u8]],
-    /// The rows that were begun.
+    /// How many rows it has begun to give.
     at: usize,
-    /// The state of the last of them.
+    /// The bytes of the last begun row that aren't given yet.
     rest: &'a [u8],
     fails: bool,
     events: &'a Events,
 }
 
-/// Gives these rows, of which none is read yet.
+/// A reader of these rows that has given no row yet.
 fn rows_of<'a>(rows: &'a [&'a [u8]], fails: bool, events: &'a Events) -> Rows<'a> {
     Rows {
         rows,
@@ -124,8 +124,8 @@ impl<'a> Read for Rows<'a> {
     }
 }
 
-/// Holds what is written, up to `most` bytes, and then takes none. Flushes fail once there were
-/// `most_flushes` of them.
+/// A writer that takes `most` bytes, and no bytes after them. Its flushes fail after the first
+/// `most_flushes`.
 #[derive(Drop)]
 struct Lines<'a> {
     held: Vec<u8>,
@@ -134,7 +134,7 @@ struct Lines<'a> {
     events: &'a Events,
 }
 
-/// Holds nothing yet.
+/// A writer that holds no bytes yet.
 fn lines_of<'a>(alloc: Global, most: usize, most_flushes: u32, events: &'a Events) -> Lines<'a> {
     Lines {
         held: Vec::new(alloc),

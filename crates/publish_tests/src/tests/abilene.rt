@@ -1,10 +1,10 @@
-//! A publisher and eight askers, each in another thread, over the Abilene network, whose circuits
-//! and metrics are those of `examples/abilene.rows`. Circuits fail and come back while the askers
-//! ask. Read `publish_and_ask` first, which starts the threads; `publish_all` is what the
-//! publisher's does, and `ask_all` what an asker's does.
+//! A publisher and eight askers, each on another thread, over the Abilene network. Its circuits and
+//! metrics are those of `examples/abilene.rows`. Circuits fail and come back while the askers ask. Read
+//! `publish_and_ask` first, which starts the threads. `publish_all` is the work of the publisher's thread,
+//! and `ask_all` that of an asker's thread.
 //!
-//! The threads wait for each other, so that each version is asked while the next one is made. They
-//! wait for a bounded number of turns, and no assertion rests on it: an asker may end before the
+//! The threads wait for each other, so that each version is asked while the next one is made. They wait
+//! for a bounded number of turns, and no assertion depends on the waiting: an asker may end before the
 //! first batch is published.
 
 use super::fixtures::{assert_case, batch, is_same, request};
@@ -22,9 +22,9 @@ use std::test::Fail;
 use std::thread;
 use std::thread::Threads;
 
-/// The circuits: the routers at both ends and the metric of the links both ways. The routers are
-/// Seattle 1, Sunnyvale 2, Los Angeles 3, Denver 4, Kansas City 5, Houston 6, Chicago 7,
-/// Indianapolis 8, Atlanta 9, Washington 10 and New York 11.
+/// The circuits: the two routers, and the metric of the links in both directions. The routers are
+/// Seattle 1, Sunnyvale 2, Los Angeles 3, Denver 4, Kansas City 5, Houston 6, Chicago 7, Indianapolis 8,
+/// Atlanta 9, Washington 10 and New York 11.
 const CIRCUITS: [(u32, u32, u32); 14] = [
     (6, 9, 1176),
     (8, 9, 587),
@@ -42,8 +42,8 @@ const CIRCUITS: [(u32, u32, u32); 14] = [
     (1, 2, 861),
 ];
 
-/// The last version. Version 1 has the whole network, each next one lacks a circuit, or has it
-/// again.
+/// The last version. Version 1 has the whole network. From then on a circuit fails at each even version,
+/// and comes back at the next.
 const VERSIONS: u32 = 201;
 
 const ASKERS: usize = 8;
@@ -51,18 +51,18 @@ const ASKERS: usize = 8;
 /// How many requests each asker asks.
 const ASKS: u64 = 12_500;
 
-/// How many asks of all askers the publisher waits for between two batches.
+/// How many more requests of all askers the publisher waits for before each next batch.
 const ASKS_A_BATCH: u64 = 400;
 
-/// How many requests an asker asks before it waits for one more batch.
+/// How many requests an asker asks before it waits for another batch.
 const ASKS_IN_A_ROW: u64 = 64;
 
 const SEATTLE: u32 = 0xc6336401; // 198.51.100.1
 
 const NEW_YORK: u32 = 0xc633640b; // 198.51.100.11
 
-/// The least costs from Seattle to New York at some versions, which were worked out with another
-/// program: circuits that fail make it 706 or 1,133 more.
+/// The least costs from Seattle to New York at some versions, as another program found them. When some
+/// circuits fail, the cost is 706 or 1,133 higher.
 const COSTS: &[(usize, u64)] = &[
     (1, 4242),
     (6, 4948),
@@ -77,12 +77,12 @@ fn router(number: u32) -> Addr {
     Addr::new(0xc6336400u32.wrapping_add(number))
 }
 
-/// The address 10.from.to.1 of the interface from one router to the other.
+/// The address 10.from.to.1 of the interface of the first router on the circuit to the second.
 fn interface(from: u32, to: u32) -> Addr {
     Addr::new((from % 256) * 65536 + (to % 256) * 256 + 0x0a000001)
 }
 
-/// The link of a circuit from one router to the other.
+/// The link of a circuit from the first router to the second.
 fn link_of(from: u32, to: u32, metric: u32) -> Result<Link, LinkError> {
     let (local, remote) = (interface(from, to), interface(to, from));
     let group = Mask::new(1);
@@ -97,7 +97,7 @@ fn link_of(from: u32, to: u32, metric: u32) -> Result<Link, LinkError> {
     )
 }
 
-/// The batch of the whole network.
+/// The batch that puts the whole network.
 fn whole_network(alloc: Global) -> Result<Batch, Fail> {
     let mut changes = Vec::new(alloc);
     for (a, b, metric) in &CIRCUITS {
@@ -107,7 +107,7 @@ fn whole_network(alloc: Global) -> Result<Batch, Fail> {
     Ok(Batch { number: 1, changes })
 }
 
-/// A link that fails or comes back.
+/// The change by which a link fails, or comes back.
 fn change_of(link: Link, fails: bool) -> Change {
     if fails {
         Change::Remove {
@@ -119,7 +119,7 @@ fn change_of(link: Link, fails: bool) -> Change {
     }
 }
 
-/// The batch with this number, by which a circuit fails or comes back.
+/// The batch with this number: a circuit fails if it is even, and comes back if it is odd.
 fn circuit_batch(alloc: Global, number: u32) -> Result<Batch, Fail> {
     let (a, b, metric) = CIRCUITS[(number / 2) as usize % CIRCUITS.len()];
     let fails = number % 2 == 0;
@@ -128,7 +128,7 @@ fn circuit_batch(alloc: Global, number: u32) -> Result<Batch, Fail> {
     Ok(batch(alloc, number, &[there, back])?)
 }
 
-/// The batch of the whole network, and then each circuit in turn fails and comes back.
+/// All batches: the whole network, and then the batches in which circuits fail and come back.
 fn all_batches(alloc: Global) -> Result<Vec<Batch>, Fail> {
     let mut all = Vec::new(alloc);
     all.push(whole_network(alloc)?)?;
@@ -138,7 +138,7 @@ fn all_batches(alloc: Global) -> Result<Vec<Batch>, Fail> {
     Ok(all)
 }
 
-/// Adds what the search finds in a plain table at each version from 0 on.
+/// Adds the outcomes of the search in a table at version 0 and after each batch.
 fn add_outcomes(
     alloc: Global,
     table: &mut Table,
@@ -154,7 +154,7 @@ fn add_outcomes(
     Ok(())
 }
 
-/// What the search finds in a plain table at each version from 0 on.
+/// The outcomes of the search in a table at version 0 and after each batch.
 fn outcomes_in_order(
     alloc: Global,
     batches: &[Batch],
@@ -165,7 +165,7 @@ fn outcomes_in_order(
     Ok(all)
 }
 
-/// The cost of the route at a version.
+/// The cost of the route at this version, if there is a route.
 fn cost_at(outcomes: &[Outcome], version: usize) -> Option<u64> {
     match outcomes.get(version) {
         Some(Outcome::Route(route)) => Some(route.cost()),
@@ -173,7 +173,7 @@ fn cost_at(outcomes: &[Outcome], version: usize) -> Option<u64> {
     }
 }
 
-/// What is wrong with an answer.
+/// Why an answer is wrong.
 #[derive(Clone, Copy, Debug)]
 enum Fault {
     NoEntry,
@@ -189,14 +189,13 @@ struct Shared<'a> {
     request: &'a Request,
     /// The right outcome at each version.
     outcomes: &'a [Outcome],
-    /// How many requests were asked.
+    /// How many requests the askers have asked.
     asked: &'a AtomicU64,
-    /// How many batches were published.
+    /// How many batches the publisher has published.
     published: &'a AtomicU64,
 }
 
-/// An asker, the version of its last answer, how many of its answers were right, and the first
-/// fault.
+/// An asker, the version of its last answer, how many of its answers were right, and its first fault.
 #[derive(Drop)]
 struct Client {
     asker: Asker,
@@ -205,7 +204,7 @@ struct Client {
     fault: Option<Fault>,
 }
 
-/// Waits until a count is so far, for a bounded number of turns.
+/// Waits until the count is at least `least`, for a bounded number of turns.
 fn wait_for(count: &AtomicU64, least: u64) {
     for _ in 0..20_000 {
         if count.load(Ordering::SeqCst) >= least {
@@ -215,8 +214,8 @@ fn wait_for(count: &AtomicU64, least: u64) {
     }
 }
 
-/// One ask and its version. It is right where that is no less than the one before, and the outcome
-/// is what the search finds in a plain table of that version.
+/// Asks once, and returns the version of the answer. An answer is right if its version isn't lower than
+/// that of the answer before, and its outcome is that of the search in a table at this version.
 fn ask_once(alloc: Global, shared: &Shared<'_>, client: &mut Client) -> Result<u32, Fault> {
     let before = client.version;
     match client.asker.ask(alloc, shared.request) {
@@ -235,7 +234,7 @@ fn ask_once(alloc: Global, shared: &Shared<'_>, client: &mut Client) -> Result<u
     }
 }
 
-/// Asks until there is memory for the answer, a thousand times at most.
+/// Asks until there is memory for the answer, at most a thousand times.
 fn ask_again(alloc: Global, shared: &Shared<'_>, client: &mut Client) -> Result<u32, Fault> {
     for _ in 0..1000 {
         let answered = ask_once(alloc, shared, client);
@@ -247,7 +246,7 @@ fn ask_again(alloc: Global, shared: &Shared<'_>, client: &mut Client) -> Result<
     Err(Fault::Memory)
 }
 
-/// What an asker's thread does.
+/// The work of an asker's thread.
 fn ask_all(alloc: Global, shared: &Shared<'_>, client: &mut Client) {
     for number in 0..ASKS {
         wait_for(shared.published, number / ASKS_IN_A_ROW);
@@ -262,7 +261,7 @@ fn ask_all(alloc: Global, shared: &Shared<'_>, client: &mut Client) {
     }
 }
 
-/// What the publisher's thread does. The number of the last batch that was published is the result.
+/// The work of the publisher's thread. Returns the number of the last batch that was published.
 fn publish_all<W: Write, R: Wait>(
     rt: &R,
     alloc: Global,
@@ -280,7 +279,7 @@ fn publish_all<W: Write, R: Wait>(
     last
 }
 
-/// Publishes on this thread while the askers ask on theirs.
+/// Publishes on this thread while the askers ask on other threads.
 fn publish_and_ask<W: Write, R: Threads + Wait + Sync>(
     rt: &R,
     alloc: Global,
@@ -314,7 +313,7 @@ fn clients_of(alloc: Global, askers: Vec<Asker>) -> Result<Vec<Client>, AllocErr
     Ok(clients)
 }
 
-/// All answers of an asker were right, and the last one is of the last version.
+/// Checks that all answers of an asker were right, and that the last had the last version.
 fn assert_right<R: Abort>(rt: &R, number: usize, client: &Client) {
     if let Some(fault) = client.fault {
         panic!(rt; "asker {number}: {fault:?}")
@@ -323,14 +322,14 @@ fn assert_right<R: Abort>(rt: &R, number: usize, client: &Client) {
     assert_case(rt, "asker", number, is_last);
 }
 
-/// So it is for each asker.
+/// Checks each asker as `assert_right` does.
 fn assert_all_right<R: Abort>(rt: &R, clients: &[Client]) {
     for (number, client) in clients.iter().enumerate() {
         assert_right(rt, number, client);
     }
 }
 
-/// A publisher without a batch, and a client for each of its askers.
+/// A publisher that has published no batch, and a client for each of its askers.
 fn opened<R: Wait + Abort>(rt: &R, alloc: Global) -> (Publisher<Vec<u8>>, Vec<Client>) {
     match open(rt, alloc, Vec::<u8>::new(alloc), ASKERS) {
         Ok((publisher, askers)) => match clients_of(alloc, askers) {
@@ -341,14 +340,14 @@ fn opened<R: Wait + Abort>(rt: &R, alloc: Global) -> (Publisher<Vec<u8>>, Vec<Cl
     }
 }
 
-/// Asks once more.
+/// Each asker asks once more.
 fn ask_last(alloc: Global, shared: &Shared<'_>, clients: &mut [Client]) {
     for client in clients.iter_mut() {
         client.version = ask_again(alloc, shared, client).unwrap_or(0);
     }
 }
 
-/// Publishes while the askers ask. Then the last version alone is there to be asked.
+/// Publishes while the askers ask. Afterwards each asker asks once more, at the last version.
 fn run<R: Threads + Wait + Abort + Sync>(rt: &R, alloc: Global, shared: &Shared<'_>) {
     let (mut publisher, mut clients) = opened(rt, alloc);
     let last = publish_and_ask(rt, alloc, shared, &mut clients, &mut publisher);
@@ -359,7 +358,7 @@ fn run<R: Threads + Wait + Abort + Sync>(rt: &R, alloc: Global, shared: &Shared<
     assert_all_right(rt, &clients);
 }
 
-/// The outcomes have the least costs.
+/// Checks the costs of the outcomes against `COSTS`.
 fn assert_costs<R: Abort>(rt: &R, outcomes: &[Outcome]) {
     for (version, cost) in COSTS {
         let is_best = cost_at(outcomes, *version) == Some(*cost);
@@ -367,7 +366,7 @@ fn assert_costs<R: Abort>(rt: &R, outcomes: &[Outcome]) {
     }
 }
 
-/// Asks for these outcomes of the batches.
+/// Runs a publisher and its askers with these batches, this request and these outcomes.
 fn ask_of<R: Threads + Wait + Abort + Sync>(
     rt: &R,
     alloc: Global,

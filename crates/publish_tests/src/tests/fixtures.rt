@@ -1,4 +1,4 @@
-//! What the tests share: the one assertion, batches, requests, publishers, what answers say, and a
+//! What the tests share: the assertion, batches, requests, publishers, a short form of answers, and a
 //! writer that fails.
 ghost use Rattle.std.specs.Prelude.{◌≡◌};
 
@@ -12,7 +12,7 @@ use std::process::Abort;
 use std::sync::Wait;
 use std::test::Fail;
 
-/// Stops at a case that doesn't hold, with its name and its number.
+/// Stops the test if the case doesn't hold, and prints its name and number.
 pub(super) fn assert_case<R: Abort>(rt: &R, name: &str, number: usize, holds: bool) {
     assert!(rt; holds, "{name} {number}");
 }
@@ -34,7 +34,7 @@ pub(super) fn only_link() -> Result<Link, LinkError> {
     Link::new(from, local, to, remote, 10, Mask::new(1), [1000; 8])
 }
 
-/// The reverse of the link, with no bandwidth.
+/// The reverse of `only_link`, without unreserved bandwidth.
 pub(super) fn back() -> Result<Link, LinkError> {
     let link = only_link()?;
     let (from, local) = (link.to, link.remote);
@@ -42,7 +42,7 @@ pub(super) fn back() -> Result<Link, LinkError> {
     Link::new(from, local, to, remote, link.metric, link.group, [0; 8])
 }
 
-/// Puts of the link and of its reverse.
+/// Puts of `only_link` and of its reverse.
 pub(super) fn both_ways() -> Result<[Change; 2], LinkError> {
     Ok([Change::Put(only_link()?), Change::Put(back()?)])
 }
@@ -54,12 +54,12 @@ pub(super) fn batch(alloc: Global, number: u32, changes: &[Change]) -> Result<Ba
     })
 }
 
-/// Batch 1, which puts the link and its reverse.
+/// Batch 1, which puts `only_link` and its reverse.
 pub(super) fn first_batch(alloc: Global) -> Result<Batch, Fail> {
     Ok(batch(alloc, 1, &both_ways()?)?)
 }
 
-/// The batch with this number and without a change.
+/// An empty batch with this number.
 pub(super) fn empty_batch(alloc: Global, number: u32) -> Batch {
     Batch {
         number,
@@ -67,12 +67,12 @@ pub(super) fn empty_batch(alloc: Global, number: u32) -> Batch {
     }
 }
 
-/// Batch 1, and request 7, which asks for its link.
+/// Batch 1, and request 7, which asks for a route over its link.
 pub(super) fn batch_and_request(alloc: Global) -> Result<(Batch, Request), Fail> {
     Ok((first_batch(alloc)?, request(7, ONE, TWO, 1000)?))
 }
 
-/// What a publisher answers to the batch with this number and without a change.
+/// The publisher's result for an empty batch with this number.
 pub(super) fn apply_empty<W: Write, R: Wait>(
     rt: &R,
     alloc: Global,
@@ -85,7 +85,7 @@ pub(super) fn apply_empty<W: Write, R: Wait>(
     publisher.apply(rt, alloc, &empty)
 }
 
-/// A publisher without a batch, and its one asker.
+/// A publisher that has published no batch, and its only asker.
 pub(super) fn opened<W: Write + Drop, R: Wait + Abort>(
     rt: &R,
     alloc: Global,
@@ -102,10 +102,10 @@ pub(super) fn opened<W: Write + Drop, R: Wait + Abort>(
     }
 }
 
-/// What an answer says.
+/// An outcome in short.
 #[derive(Clone, Copy, PartialEq, Eq)]
 pub(super) enum Said {
-    /// A route's cost and its number of links.
+    /// A route, by its cost and its count of links.
     Route(u64, usize),
     NoRoute,
     UnknownFrom,
@@ -121,7 +121,7 @@ pub(super) fn said_by(outcome: &Outcome) -> Said {
     }
 }
 
-/// Whether two outcomes are one: the same route, link by link, or both that there is none.
+/// Whether two outcomes are the same route, or both `none`, or both `unknown-from`.
 pub(super) fn is_same(a: &Outcome, b: &Outcome) -> bool {
     match (a, b) {
         (Outcome::Route(a), Outcome::Route(b)) => a.links() == b.links(),
@@ -131,7 +131,7 @@ pub(super) fn is_same(a: &Outcome, b: &Outcome) -> bool {
     }
 }
 
-/// Whether an answer has this id and version, and says this.
+/// Whether the answer has this id, version and outcome.
 pub(super) fn says(answer: &Result<Answer, AskError>, id: u64, version: u32, wanted: Said) -> bool {
     match answer {
         Ok(answer) => {
@@ -141,7 +141,7 @@ pub(super) fn says(answer: &Result<Answer, AskError>, id: u64, version: u32, wan
     }
 }
 
-/// Whether an asker answers a request at this version, and says this.
+/// Whether an asker answers the request at this version with this outcome.
 pub(super) fn is_answered(
     alloc: Global,
     asker: &mut Asker,
@@ -154,12 +154,12 @@ pub(super) fn is_answered(
     says(&asker.ask(alloc, request), request.id, version, wanted)
 }
 
-/// Whether a journal has the text of batch 1 and then this one.
+/// Whether the journal has the text of batch 1 and then `behind`.
 pub(super) fn is_text(journal: &[u8], behind: &[u8]) -> bool {
     journal.strip_prefix(TEXT) == Some(behind)
 }
 
-/// A request for a bandwidth at the highest priority, on links of any groups.
+/// A request for this bandwidth at setup priority 0, over links of any groups.
 pub(super) fn request(
     id: u64,
     from: u32,
@@ -171,8 +171,8 @@ pub(super) fn request(
     Request::new(id, from, to, 0, bandwidth, any, any, any, Hops::none())
 }
 
-/// Takes at most `width` bytes a write, until it holds `most`. Then it fails once, or takes none once.
-/// After that it takes more again.
+/// A writer that takes at most `width` bytes in each write. Once it holds `most` bytes, one write fails or
+/// takes no bytes. Later writes are taken again.
 #[derive(Drop)]
 pub(super) struct Narrow {
     pub held: Vec<u8>,
@@ -181,7 +181,7 @@ pub(super) struct Narrow {
     pub fault: Option<ErrorKind>,
 }
 
-/// A writer that holds nothing.
+/// A writer that holds no bytes yet.
 pub(super) fn empty_writer(
     alloc: Global,
     width: usize,

@@ -1,4 +1,4 @@
-//! The journal: its text, and its faults.
+//! The text of the journal, and faults of its writer.
 ghost use Rattle.std.specs.Prelude.{◌≡◌};
 
 use super::fixtures::{
@@ -14,8 +14,8 @@ use std::process::Abort;
 use std::sync::Wait;
 use std::test::Fail;
 
-/// Whether a writer's fault after some bytes of batch 1 stops the publisher, and the empty database
-/// stays published.
+/// Whether a fault of the writer within the text of batch 1 stops the publisher, and the empty database
+/// stays the published one.
 fn stops_at<R: Wait + Abort>(
     rt: &R,
     alloc: Global,
@@ -34,10 +34,11 @@ fn stops_at<R: Wait + Abort>(
     is_stopped && is_answered && TEXT.get(..most) == Some(held.as_slice())
 }
 
-/// How a write goes wrong: it fails, is interrupted, or takes nothing.
+/// How a write goes wrong: with an error, by an interrupt, or by taking no bytes.
 const FAULTS: &[Option<ErrorKind>] = &[Some(ErrorKind::Other), Some(ErrorKind::Interrupted), None];
 
-/// A write goes wrong after each number of bytes of a batch, which are taken one by one or at once.
+/// The writer fails at each byte of batch 1's text. In the writes before it takes one byte each, or all
+/// that fit.
 fn stop_at_each_byte<R: Wait + Abort>(rt: &R, alloc: Global, first: &Batch, request: &Request) {
     for most in 0..TEXT.len() {
         for fault in FAULTS {
@@ -57,8 +58,8 @@ fn faults_of_the_journal(rt: HostRuntime) -> Result<(), Fail> {
     Ok(())
 }
 
-/// The published version, that of the token, and the one that an asker knows once it has learnt
-/// from it.
+/// The published version, the version of a new token, and the version that the asker knows after it learnt
+/// from the token.
 fn versions<W: Write>(publisher: &mut Publisher<W>, asker: &mut Asker) -> (u32, u32, u32)
     requires { asker.old.source ≡ publisher.old.source }
 {
@@ -66,7 +67,7 @@ fn versions<W: Write>(publisher: &mut Publisher<W>, asker: &mut Asker) -> (u32, 
     (publisher.version(), told.version(), asker.meet(told))
 }
 
-/// Whether the journal's fault in the text of batch 2 is answered, and then that the publisher is
+/// Whether batch 2 is refused with the error of the journal, and later batches because the publisher is
 /// stopped.
 fn stops_at_batch_2<R: Wait>(rt: &R, alloc: Global, publisher: &mut Publisher<Narrow>) -> bool
     ensures { publisher.new.source ≡ publisher.old.source }
@@ -78,7 +79,7 @@ fn stops_at_batch_2<R: Wait>(rt: &R, alloc: Global, publisher: &mut Publisher<Na
     failed == Err(ApplyError::Journal { written: 3 }) && again == stopped && next == stopped
 }
 
-/// Whether a publisher itself answers the request with the route at version 1.
+/// Whether the publisher answers the request with the route at version 1.
 fn is_answered_here<W: Write>(alloc: Global, publisher: &Publisher<W>, request: &Request) -> bool {
     let own = publisher
         .answer(alloc, request)
@@ -86,7 +87,7 @@ fn is_answered_here<W: Write>(alloc: Global, publisher: &Publisher<W>, request: 
     says(&own, request.id, 1, Said::Route(10, 1))
 }
 
-/// Whether a fault in the text of batch 2 stops the publisher for good, and version 1 stays published.
+/// Whether a fault in the text of batch 2 stops the publisher for good, while version 1 stays published.
 fn stays_at_version_1<R: Wait>(
     rt: &R,
     alloc: Global,
@@ -106,7 +107,7 @@ fn stays_at_version_1<R: Wait>(
     is_going && is_stopped && is_answered && is_answered_here(alloc, publisher, request)
 }
 
-/// The journal keeps what it had by the fault.
+/// After the fault the journal has the bytes that it took before.
 fn stop_at_version_1<R: Wait + Abort>(rt: &R, alloc: Global, first: &Batch, request: &Request) {
     let journal = empty_writer(alloc, 1, 175, Some(ErrorKind::Other));
     let (mut publisher, mut asker) = opened(rt, alloc, journal);
@@ -123,7 +124,7 @@ fn stopped_at_a_version(rt: HostRuntime) -> Result<(), Fail> {
     Ok(())
 }
 
-/// Whether a writer of this width gets the texts of both batches.
+/// Whether a writer that takes `width` bytes in each write gets the texts of both batches.
 fn is_written<R: Wait + Abort>(
     rt: &R,
     alloc: Global,
@@ -139,7 +140,7 @@ fn is_written<R: Wait + Abort>(
     first == Ok(1) && second == Ok(2) && is_answered && is_text(&held, b"end,2,0\n")
 }
 
-/// A writer that takes a byte or three at a time gets both texts.
+/// A writer that takes one or three bytes in each write gets the texts of both batches.
 #[test]
 fn journal_in_pieces(rt: HostRuntime) -> Result<(), Fail> {
     let (first, request) = batch_and_request(rt.alloc())?;
@@ -150,12 +151,12 @@ fn journal_in_pieces(rt: HostRuntime) -> Result<(), Fail> {
     Ok(())
 }
 
-/// Whether the text of a batch is that of batch 1.
+/// Whether the batch is written as the text of batch 1.
 fn has_text(alloc: Global, batch: &Batch) -> Result<bool, AllocError> {
     Ok(batch_text(alloc, batch)?.as_slice() == TEXT)
 }
 
-/// The text of a batch and of its copy are one.
+/// The copy of a batch is written as the same text as the batch.
 #[test]
 fn text_of_a_copy(rt: HostRuntime) -> Result<(), Fail> {
     let copy = first_batch(rt.alloc())?.copy(rt.alloc())?;

@@ -1,4 +1,4 @@
-//! Marks of routers without transit, which stand at each later version.
+//! Routers that are marked as without transit, and stay marked at later versions.
 
 use super::fixtures::{
     ONE, Said, TWO, assert_case, back, batch, empty_batch, is_answered, only_link, opened, request,
@@ -14,7 +14,7 @@ use std::test::Fail;
 
 const THREE: u32 = 0x03030303; // 3.3.3.3
 
-/// Puts of the link from 1.1.1.1 to 2.2.2.2, of one from there to 3.3.3.3, and of their reverses.
+/// Puts of the link from 1.1.1.1 to 2.2.2.2, of a link from 2.2.2.2 to 3.3.3.3, and of their reverses.
 fn two_links() -> Result<[Change; 4], LinkError> {
     let (link, back) = (only_link()?, back()?);
     let (two, local) = (Addr::new(TWO), Addr::new(0x0a001702));
@@ -30,14 +30,14 @@ fn two_links() -> Result<[Change; 4], LinkError> {
     ])
 }
 
-/// The batch by which 2.2.2.2 has transit or not.
+/// The batch that says whether 2.2.2.2 has transit.
 fn node_batch(alloc: Global, number: u32, transit: bool) -> Result<Batch, AllocError> {
     let router = Addr::new(TWO);
     batch(alloc, number, &[Change::Node { router, transit }])
 }
 
-/// The batch with this number of these: two links, a mark of the router between them, an empty batch
-/// twice, the mark taken away, and an empty batch.
+/// The batch with this number: 1 puts two links, 2 marks the router between them, 5 removes the mark, and
+/// 3, 4 and 6 are empty.
 fn batch_at(alloc: Global, number: u32) -> Result<Batch, Fail> {
     match number {
         1 => Ok(batch(alloc, 1, &two_links()?)?),
@@ -47,12 +47,11 @@ fn batch_at(alloc: Global, number: u32) -> Result<Batch, Fail> {
     }
 }
 
-/// How the journal's text of these ends.
+/// The end of the journal after these batches.
 const LAST: &[u8] = b"end,1,4\nnode,2.2.2.2,0\nend,2,1\nend,3,0\nend,4,0\n\
 node,2.2.2.2,1\nend,5,1\nend,6,0\n";
 
-/// What an asker says at a version: a route where routes pass through 2.2.2.2 there, and else that
-/// there is none.
+/// The outcome at a version: no route while 2.2.2.2 is marked, and a route through 2.2.2.2 otherwise.
 fn said_at(version: u32) -> Said {
     match version {
         2..=4 => Said::NoRoute,
@@ -60,8 +59,8 @@ fn said_at(version: u32) -> Said {
     }
 }
 
-/// An asker asks after each of the batches, which are published by turns in one copy and in the
-/// other.
+/// An asker asks after each of the batches. The publisher publishes them alternately in its two copies of
+/// the database.
 fn ask_after_each<W: Write, R: Wait + Abort>(
     rt: &R,
     alloc: Global,

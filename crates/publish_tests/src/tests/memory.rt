@@ -1,5 +1,5 @@
-//! A publisher and its asker while memory is refused: each call answers in full or that memory is
-//! refused, and it answers in full once there is memory again.
+//! A publisher and its asker while memory is refused: each call gives its whole answer, or the error that
+//! memory is refused. Once there is memory again, it gives its whole answer.
 ghost use Rattle.std.specs.Prelude.{◌≡◌, IfSome};
 
 use super::fixtures::{
@@ -14,7 +14,7 @@ use std::process::Abort;
 use std::sync::Wait;
 use std::test::Fail;
 
-/// A journal in place, which takes no memory.
+/// A journal that needs no memory, since it holds its bytes itself.
 #[derive(Drop)]
 struct InPlace {
     text: [u8; 200],
@@ -35,7 +35,7 @@ impl Write for InPlace {
     }
 }
 
-/// Whether memory is given now.
+/// Whether an allocation of one byte succeeds now.
 fn has_memory(alloc: Global) -> bool {
     match Vec::from_slice(alloc, &[1u8]) {
         Ok(bytes) => bytes.len() == 1,
@@ -43,8 +43,8 @@ fn has_memory(alloc: Global) -> bool {
     }
 }
 
-/// A publisher over an empty journal and its one asker, or none where memory is refused for good.
-/// The error gives the journal back as it was.
+/// A publisher over an empty journal, and its only asker. `None` if memory is refused and stays refused. If
+/// opening fails, the journal is given back unchanged.
 fn opened_at_last<R: Wait + Abort>(rt: &R, alloc: Global) -> Option<(Publisher<InPlace>, Asker)>
     ensures { IfSome result (λ opened. opened.1.source ≡ opened.0.source) }
 {
@@ -69,7 +69,8 @@ fn opened_at_last<R: Wait + Abort>(rt: &R, alloc: Global) -> Option<(Publisher<I
     }
 }
 
-/// What a publisher answers to a batch, at the second try where memory is there again.
+/// The publisher's result for a batch. If memory is refused but there is memory again, the result of a
+/// second try.
 fn apply_at_last<W: Write, R: Wait>(
     rt: &R,
     alloc: Global,
@@ -85,7 +86,7 @@ fn apply_at_last<W: Write, R: Wait>(
     applied
 }
 
-/// Whether batch 1 is published, or memory is refused for good and it isn't.
+/// Whether batch 1 is published, or isn't published and memory is still refused.
 fn is_right(alloc: Global, applied: Result<u32, ApplyError>, version: u32) -> bool {
     match applied {
         Ok(1) => version == 1,
@@ -94,7 +95,7 @@ fn is_right(alloc: Global, applied: Result<u32, ApplyError>, version: u32) -> bo
     }
 }
 
-/// Whether an answer is the route over the link, at version 1.
+/// Whether the answer is the route over the link, at version 1.
 fn is_of_the_link(answer: &Result<Answer, AskError>, link: &Link) -> bool {
     let links = match answer {
         Ok(answer) => match &answer.outcome {
@@ -106,7 +107,7 @@ fn is_of_the_link(answer: &Result<Answer, AskError>, link: &Link) -> bool {
     links == [*link].as_slice() && says(answer, 7, 1, Said::Route(10, 1))
 }
 
-/// What an asker answers, at the second try where memory is there again.
+/// The asker's answer. If memory is refused but there is memory again, the answer at a second try.
 fn ask_at_last(alloc: Global, asker: &mut Asker, request: &Request) -> Result<Answer, AskError>
     ensures { asker.new.source ≡ asker.old.source }
 {
@@ -116,7 +117,7 @@ fn ask_at_last(alloc: Global, asker: &mut Asker, request: &Request) -> Result<An
     }
 }
 
-/// Whether the request is answered right at this version, 0 or 1, or memory is refused for good.
+/// Whether the answer is right at this version, 0 or 1, or memory is still refused.
 fn is_answered(
     alloc: Global,
     answer: &Result<Answer, AskError>,
@@ -133,7 +134,7 @@ fn is_answered(
     }
 }
 
-/// Whether a publisher publishes, its asker learns of it, and then answers.
+/// Whether a publisher publishes a batch, and its asker learns of the version and answers at it.
 fn answers_after<W: Write, R: Wait>(
     rt: &R,
     alloc: Global,
@@ -153,13 +154,13 @@ fn answers_after<W: Write, R: Wait>(
     is_told && is_right(alloc, applied, version) && is_answered(alloc, &answer, version, link)
 }
 
-/// Whether a journal has the text of the batches up to version 0 or 1.
+/// Whether the journal has the text of the batches up to this version, 0 or 1.
 fn has_text(journal: &InPlace, version: u32) -> bool {
     let wanted = if version == 0 { b"" } else { TEXT };
     journal.text.get(..journal.held) == Some(wanted)
 }
 
-/// Publishes, lets the asker learn, and asks.
+/// Publishes a batch, lets the asker learn of it and ask, and checks the journal.
 fn publish_and_answer<R: Wait + Abort>(
     rt: &R,
     alloc: Global,

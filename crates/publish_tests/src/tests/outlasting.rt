@@ -1,5 +1,5 @@
-//! An asker asks often enough for a tree at each version. Some batches change unreserved bandwidths
-//! alone, and each other one makes a cheaper way.
+//! At each version an asker asks often enough that a tree is grown. Some batches change only unreserved
+//! bandwidths, and each of the others makes a cheaper route.
 
 use super::fixtures::{ONE, Said, TWO, assert_case, batch, is_same, opened, said_by};
 use cspf_addr::{Addr, Hops, Mask};
@@ -17,11 +17,11 @@ const THREE: u32 = 0x03030303; // 3.3.3.3
 
 const FOUR: u32 = 0x04040404; // 4.4.4.4
 
-/// How often an asker asks at each version: once more than for a tree.
+/// How often an asker asks at each version, which is often enough for answers by a tree.
 const ASKS: usize = 9;
 
-/// The routers at both ends, and the address of the interface at the first of them. That at the
-/// other is one more.
+/// The two routers of a circuit, and the address of the first router's interface. The address of the second
+/// router's interface is one higher.
 type Circuit = (u32, u32, u32);
 
 const ONE_FOUR: Circuit = (ONE, FOUR, 0x0a000e00);
@@ -36,7 +36,7 @@ const ONE_THREE: Circuit = (ONE, THREE, 0x0a000d00);
 
 const SECOND: Circuit = (ONE, THREE, 0x0a000d02);
 
-/// Puts of the links of a circuit both ways.
+/// Puts of a circuit's two links.
 fn puts(circuit: Circuit, metric: u32, group: u32, free: u64) -> Result<[Change; 2], LinkError> {
     let (from, local) = (Addr::new(circuit.0), Addr::new(circuit.2));
     let (to, remote) = (Addr::new(circuit.1), Addr::new(circuit.2 ^ 1));
@@ -47,13 +47,14 @@ fn puts(circuit: Circuit, metric: u32, group: u32, free: u64) -> Result<[Change;
     ])
 }
 
-/// Whether 2.2.2.2 has transit.
+/// The change that says whether 2.2.2.2 has transit.
 fn transit(transit: bool) -> [Change; 1] {
     let router = Addr::new(TWO);
     [Change::Node { router, transit }]
 }
 
-/// Five circuits. One is of an excluded group, and 2.2.2.2 has no transit.
+/// A network of five circuits. One circuit is in a group that the request excludes, and 2.2.2.2 has no
+/// transit.
 fn network(alloc: Global) -> Result<Vec<Change>, Fail> {
     let mut all = Vec::from_slice(alloc, &puts(ONE_FOUR, 50, 1, 1000)?)?;
     all.extend_from_slice(&puts(FOUR_THREE, 50, 1, 1000)?)?;
@@ -64,8 +65,10 @@ fn network(alloc: Global) -> Result<Vec<Change>, Fail> {
     Ok(all)
 }
 
-/// The batch with this number of these: the network, a circuit without bandwidth and with it,
-/// transit, another group, a lower metric, a new circuit, that without bandwidth and with it.
+/// The batch with this number. Batch 1 puts the network, batch 2 takes all bandwidth from a circuit, and
+/// batch 3 restores it. Batch 4 gives 2.2.2.2 transit, batch 5 changes a circuit's group, and batch 6
+/// lowers a metric. Batch 7 puts a new circuit, batch 8 takes all bandwidth from it, and batch 9 restores
+/// it.
 fn batch_at(alloc: Global, number: u32) -> Result<Batch, Fail> {
     match number {
         1 => Ok(Batch {
@@ -82,7 +85,7 @@ fn batch_at(alloc: Global, number: u32) -> Result<Batch, Fail> {
     }
 }
 
-/// What is found at a version.
+/// The outcome that is wanted at a version.
 fn said_at(version: u32) -> Said {
     match version {
         2 => Said::NoRoute,
@@ -94,7 +97,7 @@ fn said_at(version: u32) -> Said {
     }
 }
 
-/// A batch that makes the cheapest way, and takes out a link that isn't there.
+/// A batch that would make the cheapest route, but also removes a link that isn't there.
 fn unfit_batch(alloc: Global, number: u32) -> Result<Batch, Fail> {
     let mut changes = Vec::from_slice(alloc, &puts(ONE_THREE, 1, 1, 1000)?)?;
     changes.extend_from_slice(&[Change::Remove {
@@ -104,14 +107,14 @@ fn unfit_batch(alloc: Global, number: u32) -> Result<Batch, Fail> {
     Ok(Batch { number, changes })
 }
 
-/// Request 7, from 1.1.1.1 to 3.3.3.3, by no link of group 0x2.
+/// Request 7, from 1.1.1.1 to 3.3.3.3, over links that aren't in group 0x2.
 fn request() -> Result<Request, RequestError> {
     let (from, to) = (Addr::new(ONE), Addr::new(THREE));
     let (excluded, any) = (Mask::new(2), Mask::new(0));
     Request::new(7, from, to, 0, 1000, excluded, any, any, Hops::none())
 }
 
-/// Whether an answer has this version and outcome.
+/// Whether the answer has this version and outcome.
 fn is_right(answer: &Result<Answer, AskError>, version: u32, outcome: &Outcome) -> bool {
     match answer {
         Ok(answer) => answer.version == version && is_same(&answer.outcome, outcome),
@@ -119,7 +122,7 @@ fn is_right(answer: &Result<Answer, AskError>, version: u32, outcome: &Outcome) 
     }
 }
 
-/// Whether the plain search finds in a table what is wanted at a version, and an asker answers so
+/// Whether the search by rounds finds the wanted outcome in the table, and the asker gives the same outcome
 /// each time.
 fn answers_alike(
     alloc: Global,
@@ -136,7 +139,7 @@ fn answers_alike(
     Ok(is_alike)
 }
 
-/// Whether an asker answers right after a batch, and still after one that is refused.
+/// Whether the asker's answers are right after a batch, and stay right after the next batch is refused.
 fn is_right_after<W: Write, R: Wait>(
     rt: &R,
     alloc: Global,
@@ -155,7 +158,7 @@ fn is_right_after<W: Write, R: Wait>(
     Ok(is_applied && is_alike && is_refused && is_still_alike)
 }
 
-/// An asker answers right after each of the batches.
+/// Checks an asker's answers after each of the nine batches.
 fn ask_after_each<W: Write, R: Wait + Abort>(
     rt: &R,
     alloc: Global,

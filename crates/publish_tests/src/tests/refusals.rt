@@ -1,4 +1,4 @@
-//! Batches and numbers of askers that are refused.
+//! Batches that are refused, and numbers of askers that are refused.
 
 use super::fixtures::{apply_empty, assert_case, batch, first_batch, is_text, only_link, opened};
 use cspf_model::{Batch, Change, Refusal};
@@ -10,7 +10,7 @@ use std::process::Abort;
 use std::sync::Wait;
 use std::test::Fail;
 
-/// The batch with this number that takes out a link which isn't there.
+/// A batch with this number that removes a link that isn't there.
 fn unfit_batch(alloc: Global, number: u32) -> Result<Batch, Fail> {
     let link = only_link()?;
     let absent = Change::Remove {
@@ -20,8 +20,8 @@ fn unfit_batch(alloc: Global, number: u32) -> Result<Batch, Fail> {
     Ok(batch(alloc, number, &[absent])?)
 }
 
-/// Whether batches with a wrong number or an absent link are refused after two others, and leave the
-/// version.
+/// Whether, after two batches, a batch is refused for a wrong number or an absent link, and the version
+/// stays the same.
 fn refuses_batches<W: Write, R: Wait>(
     rt: &R,
     alloc: Global,
@@ -38,7 +38,7 @@ fn refuses_batches<W: Write, R: Wait>(
     first && second && are_refused && publisher.version() == 2
 }
 
-/// The journal has the text of the batches that were not refused.
+/// After refusals the journal has only the texts of the batches that were published.
 fn refuse_batches<R: Wait + Abort>(rt: &R, alloc: Global, first: &Batch, unfit: &Batch) {
     let (mut publisher, _asker) = opened(rt, alloc, Vec::<u8>::new(alloc));
     let refuses = refuses_batches(rt, alloc, &mut publisher, first, unfit);
@@ -54,8 +54,8 @@ fn refused_batches(rt: HostRuntime) -> Result<(), Fail> {
     Ok(())
 }
 
-/// The error of an opening with this number of askers, and how many bytes the journal holds that it
-/// gives back.
+/// The error of opening a publisher with this number of askers, and the length of the journal that it gives
+/// back.
 fn open_error<R: Wait>(rt: &R, alloc: Global, askers: usize) -> Option<(OpenError, usize)> {
     match open(rt, alloc, Vec::<u8>::new(alloc), askers) {
         Ok((publisher, _)) => {
@@ -66,7 +66,7 @@ fn open_error<R: Wait>(rt: &R, alloc: Global, askers: usize) -> Option<(OpenErro
     }
 }
 
-/// Numbers of askers, and how each is refused: one asker and 64 are opened, none and 65 are not.
+/// Numbers of askers, and how each is refused: 1 and 64 are accepted, 0 and 65 are not.
 const ASKERS: &[(usize, Option<(OpenError, usize)>)] = &[
     (1, None),
     (64, None),
@@ -82,7 +82,7 @@ fn numbers_of_askers(rt: HostRuntime) {
     }
 }
 
-/// Publishes a million empty batches. The number of the last one that was published is the result.
+/// Publishes a million empty batches. Returns the number of the last that was published.
 fn publish_all<W: Write, R: Wait>(rt: &R, alloc: Global, publisher: &mut Publisher<W>) -> u32 {
     let mut applied = 0u32;
     for number in 1..1_000_001u32 {
@@ -93,7 +93,7 @@ fn publish_all<W: Write, R: Wait>(rt: &R, alloc: Global, publisher: &mut Publish
     applied
 }
 
-/// There are 1,000,000 versions.
+/// After 1,000,000 versions no batch is accepted.
 #[test]
 fn last_version(rt: HostRuntime) {
     let (mut publisher, _asker) = opened(&rt, rt.alloc(), io::sink());

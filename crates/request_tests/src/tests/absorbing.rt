@@ -1,5 +1,5 @@
-//! What a base batch says of four placements on the triangle: 9, 2 and 7 take the link from 1.1.1.1 to
-//! 3.3.3.3, and 3 goes through 2.2.2.2.
+//! What a base batch does to four placements on the triangle. The placements 9, 2 and 7 take the link from 1.1.1.1
+//! to 3.3.3.3, and 3 goes through 2.2.2.2.
 
 use super::assert_case;
 use super::networks::Edit::{self, Drop, Node, Put, Turn};
@@ -9,39 +9,41 @@ use cspf_book::{Book, Over};
 use cspf_model::Batch;
 use std::alloc::Global;
 
-/// The ids, bandwidths and holding priorities of the four.
+/// The ids, bandwidths and holding priorities of the four placements.
 const PLACEMENTS: &[(u64, u64, u8)] = &[(9, 300, 5), (3, 800, 0), (2, 300, 5), (7, 300, 6)];
 
-/// A batch, and the ids of the placements that lose their routes by it, in order.
+/// A batch, and the ids of the placements that lose their routes by it, in the order in which they are reported.
 type Loss = (&'static [Edit], &'static [u64]);
 
 const LOSSES: &[Loss] = &[
-    // the direct link or its reverse goes, is of group 1, or leads elsewhere
+    // the direct link or its reverse is removed, the link gets the group 1, or one of the two leads
+    // elsewhere
     (&[Drop(ONE, THREE)], &[7, 2, 9]),
     (&[Drop(THREE, ONE)], &[7, 2, 9]),
     (&[Put(ONE, THREE, 1, [1000; 8])], &[7, 2, 9]),
     (&[Turn(TWO, ONE)], &[7, 2, 9]),
     (&[Turn(THREE, TWO)], &[7, 2, 9]),
-    // the router between the ends, and the links to and from it
+    // the router between head-end and tail-end loses transit, or a link from or to it is removed
     (&[Node(TWO, false)], &[3]),
     (&[Drop(TWO, ONE)], &[3]),
     (&[Drop(TWO, THREE)], &[3]),
     (&[Drop(THREE, TWO)], &[3]),
-    // less bandwidth, another group, and marks at the ends
+    // less bandwidth, another group, and marks of the head-end and the tail-end
     (&[Put(ONE, THREE, 2, [0; 8])], &[]),
     (&[Node(ONE, false), Node(THREE, false)], &[]),
-    // the last change on a key decides
+    // only the last change of a key counts
     (&[Drop(ONE, THREE), Put(ONE, THREE, 0, [0; 8])], &[]),
     (&[Put(ONE, THREE, 0, [0; 8]), Drop(ONE, THREE)], &[7, 2, 9]),
     (&[Drop(ONE, THREE), Node(TWO, false)], &[7, 2, 9, 3]),
     (&[Node(TWO, false), Node(TWO, true)], &[]),
 ];
 
-/// A batch, and each router and priority to which the link from 1.1.1.1 has less than is counted.
+/// A batch, and where it leaves too little bandwidth: the router to which the link from 1.1.1.1 leads, and the
+/// priority at which more is counted than the link has.
 type Shortage = (&'static [Edit], &'static [(u32, u8)]);
 
-/// On the link to 3.3.3.3 600 bytes per second are counted at priority 5, and 900 at 6 and 7. On the link to
-/// 2.2.2.2 800 are at each priority, and none on its reverse.
+/// On the link to 3.3.3.3 600 bytes per second are counted at priority 5, and 900 at 6 and 7. On the link
+/// to 2.2.2.2 800 bytes per second are counted at each priority, and on its reverse nothing is counted.
 const SHORTAGES: &[Shortage] = &[
     (
         &[Put(ONE, THREE, 0, [0, 0, 0, 0, 0, 599, 900, 899])],
@@ -59,7 +61,7 @@ const SHORTAGES: &[Shortage] = &[
     ),
 ];
 
-/// Whether all of these are placed.
+/// Places these requests, and returns whether all are placed.
 fn are_placed(alloc: Global, book: &mut Book, placements: &[(u64, u64, u8)]) -> bool {
     for (id, bandwidth, hold) in placements {
         match placed(alloc, book, *id, *bandwidth, b"", *hold) {
@@ -70,7 +72,7 @@ fn are_placed(alloc: Global, book: &mut Book, placements: &[(u64, u64, u8)]) -> 
     true
 }
 
-/// The book with the four placements.
+/// A book with the four placements.
 fn full_book(alloc: Global) -> Option<Book> {
     let mut book = book(alloc)?;
     if are_placed(alloc, &mut book, PLACEMENTS) {
@@ -80,7 +82,7 @@ fn full_book(alloc: Global) -> Option<Book> {
     }
 }
 
-/// Whether the batch makes the placements with these ids lose their routes, in this order.
+/// Whether just the placements with these ids lose their routes by the batch, in this order.
 fn loses(alloc: Global, book: &Book, batch: &Batch, ids: &[u64]) -> bool {
     match book.lost(alloc, batch) {
         Ok(lost) => lost.as_slice() == ids,
@@ -88,7 +90,7 @@ fn loses(alloc: Global, book: &Book, batch: &Batch, ids: &[u64]) -> bool {
     }
 }
 
-/// Whether the ids of each case are those that lose their routes.
+/// Whether by each batch just the placements beside it lose their routes.
 fn are_losses(alloc: Global, book: &Book, losses: &[Loss]) -> bool {
     for (edits, ids) in losses {
         match batch(alloc, edits) {
@@ -99,7 +101,7 @@ fn are_losses(alloc: Global, book: &Book, losses: &[Loss]) -> bool {
     true
 }
 
-/// Whether these are the links from 1.1.1.1 to the routers with the priorities.
+/// Whether these are links from 1.1.1.1, to the expected routers and at the expected priorities.
 fn are_overs(overs: &[Over], expected: &[(u32, u8)]) -> bool {
     let mut at = 0usize;
     for over in overs {
@@ -117,7 +119,7 @@ fn are_overs(overs: &[Over], expected: &[(u32, u8)]) -> bool {
     at == expected.len()
 }
 
-/// Whether the batch leaves just these with less than is counted.
+/// Whether the batch leaves too little bandwidth on just the expected links and priorities.
 fn is_short(alloc: Global, book: &Book, batch: &Batch, expected: &[(u32, u8)]) -> bool {
     match book.over(alloc, batch) {
         Ok(overs) => are_overs(overs.as_slice(), expected),
@@ -125,7 +127,7 @@ fn is_short(alloc: Global, book: &Book, batch: &Batch, expected: &[(u32, u8)]) -
     }
 }
 
-/// Whether each case leaves just those.
+/// Whether each batch leaves too little bandwidth on just the links and priorities beside it.
 fn are_shortages(alloc: Global, book: &Book, shortages: &[Shortage]) -> bool {
     for (edits, expected) in shortages {
         match batch(alloc, edits) {
@@ -156,7 +158,7 @@ fn over_by_batches(rt: HostRuntime) {
     assert_case(&rt, "over by batches", 0, is);
 }
 
-/// Whether a route that the base doesn't admit any more isn't lost again, and its placement stays.
+/// Whether a placement that has lost its route stays, and isn't reported as lost again.
 fn is_lost_once(alloc: Global, book: &mut Book) -> bool {
     match batch(alloc, &[Drop(THREE, ONE)]) {
         Some(batch) => {

@@ -1,7 +1,7 @@
 use super::{assert_case, is_text};
 use cspf_addr::{Addr, AddrError};
 
-// Whether a text is that of the address with this number.
+// Whether the text is read as the address with this number.
 fn is_read(text: &[u8], number: u32) -> bool {
     Addr::parse(text) == Ok(Addr::new(number))
 }
@@ -19,7 +19,7 @@ fn addresses_of_four_bytes(rt: HostRuntime) {
     assert_case(&rt, "addresses", 4, holds);
 }
 
-// Whether a text is refused.
+// Whether the text is refused.
 fn is_refused(text: &[u8]) -> bool {
     Addr::parse(text) == Err(AddrError::NotAnAddress)
 }

@@ -1,5 +1,5 @@
-//! Which links a request may use, which routers its walks may go on from, and which the legs of its routes end
-//! at and may stand at, on small tables, by cases that are worked by hand.
+//! Cases worked by hand on small tables. They check which links a request may use, which routers a walk may
+//! go on from, where the legs of a route end, and which routers they pass through.
 
 ghost use Rattle.std.specs.Prelude.{◌≡◌, IfOk, length};
 
@@ -24,14 +24,14 @@ fn link(from: u32, local: u32, to: u32) -> Result<Link, Fail> {
     Ok(Link::new(from, local, to, remote, 1, Mask::new(0x6), free)?)
 }
 
-// A link back by the remote interface of the one, of another group and with no bandwidth: its reverse
-// where this is its local address.
+// A link back from the link's remote interface to its head router, of another group and without bandwidth. It is
+// the link's reverse if `remote` is the link's local address.
 fn back(link: &Link, remote: Addr) -> Result<Link, Fail> {
     let group = Mask::new(0x8);
     Ok(Link::new(link.to, link.remote, link.from, remote, 9, group, [0; 8])?)
 }
 
-// A request from router 1 to router 3 by the hop 11.0.0.0/8.
+// A request from router 1 to router 3 through the hop 11.0.0.0/8.
 fn request(setup: u8, masks: (u32, u32, u32), loose: bool) -> Result<Request, Fail>
     ensures { IfOk result (λ q. length q.hops ≡ 1) }
 {
@@ -43,7 +43,7 @@ fn request(setup: u8, masks: (u32, u32, u32), loose: bool) -> Result<Request, Fa
     Ok(Request::new(5, from, to, setup, 1000, exclude, any, all, hops)?)
 }
 
-// A setup priority, affinities, and whether the link is accepted.
+// A setup priority, the affinity masks, and whether the request accepts the link.
 const ACCEPTED: &[(u8, (u32, u32, u32), bool)] = &[
     (0, (0, 0, 0), true),
     (7, (0, 0, 0), false),
@@ -64,15 +64,15 @@ fn accepted_links(rt: HostRuntime) -> Result<(), Fail> {
     Ok(())
 }
 
-// The batch of these changes is absorbed.
+// Absorbs a batch of these changes.
 fn change(alloc: Global, table: &mut Table, changes: &[Change]) -> Result<(), AllocError> {
     let changes = Vec::from_slice(alloc, changes)?;
     table.absorb(&Batch { number: 1, changes });
     Ok(())
 }
 
-// Whether a link is admissible for a request or not, and its reverse isn't, nor the link for a request
-// that refuses it.
+// Whether the link is admissible exactly if `wanted` is set. Its reverse must not be admissible, nor the
+// link for a request that excludes its groups.
 fn is_usable(table: &Table, link: &Link, reverse: &Link, wanted: bool) -> Result<bool, Fail> {
     let accepting = request(0, (0, 0, 0), false)?;
     let refusing = request(0, (0x4, 0, 0), false)?;
@@ -81,17 +81,17 @@ fn is_usable(table: &Table, link: &Link, reverse: &Link, wanted: bool) -> Result
     Ok(found == wanted && !others)
 }
 
-// A link comes, its reverse comes and goes, and another link back comes.
+// Puts a link, puts and removes its reverse, and puts another link back. Checks the link after each change.
 fn change_back(rt: &impl Abort, alloc: Global, table: &mut Table) -> Result<(), Fail> {
     let link = link(1, 2, 3)?;
     let (reverse, other) = (back(&link, link.local)?, back(&link, Addr::new(8))?);
     let (from, local) = (reverse.from, reverse.local);
     let steps = [
         (Change::Put(link), false),
-        // the reverse's own attributes don't count, and are all that counts for itself
+        // the reverse's group and bandwidth don't count for the link, but for the reverse itself they do
         (Change::Put(reverse), true),
         (Change::Remove { from, local }, false),
-        // a link back over other interfaces is no reverse
+        // a link back over another interface isn't the reverse
         (Change::Put(other), false),
     ];
     for (at, (step, wanted)) in steps.iter().enumerate() {
@@ -107,14 +107,13 @@ fn admissible_links(rt: HostRuntime) -> Result<(), Fail> {
     change_back(&rt, rt.alloc(), &mut Table::new(rt.alloc())?)
 }
 
-// Changes that put a link from the router 1 to 2, and one from there to 3 by an interface that the hop
-// covers.
+// Puts of a link from router 1 to 2, and of a link from router 2 to 3 whose local address is in the hop's prefix.
 fn two_links() -> Result<[Change; 2], Fail> {
     let first = link(1, 0x0a00_0001, 2)?;
     Ok([Change::Put(first), Change::Put(link(2, 0x0b00_0002, 3)?)])
 }
 
-// A router, whether it is a target of the legs 0, 1 and 2, and whether it is inside the strict leg 1.
+// A router, whether the legs 0, 1 and 2 may end at it, and whether the strict leg 1 may pass through it.
 const TARGETS: &[(u32, [bool; 3], bool)] = &[
     (1, [true, false, false], true),
     (2, [false, true, false], true),
@@ -122,7 +121,7 @@ const TARGETS: &[(u32, [bool; 3], bool)] = &[
     (9, [false, false, false], false),
 ];
 
-// Whether a router is a target of these legs, and no others.
+// Whether just these of the three legs may end at the router.
 fn is_target(table: &Table, router: Addr, targets: [bool; 3]) -> Result<bool, Fail> {
     let strict = request(7, (0, 0, 0), false)?;
     let first = member(table, router, 0, &strict) == targets[0];
@@ -130,8 +129,8 @@ fn is_target(table: &Table, router: Addr, targets: [bool; 3]) -> Result<bool, Fa
     Ok(first && second && member(table, router, 2, &strict) == targets[2])
 }
 
-// Whether a router is inside the strict leg 1 or not, and inside the leg 1 where it is loose, and the
-// leg 2.
+// Whether the strict leg 1 may pass through the router as wanted. A loose leg 1 and leg 2 may always pass through
+// it.
 fn is_inside(table: &Table, router: Addr, wanted: bool) -> Result<bool, Fail> {
     let strict = request(7, (0, 0, 0), false)?;
     let loose = request(7, (0, 0, 0), true)?;
@@ -149,8 +148,7 @@ fn assert_targets(rt: &impl Abort, table: &Table) -> Result<(), Fail> {
     Ok(())
 }
 
-// Router 2 alone has an address that the hop covers, that of its interface on a link that the
-// request can't use.
+// Only router 2 has an address that the hop covers: that of its interface on a link that the request can't use.
 #[test]
 fn targets_of_legs(rt: HostRuntime) -> Result<(), Fail> {
     let (there, third) = (two_links()?, Change::Put(link(3, 0x0a00_0003, 1)?));
@@ -159,14 +157,14 @@ fn targets_of_legs(rt: HostRuntime) -> Result<(), Fail> {
     assert_targets(&rt, &table)
 }
 
-// A mark of a router.
+// A change that marks a router as without transit.
 fn stub(number: u32) -> Change {
     let router = Addr::new(number);
     let transit = false;
     Change::Node { router, transit }
 }
 
-// A router, and whether a walk may go on from it after no link, one, and the most that are counted.
+// A router, and whether a walk may go on from it after no link, after one, and after the most that are counted.
 const MAY_LEAVE: &[(u32, [bool; 3])] = &[
     (1, [true, true, true]),
     (2, [true, true, true]),
@@ -174,7 +172,8 @@ const MAY_LEAVE: &[(u32, [bool; 3])] = &[
     (9, [true, false, false]),
 ];
 
-// Whether a walk may go on from a router after as many links or not, also by its index if it has one.
+// Whether a walk may go on from the router as wanted after this many links. Asks by address, and by index if the
+// router has one.
 fn goes_on(table: &Table, router: Addr, links: u32, wanted: bool) -> bool {
     let by_place = match table.place_of(router) {
         Some(place) => may_leave_at(table, place, links) == wanted,
@@ -202,8 +201,8 @@ fn routers_that_walks_go_on_from(rt: HostRuntime) -> Result<(), Fail> {
     Ok(())
 }
 
-// Where the state of a router in a leg is in the list, whether a link may lead there, and whether a
-// route may turn there.
+// The index of a router's state in a leg, whether a link may lead to it, and whether the route may go from this leg
+// to the next there.
 const ROLES: &[(usize, bool, bool)] = &[
     (0, false, false),
     (1, true, true),
@@ -213,7 +212,7 @@ const ROLES: &[(usize, bool, bool)] = &[
     (1026, true, true),
 ];
 
-// Whether a state has these roles.
+// Whether the state at this index has these roles.
 fn has_role(roles: &Roles, at: usize, enter: bool, target: bool) -> bool {
     match roles.states.get(at) {
         Some(role) => role.enter == enter && role.target == target,
@@ -221,7 +220,7 @@ fn has_role(roles: &Roles, at: usize, enter: bool, target: bool) -> bool {
     }
 }
 
-// Whether the leg to the only hop ends at the router of index 1 alone.
+// Whether the leg to the only hop may end at just the router of index 1.
 fn ends_at_1(roles: &Roles) -> bool {
     match roles.targets.as_slice() {
         [targets] => targets.as_slice() == [1].as_slice(),
@@ -236,7 +235,7 @@ fn assert_roles(rt: &impl Abort, roles: &Roles) {
     assert_case(rt, "targets", 1, ends_at_1(roles));
 }
 
-// The roles of a request's routers, if its ends are known.
+// The roles of the routers for a request, if its head-end and tail-end are known.
 fn roles_of(alloc: Global, table: &Table, asked: &Request) -> Result<Option<Roles>, AllocError> {
     match (table.place_of(asked.from), table.place_of(asked.to)) {
         (Some(from), Some(to)) => Ok(Some(find_roles(alloc, table, asked, from, to)?)),
@@ -244,7 +243,7 @@ fn roles_of(alloc: Global, table: &Table, asked: &Request) -> Result<Option<Role
     }
 }
 
-// The strict hop covers an address of router 2 alone, and the head-end 1 and the tail-end 3 are marked.
+// The strict hop covers only an address of router 2. The head-end 1 and the tail-end 3 are marked.
 #[test]
 fn roles_in_legs(rt: HostRuntime) -> Result<(), Fail> {
     let (links, asked) = (two_links()?, request(0, (0, 0, 0), false)?);

@@ -1,4 +1,4 @@
-//! The heads of reply lines, and lines that have none.
+//! Reply lines with a head (their request's id and their version), and lines without a head.
 
 use super::assert_case;
 use cspf_ero::reply_head;
@@ -15,7 +15,7 @@ const HEADS: &[(&[u8], u64, u32)] = &[
     ),
 ];
 
-/// How many of the first lines begin so.
+/// The index of the first line that isn't read with its id and version, or the number of lines.
 fn count_heads() -> usize {
     for (at, (line, id, version)) in HEADS.iter().enumerate() {
         match reply_head(line) {
@@ -52,7 +52,7 @@ const OTHERS: &[&[u8]] = &[
     b"ask 7 v4294967296 none",
 ];
 
-/// How many of the first lines have no head.
+/// The index of the first line that has a head, or the number of lines.
 fn count_others() -> usize {
     for (at, line) in OTHERS.iter().enumerate() {
         if reply_head(line).is_some() {

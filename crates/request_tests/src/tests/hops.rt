@@ -1,16 +1,16 @@
-//! Lists of hops that are read, refused, and as long as they may be.
+//! Lists of hops that are read or refused, and the longest list.
 
 use super::{assert_case, is_text};
 use cspf_addr::{Addr, Hop, Hops, HopsError, MOST_HOPS, Prefix, PrefixError, parse_hops};
 use std::alloc::Global;
 
-// A hop of the prefix of this length of an address.
+// A hop whose prefix has this length and covers this address.
 fn hop(address: u32, length: u8, loose: bool) -> Result<Hop, PrefixError> {
     let prefix = Prefix::new(Addr::new(address), length)?;
     Ok(Hop { prefix, loose })
 }
 
-// Whether these are the hops, in this order, by each call.
+// Whether the list has these hops in this order, by `get` and as a slice.
 fn are_hops(hops: &Hops, wanted: &[Hop]) -> bool {
     for (at, hop) in wanted.iter().enumerate() {
         if hops.get(at) != Some(*hop) {
@@ -29,7 +29,7 @@ fn are_read(text: &[u8], wanted: &[Hop]) -> bool {
     }
 }
 
-// Whether no hop, each of two and both in turn are read from their texts.
+// Whether the empty text, the text of each hop and the text of both are read as their hops.
 fn are_spelled(one: &[Hop], other: &[Hop], both: &[Hop]) -> bool {
     are_read(b"", &[])
         && are_read(b"10.9.0.1/16s", one)
@@ -37,7 +37,7 @@ fn are_spelled(one: &[Hop], other: &[Hop], both: &[Hop]) -> bool {
         && are_read(b"10.0.0.0/8l 10.9.0.1/16s", both)
 }
 
-// Whether the hops are written so.
+// Whether the two hops are written as their texts.
 fn are_written(alloc: Global, strict: Hop, loose: Hop) -> bool {
     is_text(strict.text(alloc), "10.9.0.0/16s") && is_text(loose.text(alloc), "10.0.0.0/8l")
 }
@@ -55,12 +55,12 @@ fn hops_with_a_space_between(rt: HostRuntime) -> Result<(), PrefixError> {
     Ok(())
 }
 
-// Whether a text is refused for this part, from 1, that is no hop.
+// Whether the text is refused because its part at this place, counted from 1, isn't a hop.
 fn is_bad(text: &[u8], at: usize) -> bool {
     parse_hops(text) == Err(HopsError::BadHop { at })
 }
 
-// Whether a text is refused for its many parts.
+// Whether the text is refused because it has too many parts.
 fn has_too_many(text: &[u8]) -> bool {
     parse_hops(text) == Err(HopsError::TooManyHops)
 }

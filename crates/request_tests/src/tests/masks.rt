@@ -11,7 +11,7 @@ fn masks_of_eight_digits(rt: HostRuntime) {
     assert_case(&rt, "masks", 2, holds);
 }
 
-// Whether a text is refused.
+// Whether the text is refused.
 fn is_refused(text: &[u8]) -> bool {
     Mask::parse(text) == Err(MaskError::NotAMask)
 }

@@ -1,6 +1,6 @@
-//! A book while memory is refused: a request isn't placed, the book is as it was, and it places the
-//! request once there is memory again. So it is with what a batch does to the placements. A batch is absorbed
-//! and a placement released without memory.
+//! A book while memory is refused: a request isn't placed, and the book stays as it was. Once there is memory
+//! again, the request is placed. The same holds for the report of what a batch does to the placements. To absorb a
+//! batch and to release a placement takes no memory.
 
 use super::assert_case;
 use super::networks::Edit::Put;
@@ -9,7 +9,7 @@ use cspf_book::{Book, PlaceError};
 use cspf_model::Batch;
 use std::alloc::Global;
 
-/// Whether memory is given now.
+/// Whether an allocation of one byte succeeds now.
 fn has_memory(alloc: Global) -> bool {
     match Vec::from_slice(alloc, &[1u8]) {
         Ok(bytes) => bytes.len() == 1,
@@ -17,17 +17,18 @@ fn has_memory(alloc: Global) -> bool {
     }
 }
 
-/// Whether 600 bytes per second are taken on the direct link, and no more.
+/// Whether just 600 bytes per second are taken on the direct link, at priorities 5 to 7.
 fn is_taken(book: &Book) -> bool {
     left(book, ONE, THREE) == [1000, 1000, 1000, 1000, 1000, 400, 400, 400]
 }
 
-/// Whether the request is refused for memory, and the book is as it was.
+/// Whether the request is refused for want of memory, and the book is as it was.
 fn is_unplaced(book: &Book, why: PlaceError) -> bool {
     why == PlaceError::Memory && book.version() == 1 && left(book, ONE, THREE) == [1000; 8]
 }
 
-/// Whether 600 bytes per second are placed, or memory is refused for good and none are.
+/// Whether 600 bytes per second are placed, at the second try if memory is there again. Also true if nothing is
+/// placed and memory is still refused.
 fn is_placed_at_last(alloc: Global, book: &mut Book) -> bool {
     match placed(alloc, book, 1, 600, b"", 5) {
         Some(Ok(_)) => return is_taken(book),
@@ -37,7 +38,7 @@ fn is_placed_at_last(alloc: Global, book: &mut Book) -> bool {
     !has_memory(alloc) || (placed(alloc, book, 1, 600, b"", 5) == Some(Ok(1)) && is_taken(book))
 }
 
-/// Where memory is refused for the book itself, the test ends.
+/// If memory is refused for the book itself, nothing is tested.
 #[test]
 fn places_while_memory_is_refused(rt: HostRuntime) {
     let alloc = rt.alloc();
@@ -48,15 +49,16 @@ fn places_while_memory_is_refused(rt: HostRuntime) {
     assert_case(&rt, "placed without memory", 0, is);
 }
 
-/// At how many priorities the batch leaves a link with less than is counted, and how many routes are
-/// lost.
+/// How many priorities of links the batch leaves with too little bandwidth, and how many placements lose their
+/// routes.
 fn told(alloc: Global, book: &Book, batch: &Batch) -> Option<(usize, usize)> {
     let over = book.over(alloc, batch).ok()?.len();
     let lost = book.lost(alloc, batch).ok()?.len();
     Some((over, lost))
 }
 
-/// Whether three priorities and one route are named, or memory is refused for good.
+/// Whether three priorities and one placement are reported, at the second try if memory is there again.
+/// Also true if memory is still refused.
 fn is_told_at_last(alloc: Global, book: &mut Book, batch: &Batch) -> bool {
     if placed(alloc, book, 1, 600, b"", 5) != Some(Ok(1)) {
         return true;
@@ -67,7 +69,7 @@ fn is_told_at_last(alloc: Global, book: &mut Book, batch: &Batch) -> bool {
     !has_memory(alloc) || told(alloc, book, batch) == Some((3, 1))
 }
 
-/// Whether the batch is absorbed and the placement released, if there is one.
+/// Whether the batch is absorbed, and the placement is released if it was placed.
 fn goes_on(alloc: Global, book: &mut Book, batch: &Batch) -> bool {
     let is_placed = placed(alloc, book, 1, 600, b"", 5) == Some(Ok(1));
     let is_absorbed = is_absorbed(book, batch);
@@ -75,12 +77,12 @@ fn goes_on(alloc: Global, book: &mut Book, batch: &Batch) -> bool {
     is_absorbed && is_released == is_placed && left(book, ONE, THREE) == [599; 8]
 }
 
-/// The batch that puts the direct link of group 1 with 599 bytes per second.
+/// A batch that puts the direct link in group 1, with 599 bytes per second at each priority.
 fn less(alloc: Global) -> Option<Batch> {
     batch(alloc, &[Put(ONE, THREE, 1, [599; 8])])
 }
 
-/// Where memory is refused for the book itself or the batch, the test ends.
+/// If memory is refused for the book itself or the batch, nothing is tested.
 #[test]
 fn tells_while_memory_is_refused(rt: HostRuntime) {
     let alloc = rt.alloc();

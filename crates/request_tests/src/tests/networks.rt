@@ -1,4 +1,4 @@
-//! A triangle of routers, and batches and requests over it.
+//! A triangle of routers, and batches and requests on it.
 
 use cspf_addr::{Addr, Mask, parse_hops};
 use cspf_book::{Book, PlaceError};
@@ -11,16 +11,17 @@ pub(super) const TWO: u32 = 0x0202_0202;
 
 pub(super) const THREE: u32 = 0x0303_0303;
 
-/// A change of the triangle.
+/// A change of a link or a router of the triangle.
 #[derive(Clone, Copy)]
 pub(super) enum Edit {
-    /// The link from one router to another comes, of these groups, with this bandwidth.
+    /// Puts the link from the first router to the second, in these groups, with this unreserved bandwidth.
     Put(u32, u32, u32, [u64; 8]),
-    /// The link from 1.1.1.1 to 3.3.3.3 runs to this router, to the interface of 3.3.3.3 to that one.
+    /// Puts the link from 1.1.1.1 to 3.3.3.3, but it leads to the first router given here. Its remote
+    /// address is that of the interface of 3.3.3.3 to the second router given here.
     Turn(u32, u32),
-    /// The link from one router to another goes.
+    /// Removes the link from the first router to the second.
     Drop(u32, u32),
-    /// The router has transit from now on, or has none.
+    /// Says whether the router has transit from now on.
     Node(u32, bool),
 }
 
@@ -28,7 +29,7 @@ use Edit::Put;
 
 const FREE: [u64; 8] = [1000; 8];
 
-/// A link and its reverse between each two of the routers, with 1,000 bytes per second at each priority.
+/// A link between each two routers in both directions, with 1,000 bytes per second at each priority.
 const TRIANGLE: &[Edit] = &[
     Put(ONE, TWO, 0, FREE),
     Put(TWO, ONE, 0, FREE),
@@ -38,12 +39,12 @@ const TRIANGLE: &[Edit] = &[
     Put(THREE, ONE, 0, FREE),
 ];
 
-/// The interface of the first of two routers on the link to the second.
+/// The address of the first router's interface to the second router.
 pub(super) fn interface(from: u32, to: u32) -> Addr {
     Addr::new(from.wrapping_add(to.wrapping_mul(16)))
 }
 
-/// A link from one router to another with the metric 10.
+/// A link of metric 10.
 fn link(
     from: u32,
     local: Addr,
@@ -65,7 +66,7 @@ fn link(
     .ok()
 }
 
-/// The change of the database.
+/// The edit as a change of the database.
 fn change(edit: &Edit) -> Option<Change> {
     match *edit {
         Edit::Put(from, to, groups, free) => {
@@ -101,7 +102,7 @@ fn change(edit: &Edit) -> Option<Change> {
     }
 }
 
-/// A batch of these changes, or none where memory is refused.
+/// A batch of these edits, or `None` if memory is refused.
 pub(super) fn batch(alloc: Global, edits: &[Edit]) -> Option<Batch> {
     let mut changes = Vec::new(alloc);
     for edit in edits {
@@ -110,12 +111,12 @@ pub(super) fn batch(alloc: Global, edits: &[Edit]) -> Option<Batch> {
     Some(Batch { number: 1, changes })
 }
 
-/// Whether the book's base absorbs the batch.
+/// Whether the base of the book absorbs the batch.
 pub(super) fn is_absorbed(book: &mut Book, batch: &Batch) -> bool {
     book.version() < MOST_VERSIONS && book.try_absorb(batch).is_ok()
 }
 
-/// A book over the triangle, or none where memory is refused.
+/// A book on the triangle, or `None` if memory is refused.
 pub(super) fn book(alloc: Global) -> Option<Book> {
     let batch = batch(alloc, TRIANGLE)?;
     let mut book = Book::new(alloc).ok()?;
@@ -126,7 +127,7 @@ pub(super) fn book(alloc: Global) -> Option<Book> {
     }
 }
 
-/// A request from the first router to the third at setup priority 7, along links that aren't of group 1.
+/// A request from 1.1.1.1 to 3.3.3.3 at setup priority 7, over links that aren't in group 1.
 fn request(id: u64, bandwidth: u64, hops: &[u8]) -> Option<Request> {
     let none = Mask::new(0);
     let (from, to) = (Addr::new(ONE), Addr::new(THREE));
@@ -134,8 +135,8 @@ fn request(id: u64, bandwidth: u64, hops: &[u8]) -> Option<Request> {
     Request::new(id, from, to, 7, bandwidth, Mask::new(1), none, none, hops).ok()
 }
 
-/// How many links the route has that such a request is placed along, or 0 where there is none, or why it
-/// isn't placed.
+/// Places a request made by `request`. Returns how many links its route has, 0 if there is no route, or why
+/// it isn't placed.
 pub(super) fn placed(
     alloc: Global,
     book: &mut Book,
@@ -160,7 +161,7 @@ pub(super) fn is_released(book: &mut Book, id: u64) -> bool {
     book.version() < MOST_VERSIONS && book.release(id).is_ok()
 }
 
-/// What the effective database has on the link from one router to another.
+/// The bandwidths that the effective database has left on the link from the first router to the second.
 pub(super) fn left(book: &Book, from: u32, to: u32) -> [u64; 8] {
     match book.effective().find(Addr::new(from), interface(from, to)) {
         Some(link) => link.free,

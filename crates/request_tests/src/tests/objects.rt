@@ -1,4 +1,5 @@
-//! Objects that are read, and those that are refused, cut or changed at each byte.
+//! Objects that are read or refused: whole objects, objects cut after each byte, and objects with one other
+//! byte.
 
 use super::assert_case;
 use cspf_addr::parse_hops;
@@ -24,7 +25,7 @@ const OBJECTS: [(&str, &[u8]); 7] = [
     ),
 ];
 
-/// Bytes that are refused, in hexadecimal digits, and why.
+/// Bytes that are refused, in hexadecimal digits, and the error.
 const REFUSED: [(&str, EroError); 21] = [
     ("", EroError::Short),
     ("000c14", EroError::Short),
@@ -68,7 +69,7 @@ const REFUSED: [(&str, EroError); 21] = [
     ),
 ];
 
-/// Whether an object of these digits spells the hops of this text, by both calls.
+/// Whether an object with these digits is read as the hops of this text, by `read_ero` and by `read_ero_front`.
 fn spells(alloc: Global, digits: &str, text: &[u8]) -> Result<bool, Fail> {
     let (object, hops) = (hex::decode(alloc, digits)?, Ok(parse_hops(text)?));
     Ok(read_ero(&object) == hops && read_ero_front(&object, object.len()) == hops)
@@ -83,7 +84,7 @@ fn hops_of_objects(rt: HostRuntime) -> Result<(), Fail> {
     Ok(())
 }
 
-/// Whether bytes of these digits are refused so.
+/// Whether the bytes with these digits are refused with this error.
 fn is_refused(alloc: Global, digits: &str, why: EroError) -> Result<bool, Fail> {
     let bytes = hex::decode(alloc, digits)?;
     Ok(read_ero(&bytes) == Err(why))
@@ -98,7 +99,7 @@ fn refusals(rt: HostRuntime) -> Result<(), Fail> {
     Ok(())
 }
 
-/// Whether an object is refused where it is cut at any byte.
+/// Whether the object is refused when it is cut after any of its bytes.
 fn is_refused_cut(object: &[u8]) -> bool {
     for size in 0..object.len() {
         let why = if size < 4 {
@@ -122,7 +123,7 @@ fn cut_objects(rt: HostRuntime) -> Result<(), Fail> {
     Ok(())
 }
 
-/// Why an object of one strict hop is refused with this byte at this offset.
+/// The error of an object of one strict hop that has this byte at this offset, or `None` if it is read.
 fn refusal_of_one(at: usize, byte: u8) -> Option<EroError> {
     match (at, byte) {
         (0, 0) | (1, 12) | (2, 20) | (3, 1) | (4, 1 | 129) | (5, 8) | (10, 0..=32) => None,
@@ -138,7 +139,7 @@ fn refusal_of_one(at: usize, byte: u8) -> Option<EroError> {
     }
 }
 
-/// Whether the object is answered so with each byte at this offset.
+/// Whether the object is read or refused as `refusal_of_one` says, for each byte at this offset.
 fn is_answered_at(at: usize) -> bool {
     for byte in 0..=255 {
         let mut bytes = *b"\x00\x0c\x14\x01\x01\x08\x0a\x00\x0c\x02\x20\x00";
@@ -159,12 +160,12 @@ fn each_value_of_each_byte(rt: HostRuntime) {
     }
 }
 
-/// Whether the first bytes of an object of this length are refused so.
+/// Whether an object of `length` bytes that begins with `front` is refused with this error.
 fn is_long_refused(front: &[u8; FIRST_BYTES], length: usize, why: EroError) -> bool {
     read_ero_front(front, length) == Err(why)
 }
 
-/// The first bytes of an object of many hops, with one byte in place of another.
+/// The first bytes of an object of many hops, with `byte` at the offset `at`.
 fn front_with(at: usize, byte: u8) -> [u8; FIRST_BYTES] {
     let mut bytes = [0; FIRST_BYTES];
     let (header, body) = bytes.split_at_mut(4);
@@ -178,7 +179,7 @@ fn front_with(at: usize, byte: u8) -> [u8; FIRST_BYTES] {
     bytes
 }
 
-/// What comes after the first `FIRST_BYTES` of an object changes nothing of what is answered.
+/// The bytes of an object after its first `FIRST_BYTES` don't change the answer.
 #[test]
 fn first_bytes_of_long_objects(rt: HostRuntime) {
     let same = front_with(3, 1);

@@ -1,4 +1,4 @@
-//! Placements on the triangle: what they take, what they leave, and what they give back.
+//! Placements on the triangle: the bandwidth that they take, what is left, and what a release gives back.
 
 use super::assert_case;
 use super::networks::{ONE, THREE, TWO, book, interface, is_released, left, placed};
@@ -6,18 +6,19 @@ use cspf_addr::Addr;
 use cspf_book::{Book, PlaceError};
 use std::alloc::Global;
 
-/// What is asked of a book.
+/// A step of a test, with the answer that is wanted.
 #[derive(Clone, Copy)]
 enum Step {
-    /// The id, the bandwidth and the holding priority, and how many links the route has, or 0.
+    /// Places a request with this id, bandwidth and holding priority. Its route has this many links, or 0 if there
+    /// is no route.
     Place(u64, u64, u8, usize),
-    /// The id, and whether there is a placement with it.
+    /// Releases the placement with this id. The flag says whether there is such a placement.
     Release(u64, bool),
 }
 
 use Step::{Place, Release};
 
-/// A step, and what is left on the direct link after it.
+/// A step, and the bandwidths that are left on the direct link after it.
 type Case = (Step, [u64; 8]);
 
 const THIRD_TAKES_LONGER_WAY: &[Case] = &[
@@ -39,8 +40,8 @@ const THIRD_TAKES_LONGER_WAY: &[Case] = &[
     ),
 ];
 
-/// Its own bandwidth isn't counted against a request that moves. What doesn't fit leaves the earlier
-/// placement.
+/// A request that is placed again may use the bandwidth of its earlier placement. If it doesn't fit, the earlier
+/// placement stays.
 const MOVES_AND_RELEASES: &[Case] = &[
     (
         Place(1, 600, 5, 1),
@@ -70,7 +71,7 @@ const MOVES_AND_RELEASES: &[Case] = &[
     (Release(1, false), [1000; 8]),
 ];
 
-/// Whether the book answers to the step as it says.
+/// Whether the book gives the wanted answer to the step.
 fn is_answer(alloc: Global, book: &mut Book, step: Step) -> bool {
     match step {
         Place(id, bandwidth, hold, links) => {
@@ -80,7 +81,7 @@ fn is_answer(alloc: Global, book: &mut Book, step: Step) -> bool {
     }
 }
 
-/// Whether it answers so to each step.
+/// Whether the book gives the wanted answer to each step, and has left the bandwidths beside it.
 fn are_answers(alloc: Global, book: &mut Book, cases: &[Case]) -> bool {
     for (step, free) in cases {
         if !is_answer(alloc, book, *step) || left(book, ONE, THREE) != *free {
@@ -90,7 +91,7 @@ fn are_answers(alloc: Global, book: &mut Book, cases: &[Case]) -> bool {
     true
 }
 
-/// Whether a book of these cases has this many placements then, at this version.
+/// Whether the steps are answered as wanted, and the book then has this many placements and this version.
 fn is_book_of(alloc: Global, cases: &[Case], placements: usize, version: u32) -> bool {
     match book(alloc) {
         Some(mut book) => {
@@ -113,8 +114,8 @@ fn moves_and_releases(rt: HostRuntime) {
     assert_case(&rt, "moves and releases", 0, is);
 }
 
-/// Whether 700 bytes per second through 2.2.2.2, held at priority 4, are counted on both links at 4 and
-/// 255, and not at 3.
+/// Whether 700 bytes per second, placed through 2.2.2.2 at holding priority 4, are counted on both links at
+/// priorities from 4 on, also at 255, but not at 3.
 fn is_counted(alloc: Global, book: &mut Book) -> bool {
     let is_placed = placed(alloc, book, 1, 700, b"2.2.2.2/32s", 4) == Some(Ok(2));
     let first = Addr::new(ONE);
@@ -136,7 +137,7 @@ fn counted_along_route(rt: HostRuntime) {
     assert_case(&rt, "counted", 0, is);
 }
 
-/// Whether a route to 3.3.3.3, back to 1.1.1.1, and to 3.3.3.3 again is refused.
+/// Whether a route is refused that goes to 3.3.3.3, back to 1.1.1.1, and to 3.3.3.3 again.
 fn is_refused(alloc: Global, book: &mut Book) -> bool {
     let why = placed(alloc, book, 1, 600, b"3.3.3.3/32s 1.1.1.1/32s", 7);
     why == Some(Err(PlaceError::Twice))

@@ -1,10 +1,10 @@
-//! Prefixes that are read, refused and written, and the addresses that they cover.
+//! Prefixes that are read, refused or written, and the addresses that they cover.
 
 use super::{assert_case, is_text};
 use cspf_addr::{Addr, Prefix, PrefixError};
 use std::alloc::Global;
 
-// Whether a text is that of the prefix of this length of the address.
+// Whether the text is read as the prefix of this address and length.
 fn is_read(text: &[u8], address: u32, length: u8) -> bool {
     match Prefix::parse(text) {
         Ok(prefix) => {
@@ -14,14 +14,14 @@ fn is_read(text: &[u8], address: u32, length: u8) -> bool {
     }
 }
 
-// Whether the prefixes cover each address, and those from 10.9.0.0 to 10.9.255.255.
+// Whether `all` covers the last address, and `site` covers 10.9.255.255 but not 10.10.0.0.
 fn are_covering(all: Prefix, site: Prefix) -> bool {
     all.covers(Addr::new(u32::MAX))
         && site.covers(Addr::new(0x0a09_ffff))
         && !site.covers(Addr::new(0x0a0a_0000))
 }
 
-// Whether the prefixes are those of the lengths 0 and 16, and the first is written.
+// Whether `all` is written as 0.0.0.0/0, `site` has the address 10.9.0.0, and both cover what they should.
 fn are_prefixes(alloc: Global, all: Prefix, site: Prefix) -> bool {
     is_text(all.text(alloc), "0.0.0.0/0")
         && site.address() == Addr::new(0x0a09_0000)
@@ -39,7 +39,7 @@ fn prefixes_of_addresses(rt: HostRuntime) -> Result<(), PrefixError> {
     Ok(())
 }
 
-// Whether a text is refused so.
+// Whether the text is refused with this error.
 fn is_refused(text: &[u8], why: PrefixError) -> bool {
     Prefix::parse(text) == Err(why)
 }
@@ -57,7 +57,7 @@ fn texts_of_no_prefixes(rt: HostRuntime) {
     assert_case(&rt, "texts of no prefixes", 7, are_none && are_long);
 }
 
-// A length of 200 digits.
+// A text whose prefix length has 200 digits.
 const LONG: &[u8] = b"10.0.0.0/\
 9999999999999999999999999999999999999999999999999999999999999999999999999999999999999999999999999999\
 9999999999999999999999999999999999999999999999999999999999999999999999999999999999999999999999999999";

@@ -1,5 +1,5 @@
-//! Drawn networks, in which both searches answer alike, and as the trees of the network do. With marked routers, they answer as in a network
-//! without marks where no bandwidth is unreserved on the links from these.
+//! Drawn networks, in which both searches and the trees of the network have to agree. A network with marks gives the same answers as a
+//! network without marks that has no unreserved bandwidth on the links from the marked routers.
 
 ghost use Rattle.cspf_trees.specs.Trees.{AreTreesOf};
 
@@ -11,7 +11,7 @@ use cspf_trees::{MOST_TREES, Trees};
 use std::alloc::{AllocError, Global};
 use std::test::Fail;
 
-// A metric, in a network of a kind: from 0 to 3, so that routes tie; all 1; or from 1 to 1,000.
+// A metric, by the kind of the network: from 0 to 3, so that routes tie; always 1; or from 1 to 1,000.
 fn drawn_metric(seed: &mut u32, kind: u32) -> u32 {
     match kind {
         0 => draw(seed) % 4,
@@ -20,14 +20,14 @@ fn drawn_metric(seed: &mut u32, kind: u32) -> u32 {
     }
 }
 
-// A link over two interfaces, in a network of a kind, that has unreserved bandwidth or not.
+// A link over two interfaces. One in eight has no unreserved bandwidth.
 fn drawn_link(seed: &mut u32, kind: u32, from: (u32, u32), to: (u32, u32)) -> Row {
     let metric = drawn_metric(seed, kind);
     let free = if draw(seed) % 8 == 0 { 0 } else { 1000 };
     (router(from.0), from.1, router(to.0), to.1, metric, free)
 }
 
-// A network of 12 routers with 24 links and the reverses of all but some of them.
+// A network of 12 routers: 24 links, and the reverses of most of them.
 fn drawn(alloc: Global, seed: &mut u32) -> Result<Vec<Row>, Fail> {
     let kind = draw(seed) % 3;
     let mut rows = Vec::new(alloc);
@@ -44,7 +44,7 @@ fn drawn(alloc: Global, seed: &mut u32) -> Result<Vec<Row>, Fail> {
     Ok(rows)
 }
 
-// One to three marked routers in a third of the networks, and none in the others.
+// One to three marked routers in a third of the networks, and no marked routers in the others.
 fn drawn_marks(alloc: Global, seed: &mut u32) -> Result<Vec<u32>, AllocError> {
     let mut marks = Vec::new(alloc);
     let most = if draw(seed) % 3 == 0 {
@@ -61,9 +61,9 @@ fn drawn_marks(alloc: Global, seed: &mut u32) -> Result<Vec<u32>, AllocError> {
     Ok(marks)
 }
 
-// The network without marks in which requests from a router, or from any that isn't marked where it is
-// 0, are answered as in the one with these marks. No bandwidth is unreserved on the links from other
-// marked routers, nor on those back to this one.
+// A table without marks that answers requests from `from` as the network with these marks does. It has no
+// unreserved bandwidth on the links from other marked routers, nor on those to `from`. With 0 for `from` it
+// answers the requests from all unmarked routers.
 fn unmarked(alloc: Global, rows: &[Row], marks: &[u32], from: u32) -> Result<Table, Fail> {
     let mut open = Vec::new(alloc);
     for row in rows {
@@ -90,14 +90,14 @@ const HOPS: [&[u8]; 6] = [
     b"0.0.1.0/24l 10.0.0.1/32l 10.0.0.0/28s",
 ];
 
-// A request between two routers, with these hops.
+// A request between two drawn routers, with these hops.
 fn drawn_request(seed: &mut u32, hops: &[u8]) -> Result<Request, Fail> {
     let from = draw(seed) % 12;
     let to = from + 1 + draw(seed) % 11;
     request((router(from), router(to)), 0, (0, 0, 0), hops)
 }
 
-// A network, its marked routers, and tables of it with these marks and without.
+// A network, its marked routers, its table with the marks, and its table without marks, made by `unmarked`.
 #[derive(Drop)]
 struct DrawnNetwork {
     rows: Vec<Row>,
@@ -119,7 +119,7 @@ fn drawn_network(alloc: Global, seed: &mut u32) -> Result<DrawnNetwork, Fail> {
     })
 }
 
-// What a request is answered in a network without marks.
+// The answer of the table without marks.
 fn without_marks(
     alloc: Global,
     network: &DrawnNetwork,
@@ -134,7 +134,7 @@ fn without_marks(
     }
 }
 
-// Asks trees six times for a request without its hops, so that its class has a tree.
+// Asks the trees six times for the request without its hops, so that its class gets a tree.
 fn ask_without_hops(
     alloc: Global,
     table: &Table,
@@ -151,7 +151,7 @@ fn ask_without_hops(
     Ok(())
 }
 
-// A failure, unless trees answer a request this outcome, three times.
+// Fails unless the trees answer the request with this outcome, three times.
 fn check_asks(
     alloc: Global,
     table: &Table,
@@ -169,7 +169,8 @@ fn check_asks(
     Ok(())
 }
 
-// The same, before its class has a tree and then by it.
+// Fails unless the trees answer the request with this outcome three times before its class has a tree, and
+// three times afterwards.
 fn check_trees(
     alloc: Global,
     table: &Table,
@@ -185,8 +186,8 @@ fn check_trees(
     check_asks(alloc, table, request, outcome, trees)
 }
 
-// Whether a request has a route, by the trees of the network too. Where there are marks, it is the one
-// without them.
+// Whether a request has a route. Fails unless the trees give the same answer. If the network has marks, the
+// table without marks has to give the same answer as well.
 fn has_route(
     alloc: Global,
     network: &DrawnNetwork,
@@ -207,7 +208,7 @@ fn has_route(
     Ok(matches!(outcome, Outcome::Route(_)))
 }
 
-// How many of 16 requests in a network have a route. The trees are those of the network before.
+// How many of 16 requests in a network have a route. `trees` is cleared first.
 fn drawn_routes(alloc: Global, seed: &mut u32, trees: &mut Trees) -> Result<u32, Fail> {
     let network = drawn_network(alloc, seed)?;
     trees.clear();
@@ -221,7 +222,7 @@ fn drawn_routes(alloc: Global, seed: &mut u32, trees: &mut Trees) -> Result<u32,
     Ok(routes)
 }
 
-// Both searches and trees answer 2,000 requests, some of them in networks with marked routers.
+// In 125 networks, some with marked routers, both searches and the trees give the same answers to 2,000 requests.
 #[test]
 fn drawn_networks(rt: HostRuntime) -> Result<(), Fail> {
     let mut seed = 2463534242;

@@ -1,5 +1,6 @@
-//! Requests whose legs are answered in turn, each by the tree of its own tail-end: small networks with known
-//! routes, and drawn ones in which the plain search answers alike.
+//! Requests whose legs are answered one after the other, each by a tree to the router of its hop. Some are
+//! asked in small networks with known routes, others in drawn ones, where the search by rounds has to
+//! agree.
 
 ghost use Rattle.std.specs.Prelude.{◌+◌, ◌<◌};
 
@@ -12,7 +13,7 @@ use cspf_trees::TreeTable;
 use std::alloc::Global;
 use std::test::Fail;
 
-// From ONE to FOUR by TWO at a cost of 2, and by THREE at one of 4. The link between TWO and THREE has no
+// ONE reaches FOUR by TWO at a cost of 2, and by THREE at a cost of 4. The link between TWO and THREE has no
 // unreserved bandwidth.
 const SQUARE: [Row; 5] = [
     (ONE, 0x0a00_0c01, TWO, 0x0a00_0c02, 1, 1000),
@@ -26,10 +27,10 @@ const BY_TWO: &[u32] = &[0x0a00_0c02, 0x0a00_1804];
 
 const BY_THREE: &[u32] = &[0x0a00_0d03, 0x0a00_2204];
 
-// By TWO to FOUR, to THREE and back.
+// The route by TWO to FOUR, on to THREE and back to FOUR.
 const ROUND: &[u32] = &[0x0a00_0c02, 0x0a00_1804, 0x0a00_2203, 0x0a00_2204];
 
-// By TWO, back to ONE, and by THREE.
+// The route to TWO, back to ONE, and by THREE to FOUR.
 const BACK: &[u32] = &[0x0a00_0c02, 0x0a00_0c01, 0x0a00_0d03, 0x0a00_2204];
 
 const SEVEN: &[u8] =
@@ -47,7 +48,7 @@ const CASES: [Case; 22] = [
         b"2.2.2.2/32l 3.3.3.3/32l",
         Again(6, ROUND),
     ),
-    // two hops of one router in a row, and hops at both ends
+    // two hops in a row that one router meets, and hops that the head-end or the tail-end meets
     (
         &[],
         (ONE, FOUR),
@@ -68,18 +69,18 @@ const CASES: [Case; 22] = [
         Again(6, ROUND),
     ),
     (&[], (ONE, FOUR), SEVEN, Route(2, BY_TWO)),
-    // back to the head-end
+    // the route goes back to the head-end
     (
         &[],
         (ONE, FOUR),
         b"2.2.2.2/32l 1.1.1.1/32l",
         Again(4, &[0x0a00_0c02, 0x0a00_0c01, 0x0a00_0c02, 0x0a00_1804]),
     ),
-    // marked routers between two legs
+    // two legs that meet at a marked router
     (&[TWO], (ONE, FOUR), b"2.2.2.2/32l", NoRoute),
     (&[ONE], (ONE, FOUR), b"2.2.2.2/32l 1.1.1.1/32l", NoRoute),
     (&[FOUR], (ONE, FOUR), b"4.4.4.4/32l 3.3.3.3/32l", NoRoute),
-    // marked ends
+    // a marked head-end or tail-end
     (
         &[ONE],
         (ONE, FOUR),
@@ -93,29 +94,29 @@ const CASES: [Case; 22] = [
         b"3.3.3.3/32l 4.4.4.4/32l 10.0.34.4/32l",
         Route(4, BY_THREE),
     ),
-    // strict hops, with a usable link and without
+    // strict hops that a usable link leads to, and strict hops without such a link
     (&[], (ONE, FOUR), b"3.3.3.3/32s", Route(4, BY_THREE)),
     (&[], (ONE, FOUR), b"2.2.2.2/32l 3.3.3.3/32s", NoRoute),
-    // hops of two routers, and of none
+    // hops that two routers meet, and a hop that no router meets
     (&[], (ONE, FOUR), b"2.0.0.0/7l", Route(2, BY_TWO)),
     (&[TWO], (ONE, FOUR), b"2.0.0.0/7l", Route(4, BY_THREE)),
     (&[], (ONE, FOUR), b"9.9.9.9/32l", NoRoute),
 ];
 
-// The link of the other direction, with the same metric and unreserved bandwidth.
+// The link in the other direction, with the same metric and unreserved bandwidth.
 fn back(row: &Row) -> Row {
     let (from, local, to, remote, metric, free) = *row;
     (to, remote, from, local, metric, free)
 }
 
-// A table with trees, after changes, which fit.
+// A table with trees after these changes, all of which fit.
 fn table_after(alloc: Global, changes: Vec<Change>) -> Result<TreeTable, Fail> {
     let mut table = TreeTable::new(alloc)?;
     table.try_absorb(&Batch { number: 1, changes })?;
     Ok(table)
 }
 
-// The square with these marked routers.
+// A table of `SQUARE` in which these routers are marked.
 fn square(alloc: Global, marks: &[u32]) -> Result<TreeTable, Fail> {
     let mut changes = Vec::new(alloc);
     for row in &SQUARE {
@@ -128,7 +129,7 @@ fn square(alloc: Global, marks: &[u32]) -> Result<TreeTable, Fail> {
     table_after(alloc, changes)
 }
 
-// Whether a case's request is answered as it says, nine times. Trees are grown at the sixth.
+// Whether a case's request has the wanted answer nine times. A tree is grown at the sixth time.
 fn holds(alloc: Global, case: &Case) -> Result<bool, Fail> {
     let (marks, ends, hops, wanted) = *case;
     let mut table = square(alloc, marks)?;
@@ -150,13 +151,13 @@ fn legs_in_a_square(rt: HostRuntime) -> Result<(), Fail> {
     Ok(())
 }
 
-// Puts an interface with the address of a hop at a router, on a link that no request may take.
+// Puts a link from the router to FOUR. No request can use it, but its interface has the address of a hop.
 fn put(router: u32, free: u64) -> Result<Change, Fail> {
     let row = (router, 0x0a00_6301, FOUR, 0x0a00_6302, 1, free);
     Ok(Change::Put(link(&row)?))
 }
 
-// Takes it out.
+// Removes the link of `put`.
 fn out(router: u32) -> Change {
     Change::Remove {
         from: Addr::new(router),
@@ -164,7 +165,8 @@ fn out(router: u32) -> Change {
     }
 }
 
-// One table answers for a hop at TWO, then at TWO and THREE, at THREE, at TWO again, and at none.
+// One table answers the same request while its hop is at TWO, at TWO and THREE, at THREE, at TWO again, and at
+// no router.
 #[test]
 fn hop_that_moves(rt: HostRuntime) -> Result<(), Fail> {
     let alloc = rt.alloc();
@@ -189,7 +191,7 @@ fn hop_that_moves(rt: HostRuntime) -> Result<(), Fail> {
     Ok(())
 }
 
-// The next of a row of numbers that look drawn, below a number.
+// The next pseudo-random number below `below`.
 fn draw(seed: &mut u32, below: u32) -> u32
     requires { 0 < below }
     ensures { result < below }
@@ -198,12 +200,13 @@ fn draw(seed: &mut u32, below: u32) -> u32
     (*seed >> 8) % below
 }
 
-// One of ten routers.
+// The address of one of ten routers.
 fn drawn_router(seed: &mut u32) -> u32 {
     0x0a00_0001 + draw(seed, 10)
 }
 
-// A link over interfaces of its own, with a metric from 0 to 2. It has unreserved bandwidth or not.
+// A link between drawn routers, with a metric from 0 to 2. Some have no unreserved bandwidth. No other link
+// has its interfaces.
 fn drawn_row(seed: &mut u32, number: u32) -> Row
     requires { number < 100 }
 {
@@ -222,7 +225,7 @@ fn drawn_row(seed: &mut u32, number: u32) -> Row
     )
 }
 
-// A network of 20 links and most of their reverses, with at most two marked routers.
+// A table of 20 links and most of their reverses, with at most two marked routers.
 fn drawn_table(alloc: Global, seed: &mut u32) -> Result<TreeTable, Fail> {
     let mut changes = Vec::new(alloc);
     for number in 0..20 {
@@ -239,7 +242,7 @@ fn drawn_table(alloc: Global, seed: &mut u32) -> Result<TreeTable, Fail> {
     table_after(alloc, changes)
 }
 
-// An address of one router: that of an interface, the head-end, the tail-end, the one before, or a router.
+// The address of an interface, of the head-end, of the tail-end, of the hop before, or of a router.
 fn drawn_address(seed: &mut u32, ends: (u32, u32), before: u32) -> u32 {
     match draw(seed, 8) {
         0 => 0x0a01_0000 + draw(seed, 40),
@@ -250,7 +253,7 @@ fn drawn_address(seed: &mut u32, ends: (u32, u32), before: u32) -> u32 {
     }
 }
 
-// One to seven hops. One in twenty is strict, and one in twenty has up to four routers.
+// One to seven hops. One in twenty is strict. One in twenty has a prefix of 30 bits, so up to four routers meet it.
 fn drawn_hops(seed: &mut u32, ends: (u32, u32)) -> Result<Hops, Fail> {
     let mut hops = Hops::none();
     let mut address = ends.0;
@@ -266,7 +269,7 @@ fn drawn_hops(seed: &mut u32, ends: (u32, u32)) -> Result<Hops, Fail> {
     Ok(hops)
 }
 
-// A request with hops, of one of two classes for each tail-end.
+// A request with hops. Its include-any mask is 0 or 0x2, so each tail-end has two classes of requests.
 fn drawn_request(seed: &mut u32) -> Result<Request, Fail> {
     let from = draw(seed, 10);
     let to = (from + 1 + draw(seed, 9)) % 10;
@@ -277,7 +280,7 @@ fn drawn_request(seed: &mut u32) -> Result<Request, Fail> {
     Ok(Request::new(1, from, to, 0, 1000, none, any, none, hops)?)
 }
 
-// What a request is answered by rounds, and three times by trees.
+// The answer of the search by rounds. Fails unless the trees give the same answer three times.
 fn answered_alike(
     alloc: Global,
     table: &mut TreeTable,
@@ -291,7 +294,7 @@ fn answered_alike(
     Ok(outcome)
 }
 
-// How many of 40 requests in a network have a route.
+// How many of 40 requests in a drawn network have a route.
 fn routes_by_legs(alloc: Global, seed: &mut u32) -> Result<u32, Fail> {
     let mut table = drawn_table(alloc, seed)?;
     let mut routes = 0u32;
@@ -303,7 +306,7 @@ fn routes_by_legs(alloc: Global, seed: &mut u32) -> Result<u32, Fail> {
     Ok(routes)
 }
 
-// Rounds and trees answer 2,000 requests alike.
+// In 50 networks, rounds and trees give the same answers to 2,000 requests.
 #[test]
 fn legs_in_drawn_networks(rt: HostRuntime) -> Result<(), Fail> {
     let mut seed = 2463534242;

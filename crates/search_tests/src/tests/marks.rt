@@ -7,7 +7,7 @@ use super::{
 };
 use std::test::Fail;
 
-// From ONE to FOUR by TWO at a cost of 2, and by THREE at one of 4.
+// ONE reaches FOUR by TWO at a cost of 2, and by THREE at a cost of 4.
 const SQUARE: &[Row] = &[
     (ONE, 0x0a00_0c01, TWO, 0x0a00_0c02, 1, 1000),
     (TWO, 0x0a00_1802, FOUR, 0x0a00_1804, 1, 1000),
@@ -19,10 +19,10 @@ const BY_TWO: &[u32] = &[0x0a00_0c02, 0x0a00_1804];
 
 const BY_THREE: &[u32] = &[0x0a00_0d03, 0x0a00_2204];
 
-// An address that no link has.
+// The address of no router.
 const NINE: u32 = 0x0909_0909;
 
-// Empty legs at the head-end and at the tail-end.
+// Hops that make empty legs at the head-end and at the tail-end.
 const ENDS: &[u8] = b"1.1.1.1/32l 0.0.0.0/0s 1.1.1.1/32s 4.4.4.4/32l 0.0.0.0/0s";
 
 const ROUND: &[Case] = &[
@@ -36,27 +36,27 @@ const ROUND: &[Case] = &[
     (&[ONE, TWO, FOUR], (ONE, FOUR), b"", Route(4, BY_THREE)),
     (&[TWO, THREE], (ONE, FOUR), b"", NoRoute),
     (&[ONE, TWO, THREE, FOUR], (ONE, FOUR), b"", NoRoute),
-    // a link from a marked head-end to a marked tail-end
+    // a marked head-end with a link to a marked tail-end
     (
         &[ONE, TWO, THREE, FOUR],
         (ONE, TWO),
         b"",
         Route(1, &[0x0a00_0c02]),
     ),
-    // a hop that a marked router alone meets, and one that others meet too
+    // a hop that only a marked router meets, and a hop that another router meets too
     (&[TWO], (ONE, FOUR), b"2.2.2.2/32l", NoRoute),
     (&[THREE], (ONE, FOUR), b"2.2.2.2/32l", Route(2, BY_TWO)),
     (&[ONE, FOUR], (ONE, FOUR), b"2.2.2.2/32l", Route(2, BY_TWO)),
     (&[TWO], (ONE, FOUR), b"2.0.0.0/7l", Route(4, BY_THREE)),
     (&[ONE, FOUR], (ONE, FOUR), ENDS, Route(2, BY_TWO)),
     (&[ONE, TWO, FOUR], (ONE, FOUR), ENDS, Route(4, BY_THREE)),
-    // marks of addresses that no link has make no routers
+    // a mark on an address without links makes no router
     (&[TWO, NINE], (NINE, ONE), b"", UnknownFrom),
     (&[TWO, NINE], (ONE, NINE), b"", UnknownTo),
 ];
 
-// From ONE to FOUR by TWO and by THREE at the same cost, but nothing is unreserved to THREE. So the
-// bounds of a tree fall by just the metric over the links by TWO, even where TWO is marked.
+// ONE reaches FOUR by TWO and by THREE at the same cost, but no bandwidth is unreserved on the link to THREE.
+// So along the links by TWO the bounds of a tree fall by exactly the metric, even if TWO is marked.
 const EQUAL: &[Row] = &[
     (ONE, 0x0a00_0c01, TWO, 0x0a00_0c02, 1, 1000),
     (TWO, 0x0a00_1802, FOUR, 0x0a00_1804, 1, 1000),
@@ -77,10 +77,10 @@ fn routes_round_marked_routers(rt: HostRuntime) -> Result<(), Fail> {
 
 const BY_HOP: &[u8] = b"2.2.2.2/32l";
 
-// The least way by the hop comes back through the head-end, whether or not the tail-end is marked.
+// The least route by the hop comes back through the head-end, whether or not the tail-end is marked.
 const BACK: &[u32] = &[0x0a00_0c02, 0x0a00_0c01, 0x0a00_0d03];
 
-// Links from ONE to TWO and back, and from both to THREE, at two metrics. Then a network in which the
+// Links from ONE to TWO and back, and from both to THREE, with two choices of metrics. In the last network the
 // only way by the hop goes through the tail-end and comes back to it.
 const WAYS_BACK: [Network; 5] = [
     (
@@ -103,7 +103,7 @@ const WAYS_BACK: [Network; 5] = [
             (&[TWO], (ONE, THREE), BY_HOP, NoRoute),
         ],
     ),
-    // without the other way there is none
+    // without the link from TWO to THREE there is no route
     (
         &[
             (ONE, 0x0a00_0c01, TWO, 0x0a00_0c02, 0, 1000),
@@ -136,7 +136,7 @@ const WAYS_BACK: [Network; 5] = [
             (&[TWO], (ONE, THREE), BY_HOP, NoRoute),
         ],
     ),
-    // without the other way there is none
+    // without the link from TWO to THREE there is no route
     (
         &[
             (ONE, 0x0a00_0c01, TWO, 0x0a00_0c02, 1, 1000),
@@ -174,7 +174,7 @@ fn ways_back_to_the_ends(rt: HostRuntime) -> Result<(), Fail> {
     assert_networks(&rt, rt.alloc(), &WAYS_BACK)
 }
 
-// A mark that is taken away is gone.
+// A router whose mark is removed has transit again.
 #[test]
 fn marks_that_go(rt: HostRuntime) -> Result<(), Fail> {
     let alloc = rt.alloc();

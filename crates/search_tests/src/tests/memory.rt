@@ -1,5 +1,5 @@
-//! Trees while memory is refused: each request is answered in full or that memory is refused, and in
-//! full once there is memory again.
+//! Trees while memory is refused: each request gets its answer, or the error that memory is refused. Once
+//! there is memory again, it gets its answer.
 
 ghost use Rattle.cspf_trees.specs.Trees.{AreTreesOf};
 
@@ -10,7 +10,7 @@ use cspf_trees::{MOST_TREES, Trees};
 use std::alloc::{AllocError, Global};
 use std::test::Fail;
 
-// Whether memory is given now.
+// Whether an allocation of one byte succeeds now.
 fn has_memory(alloc: Global) -> bool {
     match Vec::from_slice(alloc, &[1u8]) {
         Ok(bytes) => bytes.len() == 1,
@@ -18,7 +18,7 @@ fn has_memory(alloc: Global) -> bool {
     }
 }
 
-// Whether nine asks for a route over the link are answered it. A tree is grown at the sixth.
+// Whether the request gets the route over the link nine times. A tree is grown at the sixth time.
 fn are_routes(
     alloc: Global,
     table: &Table,
@@ -35,7 +35,7 @@ fn are_routes(
     Ok(all)
 }
 
-// The same, after these changes.
+// Whether the request gets this route nine times in a new table after these changes, with new trees.
 fn are_routes_after(
     alloc: Global,
     changes: &[Change],

@@ -1,4 +1,4 @@
-//! Answers in small networks: ties, reverses, unknown ends, priorities, affinities and hops.
+//! Answers in small networks: ties, reverses, unknown head-ends and tail-ends, priorities, affinities and hops.
 
 use super::Wanted::{Again, NoRoute, Route, UnknownFrom, UnknownTo};
 use super::{
@@ -14,8 +14,8 @@ use std::test::Fail;
 // A link from ONE to TWO.
 const LINK: Row = (ONE, 0x0a00_0c01, TWO, 0x0a00_0c02, 10, 1000);
 
-// Links that tie: addresses compare as numbers, fewer links go before smaller addresses, and the first
-// address decides, and not the last.
+// Routes of equal cost. Addresses compare as numbers. Fewer links go before smaller addresses. The first address
+// that differs decides, not the last.
 const TIES: [Network; 3] = [
     (
         &[
@@ -55,7 +55,7 @@ const SEVEN: &[u8] =
     b"0.0.0.0/0l 0.0.0.0/0l 0.0.0.0/0l 0.0.0.0/0l 0.0.0.0/0l 0.0.0.0/0l 0.0.0.0/0l";
 
 const LINKS: [Network; 9] = [
-    // links of no cost
+    // links of metric 0
     (
         &[
             (ONE, 0x0a00_0c01, TWO, 0x0a00_0c02, 0, 1000),
@@ -74,18 +74,19 @@ const LINKS: [Network; 9] = [
         &[LINK],
         true,
         &[
-            // seven hops that each router meets change nothing
+            // seven hops that every router meets change nothing
             (&[], (ONE, TWO), SEVEN, Route(10, &[0x0a00_0c02])),
-            // nothing is unreserved on the link back
+            // no bandwidth is unreserved on the reverse
             (&[], (TWO, ONE), b"", NoRoute),
-            // an unknown head-end comes before an unknown tail-end
+            // an unknown head-end is reported before an unknown tail-end
             (&[], (THREE, FOUR), b"", UnknownFrom),
             (&[], (ONE, FOUR), b"", UnknownTo),
         ],
     ),
-    // no reverse
+    // a link without a reverse
     (&[LINK], false, &[(&[], (ONE, TWO), b"", NoRoute)]),
-    // links back by another interface at one end or at both, and one to another router
+    // a link back isn't the reverse if it uses other interfaces at one end or at both, or leads to another
+    // router
     (
         &[LINK, (TWO, 0x0a00_0d02, ONE, 0x0a00_0d01, 10, 1000)],
         false,
@@ -106,7 +107,7 @@ const LINKS: [Network; 9] = [
         false,
         &[(&[], (ONE, TWO), b"", NoRoute)],
     ),
-    // whatever the reverse's metric and bandwidth
+    // a reverse, whatever its metric and bandwidth
     (
         &[LINK, (TWO, 0x0a00_0c02, ONE, 0x0a00_0c01, 10, 1000)],
         false,
@@ -124,7 +125,8 @@ fn links_and_reverses(rt: HostRuntime) -> Result<(), Fail> {
     assert_networks(&rt, rt.alloc(), &LINKS)
 }
 
-// A strict leg may stand at both routers that the prefix covers, and at no third one.
+// The route through the strict hop 10.9.0.0/16. Its leg may use both routers that the prefix covers, and no
+// other.
 const STRICT: &[u32] = &[0x0a00_0302, 0x0a00_0601, 0x0a00_0504];
 
 const HOPS: [Network; 3] = [
@@ -146,7 +148,7 @@ const HOPS: [Network; 3] = [
                 b"10.9.0.0/16l",
                 Route(3, &[0x0a00_0103, 0x0a00_0401, 0x0a00_0504]),
             ),
-            // the first leg is empty
+            // the leg of the first hop is empty
             (
                 &[],
                 (ONE, FOUR),
@@ -155,7 +157,7 @@ const HOPS: [Network; 3] = [
             ),
         ],
     ),
-    // the route is at the tail-end before the hop, and again after it
+    // the route is at the tail-end before it meets the hop, and again at its end
     (
         &[
             LINK,
@@ -170,7 +172,7 @@ const HOPS: [Network; 3] = [
             Again(30, &[0x0a00_0c02, 0x0a00_1703, 0x0a00_1702]),
         )],
     ),
-    // a router has the address of its interface on a link that the request can't use
+    // TWO owns the address of its interface to FOUR, though the request can't use that link
     (
         &[
             LINK,
@@ -192,22 +194,22 @@ fn hops(rt: HostRuntime) -> Result<(), Fail> {
     assert_networks(&rt, rt.alloc(), &HOPS)
 }
 
-// The link, and its reverse of these groups.
+// A table of the link and its reverse. The reverse has these groups.
 fn with_reverse(alloc: Global, groups: u32) -> Result<Table, Fail> {
     let (there, mut back) = (link(&LINK)?, link(&reverse(&LINK))?);
     back.group = Mask::new(groups);
     Ok(table_of(alloc, &[Change::Put(there), Change::Put(back)])?)
 }
 
-// The groups of the reverse, a setup priority and affinities, and whether there is a route.
+// The groups of the reverse, the setup priority, the three affinity masks, and whether there is a route.
 const AFFINITIES: [(u32, u8, (u32, u32, u32), bool); 8] = [
     (0x6, 0, (0, 0, 0), true),
-    // nothing is unreserved at this priority
+    // no bandwidth is unreserved at priority 7
     (0x6, 7, (0, 0, 0), false),
     (0x6, 0, (0x1, 0x2, 0x6), true),
     (0x6, 0, (0x0, 0x0, 0x7), false),
     (0x6, 0, (0x4, 0x0, 0x0), false),
-    // the reverse's groups don't count
+    // the groups of the reverse don't count
     (0x8, 0, (0x8, 0, 0), true),
     (0x8, 0, (0, 0x2, 0), true),
     (0x8, 0, (0, 0, 0x6), true),

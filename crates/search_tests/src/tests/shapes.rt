@@ -1,4 +1,4 @@
-//! Networks of seven shapes, in which trees that are grown at the first ask answer as the plain search does.
+//! Networks of seven shapes. Trees that are grown at the first request have to answer as the search by rounds does.
 
 ghost use Rattle.cspf_trees.specs.Trees.{AreTreesOf};
 
@@ -11,20 +11,21 @@ use cspf_trees::{MOST_TREES, Trees};
 use std::alloc::Global;
 use std::test::Fail;
 
-// The routers of a network.
+// How many routers a network has.
 const ROUTERS: u32 = 36;
 
-// The circuits of a network at most.
+// How many circuits a network has at most.
 const CIRCUITS: u32 = 140;
 
-// The routers at the ends of a circuit, by their numbers, in a network of a shape. Where both are one,
-// there is no such circuit.
+// The numbers of the two routers of a circuit, in a network of this shape. If both are the same, there is no such
+// circuit.
 fn circuit(seed: &mut u32, shape: u32, number: u32) -> (u32, u32) {
     match shape {
         // a ring of all routers, and circuits between any two
         0 if number < 36 => (number, (number + 1) % 36),
         0 if number < 72 => (draw(seed) % 36, draw(seed) % 36),
-        // a ring with chords, routers with two circuits each to it, and others with two each to these
+        // a ring of six routers with chords; 12 routers, each with two circuits to the ring; 18 routers,
+        // each with two circuits to those 12
         1 if number < 6 => (number, (number + 1) % 6),
         1 if number < 9 => (number - 6, number - 3),
         1 if number < 33 => (6 + (number - 9) / 2, draw(seed) % 6),
@@ -35,7 +36,7 @@ fn circuit(seed: &mut u32, shape: u32, number: u32) -> (u32, u32) {
         // a ladder
         3 if number < 34 => (number, number + 2),
         3 if number < 52 => (2 * (number - 34), 2 * (number - 34) + 1),
-        // six spines, and leaves with three circuits each
+        // six spines, and 30 leaves with three circuits each to them
         4 if number < 90 => (6 + number / 3, draw(seed) % 6),
         // a ring
         5 if number < 36 => (number, (number + 1) % 36),
@@ -45,12 +46,12 @@ fn circuit(seed: &mut u32, shape: u32, number: u32) -> (u32, u32) {
     }
 }
 
-// The address of a router by its number. Of four, two are in one prefix of 31 bits.
+// The address of a router: 10.0.0.0 to 10.0.0.35.
 fn router(number: u32) -> Addr {
     Addr::new(0x0a00_0000 + number % ROUTERS)
 }
 
-// A metric of a kind: all 1, from 0 to 3, or from 1 to 1,000.
+// A metric, by its kind: always 1, from 0 to 3, or from 1 to 1,000.
 fn metric(seed: &mut u32, kind: u32) -> u32 {
     match kind {
         0 => 1,
@@ -59,7 +60,7 @@ fn metric(seed: &mut u32, kind: u32) -> u32 {
     }
 }
 
-// A link of one or two of three groups. One of 32 has no unreserved bandwidth.
+// A link that is in one or two of three groups. One in 32 has no unreserved bandwidth.
 fn shaped_link(seed: &mut u32, kind: u32, from: (u32, u32), to: (u32, u32)) -> Result<Link, Fail> {
     let room = if draw(seed) % 32 == 0 { 0 } else { 1000 };
     let group = Mask::new(1 + draw(seed) % 3 * 2);
@@ -77,7 +78,7 @@ fn shaped_link(seed: &mut u32, kind: u32, from: (u32, u32), to: (u32, u32)) -> R
     Ok(link?)
 }
 
-// A table of a network of a shape, with metrics of a kind. In a third of them a router is marked.
+// A table of a network of this shape, with metrics of this kind. One in three has a marked router.
 fn shaped_table(alloc: Global, seed: &mut u32, shape: u32, kind: u32) -> Result<Table, Fail> {
     let mut changes = Vec::new(alloc);
     for number in 0..CIRCUITS {
@@ -99,7 +100,8 @@ fn shaped_table(alloc: Global, seed: &mut u32, shape: u32, kind: u32) -> Result<
     Ok(table_of(alloc, &changes)?)
 }
 
-// Hops of one router each, and others.
+// Lists of hops. In the first three lists each hop is met by one router, in the others a hop is met by
+// several.
 const HOPS: [&[u8]; 5] = [
     b"10.0.0.7/32l",
     b"10.0.0.7/32l 10.0.0.7/32l 10.0.0.30/32l",
@@ -108,10 +110,10 @@ const HOPS: [&[u8]; 5] = [
     b"10.0.0.0/27s",
 ];
 
-// What a request excludes, and what it includes any and all of.
+// The affinity masks of requests: exclude-any, include-any and include-all.
 const MASKS: [(u32, u32, u32); 4] = [(0, 0, 0), (0, 0, 0), (4, 0, 0), (0, 6, 1)];
 
-// A request between two routers. One of eight has hops.
+// A request between two drawn routers. One in eight has hops.
 fn shaped_request(seed: &mut u32) -> Result<Request, Fail> {
     let from = draw(seed) % ROUTERS;
     let to = from + 1 + draw(seed) % (ROUTERS - 1);
@@ -124,7 +126,8 @@ fn shaped_request(seed: &mut u32) -> Result<Request, Fail> {
     request(ends, 0, masks, hops)
 }
 
-// Whether trees answer a request as the plain search does. Where it has hops, it is asked without them first, so that its class has a tree.
+// Whether the trees answer a request as the search by rounds does. A request with hops is first asked without
+// them, so that its class has a tree.
 fn agree(alloc: Global, table: &Table, request: &Request, trees: &mut Trees) -> Result<bool, Fail>
     requires { AreTreesOf table.now trees.old }
     ensures { AreTreesOf table.now trees.new }
@@ -136,7 +139,7 @@ fn agree(alloc: Global, table: &Table, request: &Request, trees: &mut Trees) -> 
     Ok(is_same(&found, &best_by_rounds(alloc, table, request)?))
 }
 
-// How many of 200 requests in a table's network its trees answer as the plain search does.
+// How many of 200 requests the trees of the table answer as the search by rounds does.
 fn count_agreed(
     alloc: Global,
     seed: &mut u32,
@@ -156,7 +159,8 @@ fn count_agreed(
     Ok(count)
 }
 
-// The same in a network of a shape, with metrics of a kind. The trees are those of the network before.
+// How many of 200 requests the trees answer as the search by rounds does, in a new network of this shape
+// with metrics of this kind. `trees` is cleared first.
 fn agreed(
     alloc: Global,
     seed: &mut u32,
@@ -169,7 +173,7 @@ fn agreed(
     count_agreed(alloc, seed, &table, trees)
 }
 
-// Trees that are grown at the first ask answer 100,800 requests in 504 networks as the plain search does.
+// Trees that are grown at the first request answer 100,800 requests in 504 networks as the search by rounds does.
 #[test]
 fn shapes(rt: HostRuntime) -> Result<(), Fail> {
     let mut seed = 2463534242;

@@ -1,10 +1,10 @@
-//! Strict hops, with links to them and without.
+//! Strict hops that a usable link leads to, and strict hops without such a link.
 
 use super::Wanted::{NoRoute, Route};
 use super::{Case, FOUR, ONE, Row, THREE, TWO, assert_networks};
 use std::test::Fail;
 
-// From ONE to FOUR by TWO at a cost of 2, and by THREE at one of 4. The link from TWO to THREE and its
+// ONE reaches FOUR by TWO at a cost of 2, and by THREE at a cost of 4. The link from TWO to THREE and its
 // reverse have no unreserved bandwidth.
 const ROWS: &[Row] = &[
     (ONE, 0x0a00_0c01, TWO, 0x0a00_0c02, 1, 1000),
@@ -26,7 +26,7 @@ const CASES: &[Case] = &[
         b"3.3.3.3/32s 4.4.4.4/32s",
         Route(4, BY_THREE),
     ),
-    // the route stays where the hop before it ends, or where it begins
+    // the leg of a strict hop is empty if the router where the leg begins meets the hop
     (
         &[],
         (ONE, FOUR),
@@ -40,7 +40,7 @@ const CASES: &[Case] = &[
         b"0.0.0.0/0s 1.1.1.1/32s",
         Route(2, BY_TWO),
     ),
-    // the first hop may end at two routers, of which one owns the second
+    // TWO and THREE meet the first hop, and only THREE meets the second
     (
         &[],
         (ONE, FOUR),
@@ -56,7 +56,7 @@ const CASES: &[Case] = &[
         NoRoute,
     ),
     (&[], (ONE, FOUR), b"4.4.4.4/32l 1.1.1.1/32s", NoRoute),
-    // the link there has no bandwidth
+    // the link to the strict hop has no unreserved bandwidth
     (&[], (ONE, FOUR), b"2.2.2.2/32s 3.3.3.3/32s", NoRoute),
     (&[], (ONE, FOUR), b"3.3.3.3/32l 2.2.2.2/32s", NoRoute),
 ];

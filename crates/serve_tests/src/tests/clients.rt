@@ -1,4 +1,5 @@
-//! What the tests of clients share: a publisher with its batches, and a writer that takes so much.
+//! What the tests of clients share: a publisher with its batches, and a writer that takes a given
+//! number of bytes.
 
 mod closed;
 mod dialogues;
@@ -18,8 +19,9 @@ use std::process::Abort;
 use std::sync::Wait;
 use std::test::Fail;
 
-/// The batch with this number that puts a link of metric 10 with 1,000 bytes per second unreserved,
-/// from 1.1.1.1 by 10.0.12.1 to 2.2.2.2, and its reverse without any.
+/// The batch with this number. The batch puts a link of metric 10 with 1,000 bytes per second
+/// unreserved, from 1.1.1.1 by 10.0.12.1 to 2.2.2.2. The batch also puts the link's reverse, with no
+/// bandwidth.
 fn link_batch(alloc: Global, number: u32) -> Result<Batch, Fail> {
     let (from, local) = (Addr::new(0x01010101), Addr::new(0x0a000c01));
     let (to, remote) = (Addr::new(0x02020202), Addr::new(0x0a000c02));
@@ -31,8 +33,8 @@ fn link_batch(alloc: Global, number: u32) -> Result<Batch, Fail> {
     })
 }
 
-/// A publisher without a batch, and a client with these requests whose replies are taken up to `most`
-/// bytes.
+/// A publisher without a batch, and a client with these requests. The client's writer takes up to
+/// `most` bytes of replies.
 fn seated<'a, R: Wait + Abort>(
     rt: &R,
     alloc: Global,
@@ -57,12 +59,12 @@ fn seated<'a, R: Wait + Abort>(
     }
 }
 
-/// Takes bytes until it holds `most`, and then fails.
+/// A writer that takes bytes until it holds `most`, and then fails.
 #[derive(Drop)]
 struct Narrow {
     held: Vec<u8>,
     most: usize,
-    /// How often it heard that the replies had ended.
+    /// How often `end` was called.
     ends: usize,
 }
 
@@ -93,7 +95,7 @@ impl Write for Narrow {
     }
 }
 
-/// The state of a client with these requests, once batch 1 is published.
+/// The state of a client with these requests, which ran after batch 1 was published.
 fn served<R: Wait + Abort>(
     rt: &R,
     alloc: Global,
@@ -110,7 +112,7 @@ fn served<R: Wait + Abort>(
     serving.close(known)
 }
 
-/// Whether a client has these replies and this end, with so many rows refused.
+/// Whether a client ended with these replies, this end and this number of refused rows.
 fn is_left(
     left: &ServedClient<Narrow>,
     replies: &[u8],

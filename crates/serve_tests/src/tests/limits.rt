@@ -1,4 +1,4 @@
-//! The most links, marks, changes and counts of runs, long rows, and the words of refusals.
+//! The most links, marks and changes of a run, its counts, long rows, and the names of refusals.
 
 use super::scripts::is_answered;
 use cspf_model::Refusal;
@@ -20,8 +20,8 @@ fn write_put(text: &mut String, [a, b, c, d]: [u8; 4]) -> Result<(), AllocError>
     )
 }
 
-/// A script of parts: the links that are put, by the numbers of their local addresses, and the rows
-/// after them.
+/// A script made of parts. Each part puts links, by the numbers of their local addresses, and then has
+/// these rows.
 fn script_of(alloc: Global, parts: &[(u32, u32, &str)]) -> Result<String, AllocError> {
     let mut text = String::new(alloc);
     for part in parts {
@@ -33,14 +33,14 @@ fn script_of(alloc: Global, parts: &[(u32, u32, &str)]) -> Result<String, AllocE
     Ok(text)
 }
 
-/// Whether a script is answered these lines and counts.
+/// Whether a run over a script writes these lines and has these counts.
 fn is_run(alloc: Global, script: &str, lines: &str, counts: [u32; 4]) -> bool {
     let all = usize::MAX;
     is_answered(alloc, script.as_bytes(), all, all, lines.as_bytes(), counts)
 }
 
-/// A batch that is too long, four that fill the table, and one that would be too much for it until
-/// a link is taken out.
+/// A batch that is too long, then four batches that fill the table. One more link is refused, unless its
+/// batch takes a link out.
 const LINKS: [(u32, u32, &str); 7] = [
     (0, 4097, "end,1,4097\n"),
     (0, 4096, "end,1,4096\n"),
@@ -68,7 +68,7 @@ fn write_mark(text: &mut String, number: u32) -> Result<(), AllocError> {
     write!(text, "node,{a}.{b}.{c}.{d},0\n")
 }
 
-/// A batch of as many marks as are kept, one of one more, and one of one in place of another.
+/// Three batches: as many marks as a table keeps, one mark more, and one mark in place of another.
 fn script_of_marks(alloc: Global) -> Result<String, AllocError> {
     let mut text = String::new(alloc);
     for number in 0..1024 {
@@ -88,7 +88,8 @@ fn as_many_marks_as_are_kept(rt: HostRuntime) -> Result<(), AllocError> {
     Ok(())
 }
 
-/// More changes than are kept, with a wrong count, the right one, and none.
+/// More changes than a batch may have: with a wrong count, with the right count, and without an end
+/// row.
 const CHANGES: [(u32, u32, &str); 3] = [
     (0, 5000, "end,1,4097\n"),
     (0, 5000, "end,1,5000\n"),
@@ -106,7 +107,7 @@ fn counts_past_what_is_kept(rt: HostRuntime) -> Result<(), AllocError> {
     Ok(())
 }
 
-/// A number of copies of a text.
+/// Appends this many copies of a text.
 fn push_copies(text: &mut String, part: &str, count: u32) -> Result<(), AllocError> {
     for _ in 0..count {
         text.push_str(part)?;
@@ -114,7 +115,7 @@ fn push_copies(text: &mut String, part: &str, count: u32) -> Result<(), AllocErr
     Ok(())
 }
 
-/// A row of 1,001 fields, one with a number of a million digits, and an end row.
+/// A row of 1,001 fields, a row with a number of a million digits, and an end row.
 fn long_script(alloc: Global) -> Result<String, AllocError> {
     let mut text = String::new(alloc);
     push_copies(&mut text, "end,", 1000)?;
@@ -132,7 +133,7 @@ fn long_rows(rt: HostRuntime) -> Result<(), AllocError> {
     Ok(())
 }
 
-/// Whether a refusal has this word.
+/// Whether a refusal is written as this word.
 fn has_word(alloc: Global, refusal: BatchRefusal, word: &str) -> Result<bool, AllocError> {
     let found = refusal.to_string(alloc)?;
     Ok(found.as_str() == word)

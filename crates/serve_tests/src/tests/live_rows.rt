@@ -1,4 +1,4 @@
-//! Live runs: how their lines and journals fail.
+//! Live runs whose lines or whose journal fail.
 
 use super::{Narrow, bytes_of, cut, cut_bytes, numbers_of};
 use cspf_serve::{NoGate, RunError, run_live_rows};
@@ -6,11 +6,11 @@ use std::alloc::{AllocError, Global};
 use std::sync::Wait;
 use std::thread::Threads;
 
-/// The journal's text of the batch of `P`.
+/// The text that the journal gets for the batch of `P`.
 const TEXT: &[u8] =
     b"put,1.1.1.1,10.0.12.1,2.2.2.2,10.0.12.2,10,0x00000001,1000,1000,1000,1000,1000,1000,1000,1000\nend,1,1\n";
 
-/// The same, and the text of an empty batch.
+/// The texts that the journal gets for that batch and for an empty batch.
 const BOTH: &[u8] =
     b"put,1.1.1.1,10.0.12.1,2.2.2.2,10.0.12.2,10,0x00000001,1000,1000,1000,1000,1000,1000,1000,1000\nend,1,1\nend,2,0\n";
 
@@ -39,7 +39,8 @@ fn fills_up<T: Threads + Wait + Sync>(
         && BOTH.starts_with(kept.as_slice())
 }
 
-/// A fault a line: how many bytes a journal takes, the status, and the lines of two batches over it.
+/// One fault per line: how many bytes a journal takes, the status, and the lines of two batches over
+/// that journal.
 const FAULTS: &str = "\
 0 2 > applied 0|batch 1 refused: journal 0|
 5 2 > applied 0|batch 1 refused: journal 5|
@@ -49,7 +50,7 @@ const FAULTS: &str = "\
 110 0 > applied 2|
 ";
 
-/// Whether a line of the faults is answered.
+/// Whether a run has the fault of this line.
 fn has_fault<T: Threads + Wait + Sync>(
     rt: &T,
     alloc: Global,
@@ -72,8 +73,8 @@ fn faults_of_the_journal(rt: HostRuntime) -> Result<(), AllocError> {
     Ok(())
 }
 
-/// Whether a run of one batch whose writer of lines takes `most` bytes fails, with a prefix of the
-/// line written and the batch in the journal.
+/// Runs one batch with a writer of lines that takes `most` bytes. Whether the run fails, has written a
+/// prefix of the line, and has the batch in the journal.
 fn keeps_the_journal<T: Threads + Wait + Sync>(
     rt: &T,
     alloc: Global,
@@ -104,7 +105,7 @@ fn keeps_the_journal<T: Threads + Wait + Sync>(
         && b"applied 1\n".starts_with(held.as_slice())
 }
 
-/// Whatever the writer of lines takes, its fault is the run's, and the journal comes back.
+/// Whatever the writer of lines takes, its fault ends the run, and the journal is given back.
 #[test]
 fn faults_of_the_lines(rt: HostRuntime) -> Result<(), AllocError> {
     let updates = bytes_of(rt.alloc(), b"P\nend,1,1\n")?;

@@ -1,4 +1,4 @@
-//! Runs, workers and audits while memory is refused.
+//! Runs and workers while memory is refused.
 
 mod runs;
 mod workers;

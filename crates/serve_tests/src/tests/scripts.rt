@@ -4,8 +4,8 @@ use super::{Narrow, Pieces, bytes_of, copies, cut, cut_bytes, in_pieces, numbers
 use cspf_serve::{SolveError, Summary, run_solve};
 use std::alloc::{AllocError, Global};
 
-/// A script a line, unless it begins with `#`: the counts of rows, versions, answers and refusals,
-/// the rows, and the lines that they are answered.
+/// One script per line, unless the line begins with `#`. A line has the counts of rows, versions,
+/// answers and refusals, then the script's rows, and then the lines that the run writes.
 const RUNS: &str = "\
 # Nothing.
 0 0 0 0 > _ > _
@@ -86,7 +86,7 @@ fn summary_of([rows, version, answers, refused]: [u32; 4], too_many: bool) -> Su
     }
 }
 
-/// What a run over pieces of a text answers, and what its writer holds.
+/// The answer of a run over pieces of a text, and what the run's writer holds.
 fn run_pieces(
     alloc: Global,
     reader: Pieces<'_>,
@@ -125,7 +125,7 @@ pub(super) fn is_answered(
     }
 }
 
-/// Whether a line of the table is answered, whole and in pieces.
+/// Whether the script of a line of the table gives its lines, both whole and in pieces.
 fn has_line(alloc: Global, line: &str) -> Result<bool, AllocError> {
     let (counts, fields) = cut(line);
     let (script, fields) = cut_bytes(alloc, fields)?;
@@ -148,11 +148,11 @@ fn runs(rt: HostRuntime) -> Result<(), AllocError> {
     Ok(())
 }
 
-/// A batch, and a request between rows of the next one.
+/// A batch, and a request between the rows of a second batch.
 const FRONT: &[u8] =
     b"P\nend,1,1\nput,2.2.2.2,10.0.12.2,1.1.1.1,10.0.12.1,10,0x1,F\nask,8,2.2.2.2,1.1.1.1,0,1,Z,\n";
 
-/// What is written up to there.
+/// The lines that are written for these rows.
 const FIRST_LINES: &[u8] = b"version 1\nask 8 v1 none\n";
 
 /// Whether a run whose reads fail after a text has written its lines.
@@ -162,7 +162,7 @@ fn stops_at_a_read(alloc: Global, text: &[u8]) -> bool {
     found == Err(SolveError::Read) && held.as_slice() == FIRST_LINES
 }
 
-/// Whether a run whose writer takes `most` bytes has written those.
+/// Whether a run fails whose writer takes `most` bytes, and has written these bytes.
 fn stops_at_a_write(alloc: Global, text: &[u8], most: usize) -> bool {
     let reader = in_pieces(text, 100, text.len());
     let (found, held) = run_pieces(alloc, reader, 4, most);
@@ -172,7 +172,7 @@ fn stops_at_a_write(alloc: Global, text: &[u8], most: usize) -> bool {
         && FIRST_LINES.starts_with(held.as_slice())
 }
 
-/// Reads fail after some rows, writes before their lines are whole.
+/// A read fails after some rows, and a write fails before the lines are whole.
 #[test]
 fn device_faults(rt: HostRuntime) -> Result<(), AllocError> {
     let text = bytes_of(rt.alloc(), FRONT)?;

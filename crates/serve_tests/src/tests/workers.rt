@@ -1,5 +1,5 @@
-//! Workers: what is answered and by whom, in which order askers learn and are asked, and what a gate
-//! sees. They run alone and under the runs over rows.
+//! Workers: what they answer, which worker answers, in which order askers learn and ask, and what a
+//! gate sees. Workers are tested alone and within the runs over rows.
 
 mod alone;
 mod counts;

@@ -1,4 +1,5 @@
-//! Whether a router goes with the changes of a batch, as one does at which no link ends any more.
+//! Whether the changes of a batch make a router leave: after them it is no longer an endpoint of a
+//! link.
 ghost use Rattle.std.specs.Prelude.{◌≡◌, ℕ, ◌<◌, ◌&&◌, true, false, filter, length, nat_eq, slice_index, slice_index_or};
 ghost use Rattle.std.specs.List.{list_any};
 ghost use Rattle.cspf_model.specs.declared.link.Link.{Link as Linked};
@@ -14,14 +15,14 @@ use cspf_columns::routers::search;
 use cspf_columns::rows::{index_of, span};
 use cspf_model::{Change, Link};
 
-/// Whether the changes leave one of the rows alone.
+/// Whether one of the rows isn't changed.
 fn any_untouched(rows: &[Link], changes: &[Change]) -> bool
     ensures { result ≡ list_any (is_untouched changes.now) rows.now }
 {
     rows.iter().any(|row| is_untouched(row, changes))
 }
 
-/// Whether the changes leave a row from the router alone.
+/// Whether one of the rows from the router isn't changed.
 fn any_left_from(rows: &[Link], changes: &[Change], router: Addr) -> bool
     requires { AreByKey rows.now }
     ensures { result
@@ -31,15 +32,15 @@ fn any_left_from(rows: &[Link], changes: &[Change], router: Addr) -> bool
     any_untouched(&rows[first..end], changes)
 }
 
-/// Whether the changes leave the row alone, and it runs to the router at an index, where it is known
-/// at which the router is that it runs to.
+/// Whether the row isn't changed and runs to the router at index `place`. `end` is the index of the
+/// router to which the row runs.
 fn is_left_to(row: &Link, end: u16, changes: &[Change], place: usize) -> bool
     ensures { result ≡ (nat_eq end place && is_untouched changes.now row.now) }
 {
     usize::from(end) == place && is_untouched(row, changes)
 }
 
-/// Whether the changes leave a row alone that runs to the router at an index.
+/// Whether a row that runs to the router at index `place` isn't changed.
 fn any_left_to(rows: &[Link], ends: &[u16], changes: &[Change], place: usize) -> bool
     requires { length ends.now ≡ length rows.now }
     ensures { result ≡ false → (at : ℕ) (d : Linked) → at < length rows.now
@@ -54,7 +55,7 @@ fn any_left_to(rows: &[Link], ends: &[u16], changes: &[Change], place: usize) ->
     false
 }
 
-/// Whether no link ends after the changes at the router at an index.
+/// Whether the router at index `place` is no endpoint of a link after the changes.
 fn is_gone(columns: &Columns, changes: &[Change], place: usize) -> bool
     requires columns { AreColumns columns.now }
     requires within { place < length columns.now.routers.items }
@@ -67,7 +68,7 @@ fn is_gone(columns: &Columns, changes: &[Change], place: usize) -> bool
     !any_left_to(&columns.rows, &columns.ends, changes, place)
 }
 
-/// Whether a router goes from which or to which the row ran that the change is on, if there is one.
+/// Whether the change affects a row, and an endpoint of this row is a router that leaves.
 fn takes_one(columns: &Columns, changes: &[Change], change: &Change) -> bool
     requires columns { AreColumns columns.now }
     ensures { result ≡ true → HasGone columns.now.rows.items columns.now.routers.items changes.now }
@@ -84,8 +85,8 @@ fn takes_one(columns: &Columns, changes: &[Change], change: &Change) -> bool
     is_gone(columns, changes, place) || is_gone(columns, changes, usize::from(columns.ends[at]))
 }
 
-/// Whether a router goes with the changes. Looked at are those from which or to which a row ran that
-/// a change is on.
+/// Whether a router leaves with the changes. Only the endpoints of rows that are changed are
+/// checked.
 pub(super) fn any_goes(columns: &Columns, changes: &[Change]) -> bool
     requires columns { AreColumns columns.now }
     ensures { result ≡ true → HasGone columns.now.rows.items columns.now.routers.items changes.now }

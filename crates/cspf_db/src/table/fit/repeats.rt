@@ -1,4 +1,4 @@
-//! The first change of a batch on the key of an earlier one.
+//! The first change of a batch that has the same key as an earlier change.
 ghost use Rattle.std.specs.Prelude.{◌≡◌, ℕ, ◌<◌, ◌≤◌, true, length, map, IfSome, IfNone};
 ghost use Rattle.std.specs.List.{IsDistinct};
 ghost use Rattle.std.specs.Ordering.{eq_by_cmp, is_lt};
@@ -10,7 +10,7 @@ use crate::table::changes::any_on;
 use cspf_addr::Addr;
 use cspf_model::{Change, MOST_CHANGES};
 
-/// The index of the first change on the key of an earlier one.
+/// The index of the first change that has the same key as an earlier change, if there is one.
 fn first_repeat(changes: &[Change]) -> Option<usize>
     ensures bound { IfSome result (λ at. at < length changes.now) }
     ensures some { IfSome result (IsRepeatedAt changes.now) }
@@ -42,7 +42,7 @@ fn is_below(low: (Addr, Option<Addr>), high: (Addr, Option<Addr>)) -> bool
     low.0.cmp(&high.0).then(low.1.cmp(&high.1)).is_lt()
 }
 
-/// Whether each key is above the one before it.
+/// Whether each key is above the key before it.
 fn rise(keys: &[(Addr, Option<Addr>)]) -> bool
     ensures { result ≡ true → IsDistinct (eq_by_cmp change_key_cmp) keys.now }
 {
@@ -54,7 +54,7 @@ fn rise(keys: &[(Addr, Option<Addr>)]) -> bool
     true
 }
 
-/// Whether no two changes are on one key, where there is room to put their keys in order.
+/// Whether no two changes have the same key. `keys` is room for sorting their keys.
 fn are_apart_in(keys: &mut [(Addr, Option<Addr>)], changes: &[Change]) -> bool
     requires { length keys.old ≡ length changes.now }
     ensures { result ≡ true → AreOnceEach changes.now }
@@ -64,7 +64,7 @@ fn are_apart_in(keys: &mut [(Addr, Option<Addr>)], changes: &[Change]) -> bool
     rise(keys)
 }
 
-/// Whether no two changes are on one key. Not all pairs are compared.
+/// Whether no two changes have the same key. It sorts the keys instead of comparing all pairs.
 fn are_apart(changes: &[Change]) -> bool
     requires { length changes.now ≤ MOST_CHANGES }
     ensures { result ≡ true → AreOnceEach changes.now }
@@ -73,12 +73,13 @@ fn are_apart(changes: &[Change]) -> bool
     are_apart_in(&mut keys[..changes.len()], changes)
 }
 
-/// Of how many changes all pairs are compared, without putting their keys in order first, and of how
-/// many each is asked for a router that goes.
+/// Up to this many changes, all pairs are compared and no keys are sorted. Up to this many, it is
+/// also checked for each change whether a router leaves with it.
 pub(super) const FEW: usize = 16;
 
-/// The index of the first change on the key of an earlier one. Among many it is searched only where
-/// there is one, and keys are put in order only where it isn't known that the changes are apart.
+/// The index of the first change that has the same key as an earlier change, if there is one.
+/// `apart` says that it is already known that there is none. Among many changes the keys are first
+/// sorted to find out whether there is one, and only then all pairs are compared.
 pub(super) fn repeat(changes: &[Change], apart: bool) -> Option<usize>
     requires short { length changes.now ≤ MOST_CHANGES }
     requires known { apart ≡ true → AreOnceEach changes.now }

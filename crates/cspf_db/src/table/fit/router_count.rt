@@ -19,8 +19,8 @@ use crate::table::fit::tally::count_brought;
 use cspf_columns::Columns;
 use cspf_model::{Change, Link, MOST_ROUTERS};
 
-/// Adds the ends of the rows that the changes leave alone. It is false where there would be more
-/// than 1,024 routers.
+/// Adds the endpoints of the rows that aren't changed. Returns false if there would be more than
+/// 1,024 routers.
 fn add_rows(routers: &mut Routers, rows: &[Link], changes: &[Change]) -> bool
     requires { set.len routers.old ≤ MOST_ROUTERS }
     ensures added { OnTrue result
@@ -40,7 +40,7 @@ fn add_rows(routers: &mut Routers, rows: &[Link], changes: &[Change]) -> bool
     true
 }
 
-/// Adds the ends of the links that the changes put. It is false where there would be more than
+/// Adds the endpoints of the links that the changes put. Returns false if there would be more than
 /// 1,024 routers.
 fn add_puts(routers: &mut Routers, changes: &[Change]) -> bool
     requires { set.len routers.old ≤ MOST_ROUTERS }
@@ -58,8 +58,9 @@ fn add_puts(routers: &mut Routers, changes: &[Change]) -> bool
     true
 }
 
-/// Whether it is plain that there are at most 1,024 routers after the changes. They bring no more
-/// than that, each counted once, or one too many while another goes.
+/// Whether a quick count shows that there are at most 1,024 routers after the changes. Either there
+/// are at most 1,024 routers if all stay and each new router is counted once. Or there would be
+/// 1,025, and some router leaves.
 fn fit_by_one(columns: &Columns, changes: &[Change]) -> bool
     requires columns { AreColumns columns.now }
     requires short { length changes.now ≤ MOST_CHANGES }
@@ -71,8 +72,8 @@ fn fit_by_one(columns: &Columns, changes: &[Change]) -> bool
     many <= MOST_ROUTERS || many == MOST_ROUTERS + 1 && any_goes(columns, changes)
 }
 
-/// Whether there are more than 1,024 routers after the changes, which bring some. Where they bring
-/// few enough, or few changes bring one while another goes, the ends of the rows need no count.
+/// Whether there are more than 1,024 routers after the changes. `brought` is at least the number of
+/// new routers. Often a quick count decides. Otherwise all endpoints of the rows are counted.
 pub(super) fn has_too_many_routers(columns: &Columns, changes: &[Change], brought: usize) -> bool
     requires columns { AreColumns columns.now }
     requires short { length changes.now ≤ MOST_CHANGES }

@@ -1,4 +1,4 @@
-//! A set of routers that is kept in place, by which the routers after a batch are counted.
+//! A set of routers in arrays of fixed size. The routers after a batch are counted with it.
 
 ghost use Rattle.std.specs.Prelude.{◌≡◌, true, ◌<◌, ◌≤◌, [], ◌∷◌, length};
 ghost use Rattle.std.specs.Bool.{OnTrue, OnFalse};
@@ -8,14 +8,15 @@ ghost use Rattle.std.specs.Ordering.{nat_cmp};
 use cspf_model::{Link, MOST_ROUTERS};
 use std::marker::Model;
 
-/// How many slots there are for the places of routers.
+/// How many slots the hash table of the set has.
 const SLOTS: usize = 4096;
 
-/// How many slots are tried for the place of a router.
+/// How many slots are tried at most for a router.
 const TRIES: u32 = 16;
 
-/// A set of at most 1,024 routers, kept in place as numbers. The place of each, counted from 1, is noted
-/// at the first free one of the slots that follow from its number; 0 is a free slot.
+/// A set of at most 1,024 routers, kept as numbers in `found`. `places` is a hash table: a slot has
+/// the place of a router in `found`, counted from 1, or 0 if the slot is free. The place of a
+/// router is in the first slot, from its hash on, that was free.
 #[derive(Drop)]
 pub struct Routers {
     found: [u32; MOST_ROUTERS],
@@ -23,14 +24,15 @@ pub struct Routers {
     places: [u16; SLOTS],
 }
 
-/// The slot that is tried for a router with this number, after these other tries.
+/// The slot that is tried for the router with this number after `others` other slots.
 fn slot(router: u32, others: u32) -> usize
     ensures { result < SLOTS }
 {
     ((router.wrapping_mul(2654435761) >> 16).wrapping_add(others) % SLOTS as u32) as usize
 }
 
-/// Notes the place of a router at the first free one of its slots, if there is one.
+/// Writes the place of a router into the first of its slots that is free, if one of its slots is
+/// free.
 fn note(places: &mut [u16], router: u32, place: u16)
     requires { length places.old ≡ SLOTS }
     ensures { length places.new ≡ SLOTS }
@@ -63,14 +65,14 @@ impl Model for Routers {
 impl Routers {
     ghost use Rattle.cspf_model.specs.Lemmas.CountedEnds.{with_ends};
 
-    /// No routers.
+    /// The empty set.
     pub(super) fn new() -> Self
         ensures { result ≡ set.empty }
     {
         Routers::kept_in([0; MOST_ROUTERS], [0; SLOTS])
     }
 
-    /// No routers, with the places where they are kept.
+    /// The empty set, kept in these arrays.
     fn kept_in(found: [u32; MOST_ROUTERS], places: [u16; SLOTS]) -> Self
         ensures { result ≡ set.empty }
     {
@@ -81,7 +83,7 @@ impl Routers {
         }
     }
 
-    /// Adds the router with this number. It is false where there would be more than 1,024.
+    /// Adds the router with this number. Returns false if there would be more than 1,024 routers.
     fn add(&mut self, router: u32) -> bool
         ensures added { OnTrue result (self.new ≡ set.insert self.old router) }
         ensures full { OnFalse result (MOST_ROUTERS < set.len (set.insert self.old router)) }
@@ -102,7 +104,8 @@ impl Routers {
         true
     }
 
-    /// Whether a place is noted for the router with this number. It is false for few that are found.
+    /// Whether a slot has the place of the router with this number. It may be false for a router of
+    /// the set, but this is rare.
     fn has(&self, router: u32) -> bool
         ensures { result ≡ true → self.now ≡ set.insert self.now router }
     {
@@ -118,14 +121,14 @@ impl Routers {
         false
     }
 
-    /// Whether both ends of a link are found at once, so that they need not be added.
+    /// Whether both endpoints of a link are found in their slots, so that they need not be added.
     pub(super) fn has_ends(&self, link: &Link) -> bool
         ensures { result ≡ true → self.now ≡ with_ends self.now (link.now ∷ []) }
     {
         self.has(link.from.number()) && self.has(link.to.number())
     }
 
-    /// Adds both ends of a link. It is false where there would be more than 1,024 routers.
+    /// Adds both endpoints of a link. Returns false if there would be more than 1,024 routers.
     pub(super) fn add_ends(&mut self, link: &Link) -> bool
         ensures added { OnTrue result (self.new ≡ with_ends self.old (link.now ∷ [])) }
         ensures full { OnFalse result (MOST_ROUTERS < set.len (with_ends self.old (link.now ∷ []))) }

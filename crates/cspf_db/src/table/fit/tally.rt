@@ -1,4 +1,5 @@
-//! What the changes of a batch do to the rows and to the number of routers, by one search for each.
+//! What the changes of a batch do to the rows and to the number of routers. Each change takes one
+//! search.
 ghost use Rattle.std.specs.Prelude.{◌≡◌, ℕ, ◌*◌, ◌<◌, ◌≤◌, ◌⊎◌, cond, true, [], ◌∷◌, Contains, length, IfOk, IfErr, IfSome, IfNone, IsSomeAnd};
 ghost use Rattle.std.specs.List.{list_any};
 ghost use Rattle.cspf_model.specs.Changes.{IsPresent};
@@ -20,22 +21,22 @@ use cspf_columns::routers::is_among;
 use cspf_columns::rows::{index_of, is_alike};
 use cspf_model::{Change, Link, MOST_LINKS};
 
-/// How many links changes put where there is none, how many of their ends are not among the
-/// routers, whether no row moves, and whether no row is changed twice. An end of several links is
-/// counted for each.
+/// What some changes do. It has how many links they add, and how many endpoints of these links are
+/// new routers. An endpoint of several added links is counted for each of them. It also says
+/// whether no row moves, and whether no row is changed twice.
 #[derive(Clone, Copy, Debug)]
 pub struct Tally {
-    /// How many links are put where there is none.
+    /// How many changes put a link at a key without a link.
     pub added: usize,
-    /// How many ends are not among the routers.
+    /// How many endpoints of the put links aren't among the routers.
     pub brought: usize,
-    /// Whether each puts a link in place of one between the same interfaces.
+    /// Whether each change puts a link over a link that runs between the same interfaces.
     pub alike: bool,
-    /// Whether each is known to be on a row of its own.
+    /// Whether it is known that no two changes affect the same row.
     pub apart: bool,
 }
 
-/// The index of the row that the change is on, if there is one.
+/// The index of the row with the change's key, if there is one.
 fn row_of(rows: &[Link], change: &Change) -> Option<usize>
     requires { AreByKey rows.now }
     ensures { IsRowOf rows.now change.now result }
@@ -47,7 +48,7 @@ fn row_of(rows: &[Link], change: &Change) -> Option<usize>
     index_of(rows, key.0, local)
 }
 
-/// 0 where the router is among them, and else 1.
+/// 0 if the router is among the routers, and otherwise 1.
 fn count_new(routers: &[Addr], router: Addr) -> usize
     requires { AreRising routers.now }
     ensures few { result ≤ 1 }
@@ -56,8 +57,8 @@ fn count_new(routers: &[Addr], router: Addr) -> usize
     if is_among(routers, router) { 0 } else { 1 }
 }
 
-/// 0 where the router that the link runs to is among the routers, as it is where the row at the index
-/// runs to it too, and else 1.
+/// 0 if the router to which the link runs is among the routers, and otherwise 1. If the row at the
+/// index runs to the same router, no search is needed.
 fn count_new_end(columns: &Columns, at: usize, link: &Link) -> usize
     requires columns { AreColumns columns.now }
     requires bound { at < length columns.now.rows.items }
@@ -71,7 +72,7 @@ fn count_new_end(columns: &Columns, at: usize, link: &Link) -> usize
     }
 }
 
-/// What a put does, where it is known which row it is on.
+/// What a put does. `row` is the index of the row with the link's key, if there is one.
 fn tally_put(columns: &Columns, link: &Link, row: Option<usize>) -> Tally
     requires columns { AreColumns columns.now }
     requires row { IsRowOf columns.now.rows.items (Change.Put link.now) row }
@@ -99,8 +100,8 @@ fn tally_put(columns: &Columns, link: &Link, row: Option<usize>) -> Tally
     }
 }
 
-/// What a change does, where it is known which row it is on. It is none where a link is removed that
-/// isn't there.
+/// What a change does, or `None` if it removes a link that isn't there. `row` is the index of the
+/// row with the change's key, if there is one.
 fn tally_one(columns: &Columns, change: &Change, row: Option<usize>) -> Option<Tally>
     requires columns { AreColumns columns.now }
     requires row { IsRowOf columns.now.rows.items change.now row }
@@ -138,8 +139,8 @@ fn tally_one(columns: &Columns, change: &Change, row: Option<usize>) -> Option<T
     }
 }
 
-/// Marks the row that a change is on as seen. It is false where there is no row, or no mark for it, or it
-/// is seen already.
+/// Marks a row as seen. Returns false if there is no row, if `seen` has no place for it, or if it
+/// was seen already.
 fn see(seen: &mut [bool], row: Option<usize>) -> bool
     ensures { result ≡ true → IsSomeAnd row (IsSeenAt seen.old seen.new) }
 {
@@ -153,8 +154,8 @@ fn see(seen: &mut [bool], row: Option<usize>) -> bool
     true
 }
 
-/// What the changes do, with marks of the rows that are seen. Else the index of the first removal of a
-/// link that isn't there.
+/// What the changes do. If a change removes a link that isn't there, returns the index of the first
+/// such change. `seen` marks each row that was seen.
 fn tally_each(columns: &Columns, changes: &[Change], seen: &mut [bool]) -> Result<Tally, usize>
     requires columns { AreColumns columns.now }
     requires short { length changes.now ≤ MOST_CHANGES }
@@ -183,8 +184,9 @@ fn tally_each(columns: &Columns, changes: &[Change], seen: &mut [bool]) -> Resul
     })
 }
 
-/// What the changes do. Else the index of the first removal of a link that isn't there. Only among many
-/// changes it is known whether they are apart.
+/// What the changes do. If a change removes a link that isn't there, returns the index of the first
+/// such change. Whether no two changes affect the same row is found out only for more than `FEW`
+/// changes.
 pub(super) fn tally_all(columns: &Columns, changes: &[Change]) -> Result<Tally, usize>
     requires columns { AreColumns columns.now }
     requires short { length changes.now ≤ MOST_CHANGES }
@@ -197,7 +199,8 @@ pub(super) fn tally_all(columns: &Columns, changes: &[Change]) -> Result<Tally, 
     tally_each(columns, changes, &mut [false; MOST_LINKS])
 }
 
-/// 0 where the router is among the routers, or an end of a link that the changes put, and else 1.
+/// 0 if the router is among the routers or an endpoint of a link that the changes put, and
+/// otherwise 1.
 fn count_first(routers: &[Addr], changes: &[Change], router: Addr) -> usize
     requires { AreRising routers.now }
     ensures few { result ≤ 1 }
@@ -211,8 +214,8 @@ fn count_first(routers: &[Addr], changes: &[Change], router: Addr) -> usize
     }
 }
 
-/// How many ends of the link that the change puts are neither among the routers nor ends of a link
-/// that others put.
+/// How many endpoints of the link that the change puts are new: neither among the routers, nor
+/// endpoints of a link that another change puts.
 fn count_first_ends(routers: &[Addr], others: &[Change], change: &Change) -> usize
     requires { AreRising routers.now }
     ensures few { result ≤ 2 }
@@ -226,8 +229,8 @@ fn count_first_ends(routers: &[Addr], others: &[Change], change: &Change) -> usi
     }
 }
 
-/// How many ends of the links that the changes put are not among the routers, each counted once. It
-/// takes as long as to compare all pairs of changes.
+/// How many endpoints of the links that the changes put aren't among the routers, each counted
+/// once. It takes as long as comparing all pairs of changes.
 pub(super) fn count_brought(routers: &[Addr], changes: &[Change]) -> usize
     requires rising { AreRising routers.now }
     requires short { length changes.now ≤ MOST_CHANGES }

@@ -6,6 +6,6 @@ use Rattle.cspf_ero.proofs.reader.read_hops.Given as goal
 abbrev pub decreases-loop-rest : goal.decreases-loop-rest
 decreases-loop-rest l = length l.rest
 
--- the hops so far, and those of the rest, are all
+-- the hops read so far, and those of the bytes that are left, are the hops of the whole body
 abbrev pub invariant-loop-rest : goal.invariant-loop-rest
 invariant-loop-rest l = behind l.hops (subobject_hops (7 - length l.hops) (4 + 8 * length l.hops) l.rest) ≡ subobject_hops 7 4 l.body

@@ -2,7 +2,7 @@ use Rattle.std.proofs.Common.{◌≡◌, ◌≤◌, ◌-◌, false, length, take
 use Rattle.std.specs.Io.KnownBytes.{Appends}
 use Rattle.cspf_rows.proofs.output.put_through.Given as goal
 
--- the bytes so far are written, and no write has failed
+-- the first `sent` bytes are written, and no write has failed
 abbrev pub invariant-loop-sent : goal.invariant-loop-sent
 invariant-loop-sent g l = record {
   within : l.sent ≤ length l.text;

@@ -10,7 +10,7 @@ use Rattle.cspf_search.proofs.Backs.{locals_by, locals_by_one, one_more}
 use Rattle.cspf_search.proofs.Ranks.{one_length}
 use Rattle.cspf_search.proofs.frontier.compare_tied.Goals as goal
 
--- a label whose last link is there has the walk to its parent, and then that link
+-- If a label has a last link, its walk is the walk of its parent, continued by that link.
 walk_by : (d : Database) (nodes : List Node) (a : Label) (l : Link) → slice_get (links_from_index d a.place) a.row ≡ Some l
     → walk_of nodes (node_of d nodes a) ≡ walk_at (walks nodes) a.parent ++ (l ∷ [])
 walk_by d nodes a l by = ap (λ by. walk_of nodes (node_by a.parent (slice_index_or nodes a.parent nowhere) by)) by

@@ -18,7 +18,7 @@ use Rattle.cspf_search.proofs.Reached.{IsAsked, taken, ended, no_start, first_fl
 use Rattle.cspf_graph.proofs.Slices.{written_back}
 use Rattle.cspf_search.proofs.search.reached.Goals as goal
 
--- what the search is asked
+-- What the search is given: the query, the indexes of the head-end and the tail-end, and the goal.
 asked_of : (query : Query) (from to : ℕ) (goal : Goal) → IsQuery query → IsIndexOf query.table.now query.request.now.from from → IsIndexOf query.table.now query.request.now.to to
     → goal.at ≡ (query.legs - 1) * 1024 + to → AreBounds query.table.now query.request.now goal.bounds.now → IsAsked query.table.now query.request.now query.legs from to goal
 asked_of query from to goal is start end at bounds = assumption

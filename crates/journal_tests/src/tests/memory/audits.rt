@@ -1,12 +1,12 @@
-//! An audit while memory is refused: it answers in full or that memory is refused, and in full once
-//! there is memory again.
+//! An audit while memory is refused: it gives the whole answer, or the error `Memory`. Once there is
+//! memory again, it gives the whole answer.
 
 use crate::tests::assert_case;
 use cspf_audit::{AuditError, AuditFault, audit};
 use std::alloc::Global;
 use std::test::Fail;
 
-/// Whether memory is given now.
+/// Whether an allocation of one byte succeeds now.
 fn has_memory(alloc: Global) -> bool {
     match Vec::from_slice(alloc, &[1u8]) {
         Ok(bytes) => bytes.len() == 1,
@@ -14,22 +14,23 @@ fn has_memory(alloc: Global) -> bool {
     }
 }
 
-/// A link and its reverse are put, and both dropped again.
+/// Version 1 has a link and its reverse. Version 2 removes them.
 const JOURNAL: &[u8] = b"put,1.1.1.1,10.0.12.1,2.2.2.2,10.0.12.2,10,0x1,\
 1000,1000,1000,1000,1000,1000,1000,1000\n\
 put,2.2.2.2,10.0.12.2,1.1.1.1,10.0.12.1,10,0x1,0,0,0,0,0,0,0,0\nend,1,2\n\
 drop,1.1.1.1,10.0.12.1\ndrop,2.2.2.2,10.0.12.2\nend,2,2\n";
 
-/// Three requests for it.
+/// Three requests for a route over the link.
 const REQUESTS: &[u8] = b"ask,7,1.1.1.1,2.2.2.2,0,1000,0x0,0x0,0x0,\n\
 ask,8,1.1.1.1,2.2.2.2,0,1000,0x0,0x0,0x0,1.1.1.1/32l\n\
 ask,9,1.1.1.1,2.2.2.2,0,1000,0x0,0x0,0x0,\n";
 
-/// Replies at versions that fall, one of which is wrong. A request has none.
+/// Replies. The first says `none` at version 2, which has no routers, so it is wrong. The second is right at
+/// version 1. The request 9 has no reply.
 const REPLIES: &[u8] = b"ask 8 v2 none\nask 7 v1 \
 route cost=10 hops=1 again=no ero=000c140101080a000c022000\napplied 2\n";
 
-/// Whether the audit finds the one good reply, and the faults.
+/// Whether the audit finds the good reply and the two faults.
 fn is_found(alloc: Global) -> Result<bool, AuditError> {
     let found = audit(alloc, JOURNAL, REQUESTS, REPLIES)?;
     let faults = [

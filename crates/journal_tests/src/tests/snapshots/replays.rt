@@ -1,4 +1,4 @@
-//! Tables after the batches of journals.
+//! Tables that are made from the batches of journals.
 
 use super::tables::{batches, node, put};
 use crate::tests::assert_case;
@@ -10,7 +10,7 @@ use std::alloc::{AllocError, Global};
 use std::process::Abort;
 use std::test::Fail;
 
-/// A change that removes the link by an interface of the router 1.
+/// A change that removes the link from router 1 by this interface.
 fn remove(local: u32) -> Change {
     Change::Remove {
         from: Addr::new(1),
@@ -18,7 +18,7 @@ fn remove(local: u32) -> Change {
     }
 }
 
-/// Three batches, the later of which undo changes of the first.
+/// Three batches. The second and the third undo some changes of the first.
 fn three_batches(rt: &impl Abort, alloc: Global) -> Result<Vec<Batch>, AllocError> {
     let first = [put(rt, 1, 5, 2), put(rt, 1, 6, 2), node(2, false)];
     let second = [remove(5), node(4, false)];
@@ -26,7 +26,7 @@ fn three_batches(rt: &impl Abort, alloc: Global) -> Result<Vec<Batch>, AllocErro
     batches(alloc, &[(3, &first), (3, &second), (1, &third)])
 }
 
-/// Whether a table has these two links and one mark.
+/// Whether a table has just these two links and this mark.
 fn has(table: &Table, links: [Change; 2], mark: Addr) -> bool {
     match (table.links(), table.marks()) {
         ([first, second], [marked]) => {

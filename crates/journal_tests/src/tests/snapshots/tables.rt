@@ -1,4 +1,4 @@
-//! Changes, and tables that are made by them.
+//! Changes, batches, and tables that are made from changes.
 
 use crate::tests::assert_case;
 use cspf_addr::{Addr, Mask};
@@ -7,7 +7,7 @@ use cspf_model::{Batch, Change, Link, MOST_CHANGES};
 use std::alloc::{AllocError, Global};
 use std::process::Abort;
 
-/// A put of the link from a router by an interface there to another.
+/// A put of the link from router `from` by its interface `local` to router `to`.
 pub(crate) fn put(rt: &impl Abort, from: u32, local: u32, to: u32) -> Change {
     let (from, to, address) = (Addr::new(from), Addr::new(to), Addr::new(local));
     match Link::new(from, address, to, address, 10, Mask::new(1), [1000; 8]) {
@@ -32,7 +32,7 @@ fn batch(alloc: Global, number: u32, changes: &[Change]) -> Result<Batch, AllocE
     })
 }
 
-/// Batches of these numbers and changes.
+/// Batches with these numbers and changes.
 pub(crate) fn batches(alloc: Global, given: &[(u32, &[Change])]) -> Result<Vec<Batch>, AllocError> {
     let mut made = Vec::new(alloc);
     for (number, changes) in given {
@@ -41,7 +41,7 @@ pub(crate) fn batches(alloc: Global, given: &[(u32, &[Change])]) -> Result<Vec<B
     Ok(made)
 }
 
-/// The table after these changes, which fit.
+/// The table after these changes, all of which fit.
 pub(crate) fn table_of(
     rt: &impl Abort,
     alloc: Global,

@@ -1,4 +1,4 @@
-//! That each line is out before the next row is read.
+//! Each line is written and flushed before the next row is read.
 
 use super::{Refusals, lines_of, no_events, rows_of};
 use crate::tests::assert_case;
@@ -16,7 +16,7 @@ const ROWS: [&[u8]; 5] = [
 
 const ANSWERS: &[u8] = b"row 2 refused: fields\nrow 3 refused: fields\nrow 4 refused: kind\n";
 
-/// Whether each line is flushed before more is read, once for each.
+/// Whether all lines are written, and each is flushed once, before the next read.
 fn is_flushed_in_time(alloc: Global) -> bool {
     let events = no_events();
     let reader = rows_of(&ROWS, false, &events);
@@ -34,14 +34,14 @@ fn is_flushed_in_time(alloc: Global) -> bool {
         && answering.refused == 3
 }
 
-/// Each row is answered, and its line is let out before more is read. No line is written, and
-/// nothing flushed, for a row that is answered nothing.
+/// The line of each row is written and flushed before the next row is read. For a row with an empty line
+/// nothing is written or flushed.
 #[test]
 fn lines_before_the_next_row(rt: HostRuntime) {
     assert_case(&rt, ANSWERS, is_flushed_in_time(rt.alloc()));
 }
 
-/// Whether a stream is answered nothing.
+/// Whether nothing is written for a stream.
 fn is_answered_nothing(alloc: Global, text: &[u8]) -> bool {
     let mut written = Vec::new(alloc);
     let mut answering = Refusals {
@@ -53,7 +53,7 @@ fn is_answered_nothing(alloc: Global, text: &[u8]) -> bool {
     found == Ok(()) && written.is_empty() && answering.refused == 0
 }
 
-/// A stream without rows is answered nothing.
+/// Nothing is written for a stream without rows.
 #[test]
 fn no_rows(rt: HostRuntime) {
     let is_empty = is_answered_nothing(rt.alloc(), b"");

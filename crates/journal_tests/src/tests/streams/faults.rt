@@ -1,4 +1,4 @@
-//! The state where a read, a row, a write or a flush fails.
+//! What was read and written when a read, a row, a write or a flush fails.
 
 use super::{Refusals, lines_of, no_events, rows_of};
 use crate::tests::assert_case;
@@ -10,21 +10,21 @@ const ROWS: [&[u8]; 3] = [b"a\n", b"end,1,0\n", b"b\n"];
 
 const ANSWERS: &[u8] = b"row 1 refused: kind\nrow 3 refused: kind\n";
 
-/// Where a stream goes wrong, and the state then.
+/// A fault of a stream, and what was read and written by then.
 struct Fault {
-    /// The bytes that the writer takes.
+    /// How many bytes the writer takes.
     most: usize,
-    /// The flushes that the writer makes.
+    /// How many flushes the writer makes before one fails.
     most_flushes: u32,
-    /// At this place memory is refused.
+    /// The place of the row at which memory is refused.
     no_memory_at: u64,
-    /// The error, where the read after the rows fails too.
+    /// The error of the run. The read after all rows fails in each case.
     error: StreamError,
-    /// The bytes that are written.
+    /// How many bytes are written.
     written: usize,
-    /// The rows that were read.
+    /// How many rows were read.
     read: usize,
-    /// The rows that were refused.
+    /// How many rows were refused.
     refused: u64,
 }
 
@@ -94,7 +94,7 @@ const FAULTS: [Fault; 7] = [
     },
 ];
 
-/// Whether a stream goes wrong with this error, so much written, and so many rows read and refused.
+/// Whether a run over the rows ends with the fault's error, after as many bytes and rows as the fault says.
 fn is_stopped(alloc: Global, fault: &Fault) -> bool {
     let events = no_events();
     let mut reader = rows_of(&ROWS, true, &events);

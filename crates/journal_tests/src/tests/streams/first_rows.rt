@@ -1,4 +1,4 @@
-//! A stream of which only the first rows are answered, without a flush.
+//! A stream with a limit of rows: only the first rows are answered, and nothing is flushed.
 
 use super::{Refusals, lines_of, no_events, rows_of};
 use crate::tests::assert_case;
@@ -11,7 +11,8 @@ const ROWS: [&[u8]; 3] = [b"a\n", b"end,1,0\n", b"b\n"];
 /// The lines of all rows.
 const ANSWERS: &[u8] = b"row 1 refused: kind\nrow 3 refused: kind\n";
 
-/// Whether a stream under this limit ends so, with this many bytes of the lines written.
+/// Whether a run with this limit of rows returns `wanted`, and writes the first `length` bytes of the
+/// lines.
 fn ends(alloc: Global, limit: u64, wanted: Result<(), StreamError>, length: usize) -> bool {
     let events = no_events();
     let reader = rows_of(&ROWS, false, &events);

@@ -1,4 +1,4 @@
-//! The lines of refused rows, of batches and of open changes, against texts written by hand.
+//! The lines of refused rows, of batches and of open changes, compared with texts written by hand.
 
 use crate::tests::assert_case;
 use cspf_addr::{Addr, HopsError};
@@ -40,7 +40,7 @@ fn lines_of_refused_rows(rt: HostRuntime) -> Result<(), AllocError> {
     Ok(())
 }
 
-/// Whether a refused row at this place has this line.
+/// Whether this is the line of a row that is refused with this error at this place.
 fn is_line_of(alloc: Global, place: u64, error: RowError, line: &[u8]) -> Result<bool, AllocError> {
     let found = refused_row(alloc, place, error)?;
     Ok(found.as_slice() == line)
@@ -80,7 +80,7 @@ fn has_text(alloc: Global, line: StreamLine, text: &[u8]) -> Result<bool, AllocE
     Ok(found.as_slice() == text)
 }
 
-/// So many open changes.
+/// `count` open changes, of which only the first nine are kept.
 fn opened(alloc: Global, count: u32) -> Result<OpenChanges, AllocError> {
     let mut changes = OpenChanges::new(alloc);
     for _ in 0..count {
@@ -94,7 +94,8 @@ fn opened(alloc: Global, count: u32) -> Result<OpenChanges, AllocError> {
     Ok(changes)
 }
 
-/// Whether so many open changes have this line at the end, and none once they are cleared.
+/// Whether this is the last line for `count` open changes, and the last line is empty once they are
+/// cleared.
 fn has_last_line(alloc: Global, count: u32, text: &[u8]) -> Result<bool, AllocError> {
     let mut changes = opened(alloc, count)?;
     let line = changes.last_line(alloc)?;

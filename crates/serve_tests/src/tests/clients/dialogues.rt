@@ -1,4 +1,5 @@
-//! What a client is answered: requests, other rows, version 0, and replies that are not taken.
+//! What a client is answered: to requests, to other rows, at version 0, and when its writer takes too
+//! few bytes.
 
 use super::{is_left, link_batch, served};
 use cspf_client::ClientError;
@@ -15,8 +16,8 @@ ask,9,2.2.2.2,1.1.1.1,0,1000,0x0,0x0,0x0,\n";
 const REPLIES: &[u8] = b"ask 7 v1 route cost=10 hops=1 again=no ero=000c140101080a000c022000\n\
 row 2 refused: kind\nrow 3 refused: fields\nask 9 v1 none\n";
 
-/// Whether a client is left with the first `most` bytes of these replies, and this end, where the
-/// batch with this number comes first.
+/// Publishes the batch `first`, if the publisher accepts it, and runs a client. Whether the client has
+/// the first `most` bytes of these replies, and this end.
 fn is_answered<R: Wait + Abort>(
     rt: &R,
     alloc: Global,
@@ -48,7 +49,8 @@ ask 9 v0 unknown-from\n";
     Ok(())
 }
 
-/// A client whose replies are taken up to a byte has these alone, and is stopped by the write.
+/// A client's writer takes only `most` bytes. The client has written these bytes alone, and the failed
+/// write ends the client.
 #[test]
 fn replies_that_are_not_taken(rt: HostRuntime) -> Result<(), Fail> {
     let first = link_batch(rt.alloc(), 1)?;

@@ -15,7 +15,7 @@ use std::test::Fail;
 use std::thread;
 use std::thread::Threads;
 
-/// A client asks in another thread while this one publishes a batch.
+/// Runs a client in another thread while this thread publishes a batch.
 fn run_beside<R: Threads + Wait + Sync>(
     rt: &R,
     alloc: Global,
@@ -54,7 +54,7 @@ fn served_beside<R: Threads + Wait + Abort + Sync>(
     serving.close(known)
 }
 
-/// Whether the lines of both rows are left, the first at version 0 or at version 1.
+/// Whether both rows have their lines, and the first row is answered at version 0 or at version 1.
 fn is_at_a_version(left: &ServedClient<Narrow>) -> bool {
     let before: &[u8] = b"ask 7 v0 unknown-from\nrow 2 refused: kind\n";
     let after: &[u8] = b"ask 7 v1 route cost=10 hops=1 again=no ero=000c140101080a000c022000\n\
@@ -62,7 +62,7 @@ row 2 refused: kind\n";
     is_left(left, before, Ok(()), 1) || is_left(left, after, Ok(()), 1)
 }
 
-/// Each row has its line, at whichever version it was asked.
+/// Each row has its line, at whichever version the row was answered.
 #[test]
 fn client_beside_a_publisher(rt: HostRuntime) -> Result<(), Fail> {
     let first = link_batch(rt.alloc(), 1)?;

@@ -1,7 +1,7 @@
-//! Memory is refused: each test passes with ample memory, and where any of its allocations is
-//! refused, alone or with all later ones. It then ends with the whole output and its status, or
-//! with the named refusal. Nothing but the writer is allocated for a test, so a refused one ends
-//! it.
+//! Runs while memory is refused. Each test passes with ample memory, and also if any one of its
+//! allocations is refused, alone or with all later ones. Then the run ends with its whole output and
+//! its status, or with the named refusal. Before the run a test allocates only its writer. If memory
+//! for the writer is refused, the test ends.
 
 use cspf_serve::{
     Client, ClientError, NoGate, RunError, ServeError, Served, ServedClient, ServedError,
@@ -14,7 +14,7 @@ use std::thread::Threads;
 /// More bytes than any run here writes, so that a writer takes no memory.
 const ROOM: usize = 200;
 
-/// The link and its reverse, with a row after their batch that is cut off.
+/// A batch that puts the link and its reverse, and then a row that is cut off.
 const TORN: &[u8] =
     b"put,1.1.1.1,10.0.12.1,2.2.2.2,10.0.12.2,10,0x1,1000,1000,1000,1000,1000,1000,1000,1000\nput,2.2.2.2,10.0.12.2,1.1.1.1,10.0.12.1,10,0x1,0,0,0,0,0,0,0,0\nend,1,2\nput,2.2.2.2,10.0.1";
 
@@ -28,15 +28,15 @@ const ONE_LINK: &[u8] =
 const LINES_OF_ONE_LINK: &[u8] =
     b"version 1\nask 7 v1 route cost=10 hops=1 again=no ero=000c140101080a000c022000\n";
 
-/// Two links both ways, and a route that visits its tail-end twice.
+/// Two links in both directions, and a request whose route visits its tail-end twice.
 const LOOSE_HOP: &[u8] =
     b"put,1.1.1.1,10.0.12.1,2.2.2.2,10.0.12.2,10,0x1,1000,1000,1000,1000,1000,1000,1000,1000\nput,2.2.2.2,10.0.23.2,3.3.3.3,10.0.23.3,10,0x1,1000,1000,1000,1000,1000,1000,1000,1000\nput,3.3.3.3,10.0.23.3,2.2.2.2,10.0.23.2,10,0x1,1000,1000,1000,1000,1000,1000,1000,1000\nput,2.2.2.2,10.0.12.2,1.1.1.1,10.0.12.1,10,0x1,0,0,0,0,0,0,0,0\nend,1,4\nask,5,1.1.1.1,2.2.2.2,0,1,0x0,0x0,0x0,3.3.3.3/32l\n";
 
 const LINES_OF_LOOSE_HOP: &[u8] =
     b"version 1\nask 5 v1 route cost=30 hops=3 again=yes ero=001c140101080a000c02200001080a001703200001080a0017022000\n";
 
-/// Whether a run over some rows, one batch and one request writes all, or says that memory is
-/// refused, with a prefix of the lines written.
+/// Whether a run over some rows, with one batch and one request, writes all lines. If memory is
+/// refused, the run has to write a prefix of the lines.
 fn ends_whole_or_refused(alloc: Global, script: &[u8], rows: u32, lines: &[u8]) -> bool {
     let Ok(mut held) = Vec::with_capacity(alloc, ROOM) else {
         return true;
@@ -64,8 +64,8 @@ fn solves_a_loose_hop(rt: HostRuntime) {
     assert!(rt; ends_whole_or_refused(rt.alloc(), LOOSE_HOP, 6, LINES_OF_LOOSE_HOP));
 }
 
-/// What a run over the torn journal and the request, by two workers, answers, and what it writes. No
-/// answer where the writer is refused.
+/// What a run by two workers over the torn journal and the request answers, and what it writes. The
+/// result is `None` if memory for the writer is refused.
 fn run_torn<T: Threads + Wait + Sync>(
     rt: &T,
     alloc: Global,
@@ -78,7 +78,7 @@ fn run_torn<T: Threads + Wait + Sync>(
     Some((found, held))
 }
 
-/// The journal is refused before the requests are read, so no worker meets the refused memory.
+/// The journal is refused before the requests are read, so no worker runs short of memory.
 #[test]
 fn refuses_a_torn_journal(rt: HostRuntime) {
     if let Some((found, held)) = run_torn(&rt, rt.alloc(), false) {
@@ -97,11 +97,11 @@ fn accepts_a_torn_journal(rt: HostRuntime) {
     }
 }
 
-/// The link and its reverse in a batch.
+/// A batch that puts the link and its reverse.
 const UPDATES: &[u8] =
     b"put,1.1.1.1,10.0.12.1,2.2.2.2,10.0.12.2,10,0x1,1000,1000,1000,1000,1000,1000,1000,1000\nput,2.2.2.2,10.0.12.2,1.1.1.1,10.0.12.1,10,0x1,0,0,0,0,0,0,0,0\nend,1,2\n";
 
-/// The text of that batch.
+/// The text that the journal gets for that batch.
 const JOURNAL: &[u8] =
     b"put,1.1.1.1,10.0.12.1,2.2.2.2,10.0.12.2,10,0x00000001,1000,1000,1000,1000,1000,1000,1000,1000\nput,2.2.2.2,10.0.12.2,1.1.1.1,10.0.12.1,10,0x00000001,0,0,0,0,0,0,0,0\nend,1,2\n";
 
@@ -115,18 +115,19 @@ fn makes_a_snapshot(rt: HostRuntime) {
     }
 }
 
-/// The line of the batch that is published, and of one that isn't for want of memory.
+/// The line of the published batch, and its line if memory is refused for it.
 const PUBLISHED: &[u8] = b"version 1\n";
 
 const UNPUBLISHED: &[u8] = b"batch 1 refused: memory\n";
 
-/// The reply to the request before the batch is in effect, and after.
+/// The reply to the request before the batch is in effect, and the reply after that.
 const REPLY_BEFORE: &[u8] = b"ask 7 v0 unknown-from\n";
 
 const REPLY_BEHIND: &[u8] =
     b"ask 7 v1 route cost=10 hops=1 again=no ero=000c140101080a000c022000\n";
 
-/// Whether the batch is published and has its line, or memory was refused for either.
+/// Whether the batch is published and has its line. If memory was refused, the batch is unpublished, or
+/// the updates ended.
 fn is_published_or_refused(said: &[u8], journal: &[u8], ended: Result<(), StreamError>) -> bool {
     match ended {
         Ok(()) => {
@@ -136,8 +137,8 @@ fn is_published_or_refused(said: &[u8], journal: &[u8], ended: Result<(), Stream
     }
 }
 
-/// Whether a client was answered at one of the versions, or memory was refused to it: an entry never
-/// is.
+/// Whether a client was answered at version 0 or 1, or memory was refused for the client. An entry is
+/// never refused.
 fn is_answered_or_refused(client: &ServedClient<Vec<u8>>) -> bool {
     let replies = client.replies.as_slice();
     match client.end {
@@ -146,7 +147,7 @@ fn is_answered_or_refused(client: &ServedClient<Vec<u8>>) -> bool {
     }
 }
 
-/// A client with the request. None where memory is refused.
+/// A client with the request. The result is `None` if memory is refused.
 fn clients(alloc: Global) -> Option<Vec<Client<&'static [u8], Vec<u8>>>> {
     let replies = Vec::with_capacity(alloc, ROOM).ok()?;
     let mut clients = Vec::with_capacity(alloc, 1).ok()?;
@@ -155,18 +156,19 @@ fn clients(alloc: Global) -> Option<Vec<Client<&'static [u8], Vec<u8>>>> {
     Some(clients)
 }
 
-/// A writer of lines, and one of a journal. None where memory is refused.
+/// A writer of lines, and a writer of a journal. The result is `None` if memory is refused.
 fn writers(alloc: Global) -> Option<(Vec<u8>, Vec<u8>)> {
     let said = Vec::with_capacity(alloc, ROOM).ok()?;
     Some((said, Vec::with_capacity(alloc, 2 * ROOM).ok()?))
 }
 
-/// Whether memory was refused to the run, or to the thread of its client.
+/// Whether memory was refused for the run, or for the thread of its client.
 fn is_refused(error: ServedError) -> bool {
     error == ServedError::Run(RunError::Memory) || error == ServedError::NoThread { client: 1 }
 }
 
-/// Whether a run ended with the batch published and the client answered, or memory refused.
+/// Whether a run ended with the batch published and the client answered, or with memory refused for
+/// them.
 fn is_served(served: Served<Vec<u8>, Vec<u8>, Vec<u8>>) -> bool {
     let Served {
         status: _,
@@ -179,8 +181,8 @@ fn is_served(served: Served<Vec<u8>, Vec<u8>, Vec<u8>>) -> bool {
     is_published_or_refused(&said, &journal, updates) && clients.iter().all(is_answered_or_refused)
 }
 
-/// Whether a run over the updates and one client is served, or refused with the writers and the
-/// client given back untouched.
+/// Whether a run over the updates and one client is served. If memory is refused, the writers and the
+/// client have to come back untouched.
 fn serves<T: Threads + Wait + Sync>(
     rt: &T,
     alloc: Global,
@@ -198,7 +200,8 @@ fn serves<T: Threads + Wait + Sync>(
     }
 }
 
-/// No answer where a writer or the client is refused.
+/// Whether a run over the updates and one client ends as it should. The result is `None` if memory for
+/// a writer or the client is refused.
 fn serves_one<T: Threads + Wait + Sync>(rt: &T, alloc: Global) -> Option<bool> {
     let clients = clients(alloc)?;
     Some(serves(rt, alloc, writers(alloc)?, clients))

@@ -1,5 +1,6 @@
-//! Memory is refused, as by `rt try --test --fail-alloc N -- memory`: a call answers in full, or that
-//! memory is refused, and then its askers still answer. Where it is refused before, the test ends.
+//! Workers while memory is refused, as by `rt try --test --fail-alloc N -- memory`. A call answers in
+//! full, or says that memory is refused, and then its askers still answer. If memory is refused before
+//! the call, the test ends.
 ghost use Rattle.std.specs.Prelude.{◌≡◌, ◌≤◌, All, IfOk, length, vec_len};
 
 use crate::tests::workers::fixtures::{both_ways, request};
@@ -19,11 +20,11 @@ put,1.1.1.1,10.0.12.1,2.2.2.2,10.0.12.2,20,0x00000001,\
 1000,1000,1000,1000,1000,1000,1000,1000\n\
 put,2.2.2.2,10.0.12.2,1.1.1.1,10.0.12.1,20,0x00000001,0,0,0,0,0,0,0,0\nend,2,2\n";
 
-/// The bytes of each of the texts.
+/// How many bytes each of the two texts has.
 const TEXT: usize = 172;
 
-/// The batch with this number, 1 or 2, which puts a link of ten times that as its metric, and its
-/// reverse.
+/// The batch with this number, 1 or 2. The batch puts a link with 10 times this number as its metric,
+/// and the link's reverse.
 fn batch<R: Abort>(rt: &R, alloc: Global, number: u32) -> Result<Batch, AllocError> {
     let metric = if number == 1 { 10 } else { 20 };
     let Ok(changes) = both_ways(metric) else {
@@ -35,8 +36,8 @@ fn batch<R: Abort>(rt: &R, alloc: Global, number: u32) -> Result<Batch, AllocErr
     })
 }
 
-/// This many requests, each with its index as its id: from 1.1.1.1 where that is even, else from
-/// 9.9.9.9.
+/// This many requests, each with its index as its id. Requests with an even id are from 1.1.1.1, the
+/// others from 9.9.9.9.
 fn requests<R: Abort>(rt: &R, alloc: Global, count: usize) -> Result<Vec<Request>, AllocError>
     ensures { IfOk result (λ all. vec_len all ≤ 1000) }
 {
@@ -56,7 +57,8 @@ fn requests<R: Abort>(rt: &R, alloc: Global, count: usize) -> Result<Vec<Request
     Ok(all)
 }
 
-/// A publisher without a batch whose journal takes no memory for two, and two askers.
+/// A publisher without a batch, and two askers. The publisher's journal has room for both texts, so it
+/// takes no more memory.
 fn opened<R: Wait + Abort>(
     rt: &R,
     alloc: Global,
@@ -74,7 +76,7 @@ fn opened<R: Wait + Abort>(
     }
 }
 
-/// Whether this is the answer to the request with this index at the answer's version.
+/// Whether this is the answer to the request with this index, at the version that the answer names.
 fn is_right(index: usize, answer: &Answer) -> bool {
     let right = match &answer.outcome {
         Outcome::Route(route) => {
@@ -91,7 +93,7 @@ fn is_right(index: usize, answer: &Answer) -> bool {
     right && answer.id == index as u64
 }
 
-/// Whether these are the answers to `count` requests, each at one of these versions.
+/// Whether these are the answers to `count` requests, each at a version from `least` to `most`.
 fn are_right(list: &[Answer], count: usize, least: u32, most: u32) -> bool {
     for (index, answer) in list.iter().enumerate() {
         if !is_right(index, answer) || answer.version < least || answer.version > most {
@@ -101,7 +103,7 @@ fn are_right(list: &[Answer], count: usize, least: u32, most: u32) -> bool {
     list.len() == count
 }
 
-/// Whether two workers drew each of `count` indexes once.
+/// Whether each of `count` indexes was drawn once, by one of two workers.
 fn are_drawn_once(drawn: &[Vec<usize>], count: usize) -> bool {
     let [first, second] = drawn else {
         return false;
@@ -114,7 +116,7 @@ fn are_drawn_once(drawn: &[Vec<usize>], count: usize) -> bool {
     first.len().wrapping_add(second.len()) == count
 }
 
-/// Whether an asker answers each request at this version, or that memory is refused.
+/// Whether an asker answers each request at this version, or says that memory is refused.
 fn still_answers(alloc: Global, asker: &mut Asker, requests: &[Request], version: u32) -> bool {
     for (index, request) in requests.iter().enumerate() {
         let right = match asker.ask(alloc, request) {
@@ -137,7 +139,8 @@ fn still_answer(alloc: Global, askers: &mut [Asker], requests: &[Request], versi
         && still_answers(alloc, second, requests, version)
 }
 
-/// Whether two workers answer in full at this version, or memory is refused, and the askers.
+/// Whether two workers answer in full at this version, or memory is refused. The askers are returned,
+/// too.
 fn answered<R: Threads + Sync>(
     rt: &R,
     alloc: Global,
@@ -158,7 +161,7 @@ fn answered<R: Threads + Sync>(
     }
 }
 
-/// Whether a batch is published, or memory refused for it, and two workers then answer.
+/// Whether a batch is published, or memory is refused for it, and two workers answer after that.
 fn answer_after<R: Threads + Wait + Sync>(
     rt: &R,
     alloc: Global,
@@ -182,7 +185,7 @@ fn answer_after<R: Threads + Wait + Sync>(
     published && version <= 1 && right && answered
 }
 
-/// Two workers answer `count` requests, once the batch is published.
+/// Publishes the batch. Whether two workers then answer `count` requests.
 fn answers<R: Threads + Wait + Abort + Sync>(
     rt: &R,
     alloc: Global,
@@ -198,15 +201,15 @@ fn two_requests(rt: HostRuntime) {
     assert!(rt; answers(&rt, rt.alloc(), 2) != Ok(false));
 }
 
-/// What each worker answered grows while the other asks.
+/// The list of each worker's answers grows while the other worker asks.
 #[test]
 fn hundred_requests(rt: HostRuntime) {
     assert!(rt; answers(&rt, rt.alloc(), 100) != Ok(false));
 }
 
-/// The publisher and the askers of a live run over some requests and batches, and whether they are
-/// right. All batches are applied, or those before one that memory was refused for, and the askers
-/// know them.
+/// Whether a live run over some requests and batches is right, and its publisher and askers. It is
+/// right if all batches are applied, or all before a batch for which memory was refused. The askers
+/// know the applied batches.
 fn parts_of(
     live: Live<Vec<u8>>,
     count: usize,
@@ -234,7 +237,8 @@ fn parts_of(
     (right, publisher, askers)
 }
 
-/// Whether two workers answer requests while batches are applied, and their askers then do.
+/// Whether two workers answer requests while batches are applied, and their askers still answer after
+/// that.
 fn answer_beside<R: Threads + Wait + Sync>(
     rt: &R,
     alloc: Global,
@@ -258,7 +262,7 @@ fn answer_beside<R: Threads + Wait + Sync>(
     right && answered && is_journal(&journal, version)
 }
 
-/// Two workers answer five requests while batches are applied.
+/// Whether two workers answer five requests while batches are applied.
 fn runs_live<R: Threads + Wait + Abort + Sync>(
     rt: &R,
     alloc: Global,
@@ -269,7 +273,7 @@ fn runs_live<R: Threads + Wait + Abort + Sync>(
     Ok(answer_beside(rt, alloc, opened, batches, all.as_slice()))
 }
 
-/// Whether a journal has the texts of the first batches.
+/// Whether a journal has the texts of the batches up to this version.
 fn is_journal(journal: &[u8], version: u32) -> bool {
     match version {
         0 => journal.is_empty(),

@@ -1,4 +1,4 @@
-//! Workers alone: what they answer, in which order, and who answers.
+//! Workers alone: what they answer, in which order, and which worker answers.
 ghost use Rattle.std.specs.Prelude.{◌<◌, ◌≤◌, length};
 ghost use Rattle.cspf_publish.specs.declared.limits.TheConstants.{MOST_ASKERS};
 ghost use Rattle.cspf_work.specs.declared.limits.TheConstants.{MOST_REQUESTS};
@@ -58,7 +58,7 @@ fn have_one_each(drawn: &[Vec<usize>]) -> bool {
     drawn.iter().all(|indexes| indexes.len() == 1)
 }
 
-/// Whether as many workers as requests answer one each.
+/// Whether as many workers as there are requests answer one request each.
 fn answer_one_each<R: Threads + Wait + Abort + Sync>(
     rt: &R,
     alloc: Global,
@@ -75,7 +75,8 @@ fn answer_one_each<R: Threads + Wait + Abort + Sync>(
     }
 }
 
-/// Whether as many workers as requests, each of which is held until all are reached, run at once.
+/// Whether `count` workers run at once on `count` requests. Each request is held until all requests are
+/// reached.
 fn answer_at_once<R: Threads + Wait + Abort + Sync>(
     rt: &R,
     alloc: Global,
@@ -89,7 +90,7 @@ fn answer_at_once<R: Threads + Wait + Abort + Sync>(
     Ok(answer_one_each(rt, alloc, &batch, all.as_slice(), &gate))
 }
 
-/// Two workers run at once, and eight do.
+/// Two workers run at once, and so do eight.
 #[test]
 fn at_once(rt: HostRuntime) -> Result<(), Fail> {
     assert!(rt; answer_at_once(&rt, rt.alloc(), 2)? && answer_at_once(&rt, rt.alloc(), 8)?);
@@ -99,11 +100,11 @@ fn at_once(rt: HostRuntime) -> Result<(), Fail> {
 /// Which answers are wanted.
 #[derive(Clone, Copy)]
 enum Wanted {
-    /// None, of three workers.
+    /// No answer, with three workers.
     Nothing,
-    /// One, of one of as many workers as there may be.
+    /// One answer, given by one of the most workers that are allowed.
     One,
-    /// Those of 1,000 requests, in their order, of 64 workers.
+    /// The answers to 1,000 requests in the requests' order, with 64 workers.
     InOrder,
 }
 
@@ -116,7 +117,7 @@ fn is_wanted(answers: &Answers, wanted: Wanted) -> bool {
     }
 }
 
-/// Whether of this many workers so many drew anything.
+/// Whether there are `workers` workers, and `wanted` of them drew at least one index.
 fn have_drawn(drawn: &[Vec<usize>], workers: usize, wanted: usize) -> bool {
     let mut count = 0usize;
     for indexes in drawn {
@@ -145,7 +146,8 @@ fn gives<R: Threads + Wait + Abort + Sync>(
     }
 }
 
-/// No requests give no answers, and the askers. One is answered by one worker.
+/// Without requests there are no answers, and the askers are given back. One request is answered by one
+/// worker.
 #[test]
 fn no_requests_and_one(rt: HostRuntime) -> Result<(), Fail> {
     assert!(rt; gives(&rt, rt.alloc(), 3, &[], Wanted::Nothing)?);
@@ -154,8 +156,8 @@ fn no_requests_and_one(rt: HostRuntime) -> Result<(), Fail> {
     Ok(())
 }
 
-/// 1,000 requests of three kinds: one that the link has room for, one that it hasn't, and one from a
-/// router that isn't there.
+/// 1,000 requests of three kinds: for bandwidth that the link has, for more bandwidth than it has, and
+/// from a router that isn't in the database.
 fn requests_of_three_kinds(alloc: Global) -> Result<Vec<Request>, Fail> {
     let mut all = Vec::with_capacity(alloc, 1000)?;
     for index in 0..1000u64 {
@@ -197,7 +199,7 @@ fn in_order(rt: HostRuntime) -> Result<(), Fail> {
     Ok(())
 }
 
-/// Whether two workers answer at the last version, which their askers learn.
+/// Whether two workers answer at the last version, and their askers then know it.
 fn answer_at_the_last<R: Threads + Wait + Abort + Sync>(
     rt: &R,
     alloc: Global,

@@ -1,19 +1,19 @@
-//! A gate that counts, and waits of gates.
+//! A gate that counts requests, and how a gate waits.
 
 use cspf_serve::Gate;
 use std::alloc::{AllocError, Global};
 use std::sync::atomic::{AtomicU64, Ordering};
 use std::thread;
 
-/// The turns that a gate waits before it notes a fault.
+/// How many turns a gate waits before it notes a fault.
 const TURNS: u32 = 1_000_000;
 
-/// Counts what is reached and answered, by index.
+/// Counts for each request how often it is reached and answered.
 #[derive(Drop)]
 pub(crate) struct Counts {
     reached: Vec<AtomicU64>,
     answered: Vec<AtomicU64>,
-    /// How many requests have to be reached before any is asked.
+    /// How many requests have to be reached before any request is asked.
     all: u64,
     came: AtomicU64,
     faults: AtomicU64,
@@ -30,7 +30,7 @@ impl Counts {
         })
     }
 
-    /// Whether each index was reached once and answered once, and no wait was in vain.
+    /// Whether each request was reached once and answered once, and no wait took too long.
     pub(crate) fn is_whole(&self) -> bool {
         self.faults.load(Ordering::SeqCst) == 0
             && self.came.load(Ordering::SeqCst) == self.all
@@ -56,7 +56,7 @@ pub(crate) fn zeros(alloc: Global, count: usize) -> Result<Vec<AtomicU64>, Alloc
     Ok(zeros)
 }
 
-/// Waits until the word is no less, and notes a fault where that takes too many turns.
+/// Waits until the counter is at least `least`. Notes a fault if that takes too many turns.
 pub(crate) fn wait_for(word: &AtomicU64, least: u64, faults: &AtomicU64) {
     for _ in 0..TURNS {
         if word.load(Ordering::SeqCst) >= least {
@@ -67,7 +67,7 @@ pub(crate) fn wait_for(word: &AtomicU64, least: u64, faults: &AtomicU64) {
     faults.fetch_add(1, Ordering::SeqCst);
 }
 
-/// Holds each request until all are reached.
+/// Holds each request until all requests are reached.
 impl Gate for Counts {
     fn reached(&self, _worker: usize, index: usize) {
         if index < self.reached.len() {

@@ -13,8 +13,8 @@ use std::sync::Wait;
 use std::test::Fail;
 use std::thread::Threads;
 
-/// What three askers answer once their publisher is closed, of whom the first alone has learnt of
-/// its batch.
+/// What three askers answer after their publisher is closed. Only the first asker has learnt of the
+/// publisher's batch.
 fn ask_closed<R: Threads + Wait + Abort + Sync>(
     rt: &R,
     alloc: Global,
@@ -31,7 +31,7 @@ fn ask_closed<R: Threads + Wait + Abort + Sync>(
     answer_all(rt, alloc, askers, requests, &NoGate)
 }
 
-/// Whether these are three askers of whom the first alone knows a batch.
+/// Whether these are three askers, of which only the first knows a batch.
 fn are_as_told(askers: &[Asker]) -> bool {
     match askers {
         [first, second, third] => first.seen() == 1 && second.seen() == 0 && third.seen() == 0,
@@ -39,7 +39,7 @@ fn are_as_told(askers: &[Asker]) -> bool {
     }
 }
 
-/// Whether there is no entry for them, and the askers come back as they were.
+/// Whether the askers have no entry, and are given back as they were.
 fn have_no_entry<R: Threads + Wait + Abort + Sync>(
     rt: &R,
     alloc: Global,
@@ -54,7 +54,7 @@ fn have_no_entry<R: Threads + Wait + Abort + Sync>(
     }
 }
 
-/// After a close there is no entry, and the askers come back as they were.
+/// After the publisher is closed, the askers have no entry and are given back as they were.
 #[test]
 fn no_entry(rt: HostRuntime) -> Result<(), Fail> {
     let batch = link_batch(rt.alloc(), 1)?;

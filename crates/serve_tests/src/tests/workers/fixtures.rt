@@ -35,7 +35,7 @@ pub(crate) fn link_batch(alloc: Global, number: u32) -> Result<Batch, Fail> {
     })
 }
 
-/// A request from 1.1.1.1, or from 9.9.9.9, to 2.2.2.2.
+/// A request from the router `from` to 2.2.2.2, for this bandwidth.
 pub(crate) fn request(id: u64, from: u32, bandwidth: u64) -> Result<Request, RequestError> {
     let any = Mask::new(0);
     Request::new(

@@ -1,4 +1,4 @@
-//! What workers tell their gate, and how many of them work at once.
+//! What workers report to their gate, and how many workers run at once.
 
 ghost use Rattle.std.specs.Prelude.{◌<◌, ◌≤◌, length};
 ghost use Rattle.cspf_publish.specs.declared.limits.TheConstants.{MOST_ASKERS};
@@ -21,7 +21,7 @@ use std::thread::Threads;
 /// Which run answers requests.
 #[derive(Clone, Copy)]
 enum Run {
-    /// `run_batch` over no journal.
+    /// `run_batch` over an empty journal.
     Batch,
     /// `run_live_rows` over no updates.
     Live,
@@ -36,7 +36,7 @@ fn rows_of(alloc: Global, count: usize) -> Result<String, AllocError> {
     Ok(rows)
 }
 
-/// The lines of a run over them.
+/// The lines of a run over these rows.
 fn lines_of(alloc: Global, run: Run, count: usize) -> Result<String, AllocError> {
     let mut lines = String::new(alloc);
     for id in 0..count {
@@ -49,7 +49,7 @@ fn lines_of(alloc: Global, run: Run, count: usize) -> Result<String, AllocError>
     Ok(lines)
 }
 
-/// Whether a run over no journal and some requests writes these lines.
+/// Whether a run over an empty journal and some requests writes these lines.
 fn batch_run_writes<G: Gate + Sync, T: Threads + Wait + Sync>(
     rt: &T,
     alloc: Global,
@@ -84,8 +84,8 @@ fn live_run_writes<G: Gate + Sync, T: Threads + Wait + Sync>(
     found == Ok(0) && held.as_slice() == lines && kept.is_empty()
 }
 
-/// Whether a run over nothing but `count` requests answers them, by this many workers, with their
-/// lines.
+/// Whether a run over `count` requests alone, with this many workers, answers each request with its
+/// line.
 fn answers<G: Gate + Sync, T: Threads + Wait + Sync>(
     rt: &T,
     alloc: Global,
@@ -105,7 +105,8 @@ fn answers<G: Gate + Sync, T: Threads + Wait + Sync>(
     })
 }
 
-/// Whether as many workers as requests, each of which is held until all are reached, answer them.
+/// Whether `count` workers answer `count` requests. Each request is held until all requests are
+/// reached.
 fn answers_at_once<T: Threads + Wait + Sync>(
     rt: &T,
     alloc: Global,
@@ -118,7 +119,7 @@ fn answers_at_once<T: Threads + Wait + Sync>(
     Ok(answers(rt, alloc, run, count, count, &gate)? && gate.is_whole())
 }
 
-/// All workers run at once, and it is the caller's gate that they tell.
+/// All workers run at once, and they report to the gate that the caller gives.
 #[test]
 fn at_once(rt: HostRuntime) -> Result<(), AllocError> {
     for count in [2, 64] {
@@ -131,12 +132,12 @@ fn at_once(rt: HostRuntime) -> Result<(), AllocError> {
     Ok(())
 }
 
-/// Counts how often each index comes, and waits for nobody.
+/// Counts how often the gate is called with each index. The gate holds no request.
 #[derive(Drop)]
 struct Tally {
     reached: Vec<AtomicU64>,
     answered: Vec<AtomicU64>,
-    /// How often an index comes that no request has.
+    /// How often the gate is called with an index that no request has.
     others: AtomicU64,
 }
 
@@ -149,7 +150,7 @@ impl Tally {
         })
     }
 
-    /// Whether each index comes once before its ask and once after it.
+    /// Whether the gate is called once before and once after the ask of each request.
     fn is_whole(&self) -> bool {
         are_ones(&self.reached)
             && are_ones(&self.answered)
@@ -169,7 +170,7 @@ impl Gate for Tally {
     }
 }
 
-/// Whether `count` requests come once before their asks and once after them.
+/// Whether the gate is called once before and once after the ask of each of `count` requests.
 fn tells_of_each<T: Threads + Wait + Sync>(
     rt: &T,
     alloc: Global,
@@ -179,21 +180,21 @@ fn tells_of_each<T: Threads + Wait + Sync>(
     Ok(answers(rt, alloc, Run::Batch, count, 3, &tally)? && tally.is_whole())
 }
 
-/// More requests than are answered before lines are written: the gate hears of each by its index
-/// among all of them.
+/// There are more requests than a run answers before it writes lines. The gate is called with the index
+/// of a request among all requests.
 #[test]
 fn what_workers_tell_of_many_rows(rt: HostRuntime) -> Result<(), AllocError> {
     assert!(rt; tells_of_each(&rt, rt.alloc(), 32_768 * 2 + 3)?);
     Ok(())
 }
 
-/// Notes what each worker says, in its order, as hexadecimal digits. 1, 3, 5 and 7 are reaching the
-/// requests 0 to 3, and 2, 4, 6 and 8 having their answers. Holds request 0 until the others are
-/// answered.
+/// Notes the reports of each worker in order, as hexadecimal digits. The digits 1, 3, 5 and 7 stand for
+/// reaching the requests 0 to 3, and 2, 4, 6 and 8 for their answers. Request 0 is held until the
+/// requests 1 to 3 are answered.
 #[derive(Drop)]
 struct Notes {
     words: Vec<AtomicU64>,
-    /// What is said of a worker that isn't there.
+    /// The reports of workers that don't exist.
     others: AtomicU64,
     /// How many of the requests 1 to 3 are answered.
     answered: AtomicU64,
@@ -216,7 +217,7 @@ impl Notes {
         word.store(noted.wrapping_mul(16).wrapping_add(digit), Ordering::SeqCst);
     }
 
-    /// Whether one worker asks request 0, and the other meanwhile the requests 1, 2 and 3.
+    /// Whether one worker asks request 0, and meanwhile the other worker asks the requests 1, 2 and 3.
     fn are_of_four_requests(&self) -> bool {
         match self.words.as_slice() {
             [first, second] => {
@@ -246,7 +247,7 @@ impl Gate for Notes {
     }
 }
 
-/// Whether one worker drew 0, and the other 1, 2 and 3.
+/// Whether one worker drew request 0, and the other worker the requests 1, 2 and 3.
 fn are_zero_and_the_others(drawn: &[Vec<usize>]) -> bool {
     let [first, second] = drawn else {
         return false;
@@ -259,7 +260,7 @@ fn are_zero_and_the_others(drawn: &[Vec<usize>]) -> bool {
     zero.as_slice() == [0].as_slice() && others.as_slice() == [1, 2, 3].as_slice()
 }
 
-/// Whether one of two workers draws request 0, and the other the others.
+/// Whether one of two workers draws request 0, and the other worker draws the other three requests.
 fn tell_of_four<R: Threads + Wait + Abort + Sync>(
     rt: &R,
     alloc: Global,
@@ -284,7 +285,8 @@ fn what_workers_tell(rt: HostRuntime) -> Result<(), Fail> {
     Ok(())
 }
 
-/// The same of a live run, which applies a batch.
+/// Whether one worker of a live run asks request 0, and the other worker asks the requests 1, 2 and 3.
+/// The run applies a batch.
 fn tell_of_four_live<R: Threads + Wait + Abort + Sync>(
     rt: &R,
     alloc: Global,
@@ -308,7 +310,8 @@ fn what_live_workers_tell(rt: HostRuntime) -> Result<(), Fail> {
     Ok(())
 }
 
-/// The same of a run over rows.
+/// Whether one worker of a run over rows asks request 0, and the other worker asks the requests 1, 2
+/// and 3.
 fn tell_of_rows<T: Threads + Wait + Sync>(
     rt: &T,
     alloc: Global,

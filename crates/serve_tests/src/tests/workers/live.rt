@@ -1,4 +1,4 @@
-//! Live runs: what is applied beside the workers, and what is left.
+//! Live runs: what is applied while workers answer, and what the run leaves.
 ghost use Rattle.std.specs.Prelude.{◌≡◌, ◌<◌, ◌≤◌, length, All, vec_len};
 ghost use Rattle.cspf_publish.specs.declared.limits.TheConstants.{MOST_ASKERS};
 ghost use Rattle.cspf_work.specs.declared.limits.TheConstants.{MOST_REQUESTS};
@@ -102,7 +102,7 @@ impl<'a> Write for MeetingJournal<'a> {
     }
 }
 
-/// Whether a batch is applied where nothing is asked.
+/// Whether a batch is applied if there are no requests.
 fn applies<R: Threads + Wait + Abort + Sync>(rt: &R, alloc: Global, batches: &[Batch]) -> bool {
     let opened = opened(rt, alloc, Vec::<u8>::new(alloc), 1);
     let left = run_and_close(rt, alloc, opened, batches, &[], &NoGate);
@@ -120,8 +120,8 @@ fn applies_alone(rt: HostRuntime) -> Result<(), Fail> {
     Ok(())
 }
 
-/// Whether a live run leaves the route of the link as the one answer, at a version from 1 to the
-/// published one.
+/// Whether a live run leaves only one answer: the route over the link, at a version from 1 to the
+/// published version.
 fn is_one_answer(list: &[Answer], version: u32) -> bool {
     match list {
         [answer] => {
@@ -134,8 +134,8 @@ fn is_one_answer(list: &[Answer], version: u32) -> bool {
     }
 }
 
-/// A request is answered while batches are applied to the database of one link. The result is how
-/// many are applied, the version at the end, and why one is refused.
+/// Answers a request while batches are applied to the database of one link. The result is how many
+/// batches are applied, the version at the end, and why a batch is refused, if one is.
 fn applied_beside<R: Threads + Wait + Abort + Sync>(
     rt: &R,
     alloc: Global,
@@ -153,7 +153,7 @@ fn applied_beside<R: Threads + Wait + Abort + Sync>(
     (left.applied, left.version, left.fault)
 }
 
-/// Whether an empty batch with this number is applied, or refused, beside a request.
+/// Whether an empty batch with this number has the wanted result while a request is answered.
 fn applies_beside<R: Threads + Wait + Abort + Sync>(
     rt: &R,
     alloc: Global,
@@ -167,7 +167,7 @@ fn applies_beside<R: Threads + Wait + Abort + Sync>(
     Ok(applied_beside(rt, alloc, &first, &batches, all.as_slice()) == wanted)
 }
 
-/// The next batch is applied, and one with another number is refused.
+/// The next batch is applied, and a batch with another number is refused.
 #[test]
 fn applies_the_next(rt: HostRuntime) -> Result<(), Fail> {
     assert!(rt; applies_beside(&rt, rt.alloc(), 2, (1, 2, None))?);
@@ -176,7 +176,7 @@ fn applies_the_next(rt: HostRuntime) -> Result<(), Fail> {
     Ok(())
 }
 
-/// Whether the first of two answers is of no batch, and the second of one at most.
+/// Whether the first of two answers is at version 0, and the second at version 0 or 1.
 fn are_around_a_batch(list: &[Answer]) -> bool {
     match list {
         [first, last] => {

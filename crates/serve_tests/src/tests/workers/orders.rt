@@ -1,4 +1,5 @@
-//! In which order workers reach a request, ask and answer, and that any number of them answers all.
+//! In which order workers reach a request, ask and answer. Also, any number of workers answers all
+//! requests.
 
 ghost use Rattle.std.specs.Prelude.{◌<◌, ◌≤◌, length};
 ghost use Rattle.cspf_publish.specs.declared.limits.TheConstants.{MOST_ASKERS};
@@ -20,14 +21,14 @@ use std::sync::atomic::{AtomicU64, Ordering};
 use std::test::Fail;
 use std::thread::Threads;
 
-/// The bytes of the text of the batch of a link and its reverse.
+/// How many bytes the text of the batch of a link and its reverse has.
 const TEXT: usize = 172;
 
-/// Holds each worker on one side of its asks until the first batch is published, and the first batch
-/// until a worker is there.
+/// Holds each worker before or after its asks until the first batch is published. Holds the first batch
+/// until a worker is held.
 #[derive(Drop)]
 struct Order {
-    /// Whether that side is the one before the ask.
+    /// Whether workers are held before their asks, and not after them.
     before: bool,
     there: AtomicU64,
     published: AtomicU64,
@@ -49,7 +50,7 @@ impl Order {
         wait_for(&self.published, 1, &self.faults);
     }
 
-    /// Whether `count` asks were held, and no wait was in vain.
+    /// Whether `count` asks were held, and no wait took too long.
     fn has_held(&self, count: u64) -> bool {
         self.faults.load(Ordering::SeqCst) == 0 && self.there.load(Ordering::SeqCst) == count
     }
@@ -69,7 +70,7 @@ impl Gate for Order {
     }
 }
 
-/// A journal in memory that waits with the first batch for a worker, and fails at the second.
+/// A journal in memory. It waits for a held worker at the first batch, and fails at the second batch.
 #[derive(Drop)]
 struct OrderJournal<'a> {
     held: Vec<u8>,
@@ -93,7 +94,7 @@ impl<'a> Write for OrderJournal<'a> {
     }
 }
 
-/// Whether these are two answers of these versions.
+/// Whether these are two answers at these versions.
 fn are_of(list: &[Answer], versions: (u32, u32)) -> bool {
     match list {
         [first, second] => first.version == versions.0 && second.version == versions.1,
@@ -101,7 +102,7 @@ fn are_of(list: &[Answer], versions: (u32, u32)) -> bool {
     }
 }
 
-/// Two requests of one worker are held on one side of their asks: whether their answers are of these
+/// Holds two requests of one worker before or after their asks. Whether their answers are at these
 /// versions.
 fn are_held<R: Threads + Wait + Abort + Sync>(
     rt: &R,
@@ -126,8 +127,9 @@ fn are_held<R: Threads + Wait + Abort + Sync>(
         && are_of(&left.list, versions)
 }
 
-/// The first request is asked before the first batch is published, where that waits until the gate
-/// hears of the answer. It is asked after it, where it waits for that once it is reached.
+/// If the first batch waits until the gate is called with the answer, the first request is asked before
+/// that batch is published. If the request waits at the gate before its ask, it is asked after the
+/// batch is published.
 #[test]
 fn reached_and_answered_are_around_the_ask(rt: HostRuntime) -> Result<(), Fail> {
     let batches = [link_batch(rt.alloc(), 1)?, link_batch(rt.alloc(), 2)?];
@@ -141,7 +143,7 @@ fn reached_and_answered_are_around_the_ask(rt: HostRuntime) -> Result<(), Fail> 
     Ok(())
 }
 
-/// Two batches of one link, the first of which puts its reverse too.
+/// Two batches of one link. The first batch also puts the link's reverse.
 const UPDATES: &[u8] =
     b"put,1.1.1.1,10.0.12.1,2.2.2.2,10.0.12.2,10,0x1,1000,1000,1000,1000,1000,1000,1000,1000
 put,2.2.2.2,10.0.12.2,1.1.1.1,10.0.12.1,10,0x1,0,0,0,0,0,0,0,0
@@ -161,8 +163,8 @@ fn request_rows(alloc: Global) -> Result<String, AllocError> {
     Ok(rows)
 }
 
-/// The lines of these requests at version 1, of one batch that is published and of one that the
-/// journal refuses.
+/// The lines of these requests at version 1. One batch is published, and one batch is refused by the
+/// journal.
 fn lines_at_version_1(alloc: Global) -> Result<String, AllocError> {
     let mut lines = String::new(alloc);
     for id in 0..COUNT {
@@ -175,8 +177,8 @@ fn lines_at_version_1(alloc: Global) -> Result<String, AllocError> {
     Ok(lines)
 }
 
-/// What workers answer and write that are held until the first of two batches is published,
-/// and whether each request was held.
+/// Workers are held until the first of two batches is published. The result is the run's answer, its
+/// lines, and whether each request was held.
 fn run_held<T: Threads + Wait + Sync>(
     rt: &T,
     alloc: Global,
@@ -199,7 +201,7 @@ fn run_held<T: Threads + Wait + Sync>(
     (found, lines, whole)
 }
 
-/// Whether some workers answer these lines.
+/// Whether this many workers write these lines.
 fn is_held<T: Threads + Wait + Sync>(
     rt: &T,
     alloc: Global,
@@ -213,7 +215,7 @@ fn is_held<T: Threads + Wait + Sync>(
     found == Ok(2) && written.as_slice() == lines && whole
 }
 
-/// Sixty-four workers answer as one does.
+/// One worker and 64 workers write the same lines.
 #[test]
 fn any_number_of_workers(rt: HostRuntime) -> Result<(), AllocError> {
     let requests = request_rows(rt.alloc())?;

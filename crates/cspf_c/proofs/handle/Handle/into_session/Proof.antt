@@ -1,4 +1,4 @@
--- `into_session` has nothing at null, and else the box at the pointer.
+-- `into_session` returns `None` for the null pointer, and otherwise the box at the pointer.
 use Rattle.std.proofs.Common.{List, [], ◌∷◌, refl, sym, ap, ◌≡◌, ◌∙◌, lit<}
 use Rattle.std.proofs.VecSteps.Shapes.{after}
 use denote.RattleType.{RattleType}

@@ -1,4 +1,4 @@
--- `none` has the null pointer, at which nothing is held.
+-- `none` makes a handle of the null pointer, which holds no session.
 use Rattle.std.proofs.Common.{[], ◌∷◌, refl}
 use Rattle.std.proofs.raw_atomic.Walks.{proved}
 use Rattle.std.specs.declared.option.Option.TheVariants.{None}
