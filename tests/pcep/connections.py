@@ -7,6 +7,7 @@ import struct
 import time
 
 from pcep.played import PATH, SOUTH, Front, report_of, request, rows, told
+from tools.fronts import reset as cut_off
 
 from routed.model.rows import Reply
 from routed.net.endpoints import Endpoint
@@ -82,8 +83,7 @@ def reset(checks, room):
         client = socket.create_connection(listener.getsockname())
         connection = listener.accept()[0]
     front.pccs["10.0.0.1"] = Connected(front, Stream(front.loop, connection), "10.0.0.1")
-    client.setsockopt(socket.SOL_SOCKET, socket.SO_LINGER, struct.pack("ii", 1, 0))
-    client.close()
+    cut_off(client)
     front.loop.turn()
     checks.same("a reset: its session ends, and it is closed", (front.pccs, connection.fileno(), front.loop.keys), ({}, -1, {}))
 

@@ -1,18 +1,16 @@
 """PCCs whose TCP connections are reset, at a `routed-tools pcep` that serves the next PCC each time: before the Open, after it, with
 requests that wait for the server, and with replies that wait for the PCC."""
 import signal
-import socket
-import struct
 import tempfile
 import time
 
-from pcep.played import PATH, request, rows
 from pcep.beside import OPENED, Client, Run, begun, wait
+from pcep.played import PATH, request, rows
+from tools.fronts import AT_ONCE, RESETS, reset
 
 from routed.pcep import wire
 from routed.pcep.wire import pack
 
-RESETS, AT_ONCE = 2000, 20  # of each kind, and between one PCC that is answered and the next
 ASKED = 5  # requests of a PCC that wait for the server
 LARGE, REPLIES = 32000, 6  # bytes of an object that comes back in each reply, and the replies that wait for a PCC
 NARROW, SEGMENT = 2304, 536  # bytes that a PCC takes unread, and of a segment: so the kernel keeps few of those that are sent to it
@@ -22,8 +20,8 @@ class Reset(Client):
     """A PCC whose connection ends by a reset."""
 
     def reset(self):
-        self.socket.setsockopt(socket.SOL_SOCKET, socket.SO_LINGER, struct.pack("ii", 1, 0))
-        self.close()
+        self.file.close()
+        reset(self.socket)
 
 
 def before_open(run, clients):
@@ -77,20 +75,24 @@ def kept(port):
     return sent + sum(int(line[4].split(":")[1], 16) for line in lines if int(line[2].split(":")[1], 16) == port)
 
 
+KINDS = before_open, after_open, requests_wait, replies_wait
+
+
 def resets(program, checks):
-    for kind in (before_open, after_open, requests_wait, replies_wait):
+    for kind in KINDS:
         with tempfile.TemporaryDirectory() as room:
             checks.part(f"resets: {kind.__name__}", reset_all, program, checks, room, kind)
 
 
 def reset_all(program, checks, room, kind):
     """After each few resets another PCC has a session and is answered, and so is one that was there before."""
-    name, start, found = f"{RESETS} resets, {kind.__name__.replace('_', ' ')}", time.monotonic(), []
+    batches, start, found = RESETS // len(KINDS) // AT_ONCE, time.monotonic(), []
+    name = f"{batches * AT_ONCE} resets, {kind.__name__.replace('_', ' ')}"
     takes_little = {"narrow": NARROW, "segment": SEGMENT} if kind is replies_wait else {}
     with Run(program.path, room) as run:
         run.publish(*rows())
         first = begun(run, "127.0.15.1")
-        for batch in range(RESETS // AT_ONCE):
+        for batch in range(batches):
             numbers = range(batch * AT_ONCE, (batch + 1) * AT_ONCE)
             try:
                 kind(run, [Reset(run.port, f"127.1.{number >> 8}.{number & 255}", **takes_little) for number in numbers])
@@ -100,7 +102,7 @@ def reset_all(program, checks, room, kind):
             except OSError as fault:
                 checks.fail(f"{name}: {fault} after at most {numbers.stop}, and the front said {run.said()[-200:]!r}")
                 return
-        checks.same(name, found, [(OPENED, PATH, PATH)] * (RESETS // AT_ONCE))
+        checks.same(name, found, [(OPENED, PATH, PATH)] * batches)
         wait(lambda: run.figures()["sessions"] == 1)
         checks.same(f"{name}: sessions, and lines of the log", (run.figures()["sessions"], run.said()), (1, ""))
         if takes_little:

@@ -3,7 +3,6 @@ import os
 import shutil
 import signal
 import socket
-import struct
 import subprocess
 import tempfile
 import time
@@ -15,6 +14,7 @@ from pcep.lsps import figures, shared, wanted_again
 from pcep.played import PATH, SOUTH, request, rows
 from program.serving import PATIENCE
 from reference import formats
+from tools.fronts import reset
 
 from routed.pcep import replies
 from routed.pcep.keys import set_key
@@ -116,8 +116,8 @@ def gone(program, checks, room):
         run.pcep.send_signal(signal.SIGSTOP)
         for _ in range(8):
             client = Client(run.port)
-            client.socket.setsockopt(socket.SOL_SOCKET, socket.SO_LINGER, struct.pack("ii", 1, 0))
-            client.close()
+            client.file.close()
+            reset(client.socket)
         run.pcep.send_signal(signal.SIGCONT)
         checks.same("after connections that were reset", Client(run.port).open(), OPENED)
         checks.same("and it goes on", run.end(), 0)

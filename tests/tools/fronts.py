@@ -1,6 +1,7 @@
 """A run of `routed-tools listen`, and connections to it."""
 import os
 import socket
+import struct
 import subprocess
 import time
 
@@ -9,6 +10,8 @@ from program.serving import PATIENCE, Lines
 
 LISTEN = os.environ.get("LISTEN", f"{TOOLS} listen").split()  # another one, to see these tests fail
 MARK = "\xef\xbb\xbf"  # the byte order mark
+RESETS, AT_ONCE = 2000, 20  # connections of each tool that are reset, and between one that is served and the next
+
 
 class Connection:
     """A connection to a path, or to an address and a port."""
@@ -39,6 +42,12 @@ class Connection:
         lines = self.lines.rest()
         self.socket.close()
         return "".join(lines)
+
+
+def reset(made):
+    """Ends a TCP connection by a reset."""
+    made.setsockopt(socket.SOL_SOCKET, socket.SO_LINGER, struct.pack("ii", 1, 0))
+    made.close()
 
 
 class Front:

@@ -4,8 +4,9 @@ import errno
 import os
 import selectors
 import socket
-import struct
 import tempfile
+
+from tools import fronts
 
 from routed.net.loop import READ, WRITE, Loop
 from routed.net.stream import LONGEST, Stream
@@ -63,8 +64,9 @@ class Peer:
     def reset(self):
         """Ends both directions at once; over TCP by a reset."""
         if self.socket and self.socket.family == socket.AF_INET:
-            self.socket.setsockopt(socket.SOL_SOCKET, socket.SO_LINGER, struct.pack("ii", 1, 0))
-        self.close()
+            fronts.reset(self.socket)
+        else:
+            self.close()
 
 
 def tcp(loop, **how):

@@ -15,8 +15,8 @@ from collections.abc import Callable, Container
 from typing import NamedTuple, Protocol
 
 from ..model.rows import Key, Link, Row
-from ..net.loop import Loop, Owner, Stopped
 from ..net.endpoints import Endpoint
+from ..net.loop import Loop, Owner, Stopped
 from ..net.stream import Stream
 from .batches import Batches, Ended, journal
 from .database import begun

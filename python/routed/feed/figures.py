@@ -28,7 +28,8 @@ class FeedFigures:
         figures.gauge("routed_feed_connected", "Whether there is a connection to the router, 1 or 0.", lambda: int(feed.is_connected))
         figures.age("routed_feed_heard_age_seconds", "Seconds since the router sent anything; absent where it never did.",
                     lambda: self.heard_at)
-        figures.gauge("routed_feed_version", "The version of the last batch that was accepted.", lambda: feed.batches.version if feed.batches else None)
+        figures.gauge("routed_feed_version", "The version of the last batch that was accepted.",
+                      lambda: feed.batches.version if feed.batches else None)
         figures.gauge("routed_feed_links", "Links of the network.", lambda: self.links)
         figures.gauge("routed_feed_marks", "Routers without transit.", lambda: self.marks)
         figures.gauge("routed_feed_left_out", "Links that are left out, by the reason.", lambda: self.left, "reason")

@@ -18,6 +18,7 @@ ROW = re.compile(rb"[^\r\n]+")  # a carriage return ends one, too
 END = re.compile(rb"(?m)^end,")
 OUTCOMES = [(b" route cost=", "route"), (b" none\n", "none"), (b" unknown-from\n", "unknown-from"), (b" unknown-to\n", "unknown-to")]
 OTHER = re.compile(rb"(?m)^(?:(version) (\d+)|((row|batch) \d+ refused: ([^ \n]+)[^\n]*))$")
+CUT_OFF = {"line": "refused, for a line that isn't passed on", "idle": "idle for too long"}
 PLACES = ("ask", "updates", "watch", "metrics")
 
 
@@ -46,12 +47,12 @@ class Account:
         self.asks, self.times = (figures.values[name] for name in ("routed_asks_total", "routed_ask_seconds"))  # each ask counts there
         figures.counter("routed_refused_rows_total", "Rows that were refused, by the first word of the reason.", "word")
         figures.counter("routed_refused_batches_total", "Batches that were refused, by the first word of the reason.", "word")
-        figures.gauge("routed_connections", "Connections that are open, by their place.", lambda: {it: self.open[it] for it in PLACES},
-                      "place")
+        figures.gauge("routed_connections", "Connections that are open, by their place.",
+                      lambda: {it: self.open[it] for it in PLACES}, "place")
         figures.counter("routed_connections_total", "Connections that were taken, by their place.", "place", PLACES)
         figures.counter("routed_busy_total", "Connections that were told busy, by their place.", "place", PLACES)
         figures.counter("routed_cut_off_total", "Connections that were ended: for a line that isn't passed on, or as idle.", "reason",
-                        ("line", "idle"))
+                        CUT_OFF)
         figures.counter("routed_exceptions_total", "Connections that were ended by an exception in the code of this tool.")
         figures.total("routed_log_dropped_total", "Lines of the log that were dropped.", lambda: log.dropped)
 
@@ -91,8 +92,7 @@ class Account:
 
     def cut_off(self, place: str, number: int, reason: str) -> None:
         self.figures.add("routed_cut_off_total", 1, reason)
-        self.log.say("info", f"{place} {number}: " + {"line": "refused, for a line that isn't passed on",
-                                                      "idle": "idle for too long"}[reason])
+        self.log.say("info", f"{place} {number}: {CUT_OFF[reason]}")
 
     def lineless(self, use: Use, rows: int) -> None:
         """The server has answered all rows, and so many had no line."""

@@ -36,11 +36,10 @@ import os
 import signal
 import socket
 import subprocess
-import sys
 
 from .. import program
 from ..model.journals import Refused, texts
-from ..net.endpoints import Endpoint, tried
+from ..net.endpoints import Endpoint, say, tried
 from ..net.http import Page
 from ..net.log import LEVELS, Log
 from ..net.loop import Loop, Stopped
@@ -95,14 +94,14 @@ class Front:
         self.close_theirs()
         if version != wanted:
             raise Stopped(f"{self.options.begin}: batch {version + 1} wasn't published")
-        self.account.version = version
+        self.account.version, told = version, []
         for kind, listener in self.listeners.items():
             self.serve(kind, listener)
             place = getattr(self.options, kind)
-            if not place.path and not place.address[1]:
+            if place.port == 0:
                 host, port = listener.getsockname()[:2]
-                say(f"{kind} {f'[{host}]' if ':' in host else host}:{port}")
-        say("ready")
+                told.append(f"{kind} {f'[{host}]' if ':' in host else host}:{port}")
+        say(*told, "ready")
 
     def serve(self, kind: str, listener: socket.socket) -> None:
         """Takes the connections of a place."""
@@ -139,12 +138,6 @@ class Front:
             what = f"ended with status {status}" if status > 0 else f"was ended by signal {-status}"
             self.log.say("error", f"{self.options.program} {what}")
         return status if status >= 0 else 128 - status
-
-
-def say(line: str) -> None:
-    if sys.stdout:
-        with tried("standard output: write"):
-            os.write(sys.stdout.fileno(), f"{line}\n".encode())
 
 
 def beginning(path: str | None) -> list[str]:
@@ -185,7 +178,8 @@ def main(given: list[str] | None = None) -> int:
     """Takes the words of a command line, and answers the status."""
     words = argparse.ArgumentParser(prog="listen", description=__doc__, formatter_class=argparse.RawDescriptionHelpFormatter)
     words.add_argument("--journal", required=True, metavar="FILE", help="a new file, for the batches of this run")
-    words.add_argument("--begin", metavar="FILE", help="batches that are published before any connection is taken: a snapshot of the run before")
+    words.add_argument("--begin", metavar="FILE",
+                       help="batches that are published before any connection is taken: a snapshot of the run before")
     words.add_argument("--ask", required=True, type=Endpoint, metavar="PLACE", help="where clients ask")
     words.add_argument("--updates", required=True, type=Endpoint, metavar="PLACE", help="where updates come in")
     words.add_argument("--clients", type=int, choices=range(1, 65), default=64, metavar="N", help="how many ask at once, 1 to 64 (64)")

@@ -16,8 +16,10 @@ class Snapshots:
 
     def __init__(self, program: str, journal: str) -> None:
         self.words, self.journal = [program, "snapshot", "--accept-torn", "--explain", "--journal", journal], journal
-        self.child: subprocess.Popen | None = None
-        self.files: list[int] = []
+        self.child: subprocess.Popen[bytes] | None = None
+        self.files: list[int] = []  # its rows, and standard error
+        self.head = b""  # the first line
+        self.say: Callable[[bytes], object] = lambda text: None
 
     def begin(self, version: int, say: Callable[[bytes], object]) -> None:
         """Gives `say` all lines of a snapshot once they are there, or the one that refuses it."""
@@ -43,9 +45,8 @@ class Snapshots:
         if self.child and self.child.poll() is not None:
             rows, errors = (os.pread(file, os.fstat(file).st_size, 0) for file in self.files)
             status, self.child = self.child.returncode, None
-            ended = f"status {status}" if status > 0 else f"signal {-status}"
-            words = (rows if status == 2 else errors).partition(b"\n")[0] or ended.encode()
-            self.end(status, words if status else rows)
+            said = (rows if status == 2 else errors).partition(b"\n")[0]
+            self.end(status, (said or f"{'status' if status > 0 else 'signal'} {abs(status)}".encode()) if status else rows)
 
     def end(self, status: int, text: bytes) -> None:
         self.close()

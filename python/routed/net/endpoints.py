@@ -8,10 +8,11 @@ import os
 import pathlib
 import re
 import socket
+import sys
 from collections.abc import Callable, Iterator
 
 from .loop import READ, Loop, Stopped
-from .stream import Stream
+from .stream import Stream, write_all
 
 BACKLOG = 128  # connections that wait to be accepted; a UNIX socket refuses others to a client that does not wait
 PAUSE = 0.1  # seconds until accepting is tried again
@@ -28,19 +29,24 @@ def tried(what: str, hint: str = "") -> Iterator[None]:
         raise Stopped(f"{what}: {words}{hint}") from None
 
 
+def say(*lines: str) -> None:
+    """Writes lines to standard output, where there is one."""
+    if sys.stdout:
+        with tried("standard output: write"):
+            write_all(sys.stdout.fileno(), "".join(f"{line}\n" for line in lines).encode())
+
+
 class Endpoint:
     """Where a socket is listened on: the path of one, or an address and a port."""
 
     def __init__(self, text: str) -> None:
         port = re.fullmatch(r"(?:(?:([^/:\[\]]+)|\[([^/\[\]]+)\]):)?([0-9]+)", text)
         if not text or port and int(port[3]) >= 1 << 16 or not port and ":" in text and "/" not in text:
-            raise argparse.ArgumentTypeError(f"{text!r} is no place: that is the path of a UNIX socket (with a slash where it "
-                                             "has a colon), "
-                                             "a port from 0 to 65535, ADDRESS:PORT or [ADDRESS]:PORT")
-        self.text, self.path = text, None if port else text
-        if port:
-            self.family = socket.AF_INET6 if port[2] else socket.AF_INET
-            self.address = port[1] or port[2] or "127.0.0.1", int(port[3])
+            raise argparse.ArgumentTypeError(f"{text!r} is no place: that is the path of a UNIX socket (with a slash where it has a colon),"
+                                             " a port from 0 to 65535, ADDRESS:PORT or [ADDRESS]:PORT")
+        self.text, self.path, self.port = text, None if port else text, int(port[3]) if port else None
+        self.family = socket.AF_UNIX if not port else socket.AF_INET6 if port[2] else socket.AF_INET
+        self.address: tuple[str, int] | str = (port[1] or port[2] or "127.0.0.1", int(port[3])) if port else text
 
     def bind(self, mode: int) -> socket.socket:
         """A socket that listens. At a path it replaces one on which nobody listens any more."""
@@ -62,9 +68,9 @@ class Endpoint:
 
     def connect(self) -> socket.socket:
         """A socket that is connected to it. It blocks until then."""
-        made = socket.socket(socket.AF_UNIX if self.path else self.family)
+        made = socket.socket(self.family)
         try:
-            made.connect(self.path or self.address)
+            made.connect(self.address)
         except BaseException:
             made.close()
             raise

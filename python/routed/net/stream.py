@@ -175,6 +175,12 @@ class Stream:
             return None, "gone"
 
 
+def write_all(file: int, data: bytes) -> None:
+    """Writes all of it to a file that may block, and waits until then."""
+    while data:
+        data = data[os.write(file, data):]
+
+
 def has_room(file: int) -> bool:
     """Whether a file that may block takes as many bytes as a pipe takes at once, or refuses them."""
     poll = select.poll()

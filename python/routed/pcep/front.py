@@ -1,5 +1,4 @@
 """What all PCCs share: the server's answers and versions, the network, SIDs, the LSPs of a file, figures and signals."""
-import os
 import signal
 import socket
 import time
@@ -7,7 +6,7 @@ from argparse import Namespace
 from collections.abc import Callable, Iterable, Iterator, Sequence
 
 from ..front.metrics import Figures
-from ..net.endpoints import BACKLOG, Door, tried
+from ..net.endpoints import BACKLOG, Door, say, tried
 from ..net.http import Page
 from ..net.log import Log
 from ..net.loop import Loop, Owner, Stopped
@@ -54,7 +53,6 @@ class Front:
         figures.counter("routed_pcep_refused_by_pccs_total", "Errors of PCCs, by type and value.", "error")
         figures.counter("routed_pcep_moves_total", "What was done with LSPs, by the reason.", "reason")
         figures.counter("routed_pcep_exceptions_total", "Connections that were ended by an exception in the code of this tool.")
-        self.is_over = False
         take_signals(self.loop, (signal.SIGTERM, signal.SIGINT, signal.SIGHUP), self.signalled)
 
     def lsps(self) -> Iterator[Lsp]:
@@ -205,8 +203,7 @@ class Front:
         Door(self.loop, listener, self.take)
         self.connect()
         self.tick()
-        with tried("standard output: write"):
-            os.write(1, f"pcep {':'.join(map(str, listener.getsockname()[:2]))}\nready\n".encode())
+        say(f"pcep {':'.join(map(str, listener.getsockname()[:2]))}", "ready")
         while not self.is_over:
             self.loop.turn()
         for pcc in [*self.pccs.values()]:
