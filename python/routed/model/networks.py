@@ -8,11 +8,8 @@ from .journals import records
 from .rows import Key, Refused, Request, value
 
 
-class Part(NamedTuple):
-    """What fails as one: a circuit, a link of one way or a router."""
-
-    name: str
-    keys: tuple[Key, ...]
+# What fails as one: a circuit, a link of one way or a router. It goes to other machines, as an answer of a sweep does.
+Part = NamedTuple("Part", [("name", str), ("keys", tuple[Key, ...])])
 
 
 class Stopped(Exception):

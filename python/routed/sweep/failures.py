@@ -35,12 +35,9 @@ Outcome = tuple[str, list[int], list[int], int]
 Outcomes = Generator[Outcome | Exception, None, None]
 
 
-class Answer(NamedTuple):
-    """The cost and the links of a route; the word that says why there is none, cost None and no links."""
-
-    why: str | None
-    cost: int | None
-    walk: tuple[Link, ...]
+# The cost and the links of a route; the word that says why there is none, cost None and no links. It goes to other machines, whose
+# cloudpickle can't make a class that is written as one of NamedTuple.
+Answer = NamedTuple("Answer", [("why", str | None), ("cost", int | None), ("walk", tuple[Link, ...])])
 
 
 class Network:
