@@ -5,6 +5,8 @@
 The words are those of `routed audit`, and so are its lines and its status. Where standard error is a terminal, a line there says how
 much of the replies has been read, and how long the rest will take.
 """
+from __future__ import annotations
+
 import argparse
 import os
 import subprocess
@@ -17,7 +19,7 @@ OFTEN = 0.5  # seconds between two looks
 ERASE = "\r\033[K"
 
 
-def read_of(process, path):
+def read_of(process: int, path: str) -> float | None:
     """Which part of a file a process has read, from 0 to 1; None while it isn't open there."""
     try:
         size, named = os.stat(path).st_size, os.path.realpath(path)
@@ -30,13 +32,13 @@ def read_of(process, path):
     return None
 
 
-def line_of(part, seconds):
+def line_of(part: float, seconds: float) -> str:
     """What is said of a part that took these seconds."""
     left = seconds / part - seconds if part > 0 else 0
     return f"audit: {100 * part:.0f} % of the replies are read" + (f", {left:.0f} s left" if 0 < part < 1 else "")
 
 
-def watch(run, path):
+def watch(run: subprocess.Popen, path: str) -> int:
     """Waits for the end of a run, and says how far it is."""
     begun = time.monotonic()
     while True:
@@ -47,7 +49,7 @@ def watch(run, path):
                 print(ERASE + line_of(part, time.monotonic() - begun), end="", file=sys.stderr, flush=True)
 
 
-def main(words=None):
+def main(words: list[str] | None = None) -> int:
     """Takes the words of a command line, and answers the status."""
     asked = argparse.ArgumentParser(prog="routed-tools audit", description=__doc__, formatter_class=argparse.RawDescriptionHelpFormatter)
     for name in ("journal", "requests", "replies"):

@@ -5,6 +5,8 @@
 `routed-tools TOOL --help` says what a tool takes. Those that run `routed` find it by --program, else by the environment
 variable ROUTED_PROGRAM, else on PATH, else where the source tree builds it.
 """
+from __future__ import annotations
+
 import importlib
 import sys
 
@@ -24,12 +26,12 @@ TOOLS = {
 }
 
 
-def usage():
+def usage() -> str:
     """The text of --help."""
-    return __doc__ + "\n" + "".join(f"  {name:14} {what}\n" for name, (_, what) in TOOLS.items())
+    return f"{__doc__}" + "\n" + "".join(f"  {name:14} {what}\n" for name, (_, what) in TOOLS.items())
 
 
-def main(words=None):
+def main(words: list[str] | None = None) -> int:
     """Runs the tool that the first word names with the others, and answers its status."""
     name, *rest = (sys.argv[1:] if words is None else words) or [""]
     if name in ("-h", "--help"):

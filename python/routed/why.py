@@ -8,6 +8,8 @@ is fetched, and nothing is written elsewhere. docs/believe/WHY.md has what was p
 
 The status is 0 where all was run, 1 where a part didn't compile, run or end, and 2 where something is missing.
 """
+from __future__ import annotations
+
 import argparse
 import os
 import re
@@ -143,7 +145,7 @@ class Failed(Exception):
     """A part didn't compile, run or end; the text says which."""
 
 
-def version_of(source):
+def version_of(source: str | None) -> str:
     """FRR's version as its configure.ac has it."""
     if source is None or not all(os.path.isfile(os.path.join(source, name)) for name in [*FILES, "configure.ac"]):
         raise Missing("needs the unpacked source of FRR 8.4.4, --frr DIR: on Debian 12 `apt-get source frr` gets it, "
@@ -153,7 +155,7 @@ def version_of(source):
     return found.group(1) if found else "of an unknown version"
 
 
-def built(source, room):
+def built(source: str, room: str) -> str:
     """The harness with FRR's files, in the folder `room`."""
     if shutil.which("cc") is None:
         raise Missing("needs a C compiler, cc")
@@ -173,7 +175,7 @@ def built(source, room):
     return os.path.join(room, "why")
 
 
-def say(name, words, rows, **settings):
+def say(name: str, words: list[str], rows: str, **settings: str) -> bool:
     """Runs one program on rows, and prints its lines under a name. True where it ended as it should."""
     print(f"  {name}")
     try:
@@ -189,7 +191,7 @@ def say(name, words, rows, **settings):
     return not end
 
 
-def show(case, harness, program):
+def show(case: str, harness: str, program: str) -> bool:
     """One case, by both programs."""
     name = f"why-{case}.rows"
     with open(os.path.join(examples(), name), encoding="ascii") as file:
@@ -205,7 +207,7 @@ def show(case, harness, program):
     return say("routed solve", [program, "solve"], rows) and ended
 
 
-def main(asked=None):
+def main(asked: list[str] | None = None) -> int:
     """Takes the words of a command line, and answers the status."""
     words = argparse.ArgumentParser(prog="why", description=__doc__, formatter_class=argparse.RawDescriptionHelpFormatter)
     words.add_argument("--frr", metavar="DIR", help="the unpacked source of FRR")

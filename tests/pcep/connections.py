@@ -173,7 +173,8 @@ def strange(checks, room):
     with socket.socket(socket.AF_UNIX) as server:
         server.bind(path)
         server.listen()
-        for text, wanted in [(b"version 1\nversion 7\nversion", [7]), (b"busy\n", ["the place of versions is busy"]), (b"", ["the server has ended"]),
+        for text, wanted in [(b"version 1\nversion 7\nversion", [7]), (b"busy\n", ["the place of versions is busy"]),
+                             (b"", ["the server has ended"]),
                              *((text, ["the place of versions tells something else"])
                                for text in (b"version \n", b"version x\n", b"version -1\n", b"version " + b"9" * 5000 + b"\n",
                                             b"version 1\nHTTP/1.1 400 Bad Request\r\n", b"\n", b"version " + b"1" * 200))]:

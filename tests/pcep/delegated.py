@@ -175,8 +175,7 @@ def followed(checks, room):
             file.write(f"{[*rows()][at]}\nend,1,1\n")
         os.utime(os.path.join(folder, name), (at, at))
     network = Followed(folder)
-    checks.same("the newest journal of a folder", (network.reach(1), [link.key for link in network.links()]),
-                (True, [("10.0.0.2", "10.1.2.2")]))
+    checks.same("the newest journal of a folder", (network.reach(1), [*network.rows]), (True, [("10.0.0.2", "10.1.2.2")]))
 
 
 def drawn_ask(draw):

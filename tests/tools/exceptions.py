@@ -22,7 +22,8 @@ ASK, REPLY = ASKS["route"], re.compile(r"ask 1 v\d+ (?:route .*|unknown-from)\n"
 
 def exceptions(program, checks):
     with tempfile.TemporaryDirectory() as room:
-        checks.parts_in(room, (of_loop, of_door, of_listen, of_streams, of_stream, of_updates, of_idle, of_pcep, of_server, of_feed), program, checks)
+        checks.parts_in(room, (of_loop, of_door, of_listen, of_streams, of_stream, of_updates, of_idle, of_pcep, of_server, of_feed),
+                        program, checks)
 
 
 # ---- without sockets
@@ -70,9 +71,11 @@ def of_loop(_, checks, room):
     made.turn()
     checks.same("times: the others come", (owner.ended, len(said), called), (2, 2, ["third"]))
     checks.true("times: a line names the line of the tools", re.fullmatch(
-        rf"one: ended by an exception, AttributeError at routed/net/http\.py:{line_of('net/http.py', 'asked.partition(b')}: .*'partition'", said[0]), said)
+        rf"one: ended by an exception, AttributeError at routed/net/http\.py:{line_of('net/http.py', 'asked.partition(b')}: "
+        r".*'partition'", said[0]), said)
     checks.true("times: and the one that called another's code", re.fullmatch(
-        rf"one: ended by an exception, TypeError at {re.escape(re.__file__)}:\d+, called at routed/net/endpoints\.py:{line_of('net/endpoints.py', 're.fullmatch(')}: .*",
+        rf"one: ended by an exception, TypeError at {re.escape(re.__file__)}:\d+, called at "
+        rf"routed/net/endpoints\.py:{line_of('net/endpoints.py', 're.fullmatch(')}: .*",
         said[1]), said)
     for name, who, fault in [("no owner", None, KeyError("key")), ("what ends the tool", Owner(), Stopped("word")),
                              ("a key of the user", Owner(), KeyboardInterrupt()), ("an end", Owner(), SystemExit(0))]:
@@ -129,7 +132,8 @@ class Seen:
 
     def __init__(self, program, room, *words):
         self.room, self.count, self.front = room, 0, Front(
-            program, room, "--watch", os.path.join(room, "watch"), "--metrics", os.path.join(room, "metrics"), *words, tool=planted(room, "listen"))
+            program, room, "--watch", os.path.join(room, "watch"), "--metrics", os.path.join(room, "metrics"), *words,
+            tool=planted(room, "listen"))
 
     def __enter__(self):
         self.front.__enter__()
@@ -179,7 +183,8 @@ def of_listen(program, checks, room):
         updating = Connection(seen.front.updates)
         checks.same("a batch", seen.publish(updating, PAIR), "version 1\n")
         checks.same("versions", [seen.watcher.lines.next() for _ in range(2)], ["version 0\n", "version 1\n"])
-        for place in ("Channel.take", "Channel.begin", "Channel.begin!", "Channel.settle", "Account.rows", "Account.lines", "Channel.read_lines!"):
+        for place in ("Channel.take", "Channel.begin", "Channel.begin!", "Channel.settle", "Account.rows", "Account.lines",
+                      "Channel.read_lines!"):
             seen.plant(*[place] if "begin" in place else [])
             victim = Connection(seen.front.ask)
             if "begin" not in place:
@@ -211,7 +216,8 @@ def of_listen(program, checks, room):
                 checks.same(f"{place}: a version", (seen.publish(updating), seen.watcher.lines.next()), (f"version {seen.version}\n",) * 2)
             checks.same(f"{place}: it ends", heard(victim), "")
             seen.judge(checks, place, r"watch \d+")
-            checks.same(f"{place}: another watcher goes on", (seen.publish(updating), seen.watcher.lines.next()), (f"version {seen.version}\n",) * 2)
+            checks.same(f"{place}: another watcher goes on", (seen.publish(updating), seen.watcher.lines.next()),
+                        (f"version {seen.version}\n",) * 2)
         for place in ("http.answer_to", "Reading.close"):
             seen.plant(place)
             reader = sent(room, b"GET /metrics HTTP/1.1\r\n\r\n")
@@ -229,7 +235,8 @@ def of_listen(program, checks, room):
             seen.judge(checks, place, "a connection")
             for one in others:
                 one.leave()
-        eventually(checks, "connections that are open", lambda: [figures_of(room)["routed_connections", place] for place in ("ask", "updates", "watch")], [1, 1, 1])
+        eventually(checks, "connections that are open",
+                   lambda: [figures_of(room)["routed_connections", place] for place in ("ask", "updates", "watch")], [1, 1, 1])
         seen.plant("Front.signalled")
         seen.front.child.send_signal(signal.SIGTERM)
         found, said = seen.front.ended()
@@ -333,7 +340,8 @@ def of_updates(program, checks, room):
             while (line := taken.lines.next()) != "snapshot end\n" and line:
                 found.append(line)
             journal = [line for line in found if line.startswith("put,")]
-            checks.same(f"a snapshot, {place}: the next", (found[:1], sorted(journal)), ([f"version {seen.version}\n"], sorted(dressed_pair())))
+            checks.same(f"a snapshot, {place}: the next", (found[:1], sorted(journal)),
+                        ([f"version {seen.version}\n"], sorted(dressed_pair())))
             line = taken.lines.next()
             checks.true(f"a snapshot, {place}: rows behind it", REPLY.fullmatch(line), line)
             taken.leave()

@@ -157,7 +157,8 @@ def of_metrics(program, checks, room):
             one.say("\n")
 
         def serves():
-            return "routed_version 0\n" in http.get(endpoint) and (next(count) % 10 != 0 or LINE.fullmatch(ports.honest.talk(ASK)) is not None)
+            is_asked = next(count) % 10 == 0
+            return "routed_version 0\n" in http.get(endpoint) and (not is_asked or LINE.fullmatch(ports.honest.talk(ASK)) is not None)
 
         reset_all(checks, "metrics", {ports.places["metrics"]: (nothing, half_a_head, asked, half_read, wrong)}, serves)
         goes_on(checks, "metrics", ports.front)

@@ -1,23 +1,21 @@
-"""Tests of routed-tools sweep and routed-tools join: failures worked by hand, failures by tests/reference/formats.py, several jobs, parts, and what is refused."""
+"""Tests of routed-tools sweep and routed-tools join: failures worked by hand, failures by tests/reference/formats.py, several jobs, parts,
+and what is refused."""
 import contextlib
 import hashlib
 import os
 import pty
-import random
 import re
 import subprocess
-import sys
 import tempfile
 import time
 
 from checks import TOOLS, TOP
-from reference.changes import counts_mended
-from reference.formats import Refused, address_number, address_text, publish, whole_batches
-from reference.sweeps import plain
-from tools.ring import A, AB, AD, ASKS, B, BC, BEFORE, C, CD, D, DROPS, FIRST, HANGS, MASKS, OF_CIRCUITS, OF_PAIRS, OF_ROUTERS, RING, SWEEP, THIRD, ask, circuit, facts, journal, link, sweep, wrapped
+from reference.formats import address_number, address_text
+from tools.drawn_sweeps import compared, object_of, streams
+from tools.ring import A, AB, AD, ASKS, B, BC, BEFORE, C, CD, D, DROPS, FIRST, HANGS, MASKS, OF_CIRCUITS, OF_PAIRS, OF_ROUTERS, RING
+from tools.ring import SWEEP, THIRD, ask, circuit, facts, journal, link, sweep, wrapped
 
 from routed.sweep.failures import Network
-from routed.sweep.solving import MOST_ROWS, Solve
 
 
 def ring(program, checks):
@@ -38,7 +36,8 @@ def ring(program, checks):
              f"{C} 10.0.23.3 {B} 10.0.23.2": (("scenario 1", 150),), f"{D} 10.0.34.4 {C} 10.0.34.3": (("scenario 1", 210),)}
     checks.same("a link that is overbooked has a line where it gets worse, and none where it stays or gets better",
                 sorted(facts(program, RING, loaded, " overbooked ")), sorted(
-                    f"{where} overbooked {name} priority=7 asked={asked} above=0 unreserved=100" for name, found in taken.items() for where, asked in found))
+                    f"{where} overbooked {name} priority=7 asked={asked} above=0 unreserved=100" for name, found in taken.items()
+                    for where, asked in found))
     nothing = "network version=0 routers=0 links=0 circuits=0 requests=0\nbefore routes=0 without=0 overbooked=0\n" \
               "scenarios=0 lost=0 longer=0 overbooked=0\n"
     checks.same("an empty network", sweep(program.path, "", ""), (0, nothing, ""))
@@ -77,11 +76,12 @@ def parts(program, checks):
     checks.same("a router without transit is passed in no scenario, and is an end in each",
                 facts(program, marked, ask(1, A, C) + ask(2, A, B) + ask(3, B, D), "network|request"), [
                     "network version=3 routers=4 links=8 circuits=4 requests=3", "scenario 1 longer request 2 cost=35 was=10 more=25",
-                    "scenario 2 lost request 1 none was=25", "scenario 3 longer request 3 cost=25 was=20 more=5", "scenario 4 lost request 1 none was=25",
-                    "scenario 4 longer request 3 cost=25 was=20 more=5"])
+                    "scenario 2 lost request 1 none was=25", "scenario 3 longer request 3 cost=25 was=20 more=5",
+                    "scenario 4 lost request 1 none was=25", "scenario 4 longer request 3 cost=25 was=20 more=5"])
     equal = journal(circuit(1, 2), circuit(2, 4), circuit(1, 3), circuit(3, 4))
     checks.same("another route of the same cost isn't longer", facts(program, equal, ask(1, A, D), "lost=.*overbooked"),
-                [*(f"scenario {at} lost=0 longer=0 most=0 overbooked=0" for at in (1, 2, 3, 4)), "scenarios=4 lost=0 longer=0 overbooked=0"])
+                [*(f"scenario {at} lost=0 longer=0 most=0 overbooked=0" for at in (1, 2, 3, 4)),
+                 "scenarios=4 lost=0 longer=0 overbooked=0"])
 
 
 def loads(program, checks):
@@ -124,75 +124,6 @@ def loads(program, checks):
         checks.same(name, mine, of(place, wanted).splitlines())
 
 
-def compared(program, checks):
-    """The NSFNET backbone and drawn networks, whole outputs, by one job and by three."""
-    rows, asks = (open(os.path.join(TOP, f"examples/nsfnet.{kind}"), encoding="ascii").read() for kind in ("journal", "requests"))
-    one, three = ("--jobs", "1"), ("--jobs", "3", "--workers", "2")
-    for fail, words in (("circuits", one), ("circuits", three), ("routers", one), ("pairs", three)):
-        wanted = (0, "".join(f"{line}\n" for line in plain(rows, asks, fail)), "")
-        checks.same(f"NSFNET, {fail} {words}", sweep(program.path, rows, asks, "--fail", fail, *words), wanted)
-    for seed in range(4):
-        compare_drawn(program, checks, seed, ("circuits", "routers")[seed % 2])
-
-
-def compare_drawn(program, checks, seed, fail):
-    """A whole output. Where the tool's is another one, rows are left out of the journal and of the requests."""
-    def streams(some):
-        """The journal and the requests of rows."""
-        return tuple(counts_mended("".join(row for row in some if row.startswith("ask,") == is_ask)) for is_ask in (False, True))
-
-    def is_taken(some):
-        """Whether the rows that are left are a journal of batches that fit."""
-        try:
-            return publish(whole_batches(streams(some)[0]))[1] is None
-        except Refused:
-            return False
-
-    def found(some):
-        return sweep(program.path, *streams(some), "--fail", fail) if is_taken(some) else None
-
-    def wanted(some):
-        return (0, "".join(f"{line}\n" for line in plain(*streams(some), fail)), "") if is_taken(some) else None
-
-    rows, asks = drawn(random.Random(seed))
-    checks.true(f"drawn network {seed} is a journal", is_taken([rows, asks]))
-    checks.stream(f"drawn network {seed}, {fail}", (rows + asks).splitlines(keepends=True), found, wanted)
-
-
-def drawn(draw):
-    """A network of two components, with parallel circuits, links of one way and a router without transit, and requests, some with hops
-    of each kind."""
-    puts, locals_ = [], []
-    for at in range(draw.randrange(8, 14)):
-        (one, other), free = draw.sample(range(1, 7), 2) if at else (7, 8), draw.choice([10, 20, 30])  # two by themselves
-        ends = [(f"10.0.0.{number}", f"10.1.{at}.{number}") for number in (one, other)]
-        two_ways = (link(*ends[0], *ends[1], draw.randrange(1, 4), free=free), link(*ends[1], *ends[0], draw.randrange(1, 4), free=free))
-        puts += two_ways[:1 if draw.random() < 0.1 else 2]
-        locals_.append(ends[0][1])
-
-    def hop():
-        """An interface, all interfaces of one circuit or of several, a router, or all of it."""
-        return draw.choice([f"{draw.choice(locals_)}/32", f"{draw.choice(locals_)}/32", f"{draw.choice(locals_)}/24", "10.1.0.7/22", "10.1.0.0/16",
-                            f"10.0.0.{draw.randrange(1, 7)}/32", "10.0.0.0/30", "0.0.0.0/0"])
-
-    def hops():
-        texts = [f"{hop()}{draw.choice('sl')}" for _ in range(draw.choice([0, 0, 1, 1, 2]))]
-        return object_of(texts) if texts and draw.random() < 0.3 else " ".join(texts)
-
-    asks = []
-    for at in range(14):
-        head, tail = draw.sample(range(1, 7) if at else range(1, 9), 2)
-        asks.append(ask(at, f"10.0.0.{head}", f"10.0.0.{tail}", draw.randrange(8), draw.choice([5, 10, 15]), hops=hops()))
-    return journal(*puts, f"node,10.0.0.{draw.randrange(1, 7)},0\n"), "".join(asks)
-
-
-def object_of(hops):
-    """These hops as the route object that says the same."""
-    parts = [(address_number(at).to_bytes(4, "big"), int(bits[:-1]), bits[-1] == "l") for at, bits in (hop.split("/") for hop in hops)]
-    data = b"".join(bytes([1 | is_loose << 7, 8, *at, bits, 0]) for at, bits, is_loose in parts)
-    return f"ero:{((4 + len(data)).to_bytes(2, 'big') + bytes([20, 1]) + data).hex()}"
-
-
 def jobs(program, checks):
     """Several scenarios are worked on at once, and their lines come in the scenarios' order."""
     with tempfile.TemporaryDirectory() as room:
@@ -227,7 +158,8 @@ def jobs(program, checks):
 def asked(program, checks):
     """A scenario asks the requests that it can change, of one program."""
     hopped = RING.replace("end,1,8", circuit(1, 2, 90).replace("10.0.12.", "10.0.21.") + "end,1,10")
-    asks = (ASKS + ask(5, B, C, hops="10.0.34.3/32l") + ask(6, A, B, hops="10.0.21.0/24l 2.2.2.2/32l") + ask(7, C, D, hops=f"{C}/32s 10.0.34.0/24s")
+    asks = (ASKS + ask(5, B, C, hops="10.0.34.3/32l") + ask(6, A, B, hops="10.0.21.0/24l 2.2.2.2/32l")
+            + ask(7, C, D, hops=f"{C}/32s 10.0.34.0/24s")
             + ask(8, A, B, hops=object_of(["10.0.14.0/30l"])))
     wanted = {AB: "1268", AB.replace("10.0.12.", "10.0.21."): "6", AD: "38", BC: "15", CD: "57"}
     with tempfile.TemporaryDirectory() as room:
@@ -244,40 +176,6 @@ def asked(program, checks):
     checks.same("one direction of a circuit out, which no route takes", f"{text}\n", OF_CIRCUITS[:OF_CIRCUITS.index("scenario 2")])
 
 
-def streams(program, checks):
-    """Another program is begun before a stream has too many rows, and no program is written to that waits to be read."""
-    stream = object.__new__(Solve)
-    stream.rows, stream.process = MOST_ROWS - 5, None
-    checks.same("the last rows of a stream", (stream.has_room(5), stream.has_room(6), MOST_ROWS), (True, False, 1_000_000))
-    rows, asks = drawn(random.Random(1))
-    wanted = sweep(program.path, rows, asks, "--fail", "pairs")
-    checks.true("pairs of a drawn network", wanted[0] == 0 and wanted[1].count(" lost request ") > 50, wanted)
-    for most, least in ((60, 10), (300, 3)):
-        with tempfile.TemporaryDirectory() as room:
-            path = wrapped(program, room, f"if count > {most}:\n    stop(9)")
-            checks.same(f"streams of {most} rows", small(room, rows, asks, most, path), wanted)
-            starts = [name.split(".")[0] for name in os.listdir(room)].count("solve")
-            checks.true(f"streams of {most} rows, programs", starts >= least, starts)
-    with tempfile.TemporaryDirectory() as room:
-        many = "".join(ask(at, A, C, bandwidth=1) for at in range(5000))
-        status, out, err = sweep(wrapped(program, room), RING, many)
-        counts = re.findall(r"(?m)^scenario \d+ (lost=\d+ longer=.*)$", out)
-        checks.same("more requests and replies than pipes hold", (status, counts, err),
-                    (0, [f"lost=0 longer={longer} most={most} overbooked={full}" for longer, most, full in ((5000, 5, 2), (0, 0, 0), (5000, 5, 2), (0, 0, 0))], ""))
-
-
-def small(room, rows, asks, most, program):
-    """A sweep of pairs by this Python, with programs that take so many rows."""
-    for name, text in (("journal", rows), ("asks", asks)):
-        with open(f"{room}/{name}", "w", encoding="ascii") as file:
-            file.write(text)
-    code = ("import sys\nfrom routed.sweep import failures, solving, sweep\n"
-            f"solving.MOST_ROWS, failures.MOST_ASKS = {most}, 4\nsys.exit(sweep.main(sys.argv[1:]))")
-    ran = subprocess.run([sys.executable, "-c", code, f"{room}/journal", f"{room}/asks", "--fail", "pairs", "--program", program],
-                         capture_output=True, text=True, env={**os.environ, "PYTHONPATH": os.path.join(TOP, "python")})
-    return ran.returncode, ran.stdout, ran.stderr
-
-
 def progress(program, checks):
     """How far it is and how long it takes is said where standard error is a terminal, and leaves no trace there."""
     with tempfile.TemporaryDirectory() as room:
@@ -287,7 +185,8 @@ def progress(program, checks):
                 file.write(text)
         for name, is_all in (("standard error", False), ("both", True)):
             terminal, far = pty.openpty()
-            ran = subprocess.Popen([*SWEEP, f"{room}/journal", f"{room}/requests", "--program", slow], stdout=far if is_all else subprocess.PIPE, stderr=far)
+            ran = subprocess.Popen([*SWEEP, f"{room}/journal", f"{room}/requests", "--program", slow],
+                                   stdout=far if is_all else subprocess.PIPE, stderr=far)
             os.close(far)
             out = "" if is_all else ran.stdout.read().decode()
             said = b""
@@ -316,14 +215,16 @@ def joined(program, checks):
     three = parted(3)
     ranked = [f"most requests 1 scenario 1 lost=0 longer=2 bandwidth=0 out {AB}\nmost failures 1 request 1 lost=0 longer=1\n"
               "most failures 2 request 2 lost=0 longer=1\n",
-              f"most requests 1 scenario 2 lost=1 longer=0 bandwidth=30 out {AD}\nmost bandwidth 1 scenario 2 lost=1 longer=0 bandwidth=30 out {AD}\n"
+              f"most requests 1 scenario 2 lost=1 longer=0 bandwidth=30 out {AD}\nmost bandwidth 1 scenario 2 lost=1 longer=0 bandwidth=30 "
+              f"out {AD}\n"
               "most failures 1 request 3 lost=1 longer=0\n",
               f"most requests 1 scenario 3 lost=0 longer=1 bandwidth=0 out {BC}\nmost failures 1 request 1 lost=0 longer=1\n"]
     checks.same("parts of a ring", three, [
         BEFORE + scenarios[0] + ranked[0] + f"part 1/3 input={digest} scenarios=1 lost=0 longer=1 overbooked=1\n",
         BEFORE + scenarios[1] + ranked[1] + f"part 2/3 input={digest} scenarios=1 lost=1 longer=0 overbooked=0\n",
         BEFORE + scenarios[2] + scenarios[3] + ranked[2] + f"part 3/3 input={digest} scenarios=2 lost=0 longer=1 overbooked=0\n"])
-    for name, found, wanted in [("three parts", three, OF_CIRCUITS), ("one part", parted(1), OF_CIRCUITS), ("seven parts of four scenarios, two jobs", parted(7, "--jobs", "2"), OF_CIRCUITS),
+    for name, found, wanted in [("three parts", three, OF_CIRCUITS), ("one part", parted(1), OF_CIRCUITS),
+                                ("seven parts of four scenarios, two jobs", parted(7, "--jobs", "2"), OF_CIRCUITS),
                                 ("two parts of routers", parted(2, "--fail", "routers"), OF_ROUTERS)]:
         checks.same(f"joined: {name}", join("".join(found)), (0, BEFORE + wanted, ""))
     pairs = sweep(program.path, RING, ASKS, "--fail", "pairs")
@@ -339,18 +240,26 @@ def joined(program, checks):
     one, two, last = three
     for name, text, why in [
             ("nothing", "", "part 1/1 isn't there"), ("without the last", one + two, "part 3/3 isn't there"),
-            ("without the first", two + last, "part 2/3 stands where part 1/3 has to be"), ("in another order", one + last + two, "part 3/3 stands where part 2/3 has to be"),
-            ("one twice", one + two + two + last, "part 2/3 stands where part 3/3 has to be"), ("one of another count", one + parted(2)[1], "part 2/2 stands where part 2/3 has to be"),
+            ("without the first", two + last, "part 2/3 stands where part 1/3 has to be"),
+            ("in another order", one + last + two, "part 3/3 stands where part 2/3 has to be"),
+            ("one twice", one + two + two + last, "part 2/3 stands where part 3/3 has to be"),
+            ("one of another count", one + parted(2)[1], "part 2/2 stands where part 2/3 has to be"),
             ("cut", one + two + BEFORE, f"a part ends by {BEFORE.splitlines()[-1]!r}, and not by a line that says which part it is"),
-            ("cut before another", one + two[:two.index("part ")] + last, "a part ends by 'most failures 1 request 3 lost=1 longer=0', and not by a line that says which part it is"),
+            ("cut before another", one + two[:two.index("part ")] + last,
+             "a part ends by 'most failures 1 request 3 lost=1 longer=0', and not by a line that says which part it is"),
             ("without a scenario", one + two.replace(scenarios[1], "") + last, "part 2/3 hasn't the scenarios from 2 to 2"),
             ("with one twice", one + two.replace(scenarios[1], 2 * scenarios[1]) + last, "part 2/3 hasn't the scenarios from 2 to 2"),
-            ("cut in the scenarios", one + two[:two.index("most ")] + last, "a part ends by 'scenario 2 lost=1 longer=0 most=0 overbooked=0', and not by a line that says which part it is"),
-            ("with scenarios behind the ranking", one + two.replace("part 2", scenarios[1] + "part 2"), "a part ends by 'most failures 1 request 3 lost=1 longer=0', and not by a line that says which part it is"),
-            *((f"without {text.split(' scenario')[0].split(' request ')[0]}", one + two.replace(text, "") + last, "part 2/3 hasn't the ranking of its scenarios")
+            ("cut in the scenarios", one + two[:two.index("most ")] + last,
+             "a part ends by 'scenario 2 lost=1 longer=0 most=0 overbooked=0', and not by a line that says which part it is"),
+            ("with scenarios behind the ranking", one + two.replace("part 2", scenarios[1] + "part 2"),
+             "a part ends by 'most failures 1 request 3 lost=1 longer=0', and not by a line that says which part it is"),
+            *((f"without {text.split(' scenario')[0].split(' request ')[0]}", one + two.replace(text, "") + last,
+               "part 2/3 hasn't the ranking of its scenarios")
               for text in ranked[1].splitlines(keepends=True)),
-            ("with another count", one + two.replace("failures 1 request 3 lost=1", "failures 1 request 3 lost=2") + last, "part 2/3 hasn't the ranking of its scenarios"),
-            ("a whole sweep", BEFORE + OF_CIRCUITS, "a part ends by 'most failures 3 request 2 lost=0 longer=1', and not by a line that says which part it is")]:
+            ("with another count", one + two.replace("failures 1 request 3 lost=1", "failures 1 request 3 lost=2") + last,
+             "part 2/3 hasn't the ranking of its scenarios"),
+            ("a whole sweep", BEFORE + OF_CIRCUITS,
+             "a part ends by 'most failures 3 request 2 lost=0 longer=1', and not by a line that says which part it is")]:
         status, _, err = join(text)
         checks.same(f"not joined: {name}", (status, err), (1, f"join: {why}\n"))
     status, _, err = join(one + other[1] + last)
@@ -371,19 +280,23 @@ def refused(program, checks):
             ("a request that is none", RING, ASKS + "ask,5\n", "request row 5 refused: fields"),
             ("a bad mask", RING, ASKS.replace("0x2", "2"), "request row 3 refused: mask 8"),
             ("two requests of one id", RING, ASKS + ask(2, A, D), "request row 5 refused: same-id"),
-            ("neighbors of one address", journal(circuit(1, 2), link(A, "10.0.13.1", C, "10.0.12.2"), link(C, "10.0.12.2", A, "10.0.13.1")), ASKS,
+            ("neighbors of one address", journal(circuit(1, 2), link(A, "10.0.13.1", C, "10.0.12.2"), link(C, "10.0.12.2", A, "10.0.13.1")),
+             ASKS,
              f"{B} and {C} have the same address 10.0.12.2, seen from {A}")):
         checks.same(name, sweep(program.path, rows, asks), (1, "", f"sweep: {words}\n"))
     for words in (["/nowhere/journal", "/dev/null"], ["/dev/null", TOP]):
         ran = subprocess.run([*SWEEP, *words, "--program", program.path], capture_output=True, text=True)
-        checks.true(f"no file {words}", (ran.returncode, ran.stdout) == (1, "") and re.fullmatch(r"sweep: \[Errno \d+\] .*\n", ran.stderr), ran)
-    for words in (["/dev/null"], *(["/dev/null", "/dev/null", *more] for more in (["--fail", "links"], ["--jobs", "0"], ["--workers", "65"]))):
+        checks.true(f"no file {words}", (ran.returncode, ran.stdout) == (1, "") and re.fullmatch(r"sweep: \[Errno \d+\] .*\n", ran.stderr),
+                    ran)
+    for words in (["/dev/null"], *(["/dev/null", "/dev/null", *more]
+                                   for more in (["--fail", "links"], ["--jobs", "0"], ["--workers", "65"]))):
         ran = subprocess.run([*SWEEP, *words], capture_output=True, text=True)
         checks.true(f"a command line {words}", (ran.returncode, ran.stdout) == (2, "") and "sweep: error: " in ran.stderr, ran)
     with open("/dev/full", "w") as full:
         ran = subprocess.run([*SWEEP, "/dev/null", "/dev/null", "--program", program.path], stdout=full, stderr=subprocess.PIPE, text=True)
         checks.same("standard output is full", (ran.returncode, ran.stderr), (1, "sweep: [Errno 28] No space left on device\n"))
-    checks.same("a program that isn't there", sweep("/nowhere/routed", RING, ASKS), (3, "", "sweep: /nowhere/routed: No such file or directory\n"))
+    checks.same("a program that isn't there", sweep("/nowhere/routed", RING, ASKS),
+                (3, "", "sweep: /nowhere/routed: No such file or directory\n"))
     def says(line):
         return f"print('version 1\\n{line}\\n\\n\\n'); sys.exit(0)"
 
@@ -418,7 +331,8 @@ def refused(program, checks):
                 ("that stops before the network is there", 'stop(3, "routed: stopped\\n")', "ended with status 3: routed: stopped")):
             path = wrapped(program, room, script)
             status, out, err = sweep(path, RING, ASKS)
-            checks.true(f"a program {name}", (status, out) == (3, BEFORE) and re.fullmatch(f"sweep: scenario 1: {path} {said}\n", err), (status, out, err))
+            checks.true(f"a program {name}", (status, out) == (3, BEFORE) and re.fullmatch(f"sweep: scenario 1: {path} {said}\n", err),
+                        (status, out, err))
 
 
 def page(program, checks):

@@ -33,7 +33,8 @@ def from_journal(path: str, version: int) -> Database:
     except OSError as fault:
         raise Ended(f"--journal {path}: {fault.strerror or fault}") from None
     if database.version != version:
-        raise Ended(f"--journal {path}: it has {database.version} batches, and the program is at version {version}: give the journal of its run")
+        raise Ended(f"--journal {path}: it has {database.version} batches, and the program is at version {version}: "
+                    "give the journal of its run")
     return database
 
 

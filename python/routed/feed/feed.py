@@ -268,7 +268,7 @@ class Once:
     """A session whose network is written once nothing has come for a while."""
 
     def __init__(self, asked: argparse.Namespace, connect: Connect) -> None:
-        self.asked, self.loop = asked, Loop()
+        self.asked, self.loop = asked, Loop(selector=selectors.PollSelector())
         self.heard(0, False)
         try:
             self.session = connect(asked, self)
@@ -321,7 +321,8 @@ def options(asked: argparse.ArgumentParser) -> None:
     asked.add_argument("--to", type=Endpoint, metavar="PLACE", help="where listen takes updates: rows go there, and no command is run")
     asked.add_argument("--journal", metavar="FILE", help="of the program's run, where it has batches already and isn't behind listen")
     asked.add_argument("--metrics", type=Endpoint, metavar="PLACE", help="where figures are read, by HTTP at /metrics")
-    asked.add_argument("--sids", metavar="FILE", help="where adjacency SIDs are told, as lines sid,VERSION,ROUTER,LOCAL,LABEL; it is made anew")
+    asked.add_argument("--sids", metavar="FILE",
+                       help="where adjacency SIDs are told, as lines sid,VERSION,ROUTER,LOCAL,LABEL; it is made anew")
     asked.add_argument("--sid-group", type=number(0, 31, int), metavar="N",
                        help="the administrative group, 0 to 31, of exactly the links that have an adjacency SID")
     asked.add_argument("--once", action="store_true", help="write the present network as one journal, and end")

@@ -34,7 +34,7 @@ class Snapshots:
         except OSError as error:
             self.end(1, f"{error.filename or self.words[0]}: {error.strerror}".encode())
 
-    def is_cut_in_an_end(self):
+    def is_cut_in_an_end(self) -> bool:
         """Whether the journal's last row could be read as the end of a batch that isn't published."""
         with open(self.journal, "rb") as kept:
             kept.seek(max(kept.seek(0, os.SEEK_END) - TAIL, 0))

@@ -1,16 +1,20 @@
 """Reads GraphML as the Topology Zoo has it: nodes with Latitude, Longitude and label, edges with their speed. Other data are counted."""
+from __future__ import annotations
+
 import collections
 import math
 import re
 import xml.etree.ElementTree as xml
+from xml.etree.ElementTree import Element
 
 from .imported import Circuit, Found
 
 SITE, EDGE = ("label", "latitude", "longitude"), ("linkspeedraw", "linkspeed", "linkspeedunits")
+Keys = dict[str | None, Element]
 UNITS = {"": 1, "K": 1e3, "M": 1e6, "G": 1e9, "T": 1e12}
 
 
-def read(data):
+def read(data: bytes) -> Found:
     """What the file's first graph has."""
     try:
         root = xml.fromstring(data)
@@ -37,16 +41,16 @@ def read(data):
     return found
 
 
-def plain(element):
+def plain(element: Element) -> str:
     return element.tag.rpartition("}")[2] if isinstance(element.tag, str) else "comment"
 
 
-def name_of(data, keys):
+def name_of(data: Element, keys: Keys) -> str:
     key = keys.get(data.get("key"))
-    return data.get("key") or "data" if key is None else key.get("attr.name") or data.get("key")
+    return (key is not None and key.get("attr.name")) or data.get("key") or "data"
 
 
-def data_of(element, kind, wanted, keys, found):
+def data_of(element: Element, kind: str, wanted: tuple[str, ...], keys: Keys, found: Found) -> dict[str, str]:
     """The data of a node or an edge that are wanted, by their names in small letters; the others are counted."""
     values = {}
     for key in keys.values():
@@ -62,7 +66,7 @@ def data_of(element, kind, wanted, keys, found):
     return values
 
 
-def number(where, values, name):
+def number(where: str, values: dict[str, str], name: str) -> float | None:
     """The number of that name, None where there is none."""
     if not values.get(name):
         return None
@@ -75,7 +79,7 @@ def number(where, values, name):
     return value
 
 
-def site(node, keys, found):
+def site(node: Element, keys: Keys, found: Found) -> None:
     name = node.get("id")
     if not name:
         raise ValueError("a node has no id")
@@ -85,8 +89,8 @@ def site(node, keys, found):
     found.add_site(where, name, values.get("label", ""), None if east is None or north is None else (east, north))
 
 
-def circuit(edge, keys, is_directed, found):
-    one, other = edge.get("source"), edge.get("target")
+def circuit(edge: Element, keys: Keys, is_directed: bool, found: Found) -> tuple[str, Circuit]:
+    one, other = str(edge.get("source")), str(edge.get("target"))
     where = f"edge {one} {other}"
     values = data_of(edge, "edge", EDGE, keys, found)
     bits = number(where, values, "linkspeedraw")
@@ -100,13 +104,14 @@ def circuit(edge, keys, is_directed, found):
     if edge.get("id"):
         found.left["id of an edge"] += 1
     bytes_per_second = None if bits is None else bits / 8
-    is_both = not {"true": True, "false": False}.get(edge.get("directed"), is_directed)
+    is_both = not {"true": True, "false": False}.get(edge.get("directed", ""), is_directed)
     return where, Circuit(one, other, is_both, bytes_per_second, bytes_per_second, None)
 
 
-def paired(edges):
+def paired(edges: list[tuple[str, Circuit]]) -> list[tuple[str, Circuit]]:
     """The edges, each two that are directed there and back made one circuit, at the place of the first."""
-    circuits, waiting = [], collections.defaultdict(list)
+    circuits: list[tuple[str, Circuit]] = []
+    waiting: dict[tuple[str, str], list[int]] = collections.defaultdict(list)
     for where, edge in edges:
         back = waiting[edge.other, edge.one]
         if edge.is_both or not back:

@@ -1,4 +1,6 @@
 """Reads SNDlib's native format: the sections NODES, LINKS and DEMANDS. The others have no place in a row, and are counted."""
+from __future__ import annotations
+
 import math
 import re
 
@@ -10,30 +12,30 @@ HEAD = "?SNDlib native format"
 class Tokens:
     """The words and the brackets of a text, each with the number of its line."""
 
-    def __init__(self, text):
+    def __init__(self, text: str) -> None:
         self.tokens = [(number, token) for number, line in enumerate(text.splitlines(), 1)
                        for token in re.findall(r"[()]|[^\s(),]+", line.partition("#")[0])]
         self.at = 0
 
     @property
-    def where(self):
+    def where(self) -> str:
         number = self.tokens[min(self.at, len(self.tokens) - 1)][0] if self.tokens else 1
         return f"line {number}"
 
-    def is_next(self, *wanted):
+    def is_next(self, *wanted: str) -> bool:
         return self.at < len(self.tokens) and self.tokens[self.at][1] in wanted
 
-    def is_end(self):
+    def is_end(self) -> bool:
         return self.at == len(self.tokens)
 
-    def word(self, what):
+    def word(self, what: str) -> str:
         """The next word, which is no bracket."""
         if self.is_end() or self.is_next("(", ")"):
             raise ValueError(f"{self.where}: {what} is wanted")
         self.at += 1
         return self.tokens[self.at - 1][1]
 
-    def number(self, what):
+    def number(self, what: str) -> float:
         where, word = self.where, self.word(what)
         try:
             number = float(word)
@@ -43,12 +45,12 @@ class Tokens:
             raise ValueError(f"{where}: {what} is wanted, not {word}")
         return number
 
-    def take(self, bracket):
+    def take(self, bracket: str) -> None:
         if not self.is_next(bracket):
             raise ValueError(f"{self.where}: {bracket} is wanted")
         self.at += 1
 
-    def pass_over(self):
+    def pass_over(self) -> None:
         """Goes on after the bracket that closes the last open one."""
         depth = 1
         while depth:
@@ -58,7 +60,7 @@ class Tokens:
             self.at += 1
 
 
-def read(data, unit):
+def read(data: bytes, unit: float) -> Found:
     """What a network's file has. The unit is the bytes per second of one unit of capacity and of demand."""
     try:
         text = data.decode("utf-8-sig")
@@ -86,7 +88,7 @@ def read(data, unit):
     return found
 
 
-def ends(tokens):
+def ends(tokens: Tokens) -> tuple[str, str]:
     """The two sites in brackets."""
     tokens.take("(")
     one, other = tokens.word("a source"), tokens.word("a target")
@@ -94,8 +96,9 @@ def ends(tokens):
     return one, other
 
 
-def site(tokens, found, _):
-    where, name, place = tokens.where, tokens.word("a site"), None
+def site(tokens: Tokens, found: Found, _: float) -> None:
+    where, name = tokens.where, tokens.word("a site")
+    place = None
     if tokens.is_next("("):
         tokens.take("(")
         place = tokens.number("a longitude"), tokens.number("a latitude")
@@ -103,7 +106,7 @@ def site(tokens, found, _):
     found.add_site(where, name, name.replace("_", " "), place)
 
 
-def circuit(tokens, found, unit):
+def circuit(tokens: Tokens, found: Found, unit: float) -> None:
     """What is installed is the capacity; where nothing is, the largest module."""
     where, _, (one, other) = tokens.where, tokens.word("a link"), ends(tokens)
     installed, price, cost, setup = (tokens.number(what) for what in (
@@ -121,10 +124,11 @@ def circuit(tokens, found, unit):
     found.left["cost of what is installed"] += price != 0
     found.left["setup cost"] += setup != 0
     found.left["module of a link"] += len(modules)
-    found.add_circuit(where, Circuit(one, other, True, *[capacity * unit or None] * 2, cost or None))
+    each = capacity * unit or None
+    found.add_circuit(where, Circuit(one, other, True, each, each, cost or None))
 
 
-def demand(tokens, found, unit):
+def demand(tokens: Tokens, found: Found, unit: float) -> None:
     where, _, (one, other) = tokens.where, tokens.word("a demand"), ends(tokens)
     routing_unit, value, longest = tokens.number("a routing unit"), tokens.number("a demand's value"), tokens.word("a longest path")
     if value < 0 or routing_unit < 0:

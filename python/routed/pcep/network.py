@@ -16,7 +16,7 @@ SID = re.compile(r"sid,([0-9]{1,7}),([0-9.]+),([0-9.]+),([0-9]{0,7})")
 class Tail:
     """The lines that a growing file has got since the last look. A file that is replaced is read from its beginning."""
 
-    def __init__(self, path: str):
+    def __init__(self, path: str) -> None:
         self.path, self.unread = path, b""
         self.file: IO[bytes] | None = None
 
@@ -51,7 +51,7 @@ def newest(path: str) -> str:
 class Network(Database):
     """The database of the server at a version that only grows until the run ends, and the links that went from it."""
 
-    def __init__(self, path: str | None):
+    def __init__(self, path: str | None) -> None:
         self.tail = Tail(path) if path else None
         self.begin()
 
@@ -106,7 +106,7 @@ class Sids:
 
     KEPT = 8
 
-    def __init__(self, path: str):
+    def __init__(self, path: str) -> None:
         self.tail = Tail(path)
         self.links: dict[Key, list[tuple[int, int | None]]] = {}  # versions and labels
 

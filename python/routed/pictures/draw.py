@@ -73,10 +73,13 @@ def options(words: list[str] | None) -> argparse.Namespace:
     asked.add_argument("rows", help="the file of rows or the journal")
     asked.add_argument("--version", type=version, metavar="N", help="the network after batch N, by default the last")
     asked.add_argument("--replies", metavar="FILE", help="reply lines of routed, or the lines of a book")
-    asked.add_argument("--ask", action="append", default=[], metavar="ID", help=f"draw the route of this reply; at most {len(ROUTE_STYLES)} times")
-    asked.add_argument("--overbooked", metavar="FILE", help="lines of a sweep: mark the links that it says are overbooked while nothing fails")
+    asked.add_argument("--ask", action="append", default=[], metavar="ID",
+                       help=f"draw the route of this reply; at most {len(ROUTE_STYLES)} times")
+    asked.add_argument("--overbooked", metavar="FILE",
+                       help="lines of a sweep: mark the links that it says are overbooked while nothing fails")
     positions.add_options(asked)
-    asked.add_argument("--priority", type=int, choices=range(8), default=0, help="the priority whose unreserved bandwidth is the width of circuits")
+    asked.add_argument("--priority", type=int, choices=range(8), default=0,
+                       help="the priority whose unreserved bandwidth is the width of circuits")
     asked.add_argument("--title", default="Network")
     given = asked.parse_args(words)
     if given.ask and not given.replies:

@@ -19,11 +19,15 @@ from .shapes import Curve
 
 KINDS = {"lost": (f"stroke:{RED};stroke-width:6", "a request loses its route"),
          "longer": (f"stroke:{BLUE};stroke-width:4", "no request loses its route, and one gets a longer one"),
-         "overbooked": (f"stroke:{ORANGE};stroke-width:4;stroke-dasharray:10 4", "no route is lost or longer, and a link is overbooked more than before"),
+         "overbooked": (f"stroke:{ORANGE};stroke-width:4;stroke-dasharray:10 4",
+                        "no route is lost or longer, and a link is overbooked more than before"),
          "none": (f"stroke:{GRAY};stroke-width:2", "no request and no link is worse off")}
 INK = {"lost": "#a84300", "longer": "#005a8e", "overbooked": "#8a5f00"}  # of the counts, dark enough to read
 ALONG = (0.5, 0.44, 0.56, 0.38, 0.62, 0.32, 0.68, 0.26, 0.74, 0.2, 0.8)  # where on its circuit a count may be
 IDS = 12  # of requests that are named where the pointer is
+
+
+Over = dict[Failure, list[Overbooked]]  # what is overbooked of each circuit while nothing fails
 
 
 def kind_of(failure: Failure) -> str:
@@ -41,10 +45,12 @@ def between(failure: Failure, names: Names) -> str:
 def about(failure: Failure, names: Names, over: list[Overbooked]) -> str:
     """What is said of a circuit where the pointer is on it."""
     says = [f"without {between(failure, names)} ({failure.link})"]
-    for count, ids, what in ((failure.lost, failure.lost_ids, "lose their route"), (failure.longer, failure.longer_ids, "get a longer one")):
+    touched = (failure.lost, failure.lost_ids, "lose their route"), (failure.longer, failure.longer_ids, "get a longer one")
+    for count, ids, what in touched:
         says += [f"{count} {what}: {', '.join(ids[:IDS])}{', ..' if len(ids) > IDS else ''}"] if count else []
     says += [f"overbooked then: {link}" for link in failure.overbooked[:IDS]]
-    says += [f"overbooked while nothing fails, at priority {it.priority}: {it.asked:,} bytes per second are asked of {it.unreserved:,}" for it in over]
+    says += [f"overbooked while nothing fails, at priority {it.priority}: {it.asked:,} bytes per second are asked of {it.unreserved:,}"
+             for it in over]
     return "\n".join(says)
 
 
@@ -59,7 +65,7 @@ def place_counts(found: list[Failure], curves: list[Curve], sheet: Sheet) -> Non
     sheet.place(wanted, ink=0.3)
 
 
-def failures_picture(title: str, found: list[Failure], over: dict[Failure, list[Overbooked]], places: Places, names: Names) -> Iterable[str]:
+def failures_picture(title: str, found: list[Failure], over: Over, places: Places, names: Names) -> Iterable[str]:
     """The lines of the whole picture."""
     places, wide, high = fit(places)
     sheet, curves, drawn = Sheet(wide, high), shapes.curves([(it.one, it.other) for it in found], places), []
@@ -81,7 +87,7 @@ def failures_picture(title: str, found: list[Failure], over: dict[Failure, list[
     return picture(title, wide, high + more + 10, drawn + shown)
 
 
-def notes_of(found: list[Failure], over: dict[Failure, list[Overbooked]], names: Names, absent: list[Failure], numbers: dict[str, int]) -> list[Note]:
+def notes_of(found: list[Failure], over: Over, names: Names, absent: list[Failure], numbers: dict[str, int]) -> list[Note]:
     """The legend, and what has no room in the picture."""
     kinds = {kind_of(failure) for failure in found}
     notes: list[Note] = [(shapes.sample(style), text) for kind, (style, text) in KINDS.items() if kind in kinds]
@@ -98,12 +104,14 @@ def notes_of(found: list[Failure], over: dict[Failure, list[Overbooked]], names:
     return notes + shapes.number_notes(numbers, names)
 
 
-def by_circuit(found: list[Failure], before: dict[str, list[Overbooked]]) -> dict[Failure, list[Overbooked]]:
+def by_circuit(found: list[Failure], before: dict[str, list[Overbooked]]) -> Over:
     """What is overbooked of each circuit while nothing fails, in either direction. A line names a link by its addresses in order."""
-    def names_of(failure: Failure) -> tuple[str, str]:
+    found_there: Over = {}
+    for failure in found:
         router, local, neighbor, remote = failure.link.split()
-        return failure.link, f"{neighbor} {remote} {router} {local}"
-    return {failure: [it for name in names_of(failure)[:2 if failure.is_circuit else 1] for it in before.get(name, ())] for failure in found}
+        back = before.get(f"{neighbor} {remote} {router} {local}", []) if failure.is_circuit else []
+        found_there[failure] = before.get(failure.link, []) + back
+    return found_there
 
 
 def main(words: list[str] | None = None) -> int:

@@ -155,11 +155,11 @@ class Sheet:
                    for row in range(int(box[1] // STEP), int(box[3] // STEP) + 1))
 
     def place(self, wanted: Iterable[Wanted], ink: float = 1.0) -> None:
-        """Gives texts their boxes, those with the fewest spots first; then each may move to a better one. Texts of calls before may move, and
-        stay in the picture. The ink is what is against a spot for each point of a line under it."""
+        """Gives texts their boxes, those with the fewest spots first; then each may move to a better one. Texts of calls before may move,
+        and stay in the picture. The ink is what is against a spot for each point of a line under it."""
         for text in wanted:
-            free = [(against + ink * self.under(box) + CLOSE * len(self.drawn.meeting(wider(box, NEAR)).keys() - {text.key}), at, wider(box))
-                    for at, (box, against) in enumerate(text.spots) if self.is_free(box)]
+            free = [(against + ink * self.under(box) + CLOSE * len(self.drawn.meeting(wider(box, NEAR)).keys() - {text.key}), at,
+                     wider(box)) for at, (box, against) in enumerate(text.spots) if self.is_free(box)]
             self.spots[text.key] = [box for _, _, box in sorted(free)]
         order = sorted((text.key for text in wanted), key=lambda key: len(self.spots[key]))
         for _ in range(ROUNDS):

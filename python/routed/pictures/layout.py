@@ -205,7 +205,8 @@ def packed(parts: list[Places]) -> Places:
     across = down = high = 0.0
     places: Places = {}
     sizes = [bounds(part) for part in parts]
-    wide = max([1.4 * math.sqrt(sum((r - l + APART) * (b - t + APART) for l, t, r, b in sizes)), *(r - l for l, _, r, _ in sizes)], default=0)
+    area = sum((right - left + APART) * (bottom - top + APART) for left, top, right, bottom in sizes)
+    wide = max([1.4 * math.sqrt(area), *(right - left for left, _, right, _ in sizes)])
     for part, (left, top, right, bottom) in zip(parts, sizes):
         if across and across + right - left > wide:
             across, down, high = 0.0, down + high + APART, 0.0

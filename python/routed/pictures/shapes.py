@@ -90,11 +90,13 @@ def arrow(line: Curve, color: str, part: float = 0.55) -> str:
     """The head of an arrow on a curve."""
     (x, y), angle = line.at(part), line.angle(part)
     tip, left, right = ((x + far * math.cos(angle + turn), y + far * math.sin(angle + turn)) for far, turn in ((8, 0), (7, 2.5), (7, -2.5)))
-    return f'<path class="arrow" d="M{tip[0]:.1f} {tip[1]:.1f}L{left[0]:.1f} {left[1]:.1f}L{right[0]:.1f} {right[1]:.1f}z" style="fill:{color}"/>'
+    corners = "L".join(f"{x:.1f} {y:.1f}" for x, y in (tip, left, right))
+    return f'<path class="arrow" d="M{corners}z" style="fill:{color}"/>'
 
 
 def line(kind: str, path: str, style: str, text: str = "") -> str:
-    return f'<path class="{kind}" d="{path}" style="{style}">{hover(text)}</path>' if text else f'<path class="{kind}" d="{path}" style="{style}"/>'
+    begun = f'<path class="{kind}" d="{path}" style="{style}"'
+    return f"{begun}>{hover(text)}</path>" if text else f"{begun}/>"
 
 
 def router(x: float, y: float, is_marked: bool, radius: float = ROUTER, text: str = "") -> str:
@@ -109,12 +111,14 @@ def router(x: float, y: float, is_marked: bool, radius: float = ROUTER, text: st
 def plate(box: Box) -> str:
     """White under a text that is on a line."""
     left, top, right, bottom = box
-    return f'<rect x="{left - 1:.1f}" y="{top + 1:.1f}" width="{right - left + 2:.1f}" height="{bottom - top - 2:.1f}" rx="4" style="fill:#fff"/>'
+    return (f'<rect x="{left - 1:.1f}" y="{top + 1:.1f}" width="{right - left + 2:.1f}" height="{bottom - top - 2:.1f}" '
+            'rx="4" style="fill:#fff"/>')
 
 
 def ring(x: float, y: float, radius: float, color: str, dash: str = "") -> str:
     """Where a route begins."""
-    return f'<circle class="from" cx="{x:.1f}" cy="{y:.1f}" r="{radius}" style="fill:none;stroke:{color};stroke-width:2.5;stroke-dasharray:{dash or "none"}"/>'
+    return (f'<circle class="from" cx="{x:.1f}" cy="{y:.1f}" r="{radius}" '
+            f'style="fill:none;stroke:{color};stroke-width:2.5;stroke-dasharray:{dash or "none"}"/>')
 
 
 def diamond(x: float, y: float, radius: float, color: str, dash: str = "") -> str:
@@ -161,4 +165,5 @@ def routers(places: Places, names: Names, marks: Collection[str], numbers: dict[
 
 def number_notes(numbers: dict[str, int], names: Names) -> list[Note]:
     """The list of the names that have no room."""
-    return [(None, "Names without room: " + ", ".join(f"{number} {names[router]}" for router, number in numbers.items()))] if numbers else []
+    listed = ", ".join(f"{number} {names[router]}" for router, number in numbers.items())
+    return [(None, f"Names without room: {listed}")] if numbers else []

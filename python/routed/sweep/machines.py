@@ -43,7 +43,7 @@ class Teller:
         self.given = given
 
     def tell(self, scenarios: list[Scenario]) -> tuple[str, list[tuple]]:
-        """The worker's address, and in plain types the outcomes of these scenarios, up to the first fault: of what kind it is, and its text."""
+        """The worker's address, and in plain types the outcomes of these scenarios, up to the first fault: its kind and its text."""
         from distributed import get_worker
         said: list[tuple] = []
         for place, parts in scenarios:
@@ -124,8 +124,9 @@ def over_ssh(logins: str, jobs: int, given: Network, scenarios: Scenarios, count
     most_rows = 2 * (most_links + most_links // MOST_CHANGES + 1) + min(len(given.requests), MOST_ASKS)
     most = max(1, min(MOST_AT_ONCE, count // (SHARES * jobs * len(logins.split(","))), (MOST_ROWS - len(given.rows)) // most_rows))
     with tempfile.NamedTemporaryFile() as log, tempfile.TemporaryFile() as said:
-        command = ["parallel", "--plain", "--pipe", "--keep-order", "--header", "1", "-N", str(most), "--jobs", str(jobs), "--sshlogin", logins,
-                   "--joblog", log.name, f"{COMMAND} {shlex.quote(ANSWER.format(program=shlex.quote(given.program)))}"]
+        far = ANSWER.format(program=shlex.quote(given.program))
+        command = ["parallel", "--plain", "--pipe", "--keep-order", "--header", "1", "-N", str(most), "--jobs", str(jobs),
+                   "--sshlogin", logins, "--joblog", log.name, f"{COMMAND} {shlex.quote(far)}"]
         try:
             running = subprocess.Popen(command, stdin=subprocess.PIPE, stdout=subprocess.PIPE, stderr=said)
         except OSError as fault:
@@ -247,6 +248,7 @@ def cause(log: str, said: IO[bytes]) -> str:
     said.seek(0)
     lines = [line for line in said.read().decode(errors="replace").splitlines() if line and not line.startswith(("parallel:", COMMAND))]
     with open(log, newline="") as rows:
-        failed = [row for row in csv.DictReader(rows, delimiter="\t", quoting=csv.QUOTE_NONE) if (row["Exitval"], row["Signal"]) != ("0", "0")]
+        table = csv.DictReader(rows, delimiter="\t", quoting=csv.QUOTE_NONE)
+        failed = [row for row in table if (row["Exitval"], row["Signal"]) != ("0", "0")]
     who = f"{failed[0]['Host'].split()[-1]} ended with status {failed[0]['Exitval']}" if failed else "parallel ended"
     return ": ".join([who, *lines[-1:]])

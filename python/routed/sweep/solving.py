@@ -136,6 +136,6 @@ class Solve:
         if self.process:
             self.process.kill()
             with self.process, self.said:  # which waits for it, and closes its pipes
-                pass
+                self.process = None
 
     __del__ = close  # at a worker of Dask nobody says when the sweep has ended

@@ -87,7 +87,8 @@ def sweep(asked: argparse.Namespace, journal: bytes, requests: bytes) -> Generat
             yield text
             progress.step()
             counts = [total + bool(some) for total, some in zip(counts, (lost, longer, overbooked))]
-            ranking.add(place, " and ".join(name for name, _ in out), *([given.requests[index] for index in some] for some in (lost, longer)))
+            touched = ([given.requests[index] for index in some] for some in (lost, longer))
+            ranking.add(place, " and ".join(name for name, _ in out), *touched)
     yield from ranking.lines()
     name = f"part {part}/{of} input={asked.input} " if asked.part else ""
     yield f"{name}scenarios={len(places)} lost={counts[0]} longer={counts[1]} overbooked={counts[2]}"
@@ -128,7 +129,8 @@ def options(words: list[str] | None) -> argparse.Namespace:
     asked.add_argument("--workers", type=count, default=1, metavar="N", help="threads that answer while nothing is out, by default 1")
     asked.add_argument("--jobs", type=count, metavar="N", help="scenarios at once, each in a process, by default 1")
     asked.add_argument("--dask", type=address, metavar="ADDRESS", help="scenarios on the workers of this scheduler of Dask's distributed")
-    asked.add_argument("--ssh", metavar="LOGINS", help="scenarios on these machines by GNU parallel, given as for its -S; --jobs at once on each")
+    asked.add_argument("--ssh", metavar="LOGINS",
+                       help="scenarios on these machines by GNU parallel, given as for its -S; --jobs at once on each")
     asked.add_argument("--part", type=part, metavar="I/N", help="only the I-th of N parts of the scenarios, for join")
     add_option(asked)
     given = asked.parse_args(words)

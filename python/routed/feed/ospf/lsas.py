@@ -7,7 +7,7 @@ import math
 import socket
 import struct
 from collections.abc import Callable, Iterator
-from typing import NamedTuple, Union
+from typing import Any, NamedTuple
 
 from ...model.rows import Key, Link, Mark, Row
 
@@ -57,7 +57,7 @@ class LinkSid(NamedTuple):
     label: int
 
 
-Content = Union[RouterLinks, TeLsa, LinkSid, None]
+Content = RouterLinks | TeLsa | LinkSid | None
 
 
 class Lsa(NamedTuple):
@@ -91,7 +91,7 @@ def te_link(body: bytes) -> TeLsa | None:
         return None
     of = dict(tlvs(values))
 
-    def value(kind, form):
+    def value(kind: int, form: str) -> Any:
         return struct.unpack_from(form, of[kind])[0] if kind in of else None
 
     def address(kind: int) -> str | None:

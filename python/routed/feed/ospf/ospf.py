@@ -1,9 +1,9 @@
 """Feeds a network to `routed` as it is and as it changes, from the OSPF API of one of its routers (FRR's `ospfd -a`).
 
-With a command, such as `routed solve`, or at a place of routed-tools listen (--to), the rows go to it: each line of standard
-input that is an ask row is passed on to it too, and its lines come out on standard output. Without either, rows go to standard output, and the
-lines that come back are read from standard input. A program that has a database already tells it where it is behind
-routed-tools listen; else --journal names its journal. docs/run/FEED.md has what is taken from where.
+With a command, such as `routed solve`, or a place of routed-tools listen (--to), the rows go there: each line of standard
+input that is an ask row is passed on to it too, and its lines come out on standard output. Without either, rows go to
+standard output, and the lines that come back are read from standard input. A program that has a database already tells it
+where it is behind routed-tools listen; else --journal names its journal. docs/run/FEED.md has what is taken from where.
 """
 from __future__ import annotations
 
