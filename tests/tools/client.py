@@ -33,8 +33,8 @@ def page(program, checks, room):
         updating.say(journal.read())
         updating.leave()
         around = {**os.environ, "PYTHONPATH": os.path.join(TOP, "python"), "PYTHONDONTWRITEBYTECODE": "1"}
-        ran = subprocess.run([sys.executable, "-c", code, front.ask, os.path.join(room, "watch")], env=around, capture_output=True, text=True,
-                             timeout=PATIENCE)
+        words = [sys.executable, "-c", code, front.ask, os.path.join(room, "watch")]
+        ran = subprocess.run(words, env=around, capture_output=True, text=True, timeout=PATIENCE)
         checks.same("the program of the page", (ran.stdout, ran.stderr), (printed, ""))
 
 
