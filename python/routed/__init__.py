@@ -1,1 +1,5 @@
-"""Tools round the path computation server `routed`; `routed-tools` runs them."""
+"""Tools round the path computation server `routed`; `routed-tools` runs them. A program asks the server by `Client`."""
+from .client import Client
+from .model.rows import Refused, Reply, Request
+
+__all__ = ["Client", "Refused", "Reply", "Request"]
