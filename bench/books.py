@@ -78,7 +78,8 @@ def books(program, draw, pairs, routers, load, count, say):
         seconds = min(run(program, placed + rows)[0] for _ in range(RUNS))
         say(f"{kind}: {max(seconds - least, 0) / len(rows) * 1e6:,.1f} microseconds")
     puts = [batch(draw, pairs, number + at, [draw.randrange(len(pairs))]) for at in range(BATCHES)]
-    drops = [[drop(place, pairs[place]), f"end,{number + at},1\n"] for at, place in enumerate(draw.sample(range(len(pairs)), min(BATCHES, len(pairs))))]
+    drops = [[drop(place, pairs[place]), f"end,{number + at},1\n"]
+             for at, place in enumerate(draw.sample(range(len(pairs)), min(BATCHES, len(pairs))))]
     for kind, more in [("replaces a link", puts), ("drops a link", drops)]:
         times = sorted(waits(program, placed, more))
         say(f"a base batch that {kind}: {times[len(times) // 2] * 1e6:,.0f} microseconds, {times[-1] * 1e6:,.0f} at most")

@@ -3,7 +3,8 @@ import math
 
 
 def isp(draw, routers):
-    """A provider's network: a ring of core routers with chords, routers with two circuits each to the core, and the others with two each to these."""
+    """A provider's network: a ring of core routers with chords, routers with two circuits each to the core, and the others with two each to
+    these."""
     core, edge = max(3, routers * 24 // 1024), max(2, routers * 200 // 1024)
     ring = [(at, (at + 1) % core) for at in range(core)]
     chords = [(a, b) for a in range(core) for b in range(a) if draw.random() < 0.4]

@@ -55,4 +55,5 @@ def trees(program, draw, pairs, routers, count, say):
             load = loading(draw, pairs, metrics)
             for kind, asks in kinds:
                 shared, plain = both(program, room, load, asks)
-                say(f"{said}, {len(asks):,} requests {kind}: {shared:,.1f} microseconds a request, {plain:,.1f} without trees: {shared / plain:.2f} of it")
+                say(f"{said}, {len(asks):,} requests {kind}: {shared:,.1f} microseconds a request, {plain:,.1f} without trees: "
+                    f"{shared / plain:.2f} of it")

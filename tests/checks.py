@@ -39,8 +39,8 @@ class Checks:
         print(f"FAILED {text}")
 
     def stream(self, name, rows, found, wanted):
-        """What `found` makes of rows is what `wanted` does. Where it isn't, the fewest rows that were found to differ are printed, too. That
-        takes many runs, so it is done for the first few streams alone."""
+        """What `found` makes of rows is what `wanted` does. Where it isn't, the fewest rows that were found to differ are printed, too.
+        That takes many runs, so it is done for the first few streams alone."""
         one, other = found(rows), wanted(rows)
         if one == other or not name.startswith(self.only) or self.shortened == MOST_SHORTENED:
             self.same(name, one, other)

@@ -146,7 +146,8 @@ def not_begun(checks):
                              ("a batch of another number", [*whole[:-2], "end,2,4", whole[-1]], whole[1]),
                              ("a line behind the batches", [*whole[:-1], "version 7", whole[-1]], "version 7"),
                              ("a row of another kind", [*whole[:-1], "ask,1", whole[-1]], "ask,1")]:
-        checks.same(f"a snapshot with {name}", ended(7, *lines), (1, "", f"{pipes}its snapshot has a line that is part of no batch: {bad}\n"))
+        checks.same(f"a snapshot with {name}", ended(7, *lines),
+                    (1, "", f"{pipes}its snapshot has a line that is part of no batch: {bad}\n"))
     checks.same("the program ends before its snapshot", ended(7), (1, "", f"{pipes}the program ended\n"))
     feed = Feed(router, version=7, told=whole[:3], is_accepted=False)
     feed.process.stdin.close()
@@ -200,11 +201,13 @@ def journals(checks):
             checks.same(f"a journal{name}", [feed.batch(), feed.batch()], [(PAIR_ROWS[:1], 3), (BROKEN_DROPS, 4)])
             checks.same(f"and no more{name}", (feed.is_quiet(), feed.end()), (True, going_on(2, 3, 0, 3)))
             router.hang_up()
-        for name, text, version, count in [("fewer batches", first, 2, 1), ("more batches", whole, 1, 2), ("a torn batch", whole[:-9], 2, 1),
+        for name, text, version, count in [("fewer batches", first, 2, 1), ("more batches", whole, 1, 2),
+                                           ("a torn batch", whole[:-9], 2, 1),
                                            ("none", "", 2, 0), ("another count", whole.replace("end,2,3", "end,2,4"), 2, 1),
                                            ("no journal's rows", "put,1\nend,1,1\n", 1, 0)]:
             why = f"it has {count} batches, and the program is at version {version}: give the journal of its run"
-            checks.same(f"a journal that doesn't agree: {name}", feed_of(text, version).ended(), (1, "", f"ospf: --journal {path}: {why}\n"))
+            checks.same(f"a journal that doesn't agree: {name}", feed_of(text, version).ended(),
+                        (1, "", f"ospf: --journal {path}: {why}\n"))
         for name, why in [("nowhere", "No such file or directory"), ("", "Is a directory")]:
             path = os.path.join(room, name)
             feed = Feed(router, "--journal", path, version=2, told=["row 2 refused: kind"], is_accepted=False)

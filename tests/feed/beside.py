@@ -11,7 +11,8 @@ import time
 
 from checks import TOOLS
 from feed.lab import lab_rows, recorded
-from feed.played import A, A_B, B, BROKEN, BROKEN_DROPS, B_A, C, CHAIN, CHAIN_ROWS, FEED, IN_PROCESS, PAIR, PATIENCE, Feed, Router, going_on, removal
+from feed.played import A, A_B, B, BROKEN, BROKEN_DROPS, B_A, C, CHAIN, CHAIN_ROWS, FEED, IN_PROCESS, PAIR, PATIENCE, Feed, Router
+from feed.played import going_on, removal
 from feed.played import router_lsa, te_lsa, update
 
 
@@ -62,7 +63,8 @@ def beside_server(program, checks):
         checks.same("with it, what went is dropped, and nothing else is written", journal(), wanted)
         server.kill()
         said = feed.communicate(timeout=PATIENCE)[1]
-        checks.same("the server is killed", (feed.returncode, said), (1, going_on(1, 4, 0, 1) + "ospf: standard input and output: the program ended\n"))
+        checks.same("the server is killed", (feed.returncode, said),
+                    (1, going_on(1, 4, 0, 1) + "ospf: standard input and output: the program ended\n"))
 
 
 def behind_front(program, checks):
@@ -96,7 +98,8 @@ def behind_front(program, checks):
         feed = started()
         router.send(CHAIN)
         until(lambda: " v1 " in reply(), "version 1")
-        checks.same("what a feed put is answered", reply(), "ask 7 v1 route cost=14 hops=2 again=no ero=0014140101080a000001200001080a0000032000\n")
+        checks.same("what a feed put is answered", reply(),
+                    "ask 7 v1 route cost=14 hops=2 again=no ero=0014140101080a000001200001080a0000032000\n")
         feed.process.kill()
         feed.process.wait()
         router.hang_up()
@@ -193,8 +196,10 @@ def once(program, checks):
     checks.true("a router that doesn't connect back", ended.returncode == 1 and re.fullmatch(wanted, ended.stderr), ended)
     with open("/dev/full", "wb") as full:
         ask = f"ask,7,{A},{B},0,1000,0x0,0x0,0x0,\n"
-        ended = subprocess.run([*FEED, "--port", "9", "--", program.path, "solve"], input=ask, stdout=full, stderr=subprocess.PIPE, text=True)
-    checks.same("standard output is full", (ended.returncode, ended.stderr.splitlines()[-1:]), (1, ["ospf: standard output: No space left on device"]))
+        ended = subprocess.run([*FEED, "--port", "9", "--", program.path, "solve"], input=ask, stdout=full, stderr=subprocess.PIPE,
+                               text=True)
+    checks.same("standard output is full", (ended.returncode, ended.stderr.splitlines()[-1:]),
+                (1, ["ospf: standard output: No space left on device"]))
 
 
 def words(program, checks):
@@ -202,7 +207,8 @@ def words(program, checks):
     def ran(*given):
         return subprocess.run([*FEED, *given], stdin=subprocess.DEVNULL, capture_output=True, text=True)
 
-    for given in (["--router", ""], ["--router", 64 * "a"], ["--router", b"\xff"], ["--router", "a..b"], ["--port", "0"], ["--port", "65536"], ["--collect", "-1"], ["--hold", "nan"], ["--collect", "inf"], ["--twice"]):
+    for given in (["--router", ""], ["--router", 64 * "a"], ["--router", b"\xff"], ["--router", "a..b"], ["--port", "0"],
+                  ["--port", "65536"], ["--collect", "-1"], ["--hold", "nan"], ["--collect", "inf"], ["--twice"]):
         found = ran(*given)
         checks.true(f"refused: {given}", found.returncode == 2 and found.stdout == "" and "Traceback" not in found.stderr, found)
     for command, why in [(["/nowhere/routed"], "can't start /nowhere/routed: No such file or directory"),

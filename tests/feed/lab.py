@@ -72,7 +72,8 @@ def lab(checks):
     gone = [each for each in lab_rows() if each.startswith("put,10.0.0.6,") or ",10.0.0.6," in each]
     checks.same("a router that dies without a word: its links and those to it go, though its LSAs stay", found[1],
                 [",".join(["drop", *each.split(",")[1:3]]) for each in gone])
-    checks.same("and come back with it", found[2], [re.sub("^(put,10.0.0.6,10.1.46.3,.*)0x00000003", r"\g<1>0x00000024", each) for each in gone])
+    checks.same("and come back with it", found[2],
+                [re.sub("^(put,10.0.0.6,10.1.46.3,.*)0x00000003", r"\g<1>0x00000024", each) for each in gone])
     reasons = set(re.findall(r"^ospf: left out, (.*)$", said.split("ospf: 12 links;")[1], re.M))
     checks.same("the reasons", reasons, {"no adjacency: 10.0.0.4 10.1.46.2", "no adjacency: 10.0.0.5 10.1.56.1",
                                          "no adjacency back: 10.0.0.6 10.1.46.3", "no adjacency back: 10.0.0.6 10.1.56.2"})

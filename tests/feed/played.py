@@ -321,7 +321,8 @@ CHAIN_ROUTERS = router_lsa(A, (B, A_B, 1)), router_lsa(B, (A, B_A, 1), (C, B_C, 
 CHAIN_LINKS = te_lsa(A, A_B, B, B_A), te_lsa(B, B_A, A, A_B), te_lsa(B, B_C, C, C_B, number="1.0.0.3"), te_lsa(C, C_B, B, B_C)
 CHAIN = update(*CHAIN_ROUTERS, *CHAIN_LINKS)
 CHAIN_ROWS = [*PAIR_ROWS, row(B, B_C, C, C_B), row(C, C_B, B, B_C)]
-BROKEN = update(CHAIN_ROUTERS[0], router_lsa(B, (A, B_A, 1), sequence=2), router_lsa(C, sequence=2), *CHAIN_LINKS)  # without the circuit B-C
+# without the circuit B-C
+BROKEN = update(CHAIN_ROUTERS[0], router_lsa(B, (A, B_A, 1), sequence=2), router_lsa(C, sequence=2), *CHAIN_LINKS)
 BROKEN_DROPS = [f"drop,{B},{B_C}", f"drop,{C},{C_B}"]
 
 

@@ -58,7 +58,8 @@ def left_out(checks):
         checks.same(f"left out: {why}: {name}", (rows, f"ospf: left out, {why}: {name}\n" in said), (wanted, True))
         checks.true(f"counted: {why}", re.search(rf"^ospf: {len(wanted)} links; left out: .*{re.escape(why)} \d", said, re.M), said)
     found, said = fed(update(lsa(10, "1.0.0.1", A, tlv(1, raw(A)))) + PAIR, words=("--verbose",))
-    checks.same("a TE LSA of a router's address alone is nothing", (found[0], said.splitlines()[-1:]), (PAIR_ROWS, ["ospf: 2 links; left out: none"]))
+    checks.same("a TE LSA of a router's address alone is nothing", (found[0], said.splitlines()[-1:]),
+                (PAIR_ROWS, ["ospf: 2 links; left out: none"]))
     twice = te_lsa(A, A_B, B, B_A), te_lsa(A, A_B, B, B_A, number="1.0.0.3")
     checks.same("two TE LSAs of one link that agree", fed(update(*ROUTERS, *twice, back))[0], [PAIR_ROWS])
     checks.same("an area of its own: no adjacency there", fed(PAIR, update(te_lsa(A, A_B, B, B_A), area="0.0.0.1"), bare=(1,))[0],
@@ -119,7 +120,8 @@ def marks(checks):
     more = "10.7.7.7"
     found, _ = fed(PAIR, update(router_lsa(A, (B, A_B, top), (C, more, 1), sequence=2)), update(router_lsa(C)), bare=(1, 2))
     checks.same("one link of less is enough, and a router without links is no stub router", found, [PAIR_ROWS, [], []])
-    found, _ = fed(PAIR, update(stub), update(router_lsa(A, (C, more, 1)), area="0.0.0.1"), update(router_lsa(A, (C, more, top), sequence=2), area="0.0.0.1"))
+    found, _ = fed(PAIR, update(stub), update(router_lsa(A, (C, more, 1)), area="0.0.0.1"),
+                   update(router_lsa(A, (C, more, top), sequence=2), area="0.0.0.1"))
     checks.same("a stub router in each of its areas", found, [PAIR_ROWS, [mark], [free], [mark]])
     found, _ = fed(update(stub) + PAIR[len(update(ROUTERS[0])):], removal(stub))
     checks.same("a stub router that goes", found, [[mark, *PAIR_ROWS], [free, f"drop,{A},{A_B}", f"drop,{B},{B_A}"]])
@@ -181,7 +183,8 @@ def streams(checks):
     """Messages in pieces, of other kinds, and connections that aren't the API's."""
     router = Router()
     feed = Feed(router)
-    other = [lsa(2, "10.0.0.0", A, bytes(8)), lsa(5, "10.0.0.0", A, bytes(16)), lsa(10, "4.0.0.0", A, bytes(8)), lsa(11, "1.0.0.1", A, bytes(8))]
+    other = [lsa(2, "10.0.0.0", A, bytes(8)), lsa(5, "10.0.0.0", A, bytes(16)), lsa(10, "4.0.0.0", A, bytes(8)),
+             lsa(11, "1.0.0.1", A, bytes(8))]
     data = message(18, bytes(8)) + update(*other) + message(12, b"short") + message(99, b"") + PAIR
     for at in range(0, len(data), 7):
         router.send(data[at:at + 7])
@@ -191,7 +194,8 @@ def streams(checks):
     router.hang_up()
     checks.same("a connection that is closed drops nothing", (feed.is_quiet(), feed.process.poll()), (True, None))
     checks.true("and that is said", f"port {router.port}: the router closed the connection; what was put stays\n" in feed.end())
-    for name, data in [("a message of another version", b"\2" + message(12, b"")[1:]), ("a request that is refused", message(10, b"\xff\0\0\0"))]:
+    for name, data in [("a message of another version", b"\2" + message(12, b"")[1:]),
+                       ("a request that is refused", message(10, b"\xff\0\0\0"))]:
         router = Router()
         feed = Feed(router)
         router.send(data)
@@ -261,7 +265,8 @@ def refusals(checks):
     for first in (0, 4711):  # rows of earlier feeds count, too, where the program outlives them
         router, feed = begun()
         batches = [feed.batch(answer)[0] for answer in (
-            f"row {first + 2} refused: number 6\nbatch 1 refused: counted 3", f"row {first + 7} refused: number 6\nbatch 1 refused: counted 1",
+            f"row {first + 2} refused: number 6\nbatch 1 refused: counted 3",
+            f"row {first + 7} refused: number 6\nbatch 1 refused: counted 1",
             "version 1", f"row {first + 11} refused: number 6\nbatch 2 refused: counted 1",
             f"row {first + 14} refused: number 6\nbatch 2 refused: counted 0", "version 2", "version 3")]
         checks.same("halves until it is known which row is refused", batches,
@@ -282,11 +287,13 @@ def refusals(checks):
     router.send(removal(te_lsa(A, A_B, B, B_A)))
     drops = [feed.batch("batch 2 refused: memory") for _ in range(9)]
     checks.same("a drop that is refused is tried again", drops, [([f"drop,{A},{A_B}"], 2)] * 9)
-    checks.same("and is never left out", feed.ended(), (1, "", f"ospf: batch 2 refused: memory: drop {A} {A_B}: for the 9th time in a row\n"))
+    checks.same("and is never left out", feed.ended(),
+                (1, "", f"ospf: batch 2 refused: memory: drop {A} {A_B}: for the 9th time in a row\n"))
 
     others = "another program has published, and the feed has to be the only one: end that program, and start the feed again"
     unknown = "the program's database isn't the one that the feed began with: start the feed again"
-    for answer, said in [("batch 1 refused: exhausted", ""), ("batch 1 refused: expected 4", others), ("batch 1 refused: expected 1", others),
+    for answer, said in [("batch 1 refused: exhausted", ""), ("batch 1 refused: expected 4", others),
+                         ("batch 1 refused: expected 1", others),
                          ("version 2", others), ("batch 2 refused: long", others), ("batch 1 refused: absent 2", unknown),
                          (f"version {MANY_DIGITS}", others), (f"batch {MANY_DIGITS} refused: long", others)]:
         router, feed = begun()
@@ -342,7 +349,8 @@ def feed(program, checks):
     except OSError as fault:
         print(f"skipped: the feed, since no socket can be had: {fault}")
         return
-    for part in (columns, left_out, wrapped, changes, marks, runs, streams, anew, refusals, restarted, trickle, unreached, not_begun, journals,
+    for part in (columns, left_out, wrapped, changes, marks, runs, streams, anew, refusals, restarted, trickle, unreached, not_begun,
+                 journals,
                  many, queued, lab):
         part(checks)
     for part in (with_program, beside_server, once, words, behind_front):

@@ -85,12 +85,14 @@ def lines(checks):
     checks.same("a label that changes: at the present version", told.quiet(link_lsa(A, A_B, sid(18), sequence=2)), [f"sid,1,{A},{A_B},18"])
     checks.same("a refreshed one is nothing", told.quiet(link_lsa(A, A_B, sid(18), sequence=3)), [])
     checks.same("a SID that is gone", told.quiet(link_lsa(A, A_B, sequence=4)), [f"sid,1,{A},{A_B},"])
-    checks.same("with other changes: at their batch's version", told.play(te_lsa(A, A_B, B, B_A, metric=9, sequence=2), link_lsa(A, A_B, sid(19), sequence=5)),
+    checks.same("with other changes: at their batch's version",
+                told.play(te_lsa(A, A_B, B, B_A, metric=9, sequence=2), link_lsa(A, A_B, sid(19), sequence=5)),
                 ([f"sid,2,{A},{A_B},19"], [row(A, A_B, B, B_A, metric=9)]))
     checks.same("an older instance's removal removes none", (told.router.send(removal(link_lsa(A, A_B, sequence=2))), told.quiet())[1], [])
     told.router.send(removal(link_lsa(A, A_B, sequence=5)))
     checks.same("a removal", told.quiet(), [f"sid,2,{A},{A_B},"])
-    checks.same("a link that goes takes its SID along", told.play(router_lsa(A, sequence=2)), ([f"sid,3,{B},{B_A},"], [f"drop,{A},{A_B}", f"drop,{B},{B_A}"]))
+    checks.same("a link that goes takes its SID along", told.play(router_lsa(A, sequence=2)),
+                ([f"sid,3,{B},{B_A},"], [f"drop,{A},{A_B}", f"drop,{B},{B_A}"]))
     checks.same("a SID of no link is no line", told.quiet(link_lsa(C, B_C, sid(99))), [])
     told.end()
 
@@ -98,11 +100,14 @@ def lines(checks):
 def which(checks):
     """Which SIDs count as a link's own: not those of backups or groups."""
     for name, wanted, *lsas in [
-            ("the first of several", 20, link_lsa(A, A_B, sid(20), sid(21))), ("not a backup's", 21, link_lsa(A, A_B, sid(20, OF_BACKUP), sid(21))),
+            ("the first of several", 20, link_lsa(A, A_B, sid(20), sid(21))),
+            ("not a backup's", 21, link_lsa(A, A_B, sid(20, OF_BACKUP), sid(21))),
             ("not a group's", 21, link_lsa(A, A_B, sid(20, OF_GROUP), sid(21))), ("no index", None, link_lsa(A, A_B, sid(20, INDEX, 4))),
-            ("no global label", None, link_lsa(A, A_B, sid(20, 0x40))), ("a label without its own length", None, link_lsa(A, A_B, sid(20, OWN, 4))),
+            ("no global label", None, link_lsa(A, A_B, sid(20, 0x40))),
+            ("a label without its own length", None, link_lsa(A, A_B, sid(20, OWN, 4))),
             ("no label below 16", None, link_lsa(A, A_B, sid(15))), ("16 is one", 16, link_lsa(A, A_B, sid(16))),
-            ("not of another kind of link", None, link_lsa(A, A_B, sid(20), kind=2)), ("not of another router's LSA", None, link_lsa(B, A_B, sid(20))),
+            ("not of another kind of link", None, link_lsa(A, A_B, sid(20), kind=2)),
+            ("not of another router's LSA", None, link_lsa(B, A_B, sid(20))),
             ("a SID at a LAN isn't one", None, link_lsa(A, A_B, tlv(3, bytes([OWN, 0, 0, 0]) + raw(B) + bytes([0, 0, 20])))),
             ("of two LSAs that of the smaller number", 22, link_lsa(A, A_B, sid(23), number="8.0.0.2"), link_lsa(A, A_B, sid(22))),
             ("another opaque LSA is nothing", None, link_lsa(A, A_B, sid(20), number="7.0.0.1"))]:
@@ -123,10 +128,12 @@ def malformed(checks):
     found = []
     for size in range(20, len(whole)):
         found.append((size, told.quiet(whole[:size]), told.quiet(whole)))
-    checks.same("each cut takes the SID away, and the whole brings it back", [each for each in found if each[1:] != ([f"sid,1,{A},{A_B},"], [f"sid,1,{A},{A_B},17"])], [])
+    checks.same("each cut takes the SID away, and the whole brings it back",
+                [each for each in found if each[1:] != ([f"sid,1,{A},{A_B},"], [f"sid,1,{A},{A_B},17"])], [])
     told.quiet(whole[:30])
     said = told.end()
-    checks.true("what can't be read is said and counted", f"ospf: left out, an LSA that can't be read: {A} extended link LSA 8.0.0.1\n" in said
+    checks.true("what can't be read is said and counted",
+                f"ospf: left out, an LSA that can't be read: {A} extended link LSA 8.0.0.1\n" in said
                 and "left out: an LSA that can't be read 1\n" in said, said[-400:])
     told = Told()
     told.play(*ROUTERS, *LINKS, *BOTH)
@@ -209,10 +216,12 @@ def faults(checks):
     checks.same("a write that is cut", (told.feed.ended(), told.lines()), ((1, "", f"ospf: --sids {told.path}: File too large\n"), []))
     told.end()
     with tempfile.TemporaryDirectory() as room:
-        for path, why in [("/nowhere/sids", "No such file or directory"), (room, "it is no regular file"), ("/dev/null", "it is no regular file")]:
+        for path, why in [("/nowhere/sids", "No such file or directory"), (room, "it is no regular file"),
+                          ("/dev/null", "it is no regular file")]:
             ran = subprocess.run([*FEED, "--sids", path], stdin=subprocess.DEVNULL, capture_output=True, text=True, timeout=PATIENCE)
             checks.same(f"no file: {path}", (ran.returncode, ran.stdout, ran.stderr), (1, "", f"ospf: --sids {path}: {why}\n"))
-        ran = subprocess.run([*FEED, "--once", "--sids", os.path.join(room, "sids")], stdin=subprocess.DEVNULL, capture_output=True, text=True, timeout=PATIENCE)
+        ran = subprocess.run([*FEED, "--once", "--sids", os.path.join(room, "sids")], stdin=subprocess.DEVNULL, capture_output=True,
+                             text=True, timeout=PATIENCE)
         checks.true("not with --once", ran.returncode == 2 and "--once ends before any" in ran.stderr, ran)
         checks.same("nothing is left there", os.listdir(room), [])
 

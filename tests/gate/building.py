@@ -44,7 +44,8 @@ HELPS = [
     (BARE, Kit(False, False, False, False)),
     ("usage: rt ci [--anew] [NAME ..]\n       rt must-fail NAME\n", Kit(True, True, True, True)),
     ("rt ci the merge gate\n\trt ci CRATE ..\tthese alone: what passes is\n\t\tkept\n", Kit(True, False, True, False)),
-    ("rt ci   proves all\n\nIn a kit that has it, rt ci NAME proves one crate, and what\nrt check proved is kept; --anew\n", Kit(False, False, False, False)),
+    ("rt ci   proves all\n\nIn a kit that has it, rt ci NAME proves one crate, and what\nrt check proved is kept; --anew\n",
+     Kit(False, False, False, False)),
     ("  rt ci   proves all. Nothing is kept\n", Kit(False, False, False, False)),
     ("", Kit(False, False, False, False)),
 ]
@@ -134,7 +135,8 @@ def found_as_told(checks):
     kit = asked()
     with tempfile.TemporaryDirectory() as room:
         def is_there(*words):
-            ran = subprocess.run(["rt", *words], cwd=room, stdin=subprocess.DEVNULL, stdout=subprocess.PIPE, stderr=subprocess.STDOUT, text=True)
+            ran = subprocess.run(["rt", *words], cwd=room, stdin=subprocess.DEVNULL, stdout=subprocess.PIPE, stderr=subprocess.STDOUT,
+                                 text=True)
             return "usage: rt" not in ran.stdout
         checks.true("rt answers a command that isn't there by its usage", not is_there("no-command"))
         checks.same("rt ci takes names as its help says", is_there("ci", "low"), kit.takes_names)
@@ -146,7 +148,8 @@ def failed(tree, checks):
     for name, printed in ("low", "what rt prints of low"), ("all", "what rt prints of all"):
         status, said = tree.run(FAILS=name)
         checks.same(f"tools/build: the status is that of the run of rt ci that fails ({name})", status, 3)
-        checks.true("it passes on what that prints, and says at last that it failed", printed in said and said[-1].startswith("FAILED in "), said)
+        checks.true("it passes on what that prints, and says at last that it failed", printed in said and said[-1].startswith("FAILED in "),
+                    said)
         checks.true("there is no program then", not os.path.exists(tree.program))
     status, said = tree.run(FAILS="left")
     checks.true("a crate that fails is named", status == 3 and any(line.startswith("left: FAILED in ") for line in said), said)
@@ -185,7 +188,8 @@ def nameless(tree, checks):
     tree.write("help", NAMELESS)
     status, said = tree.run(NAMELESS="1", FORGETS="1")
     checks.same("where rt ci takes no names, one run proves what the program needs", (status, tree.noted()), (0, ["help", *WHOLE]))
-    checks.true("it says at last that it built the program", said[-1].startswith("built in ") and not any("usage" in line for line in said), said)
+    checks.true("it says at last that it built the program", said[-1].startswith("built in ") and not any("usage" in line for line in said),
+                said)
     checks.true("the program of that run takes its place", os.path.exists(tree.program))
     status, said = tree.run(NAMELESS="1", FORGETS="1", FAILS="all")
     checks.same("its status is that of the run", (status, said[-1].partition(" in ")[0]), (3, "FAILED"))
@@ -196,7 +200,8 @@ def without_kit(tree, checks):
     os.symlink(sys.executable, os.path.join(tree.room, "python/python3"))
     ran = subprocess.run([os.path.join(tree.room, "tools/build")], env={"PATH": os.path.join(tree.room, "python")}, stdout=subprocess.PIPE,
                          stderr=subprocess.STDOUT, text=True)
-    checks.same("tools/build without a kit", (ran.returncode, ran.stdout), (2, "rt, the command of the Rattle kit, can't be run: No such file or directory\n"))
+    checks.same("tools/build without a kit", (ran.returncode, ran.stdout),
+                (2, "rt, the command of the Rattle kit, can't be run: No such file or directory\n"))
 
 
 def interrupted(tree, checks):
@@ -210,7 +215,8 @@ def interrupted(tree, checks):
     before = birth(number)
     ran.terminate()
     said = ran.communicate(timeout=60)[0].splitlines()
-    checks.same("tools/build: its status and last words where it is interrupted", (ran.returncode, said[-1]), (1, "tools/build: ended by a signal"))
+    checks.same("tools/build: its status and last words where it is interrupted", (ran.returncode, said[-1]),
+                (1, "tools/build: ended by a signal"))
     for _ in range(100):  # (who takes up orphans may do so a little later)
         if birth(number) != before:
             break

@@ -26,7 +26,8 @@ def streams(checks):
         ("five rows apart", ["3", "31", "32", "64", "98"], lambda some: {"3", "31", "32", "64", "98"} <= set(some)),
         ("a row that needs another one before it", ["40", "60"], lambda some: "60" in some and "40" in some[:some.index("60")]),
         ("rows of which each needs the next one", rows[95:], lambda some: some[-5:] == rows[95:]),
-        ("a pair of rows, of which none differs alone", ["4", "5"], lambda some: "5" in some and all(str(int(row) ^ 1) in some for row in some)),
+        ("a pair of rows, of which none differs alone", ["4", "5"],
+         lambda some: "5" in some and all(str(int(row) ^ 1) in some for row in some)),
         ("no row at all", [], lambda some: True),
         ("all rows", rows, lambda some: some == rows),
     ]:
@@ -35,7 +36,8 @@ def streams(checks):
     tries = []
     late = shortened(rows, lambda some: tries.append(some) or "5" in some, 3, lambda: len(tries))  # a second for each try
     checks.same("the time is up after three tries", (len(tries), late), (3, [*rows[:32], *rows[96:]]))
-    batches = [row for number in range(1, 6) for row in (*(f"put,{number},{at}\n" for at in range(4)), f"end,{number},4\n", f"ask,{number}\n")]
+    batches = [row for number in range(1, 6) for row in (*(f"put,{number},{at}\n" for at in range(4)), f"end,{number},4\n",
+                                                         f"ask,{number}\n")]
     checks.same("batches are shortened to one change", shortened(batches, lambda some: ("ask,4\n", "put,2,3\n") in published(some)),
                 ["put,2,3\n", "end,1,1\n", "ask,4\n"])
     wrong = ["put,1,0\n", "end,1,2\n", "put,1,1\n", "end,1,1\n"]

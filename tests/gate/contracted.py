@@ -73,37 +73,50 @@ GET = "low::Shelf::get"
 # Each with the pairs of texts that are put in place of one another, the files that come, and what is told, without the lines of the texts.
 PLANTS = [
     ("nothing", [], {}, []),
-    ("comments, lines and proofs", [(SHELF, "/// Puts a number.\n", "// Puts {.\n#[tactic(auto)]\n"), (SHELF, "fn put(shelf: &mut Shelf, number: u8)", "fn put(\n    shelf: &mut Shelf,\n    number: u8,\n)"),
+    ("comments, lines and proofs", [(SHELF, "/// Puts a number.\n", "// Puts {.\n#[tactic(auto)]\n"),
+                                    (SHELF, "fn put(shelf: &mut Shelf, number: u8)", "fn put(\n    shelf: &mut Shelf,\n    number: u8,\n)"),
                                     (SHELF, "try_push", "push"), (WORDS, "-- what is left", "-- what remains")], {}, []),
     ("a clause less", [(SHELF, "        ensures sorted { Sorted self.now.numbers.items }\n", "")], {}, [("changed", GET)]),
     ("a looser number", [(SHELF, "(number < 9)", "(number < 10)")], {}, [("changed", "low::put")]),
     ("another public number", [(SHELF, "LEAST: usize = 2", "LEAST: usize = 3")], {}, [("changed", "low::LEAST")]),
-    ("another private number that a contract names", [(SHELF, "MOST: usize = 16", "MOST: usize = 17")], {}, [("changed", "definition MOST")]),
+    ("another private number that a contract names", [(SHELF, "MOST: usize = 16", "MOST: usize = 17")], {},
+     [("changed", "definition MOST")]),
     ("one more requires", [(SHELF, "-> bool\n", "-> bool\n    requires { number < 8 }\n")], {}, [("changed", "low::put")]),
     ("another parameter", [(SHELF, "number: u8) -> bool", "number: u16) -> bool")], {}, [("changed", "low::put")]),
     ("a public field that becomes private", [(SHELF, "pub label", "label")], {}, [("changed", "low::Shelf")]),
     ("another ghost field", [(SHELF, "items < MOST", "items ≤ MOST")], {}, [("changed", "low::Shelf")]),
     ("a private function", [(SHELF, "fn spare", "fn spares")], {}, []),
-    ("a function less", [(SHELF, PUT, ""), (LIB, "Shelf, put, take", "Shelf, take"), (TOP, ", put as set", "")], {}, [("gone", "low::put"), ("gone", "top::shelves::set")]),
-    ("a function that no path names", [(LIB, "Shelf, put, take", "Shelf, take")], {}, [("gone", "low::put"), ("gone", "top::shelves::set")]),
+    ("a function less", [(SHELF, PUT, ""), (LIB, "Shelf, put, take", "Shelf, take"), (TOP, ", put as set", "")], {},
+     [("gone", "low::put"), ("gone", "top::shelves::set")]),
+    ("a function that no path names", [(LIB, "Shelf, put, take", "Shelf, take")], {},
+     [("gone", "low::put"), ("gone", "top::shelves::set")]),
     ("a path less", [(TOP, ", put as set", "")], {}, [("gone", "top::shelves::set")]),
-    ("a function that goes to another file", [(SHELF, PUT, ""), (LIB, "mod shelf;", "mod hand;\nmod shelf;\npub use hand::put;"), (LIB, "Shelf, put, take", "Shelf, take")],
+    ("a function that goes to another file", [(SHELF, PUT, ""), (LIB, "mod shelf;", "mod hand;\nmod shelf;\npub use hand::put;"),
+                                              (LIB, "Shelf, put, take", "Shelf, take")],
      {"crates/low/src/hand.rt": f"ghost use Rattle.std.specs.Prelude.{{◌≡◌, ◌<◌}};\n{PUT}"}, [("moved", "low::put")]),
-    ("a function that goes to another crate", [(SHELF, PUT, ""), (LIB, "mod shelf;", "mod shelf;\npub use lower::put;"), (LIB, "Shelf, put, take", "Shelf, take")],
+    ("a function that goes to another crate", [(SHELF, PUT, ""), (LIB, "mod shelf;", "mod shelf;\npub use lower::put;"),
+                                               (LIB, "Shelf, put, take", "Shelf, take")],
      {"crates/lower/src/lib.rt": f"ghost use Rattle.std.specs.Prelude.{{◌≡◌, ◌<◌}};\n{PUT}"}, [("moved", "low::put")]),
-    ("a function that goes, weaker, to another file", [(SHELF, PUT, ""), (LIB, "mod shelf;", "mod hand;\nmod shelf;\npub use hand::put;"), (LIB, "Shelf, put, take", "Shelf, take")],
+    ("a function that goes, weaker, to another file",
+     [(SHELF, PUT, ""), (LIB, "mod shelf;", "mod hand;\nmod shelf;\npub use hand::put;"), (LIB, "Shelf, put, take", "Shelf, take")],
      {"crates/low/src/hand.rt": PUT.replace("9", "10")}, [("changed", "low::put")]),
-    ("a new function", [(LIB, "LEAST, ", "LEAST, more, "), (SHELF, "/// Takes", "pub fn more() {}\n\n/// Takes")], {}, [("new", "low::more")]),
+    ("a new function", [(LIB, "LEAST, ", "LEAST, more, "), (SHELF, "/// Takes", "pub fn more() {}\n\n/// Takes")], {},
+     [("new", "low::more")]),
     ("another definition", [(WORDS, "16 - length", "17 - length")], {}, [("changed", "definition room_of")]),
     ("a definition with another private one", [(WORDS, "a < first", "a ≤ first")], {}, [("changed", "definition IsSorted")]),
     ("a definition less", [(WORDS, "abbrev pub room_of", "abbrev room_of")], {}, [("gone", "definition room_of")]),
-    ("definitions that go to another crate", [(SHELF, "Rattle.low.specs", "Rattle.lower.specs")], {"crates/lower/specs/Shelves.antt": SMALL[WORDS], WORDS: ""},
+    ("definitions that go to another crate", [(SHELF, "Rattle.low.specs", "Rattle.lower.specs")],
+     {"crates/lower/specs/Shelves.antt": SMALL[WORDS], WORDS: ""},
      [("moved", "definition IsSorted"), ("moved", "definition room_of")]),
-    ("a word that is another definition's", [(SHELF, "low.specs.Shelves.{IsSorted as Sorted, room_of}", "low.specs.Shelves.{IsSorted as Sorted};\nghost use Rattle.low.specs.Others.{room_of}")],
-     {"crates/low/specs/Others.antt": "abbrev pub room_of : Shelf → ℕ\nroom_of s = 0\n"}, [("changed", "low::take"), ("new", "definition room_of")]),
+    ("a word that is another definition's", [(SHELF, "low.specs.Shelves.{IsSorted as Sorted, room_of}",
+                                              "low.specs.Shelves.{IsSorted as Sorted};\nghost use Rattle.low.specs.Others.{room_of}")],
+     {"crates/low/specs/Others.antt": "abbrev pub room_of : Shelf → ℕ\nroom_of s = 0\n"},
+     [("changed", "low::take"), ("new", "definition room_of")]),
     ("a name for a word that is another's", [(SHELF, "IsSorted as Sorted", "IsSorted, IsAny as Sorted")], {}, [("changed", GET)]),
-    ("tests, programs and measurements", [], {"crates/low/src/tests.rt": "pub fn t() {}\n", "crates/low_tests/src/lib.rt": "pub fn t() {}\n",
-                                              "crates/run_bench/src/lib.rt": "pub fn t() {}\n", "crates/run/src/main.rt": "pub fn t() {}\n"}, []),
+    ("tests, programs and measurements", [], {"crates/low/src/tests.rt": "pub fn t() {}\n",
+                                              "crates/low_tests/src/lib.rt": "pub fn t() {}\n",
+                                              "crates/run_bench/src/lib.rt": "pub fn t() {}\n",
+                                              "crates/run/src/main.rt": "pub fn t() {}\n"}, []),
 ]
 
 
@@ -111,7 +124,8 @@ def contracted(checks):
     """Each plant is told as what it is, and nothing else is."""
     before = Tree(SMALL)
     checks.same("the contracts of a small tree", sorted(path for it in before.contracts for path in it.paths),
-                sorted(["low::LEAST", "low::Shelf", GET, "low::put", "low::take", "top::shelves::Shelf", "top::shelves::Shelf::get", "top::shelves::set"]))
+                sorted(["low::LEAST", "low::Shelf", GET, "low::put", "low::take", "top::shelves::Shelf", "top::shelves::Shelf::get",
+                        "top::shelves::set"]))
     for name, pairs, more, wanted in PLANTS:
         files = {**SMALL, **more}
         for path, old, new in pairs:

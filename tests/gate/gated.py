@@ -36,7 +36,8 @@ def gated(checks):
             tree.write("said", f"{said}\n{counts}\n")
             status, lines = tree.run(".ci/run", SAID=os.path.join(room, "said"), XDG_CACHE_HOME=os.path.join(room, "cache"))
             failed, at = int("1 failed" in counts), lines.index(counts)
-            checks.same(f".ci/run says first which kit it is ({said!r})", (lines[0], status), ("The kit is kit-of-a-test logic 0123.", failed))
+            checks.same(f".ci/run says first which kit it is ({said!r})", (lines[0], status),
+                        ("The kit is kit-of-a-test logic 0123.", failed))
             checks.true("after rt ci it says how long that took", lines[at + 1].startswith("== rt ci took "), lines)
             checks.same("and what was taken over", lines[at + 2], wanted)
             checks.same("its last line", lines[-1], f"{int(counts[0]) + 4} passed, {failed} failed")

@@ -111,5 +111,6 @@ def unproved(tree, checks):
     tree.write("help", NAMELESS)
     status, said = tree.run("tests/mutants", UNPROVED="left")
     why = "NOT TRIED: `rt check` ended with status 1, and said nothing of them (left/one.edit, left/two.edit)"
-    checks.same("tests/mutants: edits of a crate that isn't proved aren't tried", (status, said[-2:]), (2, [why, "3 refused, 0 not, 2 not tried"]))
+    checks.same("tests/mutants: edits of a crate that isn't proved aren't tried", (status, said[-2:]),
+                (2, [why, "3 refused, 0 not, 2 not tried"]))
     checks.same("rt must-fail isn't called for it", tree.noted(), ["help", "check left", "check low", "must-fail low"])

@@ -94,12 +94,13 @@ class Tree:
         """Gives each type what its impls say, and a trait what impls for types of elsewhere say."""
         for path, of_trait, header, said, found in module.impls:
             owner, name = self.resolve(path, module), path[-1]
-            trait = None if isinstance(owner, Item) or not of_trait else self.resolve(re.split("<", of_trait)[0].strip().split("::"), module)
+            trait = None if isinstance(owner, Item) or not of_trait else self.resolve(re.split("<", of_trait)[0].strip().split("::"),
+                                                                                      module)
             if isinstance(owner, Item):
                 for it in found:
                     # (with no clauses of its own a method has the trait's)
                     if it.is_public and not of_trait or of_trait and any(part.startswith(CLAUSES) for part in it.contract.parts):
-                        it.contract.name = f"{owner.contract.name} as {of_trait}::{it.contract.name}" if of_trait else f"{owner.contract.name}::{it.contract.name}"
+                        it.contract.name = f"{owner.contract.name}{f' as {of_trait}' if of_trait else ''}::{it.contract.name}"
                         owner.more.append(it)
                 if of_trait:
                     said.name = f"{owner.contract.name} as {of_trait}"
@@ -261,7 +262,8 @@ class Comparison:
                 # (a new path to the same is no new contract)
                 twins = [it for it in alike.get((one.name, tuple(one.parts)), []) if not any(path in before for path in it.paths)]
                 matched.update(twins[:1])
-                stands = [f"the same contract is now {' and '.join(twins[0].paths)} ({twins[0].where}), and this path leads nowhere"] if twins else []
+                stands = [f"the same contract is now {' and '.join(it.paths)} ({it.where}), and this path leads nowhere"
+                          for it in twins[:1]]
                 self.say("gone", f"{path} ({one.where})", *(stands or [f"- {it}" for it in one.parts]))
                 kinds.add("gone")
             for path in one.paths:

@@ -1,7 +1,8 @@
 """Reads the public items of Rust sources: their signatures, clauses and members, as texts that can be compared."""
 import re
 
-TOKEN = re.compile(r"""(?P<blank>(?:\s+|//[^\n]*|/\*.*?\*/)+)|(?P<token>b?r(?P<fence>\#*)".*?"(?P=fence)|b?"(?:\\.|[^"\\])*"|b?'(?:\\[^']*'|[^'\\]')|'\w+
+TOKEN = re.compile(
+    r"""(?P<blank>(?:\s+|//[^\n]*|/\*.*?\*/)+)|(?P<token>b?r(?P<fence>\#*)".*?"(?P=fence)|b?"(?:\\.|[^"\\])*"|b?'(?:\\[^']*'|[^'\\]')|'\w+
     |\w+'*|->|=>|::|.)""", re.S | re.X)
 BRACKETS = {"(": ")", "[": "]", "{": "}"}
 CLAUSES = ("requires", "ensures", "ghost")
@@ -244,7 +245,8 @@ class Reader:
         return " ".join([*kept, self.text(i, end)]) if is_public else None
 
     def members(self, i, end, words, module, owner):
-        """The functions and constants in the braces of a trait or an impl, each whether it is public, and the texts of its other members."""
+        """The functions and constants in the braces of a trait or an impl, each whether it is public, and the texts of its other
+        members."""
         found, said = [], []
         while i < end:
             i, kept, tests = self.attributes(i)

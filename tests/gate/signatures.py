@@ -68,8 +68,8 @@ cspf_serve::run_live<W: Write, G: Gate + Sync, R: Threads + Wait + Sync>(rt: &R,
 cspf_serve::run_solve<R: Read + Drop, W: Write>(alloc: Global, reader: R, writer: &mut W) -> Result<Summary, SolveError>
 cspf_serve::run_batch<R: Read + Drop, Q: Read + Drop, W: Write, G: Gate + Sync, T: Threads + Wait + Sync>(rt: &T, alloc: Global, journal: R,
     requests: Q, writer: &mut W, workers: usize, accept_torn: bool, gate: &G) -> Result<u8, RunError>
-cspf_serve::run_live_rows<R: Read + Drop, Q: Read + Drop, J: Write, W: Write, G: Gate + Sync, T: Threads + Wait + Sync>(rt: &T, alloc: Global,
-    updates: R, requests: Q, journal: J, writer: &mut W, workers: usize, gate: &G) -> (Result<u8, RunError>, J)
+cspf_serve::run_live_rows<R: Read + Drop, Q: Read + Drop, J: Write, W: Write, G: Gate + Sync, T: Threads + Wait + Sync>(rt: &T,
+    alloc: Global, updates: R, requests: Q, journal: J, writer: &mut W, workers: usize, gate: &G) -> (Result<u8, RunError>, J)
 cspf_serve::run_audit<R: Read + Drop, Q: Read + Drop, P: Read + Drop, W: Write>(alloc: Global, journal: R, requests: Q, replies: P,
     writer: &mut W) -> Result<u8, RunError>
 cspf_serve::audit<R: Read + Drop, Q: Read + Drop, P: Read + Drop>(alloc: Global, journal: R, requests: Q, replies: P)
@@ -136,6 +136,7 @@ def signatures(checks):
         checks.same(f"the signature of {path}", calls.get(path), signature)
     for path, signature in sorted(calls.items()):
         checks.same(f"the parameters of {path}", ruled(signature), [])
-    for signature in ("(alloc: Global, rt: &R)", "<R: Wait>(alloc: Global, rt: &R)", "<R: Read + Wait>(alloc: Global)", "(a: u8, alloc: Global)",
+    for signature in ("(alloc: Global, rt: &R)", "<R: Wait>(alloc: Global, rt: &R)", "<R: Read + Wait>(alloc: Global)",
+                      "(a: u8, alloc: Global)",
                       "<R: Read>(rt: &R)", "(&self) -> Result<u8, AllocError>", "<R: Threads, S>(rt: &S, alloc: Global)"):
         checks.true(f"this is against the rules: {signature}", ruled(signature))

@@ -218,7 +218,8 @@ class Closure:
         self.contract(one, parts)
         for more in it.more:
             if more.contract.name == f"{one.name} as Model":
-                seen = [part for part in more.contract.parts if part.startswith("ghost Value") or part.startswith("ghost view") and PRIVATE not in parts]
+                seen = [part for part in more.contract.parts if part.startswith("ghost Value") or part.startswith("ghost view")
+                        and PRIVATE not in parts]
                 self.contract(more.contract, seen)
 
     def word(self, where, by):

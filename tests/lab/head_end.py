@@ -12,7 +12,7 @@ import tempfile
 from collections import namedtuple
 
 from lab import wire
-from reference import formats
+from reference import formats, runs
 
 LAB = os.path.join(os.path.dirname(os.path.abspath(__file__)), "lab")
 PATIENCE = 900  # seconds for a whole run of the lab
@@ -133,7 +133,7 @@ def head_end(program, checks):
         found = [*said(texts["messages"])]
         starts = [at for at, one in enumerate(found) if (one.source, one.kind) == (PCE, OPEN)] + [len(found)]
         checks.same("sessions", len(starts), 4)
-        networks = formats.publish(formats.whole_batches(texts["journal"]))[0]
+        networks = runs.publish(runs.whole_batches(texts["journal"]))[0]
         for number, (start, end) in enumerate(zip(starts, starts[1:]), 1):
             session(checks, number, found[start:end], networks, texts["sids"].splitlines())
         audited(checks, texts["journal"], pairs, ran.stdout)
@@ -194,7 +194,7 @@ def audited(checks, journal, pairs, text):
         rows = [ROW.fullmatch(row) for row in requests.splitlines()]
         checks.same(f"requests {number} are those of the LSPs", {row and int(row[1]) for row in rows}, {*LSPS.values()})
         judged = f"good={len(rows)} faults=0"
-        checks.same(f"the audit {number} by the reference", formats.audit(journal, requests, replies), (0, [judged]))
+        checks.same(f"the audit {number} by the reference", runs.audit(journal, requests, replies), (0, [judged]))
         checks.true(f"the audit {number}", f"audit of {len(rows)} answers: {judged}\n" in text, text)
 
 

@@ -173,7 +173,8 @@ def strange(checks, room):
     with socket.socket(socket.AF_UNIX) as server:
         server.bind(path)
         server.listen()
-        for text, wanted in [(b"version 1\nversion 7\nversion", [7]), (b"busy\n", ["the place of versions is busy"]), (b"", ["the server has ended"]),
+        for text, wanted in [(b"version 1\nversion 7\nversion", [7]), (b"busy\n", ["the place of versions is busy"]),
+                             (b"", ["the server has ended"]),
                              *((text, ["the place of versions tells something else"])
                                for text in (b"version \n", b"version x\n", b"version -1\n", b"version " + b"9" * 5000 + b"\n",
                                             b"version 1\nHTTP/1.1 400 Bad Request\r\n", b"\n", b"version " + b"1" * 200))]:
@@ -192,4 +193,5 @@ def strange(checks, room):
                  "ask 1 v1 route cost=1 hops=1 again=no ero=000c1401", f"ask 1 v{'1' * 5000} none",
                  f"ask 1 v1 route cost={'1' * 5000} hops=1 again=no ero=000c140101080a000c022000", "row 1 refused: kind", ""):
         checks.same(f"a reply that can't be read: {line[:60]}", answer_of(line), None)
-    checks.same("and one that can", answer_of("ask 7 v1 route cost=10 hops=1 again=no ero=000c140101080a000c022000"), (1, None, 10, ["10.0.12.2"]))
+    checks.same("and one that can", answer_of("ask 7 v1 route cost=10 hops=1 again=no ero=000c140101080a000c022000"),
+                (1, None, 10, ["10.0.12.2"]))

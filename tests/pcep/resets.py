@@ -1,5 +1,5 @@
-"""PCCs whose TCP connections are reset, at a `routed-tools pcep` that serves the next PCC each time: before the Open, after it, with requests that
-wait for the server, and with replies that wait for the PCC."""
+"""PCCs whose TCP connections are reset, at a `routed-tools pcep` that serves the next PCC each time: before the Open, after it, with
+requests that wait for the server, and with replies that wait for the PCC."""
 import signal
 import socket
 import struct

@@ -261,5 +261,6 @@ def rolled(program, checks, room):
 
 def pcep_runs(program, checks):
     with tempfile.TemporaryDirectory() as room:
-        checks.parts_in(room, (sockets, keys, gone, full, busy, crowded, stateless, idle, shared, wanted_again, figures, rolled, long, drawn),
+        checks.parts_in(room, (sockets, keys, gone, full, busy, crowded, stateless, idle, shared, wanted_again, figures, rolled, long,
+                               drawn),
                         program, checks)

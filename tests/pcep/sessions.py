@@ -245,7 +245,8 @@ TABLE = {
     "no RP, no END-POINTS": ["no RP", "no ends"],
     "a report without LSP object, ERO or LSP identifiers": ["a report with {name}", "no LSP", "no ERO", "no identifiers"],
     "a path setup type other than 0, or 1 if `--sids` is given": ["a setup type without SIDs", "a setup type that isn't known", "SIDs"],
-    "a route of more SIDs than the PCC said that it can impose, or than a message has room for": ["more SIDs than the PCC takes", "{count} SIDs"],
+    "a route of more SIDs than the PCC said that it can impose, or than a message has room for": ["more SIDs than the PCC takes",
+                                                                                                  "{count} SIDs"],
     "an unknown message; five in a minute close the session": ["unknown messages", "five unknown messages in more than a minute"],
     "the first message is no Open, no Open came within a minute, or no Keepalive came after the Open": [
         "first: {name}", "no Open", "timer: {name}", "timer: no Keepalive behind the Open"],
@@ -270,5 +271,6 @@ def documented(checks, _):
 
 def pcep(_, checks):
     with tempfile.TemporaryDirectory() as room:
-        checks.parts_in(room, (mapping, malformed, timers, deaf, reset, collected, places, moved, strange, delegated, followed, races, updated,
+        checks.parts_in(room, (mapping, malformed, timers, deaf, reset, collected, places, moved, strange, delegated, followed, races,
+                               updated,
                                initiated, making, segments, documented), checks)

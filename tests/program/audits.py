@@ -1,6 +1,6 @@
 """`audit` judges reply lines by a journal and requests.
 
-Its lines are the formats' own (docs/run/FORMATS.md), or computed by tests/reference/formats.py.
+Its lines are the formats' own (docs/run/FORMATS.md), or computed by tests/reference/runs.py.
 """
 import glob
 import os
@@ -11,7 +11,7 @@ import tempfile
 import time
 
 from checks import TOP
-from reference import changes, formats
+from reference import changes, runs
 
 FREE = ",".join(["1000"] * 8)
 MASKS = "0x0,0x0,0x0"
@@ -44,7 +44,7 @@ class Audit:
     def is_right(self, name, journal, requests, replies):
         """The lines of the reference are written."""
         def wanted(some):
-            status, lines = formats.audit(*map(latin, (journal, requests, "".join(some))))
+            status, lines = runs.audit(*map(latin, (journal, requests, "".join(some))))
             return status, "".join(f"{line}\n" for line in lines).encode("latin-1"), b""
 
         def found(some):
@@ -54,16 +54,21 @@ class Audit:
 
 
 FAULTS = {
-    "unread": ["hello", "", "ask", "ask ", "ask 7", "ask 7 ", "ask 7 v", "ask 7 v1", "ask 7 v1\t", "ask 07 v1 none", "ask 7 v01 none", "ask 7 1 none",
-               "ask 7 V1 none", "ask 7  v1 none", "ask  7 v1 none", "ask\t7 v1 none", "ask +7 v1 none", "ask 7 v-1 none", "Ask 7 v1 none", " ask 7 v1 none",
-               "asks 7 v1 none", "ask 18446744073709551616 v1 none", "ask 7 v4294967296 none", "ask 100000000000000000000 v1 none", "ask,7,1.1.1.1",
+    "unread": ["hello", "", "ask", "ask ", "ask 7", "ask 7 ", "ask 7 v", "ask 7 v1", "ask 7 v1\t", "ask 07 v1 none", "ask 7 v01 none",
+               "ask 7 1 none",
+               "ask 7 V1 none", "ask 7  v1 none", "ask  7 v1 none", "ask\t7 v1 none", "ask +7 v1 none", "ask 7 v-1 none", "Ask 7 v1 none",
+               " ask 7 v1 none",
+               "asks 7 v1 none", "ask 18446744073709551616 v1 none", "ask 7 v4294967296 none", "ask 100000000000000000000 v1 none",
+               "ask,7,1.1.1.1",
                "row 1 refused: kind", "request 7 unanswered", "unended 1", "too many rows", "journal torn after 1", "good=1 faults=0",
                "versions 1", "version\t1", " version 1", "Version 1", "batch\r", "applied=1"],
-    "foreign": ["ask 9 v1 none", "ask 0 v1 none", "ask 77 v1 none", "ask 18446744073709551615 v4294967295 none", f"ask 9 v1 {ROUTE}", "ask 9 v1 "],
+    "foreign": ["ask 9 v1 none", "ask 0 v1 none", "ask 77 v1 none", "ask 18446744073709551615 v4294967295 none", f"ask 9 v1 {ROUTE}",
+                "ask 9 v1 "],
     "no-version": ["ask 7 v2 none", "ask 7 v4294967295 none", "ask 7 v10 unknown-from", f"ask 7 v2 {ROUTE}"],
     "altered": ["ask 7 v1 none", "ask 7 v0 none", "ask 7 v1 ", f"ask 7 v1 {ROUTE} ", f"ask 7 v0 {ROUTE}", "ask 7 v1 unknown-from",
                 f"ask 7 v1 {ROUTE}\r", f"ask 7 v1 {ROUTE[:-2]}", f"ask 7 v1 {ROUTE}00", *(f"ask 7 v1 {ROUTE.replace(*pair)}" for pair in
-                                         (("cost=10", "cost=9"), ("cost=10", "cost=010"), ("hops=1", "hops=2"), ("again=no", "again=yes"), (" again=no", ""),
+                                         (("cost=10", "cost=9"), ("cost=10", "cost=010"), ("hops=1", "hops=2"), ("again=no", "again=yes"),
+                                          (" again=no", ""),
                                           ("c022000", "c012000"), ("c022000", "C022000"), ("route", "none")))],
 }
 PASSED_OVER = ["version 1", "version", "version ", "version x y", "applied 1", "applied", "batch 1 refused: full", "batch"]
@@ -72,23 +77,28 @@ PASSED_OVER = ["version 1", "version", "version ", "version x y", "applied 1", "
 def worked(audit):
     """Worked by hand."""
     mixed = f"version 1\n{GOOD}{GOOD}ask 9 v1 none\nask 8 v2 none\nhello\n"
-    audit.says("the faults in order", 2, "line 3 doubled\nline 4 foreign\nline 5 no-version\nline 6 unread\ngood=1 faults=4\n", JOURNAL, ASKS, mixed)
+    audit.says("the faults in order", 2, "line 3 doubled\nline 4 foreign\nline 5 no-version\nline 6 unread\ngood=1 faults=4\n", JOURNAL,
+               ASKS, mixed)
     audit.says("altered and unanswered", 2, "line 1 altered\nrequest 8 unanswered\ngood=0 faults=2\n", JOURNAL, ASKS, "ask 7 v1 none\n")
     audit.says("nothing", 0, "good=0 faults=0\n")
     audit.refuses("two requests with one id", "request row 2 refused: same-id", JOURNAL, ASK + ASK, GOOD)
     audit.says("an older version", 0, "good=2 faults=0\n", JOURNAL, ASKS, GOOD.replace("7", "8", 1) + "ask 7 v0 unknown-from\n")
-    audit.says("a foreign id twice", 2, "line 1 foreign\nline 2 foreign\nrequest 7 unanswered\ngood=0 faults=3\n", JOURNAL, ASK, "ask 9 v1 none\n" * 2)
-    audit.says("a line behind one of no version", 2, "line 1 no-version\nline 2 doubled\ngood=0 faults=2\n", JOURNAL, ASK, "ask 7 v2 none\n" + GOOD)
+    audit.says("a foreign id twice", 2, "line 1 foreign\nline 2 foreign\nrequest 7 unanswered\ngood=0 faults=3\n", JOURNAL, ASK,
+               "ask 9 v1 none\n" * 2)
+    audit.says("a line behind one of no version", 2, "line 1 no-version\nline 2 doubled\ngood=0 faults=2\n", JOURNAL, ASK,
+               "ask 7 v2 none\n" + GOOD)
     one_way, three = LINK + "end,1,1\n", "".join(ASK.replace("ask,7", f"ask,{name}") for name in (1, 2, 3))
     audit.says("a route over a link that runs one way", 2, "line 1 altered\ngood=0 faults=1\n", one_way, ASK, GOOD)
     audit.says("no route over a link that runs one way", 0, "good=1 faults=0\n", one_way, ASK, "ask 7 v1 none\n")
     withdrawn = JOURNAL + "drop,2.2.2.2,10.0.12.2\nend,2,1\n" + BACK + "end,3,1\n"
-    audit.says("a direction that is withdrawn and put back", 0, "good=3 faults=0\n", withdrawn, three, f"ask 1 v1 {ROUTE}\nask 2 v2 none\nask 3 v3 {ROUTE}\n")
+    audit.says("a direction that is withdrawn and put back", 0, "good=3 faults=0\n", withdrawn, three,
+               f"ask 1 v1 {ROUTE}\nask 2 v2 none\nask 3 v3 {ROUTE}\n")
     further = (LINK + BACK).replace("2.2.2.2", "3.3.3.3").replace("1.1.1.1", "2.2.2.2").replace("10.0.12.", "10.0.23.")
     marked = LINK + BACK + further + "end,1,4\nnode,2.2.2.2,0\nend,2,1\nnode,2.2.2.2,1\nend,3,1\n"
     through = "route cost=20 hops=2 again=no ero=0014140101080a000c02200001080a0017022000"
     asks = three.replace("2.2.2.2", "3.3.3.3")
-    audit.says("a mark that comes and goes", 0, "good=3 faults=0\n", marked, asks, f"ask 1 v1 {through}\nask 2 v2 none\nask 3 v3 {through}\n")
+    audit.says("a mark that comes and goes", 0, "good=3 faults=0\n", marked, asks,
+               f"ask 1 v1 {through}\nask 2 v2 none\nask 3 v3 {through}\n")
     audit.says("a route through a marked router", 2, "line 1 altered\nline 2 altered\ngood=1 faults=2\n", marked, asks,
                f"ask 1 v2 {through}\nask 2 v3 none\nask 3 v1 {through}\n")
     audit.says("a line behind one that names no id", 2, "line 1 unread\ngood=1 faults=1\n", JOURNAL, ASK, GOOD.replace("v1", "1") + GOOD)
@@ -103,7 +113,8 @@ def faults(audit):
             audit.is_right(f"{line!r} behind a good line", JOURNAL, ASKS, f"{GOOD}{line}\n")
     for line in PASSED_OVER:
         audit.says(f"{line!r} is passed over", 0, "good=1 faults=0\n", JOURNAL, ASK, f"{line}\n{GOOD}{line}")
-    one = [*(lines[0] for lines in FAULTS.values()), GOOD.strip(), "ask 8 v1 none", GOOD.strip().replace("7", "8", 1), "ask 9 v0 none", PASSED_OVER[0]]
+    one = [*(lines[0] for lines in FAULTS.values()), GOOD.strip(), "ask 8 v1 none", GOOD.strip().replace("7", "8", 1), "ask 9 v0 none",
+           PASSED_OVER[0]]
     for first in one:
         for second in one:
             audit.is_right(f"{first!r}, {second!r}", JOURNAL, ASKS, f"{first}\n{second}\n")
@@ -123,7 +134,8 @@ def streams(audit):
     audit.is_right("lines of a megabyte", JOURNAL, ASKS, "a" * 1_000_000 + f"\n{GOOD}ask 8 v1 " + "b" * 1_000_000)
     audit.is_right("a word of a megabyte", JOURNAL, ASK, "ask " + "7" * 1_000_000 + f" v1 none\nversion {'1' * 1_000_000}\n{GOOD}")
     audit.says("1,000,000 lines", 0, "good=0 faults=0\n", "", "", "version 1\n" * 1_000_000)
-    audit.says("the last of 1,000,000 lines", 2, "line 1000000 altered\ngood=0 faults=1\n", JOURNAL, ASK, "batch\n" * 999_999 + "ask 7 v1 none")
+    audit.says("the last of 1,000,000 lines", 2, "line 1000000 altered\ngood=0 faults=1\n", JOURNAL, ASK,
+               "batch\n" * 999_999 + "ask 7 v1 none")
     audit.refuses("1,000,001 lines", "too many rows", JOURNAL, ASK, "version 1\n" * 1_000_000 + "v")
     audit.refuses("1,000,001 empty lines", "too many rows", JOURNAL, ASK, "\n" * 1_000_001)
 
@@ -156,7 +168,8 @@ def refusals(audit):
         ("empty lines between requests", "request row 2 refused: same-id", JOURNAL, "\n\n" + ASK + "\n" + ASK),
     ]:
         audit.refuses(name, line, journal, requests, lines)
-    full = "".join("".join(f"put,1.1.1.1,10.0.{n >> 8}.{n & 255},2.2.2.2,10.0.12.2,10,0x1,{FREE}\n" for n in range(at, min(at + 4096, 16385)))
+    full = "".join("".join(f"put,1.1.1.1,10.0.{n >> 8}.{n & 255},2.2.2.2,10.0.12.2,10,0x1,{FREE}\n"
+                           for n in range(at, min(at + 4096, 16385)))
                    + f"end,{number},{min(4096, 16385 - at)}\n" for number, at in enumerate(range(0, 16385, 4096), 1))
     audit.refuses("a link too many", "batch 5 refused: full", full, ASK, GOOD)
     routers = "".join(f"put,1.0.{n >> 8}.{n & 255},10.0.0.1,2.0.{n >> 8}.{n & 255},10.0.0.2,10,0x1,{FREE}\n" for n in range(513))
@@ -205,7 +218,8 @@ def live_runs(audit):
         draw.shuffle(lines)
         audit.says(f"live run {seed} in another order", 0, "good=500 faults=0\n", journal, requests, b"".join(lines))
         for at in draw.sample(range(500), 60):
-            lines[at] = draw.choice([b"", lines[at] * 2, lines[draw.randrange(500)], lines[at].replace(b" v", b" v9"), lines[at].replace(b" v1", b" v"),
+            lines[at] = draw.choice([b"", lines[at] * 2, lines[draw.randrange(500)], lines[at].replace(b" v", b" v9"),
+                                     lines[at].replace(b" v1", b" v"),
                                      lines[at].replace(b"cost=1", b"cost=2"), lines[at][1:], lines[at].replace(b"1", b"2", 1),
                                      lines[at].replace(b"again=no", b"again=yes"), lines[at].replace(b"none", b"unknown-to")])
         audit.is_right(f"live run {seed} with lines altered", journal, requests, b"".join(lines))
@@ -218,7 +232,8 @@ def live(audit, updates, requests):
         for name, text in (("updates", updates), ("requests", requests)):
             with open(paths[name], "w", encoding="ascii") as file:
                 file.write(text)
-        status, out, err = audit.program.run(["live", *(word for name, path in paths.items() for word in (f"--{name}", path)), "--workers", "4"])
+        status, out, err = audit.program.run(["live", *(word for name, path in paths.items() for word in (f"--{name}", path)), "--workers",
+                                              "4"])
         audit.checks.same("audit: a live run ends well", (status, err), (0, b""))
         with open(paths["journal"], encoding="ascii") as file:
             return file.read(), out

@@ -1,12 +1,13 @@
 #!/usr/bin/env python3
-"""Tests of `routed book`: worked streams (tests/program/scripts/book), refusals, limits, and drawn streams compared with tests/reference/books.py.
+"""Tests of `routed book`: worked streams (tests/program/scripts/book), refusals, limits, and drawn streams compared with
+tests/reference/books.py.
 
     tests/program/book.py
     tests/program/book.py --full
 
 Run by itself it tries the reference alone, on all whose lines are known, and counts the drawn streams that tell each wrong book
-(tests/reference/wrong_books.py) apart. As a part of tests/run it tries the built program beside the reference, on drawn streams and while calls are
-refused, too. With --full it tries the program with the most placements, which takes a minute or more.
+(tests/reference/wrong.py) apart. As a part of tests/run it tries the built program beside the reference, on drawn streams and while calls
+are refused, too. With --full it tries the program with the most placements, which takes a minute or more.
 """
 import argparse
 import collections
@@ -24,10 +25,11 @@ sys.path.insert(1, os.path.dirname(os.path.dirname(os.path.abspath(__file__))))
 from checks import Checks
 from program import kept_books
 from program.drawn_books import IDS, ROWS, STREAMS, WANTED, Drawn, drawn_stream, kinds_of, stream
-from program.known_books import BASE, DIRECT, ENDS, HERE, LOWERED, MASKS, SCRIPTS, Reference, address, held, known, lowered, place, status_of, worked
+from program.known_books import BASE, DIRECT, ENDS, HERE, LOWERED, MASKS, SCRIPTS, Reference, address, held, known, lowered, place
+from program.known_books import status_of, worked
 from program.refusal import COMPILER, Refuser, each
 from program.refused import REFUSALS, is_stopped
-from reference import books, formats, wrong_books
+from reference import books, runs, wrong
 from reference.changes import changed
 
 from routed.program import BUILT
@@ -60,7 +62,8 @@ def others(program, checks):
 
 
 def full(path, checks):
-    """65,536 placements, and one more: of another id it is refused, of the same it is moved. It is tried by hand, since each is counted anew."""
+    """65,536 placements, and one more: of another id it is refused, of the same it is moved. It is tried by hand, since each is counted
+    anew."""
     most = books.MOST_PLACEMENTS
     rows = BASE + "".join(place(name, bandwidth=0) for name in range(most))
     more = place(most) + place(most, ends="1.1.1.1,9.9.9.9") + place(0) + "release,1\n" + place(most) + place(1)
@@ -109,16 +112,18 @@ def released(program, checks):
         asks = [drawn.request("ask", name, drawn.draw.randrange(8)) for name in range(20)]
         book = stream([*drawn.rows, *(f"release,{name}" for name in IDS), *asks])
         solve = stream([*base, *asks])
-        outcomes = [formats.solve(solve)[1][-20:], books.book(book)[1][-20:]]
+        outcomes = [runs.solve(solve)[1][-20:], books.book(book)[1][-20:]]
         if program:
-            outcomes += [program.run([command], rows)[1].decode().splitlines()[-20:] for command, rows in (("solve", solve), ("book", book))]
+            outcomes += [program.run([command], rows)[1].decode().splitlines()[-20:]
+                         for command, rows in (("solve", solve), ("book", book))]
         for lines in outcomes:
             lines[:] = [" ".join([*line.split()[:2], *line.split()[3:]]) for line in lines]
         checks.true(f"a book whose placements are all released {seed}", all(lines == outcomes[0] for lines in outcomes), outcomes)
 
 
 def large_rows():
-    """1,024 routers, 16,384 links in four batches, and then rows of all kinds. Each router has eight circuits to the next ones on a ring."""
+    """1,024 routers, 16,384 links in four batches, and then rows of all kinds. Each router has eight circuits to the next ones on a
+    ring."""
     draw, count, rows, number = random.Random(1), 1024, [], 0
     reach = [1, 2, 5, 13, 34, 89, 233, 500]
     ends = [((router, at), ((router + step) % count, 8 + at)) for at, step in enumerate(reach) for router in range(count)]
@@ -144,13 +149,14 @@ def large_rows():
         start, end = draw.choice([0, 1, 2]), draw.randrange(3, count)
         hops = draw.choice(["", "", f"{address(2, draw.randrange(3, count))}/32l"])
         if kind in ("place", "ask"):
-            rows.append(f"{kind},{draw.randrange(120)},{address(2, start)},{address(2, end)},{draw.randrange(8)},{draw.choice([50, 150, 300])},{MASKS},{hops}")
+            name, priority, bandwidth = draw.randrange(120), draw.randrange(8), draw.choice([50, 150, 300])
+            rows.append(f"{kind},{name},{address(2, start)},{address(2, end)},{priority},{bandwidth},{MASKS},{hops}")
         elif kind == "release":
             rows.append(f"release,{draw.randrange(120)}")
         else:  # circuits at the head-ends fail, or come with less
             chosen = draw.sample([pair for pair in ends if pair[0][0] < 3 or pair[1][0] < 3], 4)
-            changes = [f"put,{address(2, near[0])},{address(10, near[0] * 16 + near[1])},{address(2, far[0])},{address(10, far[0] * 16 + far[1])},3,0x1,"
-                       + ",".join([str(300 if kind == "return" else 10)] * 8) for near, far in chosen]
+            changes = ["put," + ",".join(f"{address(2, at)},{address(10, at * 16 + way)}" for at, way in pair) + ",3,0x1,"
+                       + ",".join([str(300 if kind == "return" else 10)] * 8) for pair in chosen]
             marks = [f"node,{address(2, draw.randrange(3, count))},{draw.choice([0, 1])}"]
             rows += batch([*changes, *marks])
     return rows
@@ -161,7 +167,8 @@ def full_size(program, checks):
     rows = large_rows()
     text = stream(rows)
     said = kinds_of(text, compared(program, checks, "a book at full size", text))
-    few = {what: said[what] for what, least in {"placed": 50, "placed again": 20, "over": 20, "lost": 0, "base": 12, "released": 2}.items() if said[what] < least}
+    few = {what: said[what] for what, least in {"placed": 50, "placed again": 20, "over": 20, "lost": 0, "base": 12, "released": 2}.items()
+           if said[what] < least}
     checks.same("what a book at full size says too seldom", few, {})
     print(f"book at full size: {', '.join(f'{what} {count:,}' for what, count in sorted(said.items()))}, {time.monotonic() - start:.0f} s")
 
@@ -172,7 +179,8 @@ def full_size(program, checks):
 def pieces(program, checks):
     """Rows that come in pieces: byte by byte, and cut anywhere."""
     draw = random.Random(5)
-    for name, rows in [("over and lost", held(os.path.join(SCRIPTS, "over_and_lost.rows"))), *((f"drawn {seed}", drawn_stream(seed).encode()) for seed in range(4))]:
+    for name, rows in [("over and lost", held(os.path.join(SCRIPTS, "over_and_lost.rows"))),
+                       *((f"drawn {seed}", drawn_stream(seed).encode()) for seed in range(4))]:
         wanted = Reference().run(["book"], rows)
         for sizes in ([1], [1, 2, 3, 50, 500]):
             with tempfile.TemporaryFile() as out, tempfile.TemporaryFile() as err:
@@ -196,9 +204,11 @@ def dialogue(program, checks):
     with subprocess.Popen([program.path, "book"], stdin=subprocess.PIPE, stdout=subprocess.PIPE, bufsize=0) as child:
         reader = os.fdopen(os.dup(child.stdout.fileno()), "rb")
         for rows, lines in [
-            (BASE, ["base 1 v1"]), (place(1), [f"place 1 v2 {DIRECT}"]), (place(2, bandwidth=1000), ["place 2 v2 none"]), ("foo\n", ["row 6 refused: kind"]),
+            (BASE, ["base 1 v1"]), (place(1), [f"place 1 v2 {DIRECT}"]), (place(2, bandwidth=1000), ["place 2 v2 none"]),
+            ("foo\n", ["row 6 refused: kind"]),
             (f"put,{ENDS[0]},10,0x1,{'0,' * 7}0\ndrop,2.2.2.2,10.0.12.2\nend,2,2\n", ["over 1.1.1.1,10.0.12.1 7", "lost 1", "base 2 v3"]),
-            ("release,1\n", ["released 1 v4"]), ("release,1\n", ["release 1 refused: absent"]), ("end,2,0\n", ["batch 2 refused: expected 3"]),
+            ("release,1\n", ["released 1 v4"]), ("release,1\n", ["release 1 refused: absent"]),
+            ("end,2,0\n", ["batch 2 refused: expected 3"]),
         ]:
             child.stdin.write(rows.encode())
             checks.same(f"a dialogue with a book: {rows[:8].strip()}", [reader.readline().decode().rstrip("\n") for _ in lines], lines)
@@ -248,7 +258,8 @@ def devices(program, checks):
 
 
 def command_line(program, checks):
-    for words in (["book", "more"], ["book", "--rows"], ["book", "--journal", "/dev/null"], ["book", "--workers", "2"], ["books"], ["help", "book"]):
+    for words in (["book", "more"], ["book", "--rows"], ["book", "--journal", "/dev/null"], ["book", "--workers", "2"], ["books"],
+                  ["help", "book"]):
         status, out, err = program.run(words, BASE)
         checks.true(f"refused: {words}", status == 1 and out == b"" and err != b"", f"{status} {out} {err}")
     status, out, text = program.run(["book", "--help"])
@@ -283,7 +294,8 @@ def refused_calls(program, checks):
         print("refused calls of a book: skipped, there is no C compiler")
         return
     refuser, tried = Refuser(), 0
-    runs = [Rows(program, refuser.room.name, name, held(os.path.join(SCRIPTS, f"{name}.rows"))) for name in ("over_and_lost", "a_route_that_uses_a_link_twice")]
+    runs = [Rows(program, refuser.room.name, name, held(os.path.join(SCRIPTS, f"{name}.rows")))
+            for name in ("over_and_lost", "a_route_that_uses_a_link_twice")]
     runs.append(Rows(program, refuser.room.name, "drawn", drawn_stream(2).encode()))
     for run in runs:
         for flags in REFUSALS:
@@ -297,7 +309,8 @@ def refused_calls(program, checks):
 def keeps(program, checks):
     """What `--keep` leaves."""
     known_ones = [(name, rows) for name, rows, _ in known() if len(rows) < 100_000]
-    kept_books.remade(program, checks, [*((name, rows) for name, rows, _ in worked()), *known_ones, *((f"drawn {seed}", drawn_stream(seed)) for seed in range(20))])
+    kept_books.remade(program, checks, [*((name, rows) for name, rows, _ in worked()), *known_ones,
+                                        *((f"drawn {seed}", drawn_stream(seed)) for seed in range(20))])
     kept_books.refused_files(program, checks)
     rows = held(os.path.join(SCRIPTS, "over_and_lost.rows"))
     kept_books.full(program, checks, "over and lost", rows)
@@ -313,18 +326,21 @@ def told_apart(_, checks, seeds=0):
     cases = [(name, rows, (status_of(lines), lines.encode(), b"")) for name, rows, lines in [*worked(), *known()] if len(rows) < 100_000]
     streams = [(rows, Reference().run(["book"], rows)) for rows in map(drawn_stream, range(seeds))]
     count = 0
-    for name, module in wrong_books.books():
+    for name, module in wrong.books():
         one = Reference(module)
-        where = next((case for case, rows, wanted in cases if one.run(["book"], rows) != wanted), lowered(module) != LOWERED and "low limits")
+        where = next((case for case, rows, wanted in cases if one.run(["book"], rows) != wanted),
+                     lowered(module) != LOWERED and "low limits")
         checks.true(f"a book that {name} is told apart", where)
         count += 1
         if seeds:
-            print(f"a book that {name}: told apart by {where} and by {sum(one.run(['book'], rows) != wanted for rows, wanted in streams)} of {seeds} drawn streams")
+            print(f"a book that {name}: told apart by {where} and by {sum(one.run(['book'], rows) != wanted for rows, wanted in streams)} "
+                  f"of {seeds} drawn streams")
     checks.true("there are wrong books", count >= 60, count)
 
 
 def book(program, checks):
-    checks.parts((streams, drawn, released, full_size, pieces, dialogue, devices, command_line, refused_calls, keeps, told_apart), program, checks)
+    checks.parts((streams, drawn, released, full_size, pieces, dialogue, devices, command_line, refused_calls, keeps, told_apart), program,
+                 checks)
 
 
 def main():

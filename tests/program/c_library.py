@@ -15,7 +15,7 @@ import tempfile
 from checks import TOP
 from program.large import longest_routes
 from program.refusal import COMPILER, Refuser, each
-from reference import formats
+from reference import formats, runs
 from reference.changes import changed, script
 
 HERE = os.path.dirname(os.path.abspath(__file__))
@@ -52,7 +52,7 @@ def ran(words, rows):
 
 def lines_of(rows):
     """What `solve` must write of rows, by the formats' own words."""
-    return "".join(f"{line}\n" for line in formats.solve(rows.decode("latin-1"))[1]).encode("latin-1")
+    return "".join(f"{line}\n" for line in runs.solve(rows.decode("latin-1"))[1]).encode("latin-1")
 
 
 def is_by_line(rows):
@@ -88,7 +88,8 @@ def answers(checks, solve, python, name, rows, lines):
         text = bytes_of(some)
         return 0, lines if text == rows else lines_of(text), b""
 
-    checks.stream(f"{name} by the library for C", rows.decode("latin-1").splitlines(keepends=True), lambda some: ran([solve], bytes_of(some)), right)
+    checks.stream(f"{name} by the library for C", rows.decode("latin-1").splitlines(keepends=True),
+                  lambda some: ran([solve], bytes_of(some)), right)
     if is_by_line(rows):
         checks.same(f"{name} by the library for C, line by line", ran([solve, "lines"], rows), (0, lines, b""))
         checks.same(f"{name} by the library for C from Python", ran(python, rows), (0, lines, b""))
@@ -129,7 +130,8 @@ def misuse(checks, room):
     with open(source, "w", encoding="ascii") as kept:
         kept.write(MISUSE)
     path = build(room, "misuse", [source, LIBRARY])
-    checks.same("calls without a session", ran([path], b""), (0, b"row 1 refused: kind\nunended 1\nunended 2\nrow 4 refused: kind\nrow 5 refused: kind\n", b""))
+    checks.same("calls without a session", ran([path], b""),
+                (0, b"row 1 refused: kind\nunended 1\nunended 2\nrow 4 refused: kind\nrow 5 refused: kind\n", b""))
 
 
 MISUSE = r"""

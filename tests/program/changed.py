@@ -1,5 +1,5 @@
 #!/usr/bin/env python3
-"""Compares the built program with tests/reference/formats.py on streams whose bytes were changed.
+"""Compares the built program with tests/reference/runs.py on streams whose bytes were changed.
 
     tests/program/changed.py [--program FILE] [--changed N] [--seed S] [--jobs J]
     tests/program/changed.py --wrong [--changed N] [--seed S]
@@ -31,7 +31,7 @@ sys.dont_write_bytecode = True
 HERE = os.path.dirname(os.path.abspath(__file__))
 sys.path.insert(1, os.path.dirname(HERE))
 from checks import short
-from reference import changes, formats, wrong
+from reference import changes, runs, wrong
 from reference.shortened import shortened
 from routed.program import BUILT
 
@@ -75,7 +75,8 @@ class Program:
         else:
             words += self.files(run, kept)
         try:
-            ran = subprocess.run([*words, *run.words], input=given, stdin=None if given is not None else subprocess.DEVNULL, capture_output=True, timeout=60)
+            ran = subprocess.run([*words, *run.words], input=given, stdin=None if given is not None else subprocess.DEVNULL,
+                                 capture_output=True, timeout=60)
         except subprocess.TimeoutExpired:
             return None, "", "no end after 60 seconds", ""
         journal = ""
@@ -101,7 +102,7 @@ class Program:
 class Reference:
     """The reference, or a wrong program made of it, as a program."""
 
-    def __init__(self, module=formats):
+    def __init__(self, module=runs):
         self.module = module
 
     def answer(self, run, named=()):
@@ -151,9 +152,9 @@ def base(draw, worked_ones, *drawn):
 
 def replies(draw, journal, requests):
     """Reply lines that are right, each at a version of its own, among other lines that a run writes, and now and then one of no request."""
-    networks, _ = formats.publish(formats.whole_batches(journal, True))
+    networks, _ = runs.publish(runs.whole_batches(journal, True))
     lines = [f"version {version}" for version in range(1, len(networks))]
-    for request in formats.requests_of(requests):
+    for request in runs.requests_of(requests):
         version = draw.randrange(len(networks))
         lines.append(networks[version].answer(version, request))
     lines += draw.choice([[], [], [], ["ask 99 v0 none"], ["ask 99 v0 none"] * 2])
@@ -207,7 +208,8 @@ def cut_runs():
     for at in range(len(OBJECT) + 1):
         for length in len(OBJECT), at:
             cut = (length.to_bytes(2, "big") + OBJECT[2:])[:at]
-            yield Run("solve", [f"{BEFORE}{ASK}ero:{cut.hex()}\n"], [], ["object cut"], f"an object cut at {at}, whose length field is {length}")
+            yield Run("solve", [f"{BEFORE}{ASK}ero:{cut.hex()}\n"], [], ["object cut"],
+                      f"an object cut at {at}, whose length field is {length}")
 
 
 def edge_runs():
@@ -224,7 +226,8 @@ def edge_runs():
 
 
 def byte_runs():
-    """Each byte of each worked row and of an object as each of the 256 bytes, those of one place in one stream. A quote comes last, since it may open."""
+    """Each byte of each worked row and of an object as each of the 256 bytes, those of one place in one stream. A quote comes last, since
+    it may open."""
     values = [value for value in range(256) if chr(value) != '"'] + [ord('"')]
     for row in ROWS:
         for at in range(len(row)):
@@ -244,7 +247,8 @@ def limit_runs():
         return f"put,{start},{local},{end},{remote},10,0x1,{FREE}"
 
     def script(*batches):
-        return "".join("".join(f"{row}\n" for row in [*rows, f"end,{number},{len(rows)}"]) for number, rows in enumerate(batches, 1)) + f"{ASK}\n"
+        return "".join("".join(f"{row}\n" for row in [*rows, f"end,{number},{len(rows)}"])
+                       for number, rows in enumerate(batches, 1)) + f"{ASK}\n"
 
     links = [put("1.1.1.1", address(10, n), "2.2.2.2") for n in range(16_385)]
     links[2] = put("2.2.2.2", "10.0.12.2", "1.1.1.1", address(10, 1))  # the reverse of the one before
@@ -261,16 +265,19 @@ def limit_runs():
         ("4,097 changes", script(links[:4097]) + script([])),
         ("4,097 changes, two of one link", script([*links[:4096], links[0]])),
         ("4,096 changes, two of one link", script([*links[:4095], links[0]])),
-        ("16,384 links, one more, and one in another's place", script(*quarters, links[16_384:]) + f"{first}\n{links[16_384]}\nend,5,2\n{ASK}\n"),
+        ("16,384 links, one more, and one in another's place",
+         script(*quarters, links[16_384:]) + f"{first}\n{links[16_384]}\nend,5,2\n{ASK}\n"),
         ("one of 16,384 links put anew", script(*quarters, links[:1])),
         ("1,024 marks, and one more", script(marks[:1024], marks[1024:1025])),
         ("1,025 marks", script(marks[:1025])),
-        ("a mark that is there, and one more in another's place", script(marks[:1024], marks[:1]) + f"{free[0]}\n{marks[1024]}\nend,3,2\n{marks[1025]}\nend,4,1\n"),
+        ("a mark that is there, and one more in another's place",
+         script(marks[:1024], marks[:1]) + f"{free[0]}\n{marks[1024]}\nend,3,2\n{marks[1025]}\nend,4,1\n"),
         ("one more in another's place, before that one goes", script(marks[:1024], [marks[1024], free[0]])),
         ("1,024 marks, and two changes of one", script(marks[:1024], [marks[1024], free[1024]])),
         ("1,025 marks, and 1,025 routers", script(pairs[:512], [*marks[:1025], third], [third, *marks[:1024]])),
         ("1,025 marks, and 16,385 links", script(*quarters, [links[16_384], *marks[:1025]])),
-        ("4,096 changes of transit, and one more", script([f"node,{address(3, n)},1" for n in range(4096)], [f"node,{address(3, n)},1" for n in range(4097)])),
+        ("4,096 changes of transit, and one more", script([f"node,{address(3, n)},1" for n in range(4096)],
+                                                          [f"node,{address(3, n)},1" for n in range(4097)])),
         ("each of 1,024 marks taken away", script(marks[:1024], free[:1024], marks[1:1025])),
         ("a field of a megabyte in each kind of row", "".join(f"{row.replace(',', ',' + '9' * 1_000_000, 1)}\n" for row in ROWS)),
         ("a megabyte of commas", "put" + "," * 1_000_000 + f"\n{ASK}\n"),
@@ -313,7 +320,8 @@ def report(program, run, found, wanted):
     folder = tempfile.mkdtemp(prefix="changed-")
     least = shorter(program, run)
     files = kept(run, os.path.join(folder, "whole")) + kept(least, os.path.join(folder, "shortest"))
-    return (f"DIFFERS {run.name}: {run.command} {' '.join(run.words)} ({', '.join(run.changes)})\n  wanted {short(wanted)}\n  found  {short(found)}\n"
+    return (f"DIFFERS {run.name}: {run.command} {' '.join(run.words)} ({', '.join(run.changes)})\n  wanted {short(wanted)}\n  found  "
+            f"{short(found)}\n"
             f"  shortest {short(least.texts)}\n  streams  {' '.join(files)}")
 
 
@@ -348,7 +356,8 @@ def program_differs(path, count, seed, jobs):
     finally:
         shutil.rmtree(room)
     parts = [", ".join(f"{name} {number}" for name, number in sorted(counts.items())) for counts in (commands, kinds)]
-    print(f"changed: {sum(commands.values())} runs, {differ} differ, of {len(tasks)}, {count} of which are drawn from seed {seed}: {parts[0]}; {parts[1]}")
+    print(f"changed: {sum(commands.values())} runs, {differ} differ, of {len(tasks)}, {count} of which are drawn from seed {seed}: "
+          f"{parts[0]}; {parts[1]}")
     return differ > 0
 
 

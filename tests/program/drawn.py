@@ -1,14 +1,14 @@
 """Requests on drawn networks."""
 import random
 
-from reference import formats
+from reference import runs
 from reference.changes import circuits, mark_rows, mixed, row_of
 from reference.formats import Network
 
 
 def drawn(program, checks):
     """Requests on drawn networks with many ties, of which a tenth of the circuits has one direction alone and every third has
-    routers without transit, compared with tests/reference/formats.py: by the search, and the replies by the plain one of an audit."""
+    routers without transit, compared with tests/reference/runs.py: by the search, and the replies by the plain one of an audit."""
     def hops(draw):
         bits = [draw.choice([0, 8, 24, 30, 31, 32, 32, 32]) for _ in range(draw.choice([0, 0, 1, 1, 2, 3, 7]))]
         ends = [(draw.choice(["10.0.0", "172.16.0"]), draw.randrange(12)) for _ in bits]
@@ -50,7 +50,7 @@ def drawn(program, checks):
         checks.same(f"drawn network {seed} audited", judged, (0, b"good=60 faults=0\n", b""))
 
         def right(some):
-            status, lines = formats.solve("".join(some)) if some != rows else (0, wanted)
+            status, lines = runs.solve("".join(some)) if some != rows else (0, wanted)
             return status, "".join(f"{line}\n" for line in lines).encode(), b""
 
         checks.stream(f"drawn network {seed}", rows, lambda some: program.solve("".join(some)), right)

@@ -50,20 +50,23 @@ class Drawn:
         self.rows.append(f"end,{self.number},{len(rows)}")
 
     def changes(self):
-        """What a batch changes of a circuit: it fails, in one direction or in both, returns, has other attributes, another end, or another address."""
+        """What a batch changes of a circuit: it fails, in one direction or in both, returns, has other attributes, another end, or another
+        address."""
         near, far = self.draw.choice(self.circuits)[::self.draw.choice([1, -1])]
         kind = self.draw.choices(["put", "again", "fail", "withdraw", "turn", "renumber"], [8, 4, 3, 1, 1, 1])[0]
         if kind in ("put", "again"):
             return [(near, far), (far, near)][:1 if kind == "again" else 2]
         if kind in ("fail", "withdraw"):
             return [(end, None) for end in ((near, far) if kind == "fail" else (near,)) if end in self.links]
-        other = (self.draw.choice([router for router in range(self.routers) if router != near[0]]) if kind == "turn" else far[0], 40 + near[1])
+        other = (self.draw.choice([router for router in range(self.routers) if router != near[0]]) if kind == "turn" else far[0],
+                 40 + near[1])
         return [(near, other), (other, near)]
 
     def request(self, kind, name, priority):
         start, end = self.draw.sample(range(self.routers + (self.draw.random() < 0.03)), 2)
         count = self.draw.choice([0, 0, 0, 0, 0, 1, 1, 2, 3])
-        parts = hop_list(self.draw, count) if self.draw.random() < 0.8 or not count else object_text([subobject(self.draw) for _ in range(count)])
+        parts = hop_list(self.draw,
+                         count) if self.draw.random() < 0.8 or not count else object_text([subobject(self.draw) for _ in range(count)])
         if count and self.draw.random() < 0.8:  # loose hops at single routers, so that routes turn back
             parts = " ".join(f"10.0.0.{self.draw.randrange(self.routers)}/32l" for _ in range(count))
         masks = ",".join(self.draw.choice(["0x0"] * 12 + more) for more in (["0x2"], ["0x1", "0x3"], ["0x1"]))
@@ -113,9 +116,10 @@ def kinds_of(rows, lines):
     return said
 
 
-WANTED = {"placed": 400, "placed again": 400, "none": 100, "none, and one stays": 100, "released": 200, "over": 200, "lost": 200, "base": 500, "ask": 1000,
-          "place refused: twice": 20, "release refused: absent": 100, "batch refused: expected": 20, "batch refused: counted": 10, "batch refused: absent": 20,
-          "batch refused: duplicate": 10, "unknown-from": 5, "unknown-to": 5, "unended": 3}
+WANTED = {"placed": 400, "placed again": 400, "none": 100, "none, and one stays": 100, "released": 200, "over": 200, "lost": 200,
+          "base": 500, "ask": 1000,
+          "place refused: twice": 20, "release refused: absent": 100, "batch refused: expected": 20, "batch refused: counted": 10,
+          "batch refused: absent": 20, "batch refused: duplicate": 10, "unknown-from": 5, "unknown-to": 5, "unended": 3}
 
 
 def stream(rows):

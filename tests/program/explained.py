@@ -34,7 +34,8 @@ def explained(program, checks):
             (["live", "--updates", room, "--requests", null, "--journal", journal], f"updates {room}: read: {FOLDER}"),
             (["snapshot", "--journal", absent], f"journal {absent}: open: {ABSENT}"),
             (["snapshot", "--journal", room], f"journal {room}: read: {FOLDER}"),
-            *((["audit", *(word for other in AUDITED for word in (f"--{other}", path if other == name else null))], f"{name} {path}: {said}")
+            *((["audit", *(word for other in AUDITED for word in (f"--{other}", path if other == name else null))],
+               f"{name} {path}: {said}")
               for name in AUDITED for path, said in ((absent, f"open: {ABSENT}"), (room, f"read: {FOLDER}"))),
         ]:
             checks.same(f"a stop that isn't explained: {words}", program.run(words), (3, b"", b"routed: stopped\n"))
@@ -51,7 +52,8 @@ def explained(program, checks):
 
 
 def rows(program, checks, room):
-    """A torn journal and a bad row: the file, the row and the reason; nothing of a file that is good, nor of one that can't be read twice."""
+    """A torn journal and a bad row: the file, the row and the reason; nothing of a file that is good, nor of one that can't be read
+    twice."""
     def refused(command, name, path, text, said, *more):
         with open(path, "w", encoding="ascii") as file:
             file.write(text)
@@ -79,7 +81,8 @@ def rows(program, checks, room):
     refused("snapshot", "journal", path, "bad\n" + "end,1,0\n" * 1_000_000, "row 1000001: too many rows")
     for text, said in [(f"{ASK}ask,1\n", "row 2: fields"), (f"{ASK}{ASK}end,1,0\n", "row 3: kind")]:
         refused("batch", "requests", path, text, said, "--journal", empty)
-    ran = subprocess.run([program.path, "snapshot", "--explain", "--journal", "/dev/stdin"], input=b"bad\n", capture_output=True, timeout=60)
+    ran = subprocess.run([program.path, "snapshot", "--explain", "--journal", "/dev/stdin"], input=b"bad\n", capture_output=True,
+                         timeout=60)
     checks.same("a journal by a pipe", (ran.returncode, ran.stdout, ran.stderr), (2, b"journal torn after 0\n", b""))
 
 
@@ -113,7 +116,8 @@ def limited(program, checks, room):
     with open(updates, encoding="ascii") as file:
         texts = Versions(file.read(), []).texts
     lengths, most = [len(text) for text in texts], len(texts) - 1
-    for size, applied in [(0, 0), (100, 0), (lengths[1] - 1, 0), (lengths[1], 1), (lengths[1] + 5, 1), (lengths[3], 3), (lengths[6] + 19, 6), (lengths[most], most)]:
+    for size, applied in [(0, 0), (100, 0), (lengths[1] - 1, 0), (lengths[1], 1), (lengths[1] + 5, 1), (lengths[3], 3),
+                          (lengths[6] + 19, 6), (lengths[most], most)]:
         journal = os.path.join(room, f"limited{size}")
         ran = subprocess.run([program.path, "live", "--updates", updates, "--requests", "/dev/null", "--journal", journal],
                              capture_output=True, preexec_fn=lambda: resource.setrlimit(resource.RLIMIT_FSIZE, (size, size)))
@@ -131,7 +135,8 @@ def limited(program, checks, room):
 
 def closed(program, checks):
     """Help and a refused command line have the status 1, also where nobody can be told."""
-    for words in [["--help"], ["live", "--help"], ["audit", "--help"], ["--version"], [], ["solve", "--none"], ["batch"], ["live", "--workers", "65"], ["audit"]]:
+    for words in [["--help"], ["live", "--help"], ["audit", "--help"], ["--version"], [], ["solve", "--none"], ["batch"],
+                  ["live", "--workers", "65"], ["audit"]]:
         told = program.run(words)
         checks.true(f"status 1 and words: {words}", told[0] == 1 and told[1] == b"" and told[2], told)
         ran = subprocess.run(["sh", "-c", 'exec "$@" 2>&-', "sh", program.path, *words], capture_output=True)

@@ -67,7 +67,8 @@ def malformed(program, checks):
         ("a thousand fields", b",".join([b"put"] * 1000) + b"\nend,1,0\n", b"row 1 refused: fields\nversion 1\n"),
         ("a field of a megabyte", b"drop," + b"1" * 1_000_000 + b",10.0.0.1\nend,1,0\n", b"row 1 refused: address 2\nversion 1\n"),
         ("a number of a megabyte", b"end," + b"9" * 1_000_000 + b",0\n", b"row 1 refused: number 2\n"),
-        ("an object of a megabyte", f"ask,1,1.1.1.1,2.2.2.2,0,1,{MASKS},ero:".encode() + b"00" * 500_000 + b"\n", b"row 1 refused: hops ero length\n"),
+        ("an object of a megabyte", f"ask,1,1.1.1.1,2.2.2.2,0,1,{MASKS},ero:".encode() + b"00" * 500_000 + b"\n",
+         b"row 1 refused: hops ero length\n"),
     ]:
         checks.same(name, program.solve(rows), (status_of(lines), lines, b""))
 
@@ -89,8 +90,10 @@ def command_line(program, checks):
                   ["live", "--updates", "/dev/null", "--requests", "/dev/null", "--journal", "/nowhere/journal", "--workers", "0"],
                   ["live", "--updates", "/dev/null", "--requests", "/dev/null", "--journal", "/nowhere/journal", "--accept-torn"],
                   ["audit"], ["audit", "--help"], ["audit", "--journal", "/dev/null", "--requests", "/dev/null"],
-                  ["audit", "--journal", "/dev/null", "--replies", "/dev/null"], ["audit", "--requests", "/dev/null", "--replies", "/dev/null"],
-                  *([*audited, *more] for more in [["more"], ["--workers", "2"], ["--accept-torn"], ["--updates", "/dev/null"], ["--replies", "/dev/null"]]),
+                  ["audit", "--journal", "/dev/null", "--replies", "/dev/null"],
+                  ["audit", "--requests", "/dev/null", "--replies", "/dev/null"],
+                  *([*audited, *more] for more in [["more"], ["--workers", "2"], ["--accept-torn"], ["--updates", "/dev/null"],
+                                                   ["--replies", "/dev/null"]]),
                   ["batch", "--journal", "/dev/null", "--requests", "/dev/null", "--replies", "/dev/null"]]:
         status, out, err = program.run(words, LINK)
         checks.true(f"refused: {words}", status == 1 and out == b"" and err != b"", f"{status} {out} {err}")
@@ -100,15 +103,18 @@ def command_line(program, checks):
     for word in [b"put", b"drop", b"node", b"end", b"ask", b"status", b"--explain", b"length that fits in memory", b"blocking", b"head -1"]:
         checks.true(f"help names {word.decode()}", word in b" ".join(text.lower().split()), text)
     _, _, text = program.run(["batch", "--help"])
-    for word in [b"--journal", b"--requests", b"--accept-torn", b"--workers", b"status", b"--explain", b"utf-8", b"length that fits in memory",
+    for word in [b"--journal", b"--requests", b"--accept-torn", b"--workers", b"status", b"--explain", b"utf-8",
+                 b"length that fits in memory",
                  b"blocking"]:
         checks.true(f"help of batch names {word.decode()}", word in b" ".join(text.lower().split()), text)
     _, _, text = program.run(["live", "--help"])
-    for word in [b"--updates", b"--journal", b"--requests", b"--workers", b"applied", b"status", b"--explain", b"utf-8", b"journal stays empty",
+    for word in [b"--updates", b"--journal", b"--requests", b"--workers", b"applied", b"status", b"--explain", b"utf-8",
+                 b"journal stays empty",
                  b"version 0", b"trap '' xfsz", b"length that fits in memory", b"blocking"]:
         checks.true(f"help of live names {word.decode()}", word in b" ".join(text.lower().split()), text)
     _, _, text = program.run(["audit", "--help"])
-    for word in [b"--journal", b"--requests", b"--replies", b"unread", b"foreign", b"doubled", b"no-version", b"altered", b"unanswered", b"good=",
+    for word in [b"--journal", b"--requests", b"--replies", b"unread", b"foreign", b"doubled", b"no-version", b"altered", b"unanswered",
+                 b"good=",
                  b"same-id", b"status", b"--explain", b"utf-8", b"length that fits in memory", b"blocking"]:
         checks.true(f"help of audit names {word.decode()}", word in b" ".join(text.lower().split()), text)
     with open(os.path.join(TOP, "VERSION"), "rb") as version:
@@ -167,7 +173,8 @@ def dialogue(program, checks):
     """Each line is on standard output before the next row is sent."""
     child = subprocess.Popen([program.path, "solve"], stdin=subprocess.PIPE, stdout=subprocess.PIPE, bufsize=0)
     reader = os.fdopen(os.dup(child.stdout.fileno()), "rb")
-    for rows, line in [(CIRCUIT, "version 1\n"), (ASK, REPLY), ("foo\n", "row 5 refused: kind\n"), ("drop,2.2.2.2,10.0.12.2\nend,2,1\n", "version 2\n"),
+    for rows, line in [(CIRCUIT, "version 1\n"), (ASK, REPLY), ("foo\n", "row 5 refused: kind\n"),
+                       ("drop,2.2.2.2,10.0.12.2\nend,2,1\n", "version 2\n"),
                        (ASK, "ask 7 v2 none\n"), ("drop,1.1.1.1,10.0.12.1\nend,3,1\n", "version 3\n"), (ASK, "ask 7 v3 unknown-from\n")]:
         child.stdin.write(rows.encode())
         checks.same(f"a dialogue: {rows[:8].strip()}", reader.readline().decode(), line)

@@ -44,7 +44,8 @@ class Kept:
         return lines
 
     def is_part(self, lines, text):
-        """Whether a run that ended anywhere may have written these lines and kept this text: what is kept of a row comes before its lines."""
+        """Whether a run that ended anywhere may have written these lines and kept this text: what is kept of a row comes before its
+        lines."""
         return self.lines.startswith(lines) and self.text.startswith(text) and self.lines_before(len(text)).startswith(lines)
 
 
@@ -73,7 +74,8 @@ def refused_files(program, checks):
         path = os.path.join(room, "there")
         with open(path, "wb") as file:
             file.write(b"end,1,0\n")
-        for words, said in [(path, f"keep {path}: open: File exists (os error 17)"), (os.path.join(room, "no/file"), f"keep {room}/no/file: open: No such file or directory (os error 2)")]:
+        for words, said in [(path, f"keep {path}: open: File exists (os error 17)"),
+                            (os.path.join(room, "no/file"), f"keep {room}/no/file: open: No such file or directory (os error 2)")]:
             found = program.run(["book", "--explain", "--keep", words], b"end,1,0\n")
             checks.same(f"kept in {os.path.basename(words)}", found, (3, b"", f"routed: {said}\n".encode() + STOPPED))
         checks.same("a file that was there", held(path), b"end,1,0\n")
@@ -81,7 +83,8 @@ def refused_files(program, checks):
         found = subprocess.run(["sh", "-c", f'"{program.path}" book --keep "{path}" >&-'], input=rows.rows, capture_output=True, timeout=60)
         checks.same("kept where standard output is closed", (found.returncode, found.stderr, held(path)), (3, STOPPED, b"end,1,0\n"))
         found = subprocess.run(["sh", "-c", f'"{program.path}" book --keep "{path}2" <&-'], capture_output=True, timeout=60)
-        checks.same("kept where standard input is closed, which then reads as nothing", (found.returncode, found.stdout, held(f"{path}2")), (0, b"", b""))
+        checks.same("kept where standard input is closed, which then reads as nothing", (found.returncode, found.stdout, held(f"{path}2")),
+                    (0, b"", b""))
         status, out, _ = program.run(["book", "--keep"], b"")
         checks.same("no file to keep in", (status, out), (1, b""))
 
@@ -93,7 +96,8 @@ def full(program, checks, name, rows):
         for size in range(len(kept.text) + 1):
             found = ran(program, room, kept.rows, "--explain", preexec_fn=lambda: resource.setrlimit(resource.RLIMIT_FSIZE, (size, size)))
             said = f"routed: keep {room}/kept: write: file too large\n".encode() + STOPPED
-            wanted = (kept.status, kept.lines, b"", kept.text) if size == len(kept.text) else (3, kept.lines_before(size), said, kept.text[:size])
+            wanted = (kept.status, kept.lines, b"", kept.text) if size == len(kept.text) else (3, kept.lines_before(size), said,
+                                                                                               kept.text[:size])
             if found != wanted:
                 faults.append((size, found, wanted))
     checks.same(f"kept of {name} in a file that is full", faults[:1], [])
@@ -152,7 +156,8 @@ def killed(program, checks, rows):
             env = dict(os.environ)
             if refuser and at % 2:
                 env.update(LD_PRELOAD=refuser.library, REFUSE_CALL="write", REFUSE_AT="1", REFUSE_ON="1", REFUSE_SHORT="1")
-            with open(source, "rb") as stream, subprocess.Popen([program.path, "book", "--keep", path], stdin=stream, stdout=subprocess.PIPE, stderr=subprocess.DEVNULL, env=env) as child:
+            with open(source, "rb") as stream, subprocess.Popen([program.path, "book", "--keep", path], stdin=stream,
+                                                                stdout=subprocess.PIPE, stderr=subprocess.DEVNULL, env=env) as child:
                 lines = []
                 reader = threading.Thread(target=lambda: lines.append(child.stdout.read()))
                 reader.start()

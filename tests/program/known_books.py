@@ -49,9 +49,12 @@ def worked():
 NUMBERS = ["", "00", "01", "-1", "+1", " 1", "1 ", "1.0", "0x1", "a", "1_0"]
 ADDRESSES = ["", "1", "1.1.1", "1.1.1.1.1", "1.1.1.256", "01.1.1.1", " 1.1.1.1", "1.1.1.1/32", "1.1.1.-1", "a.1.1.1"]
 BAD_MASKS = ["", "0", "1", "x1", "0x", "0X1", "0xg", "0x100000000", "0x000000001", " 0x1", "-0x1"]
-BAD_HOPS = [("x", "hops 1"), ("1.1.1.1/32", "hops 1"), ("1.1.1.1/33s", "hops 1"), ("1.1.1.1/32s ", "hops 2"), ("1.1.1.1/32s  1.1.1.1/32l", "hops 2"),
-            (" ".join(["1.1.1.1/32l"] * 8), "hops count"), ("ero:0", "hops hex"), ("ero:", "hops ero short"), ("ero:00041401", "hops ero empty"),
-            ("ero:00051401", "hops ero length"), ("ero:000c13010108010101012000", "hops ero class"), ("ero:000c14010208010101012000", "hops ero unsupported"),
+BAD_HOPS = [("x", "hops 1"), ("1.1.1.1/32", "hops 1"), ("1.1.1.1/33s", "hops 1"), ("1.1.1.1/32s ", "hops 2"),
+            ("1.1.1.1/32s  1.1.1.1/32l", "hops 2"),
+            (" ".join(["1.1.1.1/32l"] * 8), "hops count"), ("ero:0", "hops hex"), ("ero:", "hops ero short"),
+            ("ero:00041401", "hops ero empty"),
+            ("ero:00051401", "hops ero length"), ("ero:000c13010108010101012000", "hops ero class"),
+            ("ero:000c14010208010101012000", "hops ero unsupported"),
             ("ero:000c14010107010101012000", "hops ero sublength"), ("ero:000c14010108010101012100", "hops ero prefix-length"),
             ("ero:00441401" + "0108010101012000" * 8, "hops ero count")]
 
@@ -72,16 +75,19 @@ def bad_rows():
         yield turned(10, text), words
     for field in range(2, 10):  # of two bad fields the first is named
         if field < 9:
-            yield ",".join([*good[:field - 1], "x", "x", *good[field + 1:]]), f"{'address' if field in (3, 4) else 'mask' if field > 6 else 'number'} {field}"
+            yield ",".join([*good[:field - 1], "x", "x",
+                            *good[field + 1:]]), f"{'address' if field in (3, 4) else 'mask' if field > 6 else 'number'} {field}"
     yield ",".join([*good[:4], "8", "x", *good[6:]]), "priority"
     yield ",".join([*good[:8], "x", "x"]), "mask 9"
     yield turned(4, "1.1.1.1"), "same-ends"
     yield ",".join([*good[:3], "1.1.1.1", *good[4:9], "x"]), "hops 1"  # ends are compared last
-    for row in ["place", "place,1", ",".join(good[:9]), ",".join([*good, ""]), ",".join(good[:9] + ["x", "y"]), "release", "release,1,", "release,1,1", "release,x,"]:
+    for row in ["place", "place,1", ",".join(good[:9]), ",".join([*good, ""]), ",".join(good[:9] + ["x", "y"]), "release", "release,1,",
+                "release,1,1", "release,x,"]:
         yield row, "fields"
     for text in [*NUMBERS, str(2 ** 64)]:
         yield f"release,{text}", "number 2"
-    for word in ["places", "Place", "PLACE", " place", "place ", "releases", "Release", " release", "released", "hold", "base", "lost", "over", "version", "#"]:
+    for word in ["places", "Place", "PLACE", " place", "place ", "releases", "Release", " release", "released", "hold", "base", "lost",
+                 "over", "version", "#"]:
         yield ",".join([word, *good[1:]]), "kind"
         yield f"{word},1", "kind"
 
@@ -92,7 +98,8 @@ def known():
     rows = "".join(f"{row}\n" for row, _ in bad)
     lines = "".join(f"row {at} refused: {words}\n" for at, (_, words) in enumerate(bad, 1))
     yield "bad rows", rows, lines
-    moved = [lines.replace(f"row {at} ", f"row {at + 2} ") for lines, at in ((f"row {at} refused: {words}\n", at) for at, (_, words) in enumerate(bad, 1))]
+    moved = [lines.replace(f"row {at} ", f"row {at + 2} ")
+             for lines, at in ((f"row {at} refused: {words}\n", at) for at, (_, words) in enumerate(bad, 1))]
     yield "bad rows among open changes", CIRCUIT + rows + "end,1,2\n" + place(1), "".join(moved) + f"base 1 v1\nplace 1 v2 {DIRECT}\n"
     yield "good rows beside them", BASE + "".join(
         [place(2 ** 64 - 1, 0, 0), f"release,{2 ** 64 - 1}\n", place(0, 7, 1000, "0xFFFFFFFE,0xffffffff,0x1", "2.2.2.2/32s"), "release,0\n",
@@ -100,16 +107,19 @@ def known():
         f"base 1 v1\nplace {2 ** 64 - 1} v2 {DIRECT}\nreleased {2 ** 64 - 1} v3\nplace 0 v4 {DIRECT}\nreleased 0 v5\nplace 7 v6 {DIRECT}\n"
         f"place 7 v7 {DIRECT}\nreleased 7 v8\n")
     yield "nothing", "", ""
-    yield "carriage returns and empty lines", BASE.replace("\n", "\r\n\r\n") + place(1).replace("\n", "\r"), f"base 1 v1\nplace 1 v2 {DIRECT}\n"
+    yield "carriage returns and empty lines", BASE.replace("\n",
+                                                           "\r\n\r\n") + place(1).replace("\n", "\r"), f"base 1 v1\nplace 1 v2 {DIRECT}\n"
     yield "a byte order mark", "\xef\xbb\xbf" + BASE, "base 1 v1\n"
     yield "bytes that are no text", "\xff\xfe\n\0\nrelease,\xb9\n", "row 1 refused: kind\nrow 2 refused: kind\nrow 3 refused: number 2\n"
     yield "a quote that never closes", BASE + 'release,"1\n' + place(1), "base 1 v1\nrow 4 refused: number 2\n"
-    yield "fields of a megabyte", f"release,{'9' * 1_000_000}\n" + place("1" * 1_000_000), "row 1 refused: number 2\nrow 2 refused: number 2\n"
+    yield "fields of a megabyte", f"release,{'9' * 1_000_000}\n" + place(
+        "1" * 1_000_000), "row 1 refused: number 2\nrow 2 refused: number 2\n"
     yield "unended", BASE + CIRCUIT + "release,1\n", "base 1 v1\nrelease 1 refused: absent\nunended 2\n"
     yield "unended alone", "drop,1.1.1.1,10.0.0.1\n", "unended 1\n"
     yield "the most rows", "drop,1.1.1.1,10.0.0.1\n" * 1_000_000, "unended 1000000\n"
     yield "too many rows", "drop,1.1.1.1,10.0.0.1\n" * 1_000_001, "too many rows\n"
-    yield "too many rows behind a batch", BASE + "foo\n" + "drop,1.1.1.1,10.0.0.1\n" * 999_997, "base 1 v1\nrow 4 refused: kind\ntoo many rows\n"
+    behind = BASE + "foo\n" + "drop,1.1.1.1,10.0.0.1\n" * 999_997
+    yield "too many rows behind a batch", behind, "base 1 v1\nrow 4 refused: kind\ntoo many rows\n"
     yield "a count of 999,999", "drop,1.1.1.1,10.0.0.1\n" * 999_999 + "end,1,5\n", "batch 1 refused: counted 999999\n"
     yield from known_batches()
 
@@ -134,9 +144,11 @@ def known_batches():
     many = [ended(links[at * 4096:at * 4096 + 4096], at + 2) for at in range(4)]
     yield "16,385 links", begin + "".join(many) + last, line + "base 2 v3\nbase 3 v4\nbase 4 v5\nbatch 5 refused: full\nreleased 1 v6\n"
     pairs = [put(address(1, 2 * at + 2), "10.0.0.1", address(1, 2 * at + 3)) for at in range(512)]
-    yield "1,026 routers", begin + ended(pairs, 2) + ended(pairs[:511], 2) + last, line + "batch 2 refused: routers\nbase 2 v3\nreleased 1 v4\n"
+    yield "1,026 routers", begin + ended(pairs, 2) + ended(pairs[:511],
+                                                           2) + last, line + "batch 2 refused: routers\nbase 2 v3\nreleased 1 v4\n"
     marks = [f"node,{address(3, at)},0\n" for at in range(1025)]
-    yield "1,025 marks", begin + ended(marks, 2) + ended(marks[:1024], 2) + last, line + "batch 2 refused: marks\nbase 2 v3\nreleased 1 v4\n"
+    yield "1,025 marks", begin + ended(marks, 2) + ended(marks[:1024],
+                                                         2) + last, line + "batch 2 refused: marks\nbase 2 v3\nreleased 1 v4\n"
 
 
 def lowered(module):
@@ -145,12 +157,15 @@ def lowered(module):
     found = []
     try:
         module.MOST_PLACEMENTS = 2
-        found.append(module.book(BASE + place(1) + place(2) + place(3) + place(3, ends="1.1.1.1,9.9.9.9") + place(2, 0, 5) + "release,1\n" + place(3) + place(2) + place(1)))
+        found.append(module.book(BASE + place(1) + place(2) + place(3) + place(3, ends="1.1.1.1,9.9.9.9") + place(2, 0, 5) + "release,1\n"
+                                 + place(3) + place(2) + place(1)))
         module.MOST_PLACEMENTS, module.MOST_ROUTES_LINKS = 9, 3
-        line = "".join(f"put,{ends},10,0x1,{FREE}\n" for ends in (*ENDS, "2.2.2.2,10.0.23.2,3.3.3.3,10.0.23.3", "3.3.3.3,10.0.23.3,2.2.2.2,10.0.23.2"))
+        line = "".join(f"put,{ends},10,0x1,{FREE}\n" for ends in (*ENDS, "2.2.2.2,10.0.23.2,3.3.3.3,10.0.23.3",
+                                                                  "3.3.3.3,10.0.23.3,2.2.2.2,10.0.23.2"))
         far = "1.1.1.1,3.3.3.3"
         found.append(module.book(line + "end,1,4\n" + place(1, ends=far) + place(2, ends=far) + place(2) + place(3) + place(1, ends=far)
-                                 + place(3, bandwidth=0, hops="3.3.3.3/32l 1.1.1.1/32l") + place(2, ends=far) + place(4, bandwidth=2000) + "release,2\n" + place(3)))
+                                 + place(3, bandwidth=0, hops="3.3.3.3/32l 1.1.1.1/32l") + place(2, ends=far) + place(4, bandwidth=2000)
+                                 + "release,2\n" + place(3)))
         module.MOST_ROUTES_LINKS, module.MOST_VERSIONS = 9, 3
         found.append(module.book(BASE + place(1) + "release,2\n" + place(2) + place(3) + place(3, ends="8.8.8.8,9.9.9.9")
                                  + f"release,1\nrelease,9\nend,1,0\nask,1,1.1.1.1,2.2.2.2,7,0,{MASKS},\n"))
@@ -161,10 +176,12 @@ def lowered(module):
 
 TWO = "route cost=20 hops=2 again=no ero=0014140101080a000c02200001080a0017032000"
 LOWERED = [
-    (2, ["base 1 v1", f"place 1 v2 {DIRECT}", f"place 2 v3 {DIRECT}", "place 3 refused: full", "place 3 refused: full", f"place 2 v4 {DIRECT}", "released 1 v5",
+    (2, ["base 1 v1", f"place 1 v2 {DIRECT}", f"place 2 v3 {DIRECT}", "place 3 refused: full", "place 3 refused: full",
+         f"place 2 v4 {DIRECT}", "released 1 v5",
          f"place 3 v6 {DIRECT}", f"place 2 v7 {DIRECT}", "place 1 refused: full"]),
     (2, ["base 1 v1", f"place 1 v2 {TWO}", "place 2 refused: links", f"place 2 v3 {DIRECT}", "place 3 refused: links", f"place 1 v4 {TWO}",
          "place 3 refused: twice", "place 2 refused: links", "place 4 v4 none", "released 2 v5", f"place 3 v6 {DIRECT}"]),
-    (2, ["base 1 v1", f"place 1 v2 {DIRECT}", "release 2 refused: absent", f"place 2 v3 {DIRECT}", "place 3 refused: exhausted", "place 3 refused: exhausted",
+    (2, ["base 1 v1", f"place 1 v2 {DIRECT}", "release 2 refused: absent", f"place 2 v3 {DIRECT}", "place 3 refused: exhausted",
+         "place 3 refused: exhausted",
          "release 1 refused: exhausted", "release 9 refused: exhausted", "batch 1 refused: exhausted", f"ask 1 v3 {DIRECT}"]),
 ]

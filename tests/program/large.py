@@ -1,11 +1,12 @@
-"""The longest routes through `serve`, a search in which many states wait, and journals of 100,000 batches through `live`, `audit` and `snapshot`."""
+"""The longest routes through `serve`, a search in which many states wait, and journals of 100,000 batches through `live`, `audit` and
+`snapshot`."""
 import os
 import re
 import subprocess
 import tempfile
 import time
 
-from reference import formats
+from reference import runs
 
 BATCHES = 100_000
 ROUTERS = 1024  # the most that a table takes
@@ -49,7 +50,7 @@ def longest_routes():
         rows += put(*near, *far, 4294967295) + put(*far, *near, 4294967295).replace(FREE, none)
     hops = " ".join(f"{address(2, ROUTERS - leg)}/32l" for leg in range(1, LEGS))
     rows += f"end,1,{2 * ROUTERS}\n" + ask(1, LAST) + ask(2, address(2, ROUTERS - LEGS), hops)
-    return rows, "".join(f"{line}\n" for line in formats.solve(rows)[1])
+    return rows, "".join(f"{line}\n" for line in runs.solve(rows)[1])
 
 
 def served_routes(program, checks, room):
@@ -79,15 +80,15 @@ def waiting(program, checks):
     """8,176 keys wait in the heap of a search at once.
 
     A hub has a link to each of 1,022 routers, and the first of these leads on to the tail-end. Seven hops admit any router, so the hub is
-    as near to the tail-end in each of the eight legs. It is settled in all of them before any other router, which has one link more. In each
-    leg its links give 1,022 routers a key."""
+    as near to the tail-end in each of the eight legs. It is settled in all of them before any other router, which has one link more. In
+    each leg its links give 1,022 routers a key."""
     ends = [((FIRST, address(10, number)), (address(2, number), address(11, number)), min(number, 9)) for number in range(1, ROUTERS - 1)]
     ends.append(((address(2, 1), "10.9.0.1"), (LAST, "10.9.0.2"), 1))
     rows = "".join(put(*near, *far, metric) + put(*far, *near, metric) for near, far, metric in ends)
     rows += f"end,1,{2 * len(ends)}\n" + ask(1, LAST, " ".join(["0.0.0.0/0l"] * (LEGS - 1)))
     wanted = "version 1\nask 1 v1 route cost=2 hops=2 again=no ero=0014140101080b000001200001080a0900022000\n"
     checks.same("8,176 keys wait", program.solve(rows), (0, wanted.encode(), b""))
-    checks.same("their answer by the reference", formats.solve(rows), (0, wanted.splitlines()))
+    checks.same("their answer by the reference", runs.solve(rows), (0, wanted.splitlines()))
 
 
 def long_journal(program, checks, room):

@@ -35,8 +35,10 @@ def live(program, checks):
     for name, updates, requests, lines, kept in [
         ("one batch", one, "", "applied 1\n", text),
         ("a mark", "node,1.1.1.1,0\nend,1,1\n", "", "applied 1\n", "node,1.1.1.1,0\nend,1,1\n"),
-        ("marks in quotes", '"node",1.1.1.1,"1"\n"node","2.2.2.2",0\nend,1,2', "", "applied 1\n", "node,1.1.1.1,1\nnode,2.2.2.2,0\nend,1,2\n"),
-        ("two changes of one mark", one + "node,1.1.1.1,0\nnode,1.1.1.1,1\nend,2,2\n", "", "applied 1\nbatch 2 refused: duplicate 2\n", text),
+        ("marks in quotes", '"node",1.1.1.1,"1"\n"node","2.2.2.2",0\nend,1,2', "", "applied 1\n",
+         "node,1.1.1.1,1\nnode,2.2.2.2,0\nend,1,2\n"),
+        ("two changes of one mark", one + "node,1.1.1.1,0\nnode,1.1.1.1,1\nend,2,2\n", "", "applied 1\nbatch 2 refused: duplicate 2\n",
+         text),
         ("no updates", "", ASK, "ask 7 v0 unknown-from\napplied 0\n", ""),
         ("a batch that doesn't fit", "drop,1.1.1.1,10.0.12.1\nend,1,1\n", "", "applied 0\nbatch 1 refused: absent 1\n", ""),
         ("a batch that doesn't fit behind others", one + end, "", "applied 2\nbatch 3 refused: absent 1\n", text + "end,2,0\n"),

@@ -7,7 +7,8 @@ import tempfile
 from checks import TOP
 
 BLOCK = re.compile(r"(?:^    .*\n)+", re.M)  # the commands of a page, or what they print
-TYPED = ["README.md", "examples/README.md", "docs/run/C.md", "docs/run/FEED.md", "docs/run/OPERATORS.md"]  # pages whose commands make files and are typed at the top
+# pages whose commands make files and are typed at the top
+TYPED = ["README.md", "examples/README.md", "docs/run/C.md", "docs/run/FEED.md", "docs/run/OPERATORS.md"]
 
 
 def kept_files():

@@ -1,4 +1,5 @@
-"""The built program while the C library refuses its calls, each in turn (tests/program/refuse.c): it ends whole, with a named refusal, or stopped.
+"""The built program while the C library refuses its calls, each in turn (tests/program/refuse.c): it ends whole, with a named refusal, or
+stopped.
 
 All commands are run so. A whole run has a batch that is refused by name and the journal that this line says. A stopped one has the
 cause that `--explain` names: what `solve` wrote is a prefix of the right text, and the journal of `live` a prefix of the updates. A
@@ -12,7 +13,7 @@ from collections import Counter
 from checks import TOP
 from program.refusal import COMPILER, Refuser, each
 from program.snapshots import snapshot_of
-from reference import formats
+from reference import runs
 from reference.formats import Network
 from reference.versions import Versions
 
@@ -40,7 +41,8 @@ CAUSES = {
     "malloc": rb"(routed: (out of memory|client 1: no thread)\n)?",  # nothing while the command line is read; a thread takes memory too
     "read": rb"routed: (standard input|(journal|updates|requests|replies) /\S+): read: Input/output error \(os error 5\)\n",
     "write": rb"routed: (standard output|keep /\S+): (write|flush): No space left on device \(os error 28\)\n",
-    "open": rb"routed: (journal|updates|requests|replies|keep|a client's requests|a client's replies) /\S+: open: Too many open files \(os error 24\)\n",
+    "open": rb"routed: (journal|updates|requests|replies|keep|a client's requests|a client's replies) /\S+: open: Too many open files \(os "
+            rb"error 24\)\n",
     "thread": rb"routed: a worker couldn't be started\n",
     "break": rb"routed: [a-z ]*(/\S+)?: (read|write|flush): Interrupted system call \(os error 4\)\n",
 }
@@ -122,12 +124,13 @@ class Audit:
         updates, requests = text_of(UPDATES), text_of(REQUESTS)
         versions = Versions(updates, requests.splitlines())
         lines = [versions.replies[at % len(versions.replies)][at] for at in range(len(versions.asks))]
-        replies = "".join(f"{line}\n" for line in [*lines[:3], lines[3].replace("again=no", "again=yes"), lines[0], *lines[4:-1], "version 4"])
+        replies = "".join(f"{line}\n" for line in [*lines[:3], lines[3].replace("again=no", "again=yes"), lines[0], *lines[4:-1],
+                                                   "version 4"])
         path = os.path.join(room, "replies")
         with open(path, "w", encoding="ascii") as file:
             file.write(replies)
         self.words = [program.path, "audit", "--journal", UPDATES, "--requests", REQUESTS, "--replies", path, "--explain"]
-        self.status, lines = formats.audit(updates, requests, replies)
+        self.status, lines = runs.audit(updates, requests, replies)
         self.lines = "".join(f"{line}\n" for line in lines).encode()
 
     def run(self, refuser, number, flags):
@@ -160,7 +163,8 @@ class Serve:
         self.program, self.versions = program.path, Versions(text_of(UPDATES), text_of(REQUESTS).splitlines())
 
     def run(self, refuser, number, flags):
-        journal, replies = (os.path.join(refuser.room.name, f"{kind} of serve {flags} {number}".replace(" ", "-")) for kind in ("journal", "replies"))
+        journal, replies = (os.path.join(refuser.room.name, f"{kind} of serve {flags} {number}".replace(" ", "-"))
+                            for kind in ("journal", "replies"))
         words = [self.program, "serve", "--explain", "--journal", journal, "--client", f"{REQUESTS}={replies}"]
         ran = refuser.run(words, flags[0], number, *flags[1:], stdin=UPDATES)
         kept, lines = (text_of(path) if os.path.exists(path) else "" for path in (journal, replies))
@@ -169,7 +173,8 @@ class Serve:
                 os.remove(path)
         most = len(self.versions.texts) - 1
         told = "".join(f"version {at}\n" for at in range(1, most + 1)).encode()
-        whole = ran.status == 0 and (ran.out, ran.err, kept) == (told, b"", self.versions.texts[most]) and self.is_answered(lines, len(self.versions.asks))
+        whole = ran.status == 0 and (ran.out, ran.err,
+                                     kept) == (told, b"", self.versions.texts[most]) and self.is_answered(lines, len(self.versions.asks))
         return ran, whole, whole or self.is_right(ran, flags, kept, lines)
 
     def is_answered(self, lines, count):
@@ -196,7 +201,8 @@ class Serve:
 
 # A client that ended before its rows, as --explain says it, and the lines that updates are answered by.
 CLIENT_ENDS = rb"(routed: client 1: (out of memory|no entry|/\S+: a (read|write|flush) failed)\n)?"
-NAMED = rb"version \d+|batch \d+ refused: (memory|stopped|journal \d+|expected \d+|counted \d+|absent \d+)|row \d+ refused: \S+( \d+)?|unended \d+"
+NAMED = (rb"version \d+|batch \d+ refused: (memory|stopped|journal \d+|expected \d+|counted \d+|absent \d+)"
+         rb"|row \d+ refused: \S+( \d+)?|unended \d+")
 
 
 def writes(program, checks, refuser):
@@ -207,7 +213,8 @@ def writes(program, checks, refuser):
     checks.same("a write for each line of solve", (ran.out, ran.calls), (solve.lines, len(lines)))
     for flags in ((), ("break",)):
         found = [refuser.run(solve.words, "write", number, *flags, stdin=ABILENE) for number in range(1, len(lines) + 1)]
-        checks.same(f"lines before a refused write {flags}", [(ran.refused, ran.out) for ran in found], [(1, b"".join(lines[:at])) for at in range(len(lines))])
+        checks.same(f"lines before a refused write {flags}", [(ran.refused, ran.out) for ran in found],
+                    [(1, b"".join(lines[:at])) for at in range(len(lines))])
     ran, is_whole, _ = serve.run(refuser, 0, ("write",))
     batches = len(serve.versions.texts) - 1
     checks.same("a write for each line and batch of serve", (is_whole, ran.calls), (True, 2 * batches + len(serve.versions.asks)))

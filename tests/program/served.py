@@ -19,7 +19,8 @@ import time
 
 from program.refusal import COMPILER, Refuser
 from program.served_bytes import streams
-from program.serving import AT, BATCHES, CLIENTS, MOMENT, PATIENCE, ROUTERS, Serving, ask_on, batches_of, circuit_at, judged, reply_at, wait_for
+from program.serving import AT, BATCHES, CLIENTS, MOMENT, PATIENCE, ROUTERS, Serving, ask_on, batches_of, circuit_at, judged, reply_at
+from program.serving import wait_for
 from reference import changes
 from reference.versions import Versions
 
@@ -72,7 +73,8 @@ def dialogue(program, checks, room):
         for number, rows, line in [
             (1, ask, "ask 7 v0 unknown-from\n"), (0, f"{puts}end,1,2\n", "version 1\n"), (1, ask, f"ask 7 v1 {route}"),
             (2, "end,2,0\n", "row 1 refused: kind\n"), (2, "put\n", "row 2 refused: fields\n"), (2, puts, "row 3 refused: kind\n"),
-            (2, "drop,1.1.1.1,10.0.12.1\n", "row 4 refused: kind\n"), (2, "", "row 5 refused: kind\n"), (2, "\0\xff\n", "row 6 refused: kind\n"),
+            (2, "drop,1.1.1.1,10.0.12.1\n", "row 4 refused: kind\n"), (2, "", "row 5 refused: kind\n"),
+            (2, "\0\xff\n", "row 6 refused: kind\n"),
             (2, ask, f"ask 7 v1 {route}"), (0, ask, f"ask 7 v1 {route}"), (0, "end,3,0\n", "batch 3 refused: expected 2\n"),
             (0, "b\xe4d\n", "row 6 refused: kind\n"), (0, "drop,1.1.1.1,10.0.12.1\nend,2,2\n", "batch 2 refused: counted 1\n"),
             (0, "end,2,0\n", "version 2\n"), (1, ask, f"ask 7 v2 {route}"), (0, "node,1.1.1.1,0\n" + ask, f"ask 7 v2 {route}"),
@@ -98,7 +100,8 @@ def patient(program, checks, room):
                     wrong = found
                     break
             checks.same(f"{REFUSED} refused rows of stream {number}", wrong, None)
-            checks.same(f"a request after them on stream {number}", run.talk(number, "ask,7,1.1.1.1,2.2.2.2,0,5,0x0,0x0,0x0,\n"), "ask 7 v0 unknown-from\n")
+            checks.same(f"a request after them on stream {number}", run.talk(number, "ask,7,1.1.1.1,2.2.2.2,0,5,0x0,0x0,0x0,\n"),
+                        "ask 7 v0 unknown-from\n")
         checks.same("the end after refused rows", run.end(), (["", ""], 2, ""))
 
 
@@ -128,7 +131,8 @@ def many(program, checks, room, versions):
     """64 clients ask at once while batches are published."""
     told, done, found = [0], threading.Event(), [[] for _ in range(CLIENTS)]
     with Serving(program, room, CLIENTS) as run:
-        threads = [threading.Thread(target=ask_on, args=(run, at + 1, versions, told, done, found[at]), daemon=True) for at in range(CLIENTS)]
+        threads = [threading.Thread(target=ask_on, args=(run, at + 1, versions, told, done, found[at]), daemon=True)
+                   for at in range(CLIENTS)]
         for thread in threads:
             thread.start()
         for number, batch in enumerate(batches_of(versions), 1):
@@ -299,7 +303,8 @@ def refusals(program, checks, room):
     status, out, errors = serve(["@a=@b"])
     checks.same("serve without a journal", (status, out, errors.decode()[:len(missing)]), (1, b"", missing))
     _, _, text = program.run(["serve", "--help"])
-    for word in [b"--journal", b"--client", b"in=out", b"mkfifo", b"/dev/fd/n", b"stopped", b"status", b"--explain", b"1 to 64", b"1,048,576"]:
+    for word in [b"--journal", b"--client", b"in=out", b"mkfifo", b"/dev/fd/n", b"stopped", b"status", b"--explain", b"1 to 64",
+                 b"1,048,576"]:
         checks.true(f"help of serve names {word.decode()}", word in b" ".join(text.lower().split()), text)
     absent = "open: No such file or directory (os error 2)\n"
     for name, journal, client, why in [
@@ -328,7 +333,8 @@ def kills(program, checks, room, versions, draw):
         if refuser and at % 2:  # every other run writes byte by byte
             env.update(LD_PRELOAD=refuser.library, REFUSE_CALL="write", REFUSE_AT="1", REFUSE_ON="1", REFUSE_SHORT="1")
         found.append(killed_run(checks, Serving(program, inner, 2, env=env), at, versions, draw))
-    lengths, torn, replies = len({length for length, _, _ in found}), sum(is_torn for _, is_torn, _ in found), sum(count for *_, count in found)
+    lengths, torn, replies = len({length for length, _, _ in found}), sum(is_torn
+                                                                          for _, is_torn, _ in found), sum(count for *_, count in found)
     spread = lengths > KILLS // 3 and (refuser is None or torn > KILLS // 10) and replies > 2 * KILLS
     checks.true("the kills of served runs are spread", spread, (lengths, torn, replies))
     print(f"served: {KILLS} kills, {lengths} lengths of journals, {torn} torn, {replies} replies")
@@ -339,7 +345,8 @@ def killed_run(checks, run, at, versions, draw):
     told, done, asked = [0], threading.Event(), ([], [])
     length, signal_sent = draw.randrange(len(versions.texts[-1])), signal.SIGKILL if at % TERMINATED else signal.SIGTERM
     with run:
-        threads = [threading.Thread(target=ask_on, args=(run, number, versions, told, done, asked[number - 1]), daemon=True) for number in (1, 2)]
+        threads = [threading.Thread(target=ask_on, args=(run, number, versions, told, done, asked[number - 1]), daemon=True)
+                   for number in (1, 2)]
         pauses = random.Random(at) if at % 4 < 2 else None
         threads.append(threading.Thread(target=update, args=(run, versions, told, pauses), daemon=True))
         for thread in threads:
@@ -353,7 +360,8 @@ def killed_run(checks, run, at, versions, draw):
             thread.join(PATIENCE)
         text = run.kept()
     recorded = versions.recorded(text)
-    checks.true(f"the journal after kill {at} is a front of the updates", recorded is not None and status == -signal_sent, (status, text[-200:]))
+    checks.true(f"the journal after kill {at} is a front of the updates", recorded is not None and status == -signal_sent,
+                (status, text[-200:]))
     if recorded is None:
         return 0, False, 0
     checks.true(f"what was told before kill {at} is in the journal", told[0] <= recorded, (told, recorded))

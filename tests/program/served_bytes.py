@@ -3,7 +3,8 @@ import os
 
 from program.serving import AT
 from reference import changes
-from reference.formats import Network, Refused, batch_text, ended, records, row, solve
+from reference.formats import Network, Refused, records, row
+from reference.runs import batch_text, ended, solve
 
 STREAMS, STREAM_CLIENTS = 30, 6  # runs over streams of any bytes, and the clients of each
 
@@ -75,7 +76,8 @@ def streams(program, checks, room, draw):
         wanted = [client_lines(networks, fit(rows), told) for rows, told in zip(given, found)]
         bad = any(line.startswith("row ") for told in wanted for line in told)
         checks.same(f"clients of any bytes {run}", found, wanted)
-        checks.same(f"updates of any bytes {run}", (status, out.decode("latin-1").splitlines(), errors.decode()), (2 if bad else own, lines, ends))
+        checks.same(f"updates of any bytes {run}", (status, out.decode("latin-1").splitlines(), errors.decode()),
+                    (2 if bad else own, lines, ends))
         checks.same(f"the journal of any bytes {run}", open(journal, encoding="latin-1").read(), text)
         refused += bad + own
     checks.true("rows of any bytes are refused", refused > STREAMS, refused)

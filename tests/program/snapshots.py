@@ -6,7 +6,8 @@ import subprocess
 import time
 
 from reference import changes
-from reference.formats import MOST_CHANGES, MOST_LINKS, MOST_MARKS, MOST_ROUTERS, MOST_ROWS, Refused, batch_text, publish, whole_batches
+from reference.formats import MOST_CHANGES, MOST_LINKS, MOST_MARKS, MOST_ROUTERS, Refused
+from reference.runs import MOST_ROWS, batch_text, publish, whole_batches
 
 HERE = os.path.dirname(os.path.abspath(__file__))
 TORN = "--accept-torn"
@@ -111,7 +112,8 @@ def full_rows(links, marks):
 
     for link in range(links):
         near, number = divmod(link, each)
-        yield f"put,{router(near)},172.16.0.{number},{router((near + 1) % MOST_ROUTERS)},172.16.1.{number},{link},0x{link:08x},{','.join(map(str, range(link, link + 8)))}"
+        far, free = router((near + 1) % MOST_ROUTERS), ",".join(map(str, range(link, link + 8)))
+        yield f"put,{router(near)},172.16.0.{number},{far},172.16.1.{number},{link},0x{link:08x},{free}"
     for mark in range(marks):
         yield f"node,{router(mark)},0"
 
@@ -136,7 +138,8 @@ def full(program, checks, draw):
         for order, given in (("in order", rows), ("mixed", mixed)):
             checks.same(f"snapshot of {links} links and {marks} marks, {order}", taken(program, numbered(given)), (0, text.encode(), b""))
     for more, words in [("put,10.0.0.1,172.17.0.0,10.0.1.1,172.17.1.0,1,0x0,0,0,0,0,0,0,0,0", "full"), ("node,10.9.9.9,0", "marks")]:
-        checks.same(f"one more than a full database: {words}", taken(program, f"{text}{more}\nend,6,1\n"), (2, f"batch 6 refused: {words}\n".encode(), b""))
+        checks.same(f"one more than a full database: {words}", taken(program, f"{text}{more}\nend,6,1\n"),
+                    (2, f"batch 6 refused: {words}\n".encode(), b""))
 
 
 def many_rows(program, checks):
@@ -164,7 +167,9 @@ def stops(program, checks):
     journal = os.path.join(HERE, "journals", "one_link.journal")
     with open("/dev/full", "wb") as out:
         ran = subprocess.run([program.path, "snapshot", "--journal", journal, "--explain"], stdout=out, stderr=subprocess.PIPE, check=False)
-    checks.true("a full device", ran.returncode == 3 and re.fullmatch(b"routed: standard output: (write|flush): " + re.escape(FULL + STOPPED[2]), ran.stderr), ran.stderr)
-    for words in ([], ["--journal"], ["--journal", journal, "more"], ["--journal", journal, "--requests", journal], ["--journal", journal, "--workers", "2"]):
+    checks.true("a full device", ran.returncode == 3
+                and re.fullmatch(b"routed: standard output: (write|flush): " + re.escape(FULL + STOPPED[2]), ran.stderr), ran.stderr)
+    for words in ([], ["--journal"], ["--journal", journal, "more"], ["--journal", journal, "--requests", journal],
+                  ["--journal", journal, "--workers", "2"]):
         status, out, err = program.run(["snapshot", *words])
         checks.true(f"words that are refused: {words}", (status, out) == (1, b"") and err, (status, out))

@@ -1,7 +1,8 @@
-"""`routed serve` and `routed-tools listen` where the system refuses threads: nothing is read, published or answered, and a client without one is named.
+"""`routed serve` and `routed-tools listen` where the system refuses threads: nothing is read, published or answered, and a client without
+one is named.
 
-Each thread of 8 clients is refused, and some of 64, alone and with all later ones (tests/program/refuse.c). And a user has fewer than there are clients.
-Nor does `serve` end by a signal where its stack or its address space is small.
+Each thread of 8 clients is refused, and some of 64, alone and with all later ones (tests/program/refuse.c). And a user has fewer than there
+are clients. Nor does `serve` end by a signal where its stack or its address space is small.
 """
 import array
 import contextlib
@@ -19,7 +20,7 @@ import time
 from checks import TOP
 from program.refusal import COMPILER, Refuser
 from program.serving import CLIENTS, PATIENCE
-from reference import formats
+from reference import runs
 from tools.fronts import Front
 
 FEW, SOME = 8, (1, 2, CLIENTS // 2, CLIENTS - 1, CLIENTS)  # clients of which each thread is refused, and those of 64 that are
@@ -125,7 +126,8 @@ def answered(program, checks, refuser, room):
     with open(updates, "wb") as file:
         file.write(UPDATES)
     words, journal, outs = serving(program.path, room, files(room, FEW))
-    checks.same(f"{FEW} clients have a thread each", refuser.run(words, "thread", FEW + 1, "on", stdin=updates), (0, b"version 1\n", b"", FEW, 0))
+    checks.same(f"{FEW} clients have a thread each", refuser.run(words, "thread", FEW + 1, "on", stdin=updates),
+                (0, b"version 1\n", b"", FEW, 0))
     checks.same("they are answered", {re.sub("v[01]", "v", kept(path)) for path in outs}, {"ask 7 v unknown-from\n"})
     checks.same("the journal beside them", kept(journal), UPDATES.decode())
 
@@ -160,13 +162,15 @@ def listening(program, checks, refuser, room):
     for at in range(1, FEW + 1):
         for more in ("", "REFUSE_ON=1 "):
             with open(Refused.path, "w", encoding="utf-8") as script:
-                script.write(f"#!/bin/sh\nLD_PRELOAD='{refuser.library}' REFUSE_CALL=thread REFUSE_AT={at} {more}exec '{program.path}' \"$@\"\n")
+                script.write(f"#!/bin/sh\nLD_PRELOAD='{refuser.library}' REFUSE_CALL=thread REFUSE_AT={at} {more}exec '{program.path}' "
+                             "\"$@\"\n")
             os.chmod(Refused.path, 0o700)
             with Front(Refused, room, "--clients", str(FEW)) as front:
                 status, said = front.ended()
                 name = f"routed-tools listen without thread {at} {more}"
                 checks.same(name, (front.first, status), ("", 3))
-                checks.true(f"{name}: a client is named", named(said, f"listen: {Refused.path} ended with status 3\n") in range(1, FEW + 1), said)
+                checks.true(f"{name}: a client is named", named(said, f"listen: {Refused.path} ended with status 3\n") in range(1, FEW + 1),
+                            said)
                 checks.same(f"{name}: what is left", (sorted(os.listdir(room)), sizes(front.journal)), (["journal", "routed"], {0}))
             forget(front.journal)
 
@@ -186,7 +190,8 @@ def full_network():
                 puts.append(f"put,{start},{local},{end},{remote},{step * step + near % 7},0x1,{free}\n")
     rows = "".join("".join(puts[at:at + 4096]) + f"end,{at // 4096 + 1},4096\n" for at in range(0, len(puts), 4096))
     hops = " ".join(f"{address(2, at)}/32l" for at in (900, 100, 800, 200, 700, 300, 600))
-    return rows, f"ask,1,{address(2, 0)},{address(2, 512)},0,5,0x0,0x0,0x0,\nask,2,{address(2, 1)},{address(2, 500)},7,5,0x0,0x0,0x0,{hops}\n"
+    return rows, (f"ask,1,{address(2, 0)},{address(2, 512)},0,5,0x0,0x0,0x0,\n"
+                  f"ask,2,{address(2, 1)},{address(2, 500)},7,5,0x0,0x0,0x0,{hops}\n")
 
 
 def address(top, number):
@@ -201,7 +206,7 @@ def within(kind, most):
 def in_small_stacks(program, checks, room):
     """64 clients are answered on a network of full size."""
     rows, asks = full_network()
-    lines = "".join(f"{line}\n" for line in formats.solve(rows + asks)[1][-2:])
+    lines = "".join(f"{line}\n" for line in runs.solve(rows + asks)[1][-2:])
     for stack in STACKS:
         with contextlib.closing(Inputs(room, CLIENTS, b"")) as inputs:
             words, journal, outs = serving(program.path, room, inputs.paths[1:])
@@ -228,7 +233,8 @@ def in_small_spaces(program, checks, room):
     words, journal, outs = serving(program.path, room, files(room, CLIENTS))
     found = {}
     for space in SPACES:
-        ran = subprocess.run(words, input=UPDATES, capture_output=True, timeout=PATIENCE, preexec_fn=within(resource.RLIMIT_AS, space * MIB))
+        ran = subprocess.run(words, input=UPDATES, capture_output=True, timeout=PATIENCE,
+                             preexec_fn=within(resource.RLIMIT_AS, space * MIB))
         found.setdefault(ran.returncode, []).append(space)
         if ran.returncode == 3:
             checks.true(f"{space} MiB of address space: it says that it is stopped", ran.stderr.endswith(b"routed: stopped\n"), ran.stderr)
@@ -267,7 +273,8 @@ def of_a_user(program, checks, room, above):
     if os.geteuid() != 0:
         print("threads: routed-tools listen isn't tried as a user of few threads, which needs root")
         return
-    ran = subprocess.run(["tools/routed-tools", "listen", "--program", path, "--journal", journal, "--ask", "./ask", "--updates", "./updates"], **how)
+    ran = subprocess.run(["tools/routed-tools", "listen", "--program", path, "--journal", journal, "--ask", "./ask", "--updates",
+                          "./updates"], **how)
     checks.same("routed-tools listen without a thread for each client", (ran.returncode, ran.stdout), (3, b""))
     client = named(ran.stderr.decode(), f"listen: {path} ended with status 3\n")
     checks.true("a client of routed-tools listen without a thread is named", client in range(1, CLIENTS + 1), ran.stderr)

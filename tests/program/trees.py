@@ -1,5 +1,5 @@
-"""What `solve`, `batch`, `live` and `serve` answer by `--trees 0`, by default and with a megabyte is the same, byte for byte, on streams that
-ask often enough for trees. A reply of `live` beside updates names the version of its moment, so it is the reference's at that version.
+"""What `solve`, `batch`, `live` and `serve` answer by `--trees 0`, by default and with a megabyte is the same, byte for byte, on streams
+that ask often enough for trees. A reply of `live` beside updates names the version of its moment, so it is the reference's at that version.
 
     tests/run --trees MB
 
@@ -15,7 +15,7 @@ from checks import TOP
 from program.refusal import COMPILER
 from program.serving import Serving, batches_of
 from program.tables import ran_live, table
-from reference import changes, formats
+from reference import changes, runs
 from reference.versions import Versions
 
 HERE = os.path.dirname(os.path.abspath(__file__))
@@ -26,7 +26,8 @@ CLIENTS = 3
 
 
 def adding(program, megabytes, room):
-    """The path of a program that is this one with the option in each command that takes it. Both are in a folder that everybody may read."""
+    """The path of a program that is this one with the option in each command that takes it. Both are in a folder that everybody may
+    read."""
     os.chmod(room, 0o755)
     copied, path = os.path.join(room, "program"), os.path.join(room, "routed")
     shutil.copy(program, copied)
@@ -37,8 +38,10 @@ def adding(program, megabytes, room):
 
 def trees(program, checks):
     draw = random.Random(3)
-    asks = [f"ask,{at},10.0.0.{at},10.0.0.{(at * 5 + 1) % 12},{at % 8},{draw.choice([0, 5])},0x0,{draw.choice(['0x0', '0x6'])},0x0," for at in range(12)]
-    nets = [Versions(text_of("examples/nsfnet.journal"), text_of("examples/nsfnet.requests").splitlines()), Versions(changes.updates(draw, 12, 12), asks)]
+    asks = [f"ask,{at},10.0.0.{at},10.0.0.{(at * 5 + 1) % 12},{at % 8},{draw.choice([0, 5])},0x0,{draw.choice(['0x0', '0x6'])},0x0,"
+            for at in range(12)]
+    nets = [Versions(text_of("examples/nsfnet.journal"), text_of("examples/nsfnet.requests").splitlines()),
+            Versions(changes.updates(draw, 12, 12), asks)]
     for words in WAYS:
         for name, rows, lines in worked("scripts", ".rows", ".out"):
             checks.same(f"{name} {words}", program.run(["solve", *words], rows)[1], lines)
@@ -46,7 +49,8 @@ def trees(program, checks):
             found = program.batch(journal, requests, *words, *worked_words(name))
             checks.same(f"{name} {words}", found[1], lines)
         for first, (updates, requests, lines, kept) in table("live"):
-            checks.same(f"live: {updates} {requests} {words}", ran_live(program, updates, requests, "4", *words), ((int(first), lines, b""), kept))
+            checks.same(f"live: {updates} {requests} {words}", ran_live(program, updates, requests, "4", *words),
+                        ((int(first), lines, b""), kept))
         for versions in nets:
             answered(program, checks, versions, words)
     refused(program, checks)
@@ -58,7 +62,8 @@ def text_of(path):
 
 
 def worked(folder, *ends):
-    """Each stream of a folder whose name has the first end: its name, and the bytes of the files with these ends, none where there is none."""
+    """Each stream of a folder whose name has the first end: its name, and the bytes of the files with these ends, none where there is
+    none."""
     for name in sorted(os.listdir(os.path.join(HERE, folder))):
         if name.endswith(ends[0]):
             paths = [os.path.join(HERE, folder, name[:-len(ends[0])] + end) for end in ends]
@@ -83,7 +88,7 @@ def answered(program, checks, versions, words):
 
     def right(some):
         text = "".join(some)
-        status, lines = formats.solve(text) if text != rows else (0, solved.splitlines())
+        status, lines = runs.solve(text) if text != rows else (0, solved.splitlines())
         return status, joined(lines).encode(), b""
 
     checks.stream(f"solve {words}", rows.splitlines(keepends=True), lambda some: program.run(["solve", *words], "".join(some)), right)

@@ -1,12 +1,13 @@
-"""What `routed book` writes, from the formats' own words (docs/run/FORMATS.md), over tests/reference/formats.py.
+"""What `routed book` writes, from the formats' own words (docs/run/FORMATS.md), over tests/reference/runs.py.
 
 Small and slow on purpose; nothing in it is taken from the program.
 """
 import collections
 import functools
 
-from reference import formats
-from reference.formats import MOST_ROWS, MOST_VERSIONS, Network, Refused, address_text
+from reference import formats, runs
+from reference.formats import Network, Refused, address_text
+from reference.runs import MOST_ROWS, MOST_VERSIONS
 
 PRIORITIES = range(8)  # 0 is the most important
 NOTHING = [0] * len(PRIORITIES)
@@ -181,7 +182,7 @@ def steps(rows):
                 changes.append((kind, content))
             elif kind == "end":
                 subject, open_ones, changes = f"batch {content['number']}", changes, []
-                lines, text = book.end(open_ones, content), formats.batch_text(content["number"], open_ones)
+                lines, text = book.end(open_ones, content), runs.batch_text(content["number"], open_ones)
             elif kind == "ask":
                 lines = [book.ask(content)]
             elif kind == "place":

@@ -82,7 +82,8 @@ def hop_list(draw, count):
 
 
 def subobject(draw):
-    return bytearray([draw.choice([1, 129]), 8, 10, 0, 0, draw.randrange(ROUTERS), draw.choice([0, 8, 29, 31, 32, 32]), draw.randrange(256)])
+    return bytearray([draw.choice([1, 129]), 8, 10, 0, 0, draw.randrange(ROUTERS), draw.choice([0, 8, 29, 31, 32, 32]),
+                      draw.randrange(256)])
 
 
 def object_text(parts):
@@ -140,18 +141,21 @@ SINGLE = [
     "\x7f", "\x80", "\xff", "\xef\xbb\xbf", "\xd9\xa3",
 ]
 LINES = [
-    "", "", "\r", " ", "#", "# a comment", "#,", ",", ",,", '"', '""', '"",', "foo", "put", "drop", "node", "end", "ask", "PUT", "put ", "end,1,0", "end,2,0",
-    "drop,10.0.0.1,172.16.0.1", "node,10.0.0.1,0", "node,10.0.0.2,2", "\0", "\xef\xbb\xbf", "version 1", ",put", "," * 20, "applied", "batch 1 refused: full", "versions", "ask 7 v1",
+    "", "", "\r", " ", "#", "# a comment", "#,", ",", ",,", '"', '""', '"",', "foo", "put", "drop", "node", "end", "ask", "PUT", "put ",
+    "end,1,0", "end,2,0",
+    "drop,10.0.0.1,172.16.0.1", "node,10.0.0.1,0", "node,10.0.0.2,2", "\0", "\xef\xbb\xbf", "version 1", ",put", "," * 20, "applied",
+    "batch 1 refused: full", "versions", "ask 7 v1",
 ]
 NUMBERS = [
-    "", "0", "00", "01", "7", "8", "07", "32", "33", "255", "256", "4294967295", "4294967296", "18446744073709551615", "18446744073709551616",
-    "99999999999999999999999", "-1", "+1", "-0", "1_0", " 1", "1 ", "1.0", "1e1", "0x1", "\xb9",
+    "", "0", "00", "01", "7", "8", "07", "32", "33", "255", "256", "4294967295", "4294967296", "18446744073709551615",
+    "18446744073709551616", "99999999999999999999999", "-1", "+1", "-0", "1_0", " 1", "1 ", "1.0", "1e1", "0x1", "\xb9",
 ]
 MASKS = [
-    "", "0x", "0x0", "0x00000001", "0xffffffff", "0xAbCdEf01", "0x100000000", "0x000000001", "0X1", "1", "x1", "0xg", "0x-1", "0x+1", "0x1_0",
-    " 0x1", "0x1 ", "0x 1",
+    "", "0x", "0x0", "0x00000001", "0xffffffff", "0xAbCdEf01", "0x100000000", "0x000000001", "0X1", "1", "x1", "0xg", "0x-1", "0x+1",
+    "0x1_0", " 0x1", "0x1 ", "0x 1",
 ]
-LENGTHS = ["", "/", "/0", "/00", "/01", "/8", "/31", "/32", "/33", "/032", "/099", "/100", "/-1", "/+1", "/ 8", "/8/8", "/4294967296", "/18446744073709551648"]
+LENGTHS = ["", "/", "/0", "/00", "/01", "/8", "/31", "/32", "/33", "/032", "/099", "/100", "/-1", "/+1", "/ 8", "/8/8", "/4294967296",
+           "/18446744073709551648"]
 OCTETS = ["", "0", "00", "01", "255", "256", "0255", "999", "1000", "-1", "+1", " 1", "1.1", "4294967297", "0x1"]
 EDGES = {"mask": MASKS, "prefix length": LENGTHS, "part of an address": OCTETS, "number": NUMBERS}
 VALUE = re.compile("0x[0-9a-f]+|/[0-9]+|[0-9]+")
@@ -178,8 +182,10 @@ def quoted(field, cut):
     """Ways to put a field in quotes, and such as only look like it; some have quotes, or more, where it is cut."""
     first, rest = field[:cut], field[cut:]
     return [
-        f'"{field}"', f'"{first}"{rest}', f'"{first}""{rest}"', f'"{first}"""{rest}', f'"{field}', f'{field}"', f'{first}"{rest}', f' "{field}"', f'"{field}" ',
-        f'""{field}', f'""{field}""', f'"""{field}"""', f'"{first},{rest}"', f'"{first}""{rest},{field}"', f'"{first}\n{rest}"', f'"{first}\r\n{rest}"', f"'{field}'",
+        f'"{field}"', f'"{first}"{rest}', f'"{first}""{rest}"', f'"{first}"""{rest}', f'"{field}', f'{field}"', f'{first}"{rest}',
+        f' "{field}"', f'"{field}" ',
+        f'""{field}', f'""{field}""', f'"""{field}"""', f'"{first},{rest}"', f'"{first}""{rest},{field}"', f'"{first}\n{rest}"',
+        f'"{first}\r\n{rest}"', f"'{field}'",
     ]
 
 
@@ -323,7 +329,8 @@ def line_ends_changed(draw, text):
 
 
 def byte_order_mark(draw, text):
-    return draw.choice(["\xef\xbb\xbf", "\xef\xbb\xbf", "\xef\xbb", "\xef", "\xef\xbb\xbf\xef\xbb\xbf", "\n\xef\xbb\xbf", "\xff\xfe", '\xef\xbb\xbf"']) + text
+    return draw.choice(["\xef\xbb\xbf", "\xef\xbb\xbf", "\xef\xbb", "\xef", "\xef\xbb\xbf\xef\xbb\xbf", "\n\xef\xbb\xbf", "\xff\xfe",
+                        '\xef\xbb\xbf"']) + text
 
 
 @of_lines
@@ -335,16 +342,19 @@ def reply_retold(draw, lines, at):
         _, name, version, rest = lines[at].split(" ", 3)
         other = lines[draw.choice(told)]
         lines[at:at + draw.choice([0, 1, 1])] = [draw.choice([
-            f"ask {draw.choice([draw.randrange(9)] * 4 + [2**64 - 1, 2**64])} {version} {rest}", f"ask {name} v{draw.randrange(5)} {rest}", f"ask {name} v{int(version[1:]) + draw.choice([1, 1, 4])} {rest}",
+            f"ask {draw.choice([draw.randrange(9)] * 4 + [2**64 - 1, 2**64])} {version} {rest}", f"ask {name} v{draw.randrange(5)} {rest}",
+            f"ask {name} v{int(version[1:]) + draw.choice([1, 1, 4])} {rest}",
             f"ask {name} {version} {draw.choice(['none', 'unknown-from', 'unknown-to', rest.upper(), rest + ' '])}",
-            f"ask {name} {version} {other.split(' ', 3)[3]}", lines[at].replace("again=no", "again=yes"), lines[at].replace("again=yes", "again=no"),
+            f"ask {name} {version} {other.split(' ', 3)[3]}", lines[at].replace("again=no", "again=yes"),
+            lines[at].replace("again=yes", "again=no"),
         ])]
 
 
 USUAL = [
-    byte_changed, byte_dropped, byte_doubled, byte_added, field_dropped, field_doubled, field_emptied, fields_swapped, field_quoted, value_at_its_edge,
-    value_at_its_edge, hops_repeated, lines_joined, line_cut, line_parted, line_dropped, line_doubled, lines_swapped, line_added, stream_cut,
-    last_line_feed_dropped, line_ends_changed, byte_order_mark,
+    byte_changed, byte_dropped, byte_doubled, byte_added, field_dropped, field_doubled, field_emptied, fields_swapped, field_quoted,
+    value_at_its_edge,
+    value_at_its_edge, hops_repeated, lines_joined, line_cut, line_parted, line_dropped, line_doubled, lines_swapped, line_added,
+    stream_cut, last_line_feed_dropped, line_ends_changed, byte_order_mark,
 ]
 OF_REPLIES = USUAL + [reply_retold] * 12
 
@@ -381,18 +391,23 @@ def changed_object(draw):
     parts = [subobject(draw) for _ in range(draw.choice([0, 1, 1, 2, 3, 6, 7, 8]))]
     if parts and draw.random() < 0.6:
         part = draw.choice(parts)
-        at, values = draw.choice([(0, [0, 2, 3, 4, 32, 127, 128, 130, 131, 255]), (1, [0, 1, 4, 7, 9, 16, 136, 255]), (6, [0, 1, 31, 32, 33, 128, 255])])
+        at, values = draw.choice([(0, [0, 2, 3, 4, 32, 127, 128, 130, 131, 255]), (1, [0, 1, 4, 7, 9, 16, 136, 255]),
+                                  (6, [0, 1, 31, 32, 33, 128, 255])])
         part[at] = draw.choice(values)
     body = b"".join(parts)
     if draw.random() < 0.3:
-        body = draw.choice([body[:-4], body[:-1], body[:draw.randrange(len(body) + 1)], body + bytes(4), body + body[:4], body + b"\x20\x04\0\0", body + bytes(60)])
-    length = len(body) + 4 if draw.random() < 0.8 else draw.choice([0, 4, len(body), len(body) + 3, len(body) + 5, len(body) + 8, len(body) + 260, 65535])
-    data = length.to_bytes(2, "big") + bytes([draw.choice([20] * 30 + [0, 19, 21, 148, 255]), draw.choice([1] * 30 + [0, 2, 129, 255])]) + body
+        body = draw.choice([body[:-4], body[:-1], body[:draw.randrange(len(body) + 1)], body + bytes(4), body + body[:4],
+                            body + b"\x20\x04\0\0", body + bytes(60)])
+    length = len(body) + 4 if draw.random() < 0.8 else draw.choice([0, 4, len(body), len(body) + 3, len(body) + 5, len(body) + 8,
+                                                                    len(body) + 260, 65535])
+    data = length.to_bytes(2, "big") + bytes([draw.choice([20] * 30 + [0, 19, 21, 148, 255]),
+                                              draw.choice([1] * 30 + [0, 2, 129, 255])]) + body
     if draw.random() < 0.05:
         data = data[:draw.randrange(5)]
     digits = draw.choice([data.hex(), data.hex(), data.hex().upper(), data.hex(" ") if draw.random() < 0.1 else data.hex()])
     if draw.random() < 0.1:
-        digits = draw.choice([digits[:-1], digits + "0", "0x" + digits, digits + " ", digits + "\0", byte_changed(draw, digits or "0").replace("\n", "g"), digits + "gg"])
+        digits = draw.choice([digits[:-1], digits + "0", "0x" + digits, digits + " ", digits + "\0",
+                              byte_changed(draw, digits or "0").replace("\n", "g"), digits + "gg"])
     return draw.choice(["ero:"] * 20 + ["ERO:", "ero", " ero:", "ero::", "ero: "]) + digits
 
 

@@ -1,11 +1,13 @@
 """What a sweep says, computed from the routes of tests/reference/formats.py."""
 import itertools
 
-from reference.formats import address_text, publish, requests_of, whole_batches
+from reference.formats import address_text
+from reference.runs import publish, requests_of, whole_batches
 
 
 def plain(rows, asks, fail):
-    """What a sweep says, from the routes of tests/reference/formats.py as they are, with no object read and each request asked in each scenario."""
+    """What a sweep says, from the routes of tests/reference/formats.py as they are, with no object read and each request asked in each
+    scenario."""
     network, requests = publish(whole_batches(rows))[0][-1], requests_of(asks)
     version = len(whole_batches(rows))
     links = {key: network.links[key] for key in sorted(network.links)}
@@ -29,7 +31,8 @@ def plain(rows, asks, fail):
                 above = sum(bandwidth for setup, bandwidth in taken if setup < priority)
                 free = links[key]["free"][priority]
                 if asked + above > free:
-                    full[key, priority] = asked + above, f"overbooked {name(key)} priority={priority} asked={asked} above={above} unreserved={free}"
+                    said = f"overbooked {name(key)} priority={priority} asked={asked} above={above} unreserved={free}"
+                    full[key, priority] = asked + above, said
         return full
 
     def cost(walk):
@@ -59,7 +62,8 @@ def plain(rows, asks, fail):
         full = [fact for at, (taken, fact) in overbooked(found).items() if at not in before or taken > before[at][0]]
         most = max([new - old for _, new, old in longer], default=0)
         done.append((place, [request for request, (_, old), (_, new) in zip(requests, base, found) if old is not None and new is None],
-                     [request for at, _, _ in longer for request in requests if request["id"] == at], " and ".join(part for part, _ in scenario)))
+                     [request for at, _, _ in longer for request in requests if request["id"] == at],
+                     " and ".join(part for part, _ in scenario)))
         for fact in (*(f"out {part}" for part, _ in scenario), *lost,
                      *(f"longer request {at} cost={new} was={old} more={new - old}" for at, new, old in longer), *full,
                      f"lost={len(lost)} longer={len(longer)} most={most} overbooked={len(full)}"):
@@ -79,7 +83,8 @@ def plain_ranking(done):
             yield f"most {kind} {rank} scenario {place} lost={len(lost)} longer={len(longer)} bandwidth={bandwidth(lost)} out {out}"
 
     yield from lines("requests", sorted((each for each in done if each[1] or each[2]), key=lambda each: (-len(each[1]), -len(each[2]))))
-    yield from lines("bandwidth", sorted((each for each in done if each[1]), key=lambda each: (-bandwidth(each[1]), -len(each[1]), -len(each[2]))))
+    yield from lines("bandwidth", sorted((each for each in done if each[1]),
+                                         key=lambda each: (-bandwidth(each[1]), -len(each[1]), -len(each[2]))))
     counts = [(request["id"], sum(request in each[1] for each in done), sum(request in each[2] for each in done))
               for request in {request["id"]: request for each in done for request in each[1] + each[2]}.values()]
     for rank, (at, lost, longer) in enumerate(sorted(counts, key=lambda each: (-each[1] - each[2], -each[1], each[0]))[:10], 1):

@@ -80,7 +80,8 @@ def lineless(program, checks, room):
 
 
 def extra(program, checks, room):
-    """Lines without rows, to a connection that doesn't read while it waits for its turn: it has none until it reads, and others have theirs."""
+    """Lines without rows, to a connection that doesn't read while it waits for its turn: it has none until it reads, and others have
+    theirs."""
     streams = Streams(room, 3, 1)
     for at in range(3):
         streams.flood(at)
@@ -214,7 +215,8 @@ while True:
 
 
 def counted(program, checks, room):
-    """`routed-tools listen` gives a program rows of as many streams that flood as it may use processors, 16 of each, and their lines are whole."""
+    """`routed-tools listen` gives a program rows of as many streams that flood as it may use processors, 16 of each, and their lines are
+    whole."""
     for processors in sorted({1, len(os.sched_getaffinity(0))}):
         os.mkdir(inner := os.path.join(room, str(processors)))
 
@@ -251,7 +253,8 @@ def marked(program, checks, room):
 
 
 def real(program, checks, room):
-    """Connections that flood the program beside batches and beside others that wait for each line: all lines are whole, in order, and right."""
+    """Connections that flood the program beside batches and beside others that wait for each line: all lines are whole, in order, and
+    right."""
     draw = random.Random(9)
     asked = [f"ask,{at},10.0.0.{at},10.0.0.{(at * 5 + 1) % ROUTERS},{at % 8},{draw.choice([0, 5])},0x0,0x0,0x0," for at in range(ROUTERS)]
     versions, told = Versions(changes.updates(draw, UPDATES, ROUTERS), asked), [0]
@@ -278,7 +281,8 @@ def real(program, checks, room):
             told[0] = number
         for number, taken in enumerate(together):
             lines_of = taken.leave().splitlines()
-            checks.true(f"the lines of connection {number}, which floods", len(lines_of) == MANY and versions.are_right(lines_of), lines_of[-3:])
+            checks.true(f"the lines of connection {number}, which floods", len(lines_of) == MANY and versions.are_right(lines_of),
+                        lines_of[-3:])
         done.set()
         for thread in threads:
             thread.join(PATIENCE)

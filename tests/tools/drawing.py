@@ -72,7 +72,8 @@ def big_network(routers, circuits, seed=1):
     while len(pairs) < circuits:
         pairs.append(tuple(drawn.sample(range(1, routers + 1), 2)))
     for at, (one, other) in enumerate(pairs):
-        ends = [(f"172.16.{router >> 8}.{router & 255}", f"10.0.{at >> 7}.{2 * (at & 127) + side}") for side, router in enumerate((one, other))]
+        ends = [(f"172.16.{router >> 8}.{router & 255}", f"10.0.{at >> 7}.{2 * (at & 127) + side}")
+                for side, router in enumerate((one, other))]
         rows += [link(*ends[0], *ends[1]), link(*ends[1], *ends[0])]
     return "".join("".join(rows[at:at + 4096]) + f"end,{at // 4096 + 1},{len(rows[at:at + 4096])}\n" for at in range(0, len(rows), 4096))
 

@@ -41,7 +41,8 @@ def of_pcep(program, checks, room):
 
         for number, (place, act) in enumerate([
                 ("Pcc.go_on", lambda one: one.socket.sendall(request())), ("Pcc.go_on!", lambda one: one.socket.sendall(request())),
-                ("Session.message", lambda one: one.socket.sendall(request())), ("Session.answered", lambda one: one.socket.sendall(request())),
+                ("Session.message", lambda one: one.socket.sendall(request())),
+                ("Session.answered", lambda one: one.socket.sendall(request())),
                 ("Pcc.flush", lambda one: one.socket.sendall(request())), ("Pcc.flush!", lambda one: one.socket.sendall(request())),
                 ("Pcc.tick", lambda one: None), ("Pcc.tick!", lambda one: None),
                 ("Session.again", lambda one: run.publish(*rows())), ("Moves.again", lambda one: run.publish(*rows())),
@@ -109,7 +110,8 @@ def of_feed(program, checks, room):
     router = feeds.Router()
     place = os.path.join(room, "feed")
     words = "--port", str(router.port), "--collect", "0.05", "--metrics", place, "--", program.path, "solve"
-    made = subprocess.Popen([*planted(room, "feed"), *words], stdin=subprocess.PIPE, stdout=subprocess.PIPE, stderr=subprocess.PIPE, text=True)
+    made = subprocess.Popen([*planted(room, "feed"), *words], stdin=subprocess.PIPE, stdout=subprocess.PIPE, stderr=subprocess.PIPE,
+                            text=True)
     try:
         for count, called in enumerate(("Lsdb.take", "Lsdb.network"), 1):
             plant(room, called)

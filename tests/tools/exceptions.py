@@ -22,7 +22,8 @@ ASK, REPLY = ASKS["route"], re.compile(r"ask 1 v\d+ (?:route .*|unknown-from)\n"
 
 def exceptions(program, checks):
     with tempfile.TemporaryDirectory() as room:
-        checks.parts_in(room, (of_loop, of_door, of_listen, of_streams, of_stream, of_updates, of_idle, of_pcep, of_server, of_feed), program, checks)
+        checks.parts_in(room, (of_loop, of_door, of_listen, of_streams, of_stream, of_updates, of_idle, of_pcep, of_server, of_feed),
+                        program, checks)
 
 
 # ---- without sockets
@@ -129,7 +130,8 @@ class Seen:
 
     def __init__(self, program, room, *words):
         self.room, self.count, self.front = room, 0, Front(
-            program, room, "--watch", os.path.join(room, "watch"), "--metrics", os.path.join(room, "metrics"), *words, tool=planted(room, "listen"))
+            program, room, "--watch", os.path.join(room, "watch"), "--metrics", os.path.join(room, "metrics"), *words,
+            tool=planted(room, "listen"))
 
     def __enter__(self):
         self.front.__enter__()
@@ -179,7 +181,8 @@ def of_listen(program, checks, room):
         updating = Connection(seen.front.updates)
         checks.same("a batch", seen.publish(updating, PAIR), "version 1\n")
         checks.same("versions", [seen.watcher.lines.next() for _ in range(2)], ["version 0\n", "version 1\n"])
-        for place in ("Channel.take", "Channel.begin", "Channel.begin!", "Channel.settle", "Account.rows", "Account.lines", "Channel.read_lines!"):
+        for place in ("Channel.take", "Channel.begin", "Channel.begin!", "Channel.settle", "Account.rows", "Account.lines",
+                      "Channel.read_lines!"):
             seen.plant(*[place] if "begin" in place else [])
             victim = Connection(seen.front.ask)
             if "begin" not in place:
@@ -229,7 +232,8 @@ def of_listen(program, checks, room):
             seen.judge(checks, place, "a connection")
             for one in others:
                 one.leave()
-        eventually(checks, "connections that are open", lambda: [figures_of(room)["routed_connections", place] for place in ("ask", "updates", "watch")], [1, 1, 1])
+        eventually(checks, "connections that are open",
+                   lambda: [figures_of(room)["routed_connections", place] for place in ("ask", "updates", "watch")], [1, 1, 1])
         seen.plant("Front.signalled")
         seen.front.child.send_signal(signal.SIGTERM)
         found, said = seen.front.ended()
@@ -333,7 +337,8 @@ def of_updates(program, checks, room):
             while (line := taken.lines.next()) != "snapshot end\n" and line:
                 found.append(line)
             journal = [line for line in found if line.startswith("put,")]
-            checks.same(f"a snapshot, {place}: the next", (found[:1], sorted(journal)), ([f"version {seen.version}\n"], sorted(dressed_pair())))
+            checks.same(f"a snapshot, {place}: the next", (found[:1], sorted(journal)),
+                        ([f"version {seen.version}\n"], sorted(dressed_pair())))
             line = taken.lines.next()
             checks.true(f"a snapshot, {place}: rows behind it", REPLY.fullmatch(line), line)
             taken.leave()

@@ -22,16 +22,20 @@ from routed.front import metrics, status
 from routed.net import http
 
 REFUSALS = [  # an alarm, its figure and a word of it, and whether one refusal is told of for good
-    ("RoutedJournalFailed", "routed_refused_batches_total", "journal", True), ("RoutedJournalFailed", "routed_refused_batches_total", "stopped", True),
-    ("RoutedOutOfMemory", "routed_refused_batches_total", "memory", False), ("RoutedBatchRefused", "routed_refused_batches_total", "version", False),
-    ("RoutedRowRefused", "routed_refused_rows_total", "row", False), ("RoutedFeedBatchRefused", "routed_feed_refused_batches_total", "version", False)]
+    ("RoutedJournalFailed", "routed_refused_batches_total", "journal", True),
+    ("RoutedJournalFailed", "routed_refused_batches_total", "stopped", True),
+    ("RoutedOutOfMemory", "routed_refused_batches_total", "memory", False),
+    ("RoutedBatchRefused", "routed_refused_batches_total", "version", False),
+    ("RoutedRowRefused", "routed_refused_rows_total", "row", False),
+    ("RoutedFeedBatchRefused", "routed_feed_refused_batches_total", "version", False)]
 VERSIONS = 2000  # more lines than a socket keeps for a connection that doesn't read
 
 
 def figures(program, checks):
     start = time.monotonic()
     with tempfile.TemporaryDirectory() as room:
-        checks.parts_in(room, (text, sums, alarms, watched, half_closed, page, logged, priorities, blocked, each, screen, of_feed, audited), program, checks)
+        checks.parts_in(room, (text, sums, alarms, watched, half_closed, page, logged, priorities, blocked, each, screen, of_feed, audited),
+                        program, checks)
     print(f"figures: {CLIENTS} connections, {VERSIONS} versions, {time.monotonic() - start:.0f} s")
 
 
@@ -52,12 +56,14 @@ def text(program, checks, room):
               "# HELP c Each.", "# TYPE c gauge", 'c{place="p"} 1', 'c{place="q"} 0.5', "# HELP d_seconds Times.", "# TYPE d_seconds histogram"]
     counts = [1] + [3] * (len(metrics.TIMES) - 1) + [4]
     edges = [*(f"{it:g}" for it in metrics.TIMES), "+Inf"]
-    wanted += [f'd_seconds_bucket{{le="{edge}"}} {count}' for edge, count in zip(edges, counts)] + ["d_seconds_sum 99.00032", "d_seconds_count 4"]
+    wanted += [f'd_seconds_bucket{{le="{edge}"}} {count}'
+               for edge, count in zip(edges, counts)] + ["d_seconds_sum 99.00032", "d_seconds_count 4"]
     checks.same("the text of figures", made.text().splitlines(), wanted)
     with seen(program, room) as front:
         Connection(front.updates).talk(PAIR + "end,1,2\n")
         head, body = got(room)
-        checks.same("the head of an answer", head.splitlines(), ["HTTP/1.1 200 OK", "Content-Type: text/plain; version=0.0.4; charset=utf-8",
+        checks.same("the head of an answer", head.splitlines(),
+                    ["HTTP/1.1 200 OK", "Content-Type: text/plain; version=0.0.4; charset=utf-8",
                                                                 f"Content-Length: {len(body.encode())}", "Connection: close"])
         page = open(os.path.join(TOP, "docs/run/WATCHING.md"), encoding="utf-8").read()
         for name in re.findall(r"(?m)^# TYPE (\w+) ", body):
@@ -95,7 +101,8 @@ def sums(program, checks, room):
         lines = [[taken.lines.next() for _ in range(3 + 4 + 5 + 6 + 3)] for taken in together]
         checks.true("each connection has its lines", all(its == lines[0] for its in lines), lines)
         for batch, line in (("end,5,0\n", "batch 5 refused: expected 2\n"), ("end,2,1\n", "batch 2 refused: counted 0\n"),
-                            ("drop,9.9.9.9,9.9.9.9\nend,2,1\n", "batch 2 refused: absent 1\n"), ("drop,1.1.1.1,10.0.12.1\nend,2,1\n", "version 2\n"),
+                            ("drop,9.9.9.9,9.9.9.9\nend,2,1\n", "batch 2 refused: absent 1\n"),
+                            ("drop,1.1.1.1,10.0.12.1\nend,2,1\n", "version 2\n"),
                             ("node,1.1.1.1,x\n", "row 11 refused: number\n")):
             checks.same(f"updates: {batch.strip()}", updating.talk(batch).split()[:2], line.split()[:2])
         checks.same("one connection too many", busy(front.ask), "busy\n")
@@ -143,7 +150,8 @@ def alarms(program, checks, room):
     page = "".join(open(os.path.join(TOP, "docs/run", name), encoding="utf-8").read() for name in ("WATCHING.md", "PCEP.md"))
     with open(rules, encoding="utf-8") as file:
         named = set(re.findall(r"routed_\w+", " ".join(re.findall(r"(?m)^ *expr: (.*)", file.read()))))
-    checks.same("figures of alarms that are not on a page", [name for name in sorted(named) if f"`{name.removesuffix('_bucket')}`" not in page], [])
+    checks.same("figures of alarms that are not on a page",
+                [name for name in sorted(named) if f"`{name.removesuffix('_bucket')}`" not in page], [])
     if tool := shutil.which("promtool"):
         ran = subprocess.run([tool, "check", "rules", rules], capture_output=True, text=True)
         checks.same("promtool on the alarms", ran.returncode, 0)
@@ -155,7 +163,8 @@ def alarms(program, checks, room):
 
 
 def first_refusal(alarm, figure, word, later):
-    """A case for promtool: a figure that isn't there for 5 minutes begins at 1. The alarm is raised, and `later` says whether it still is."""
+    """A case for promtool: a figure that isn't there for 5 minutes begins at 1. The alarm is raised, and `later` says whether it still
+    is."""
     def at(time, is_raised):
         return f"      - {{eval_time: {time}, expr: 'count(ALERTS{{alertname=\"{alarm}\", alertstate=\"firing\"}}) or vector(0)', " \
                f"exp_samples: [{{labels: '{{}}', value: {int(is_raised)}}}]}}\n"
@@ -184,10 +193,12 @@ def watched(program, checks, room):
         told = [int(lazy.lines.next().split()[1])]
         while told[-1] < VERSIONS:
             told.append(int(lazy.lines.next().split()[1]))
-        checks.true("one that didn't read is told what rises, and the newest in the end", told == sorted(set(told)) and told[-1] == VERSIONS, told)
+        checks.true("one that didn't read is told what rises, and the newest in the end",
+                    told == sorted(set(told)) and told[-1] == VERSIONS, told)
         checks.true("and not all", len(told) < VERSIONS, len(told))
         late.say("anything\n" * 1000)
-        checks.same("what a watcher sends is dropped", (updating.talk(f"node,1.1.1.1,1\nend,{VERSIONS + 1},1\n"), late.lines.next(), early.lines.next()),
+        checks.same("what a watcher sends is dropped",
+                    (updating.talk(f"node,1.1.1.1,1\nend,{VERSIONS + 1},1\n"), late.lines.next(), early.lines.next()),
                     (f"version {VERSIONS + 1}\n",) * 3)
         for taken in (early, lazy, late):
             taken.socket.close()
@@ -215,10 +226,12 @@ def page(program, checks, room):
     with seen(program, room) as front:
         checks.same("another path", got(room, "/")[0].splitlines()[0], "HTTP/1.1 404 Not Found")
         checks.same("with a query", got(room, "/metrics?x=1")[0].splitlines()[0], "HTTP/1.1 200 OK")
-        checks.same("another method", got(room, method="POST")[0].splitlines()[::3], ["HTTP/1.1 405 Method Not Allowed", "Allow: GET, HEAD"])
+        checks.same("another method", got(room, method="POST")[0].splitlines()[::3],
+                    ["HTTP/1.1 405 Method Not Allowed", "Allow: GET, HEAD"])
         head, body = got(room, method="HEAD")
         checks.same("HEAD", (head.splitlines()[0], body), ("HTTP/1.1 200 OK", ""))
-        for name, data in (("no HTTP", b"ask,1,1.1.1.1,2.2.2.2,0,5,0x0,0x0,0x0,\n"), ("bytes", bytes(range(256)) * 40), ("a line feed", b"\n"),
+        for name, data in (("no HTTP", b"ask,1,1.1.1.1,2.2.2.2,0,5,0x0,0x0,0x0,\n"), ("bytes", bytes(range(256)) * 40),
+                           ("a line feed", b"\n"),
                            ("no version", b"GET /metrics\r\n\r\n"), ("TLS", bytes.fromhex("16030100c8010000c403"))):
             checks.same(f"{name} at the place of figures", exchanged(room, data)[0].splitlines()[0], "HTTP/1.1 400 Bad Request")
         checks.same("a head that is too long", exchanged(room, b"GET /metrics HTTP/1.1\r\nX: " + b"x" * http.HEAD)[0].splitlines()[0],
@@ -281,14 +294,16 @@ def screen(program, checks, room):
         found, out, err = told(os.path.join(room, "metrics"))
         lines = dict(line.split(None, 1) if not line.startswith(("last", "time", "refused", "cut", "dropped")) else
                      (" ".join(line.split(" ")[:2]), line[19:]) for line in out.splitlines())
-        checks.same("the screen", (found, err, lines.get("version"), lines.get("asks"), lines.get("refused rows"), lines.get("connections")),
+        checks.same("the screen", (found, err, lines.get("version"), lines.get("asks"), lines.get("refused rows"),
+                                   lines.get("connections")),
                     (0, "", "1, 999,999 left", "none 1, route 1", "kind 1", "ask 1, metrics 1, updates 1"))
         checks.same("a place that is no HTTP", told(front.ask), (1, "", f"status: {front.ask}: timed out\n"))
     with socket.create_server(("127.0.0.1", 0)) as wrong:
         port, answer = str(wrong.getsockname()[1]), b"HTTP/1.1 200 OK\r\n\r\nrouted_version x\n"
         telling = threading.Thread(target=lambda: tell(wrong, answer))
         telling.start()
-        checks.same("a figure that is no number", told(port), (1, "", f"status: {port}: a figure is no number: could not convert string to float: 'x'\n"))
+        checks.same("a figure that is no number", told(port),
+                    (1, "", f"status: {port}: a figure is no number: could not convert string to float: 'x'\n"))
         telling.join()
     absent = os.path.join(room, "absent")
     checks.same("a place that isn't there", told(absent), (1, "", f"status: {absent}: No such file or directory\n"))
@@ -366,4 +381,5 @@ def audited(program, checks, room):
         file.write("#!/bin/sh\nkill -9 $$\n")
     checks.same("an audit that a signal ends", subprocess.run([*tool[:3], "--program", slow, *words]).returncode, 128 + 9)
     checks.same("what it says", [audit.line_of(0, 3), audit.line_of(0.25, 2), audit.line_of(1, 9)],
-                ["audit: 0 % of the replies are read", "audit: 25 % of the replies are read, 6 s left", "audit: 100 % of the replies are read"])
+                ["audit: 0 % of the replies are read", "audit: 25 % of the replies are read, 6 s left",
+                 "audit: 100 % of the replies are read"])

@@ -48,7 +48,8 @@ class Front:
         self.journal = os.path.join(room, "journal")
         self.ask, self.updates = (os.path.join(room, name) for name in ("ask", "updates"))
         words = ["--journal", journal or self.journal, "--ask", ask or self.ask, "--updates", updates or self.updates, *more]
-        self.child = subprocess.Popen([*tool, "--program", program.path, *words], stdout=subprocess.PIPE, **{"stderr": subprocess.PIPE, **how})
+        self.child = subprocess.Popen([*tool, "--program", program.path, *words], stdout=subprocess.PIPE,
+                                      **{"stderr": subprocess.PIPE, **how})
         self.said = Lines(self.child.stdout.fileno())
         self.errors = Lines(self.child.stderr.fileno()) if self.child.stderr else None
 

@@ -1,4 +1,5 @@
-"""Tests of routed-tools import: rows, positions and requests worked by hand, what is listed, what is refused, and that `routed` takes the rows."""
+"""Tests of routed-tools import: rows, positions and requests worked by hand, what is listed, what is refused, and that `routed` takes the
+rows."""
 import os
 import re
 import subprocess
@@ -73,7 +74,8 @@ def edge(one, other, more="", words=""):
     return f'<edge source="{one}" target="{other}" {words}>{more}</edge>'
 
 
-ZOO = graphml(node("0", "Köln &lt;Nord&gt;", (6.96, 50.94), '<data key="Country">Germany</data>') + node("7", " Bonn\n(Süd) ", (7.10, 50.74)) + node("x") +
+ZOO = graphml(node("0", "Köln &lt;Nord&gt;", (6.96, 50.94), '<data key="Country">Germany</data>')
+              + node("7", " Bonn\n(Süd) ", (7.10, 50.74)) + node("x") +
               node("alone", "Mars") + edge(0, 7, '<data key="LinkSpeedRaw">8000.0</data>', 'id="e1"') +
               edge(7, "x", '<data key="LinkSpeed">10</data><data key="LinkSpeedUnits">K</data>') + edge("x", 7) + edge("x", "x"))
 
@@ -101,18 +103,24 @@ def sndlib(_, checks):
     wanted = (0, ROWS, LISTED, {"places": PLACES, "requests": ASKS})
     checks.same("SNDlib's native format", run(SNDLIB, *both_files), wanted)
     checks.same("with a byte order mark and carriage returns", run("\ufeff" + SNDLIB.replace("\n", "\r\n"), *both_files), wanted)
-    checks.same("in one line", run(SNDLIB.partition("\n")[0] + "\n" + re.sub(r"\s+", " ", re.sub("#.*", "", SNDLIB.partition("\n")[2])), *both_files), wanted)
+    checks.same("in one line", run(SNDLIB.partition("\n")[0] + "\n" + re.sub(r"\s+", " ", re.sub("#.*", "", SNDLIB.partition("\n")[2])),
+                                   *both_files), wanted)
     status, rows, said, written = run(SNDLIB)
-    checks.true("demands that nothing is written of are listed", "left out: 2 demands, which --requests FILE writes\n" in said and written == {}, said)
+    checks.true("demands that nothing is written of are listed",
+                "left out: 2 demands, which --requests FILE writes\n" in said and written == {}, said)
     checks.same("another unit", run(SNDLIB, "--unit", "1000", "--requests", "requests")[1:4:2],
-                (ROWS.replace("1000000", "8000").replace("5000000", "40000"), {"requests": ASKS.replace("312500", "2500").replace("75000", "600")}))
+                (ROWS.replace("1000000", "8000").replace("5000000", "40000"),
+                 {"requests": ASKS.replace("312500", "2500").replace("75000", "600")}))
     checks.same("half a byte is rounded", run(SNDLIB, "--unit", "1000.125", "--requests", "requests")[1:4:2],
-                (ROWS.replace("1000000", "8001").replace("5000000", "40005"), {"requests": ASKS.replace("312500", "2501").replace("75000", "601")}))
-    checks.same("another setup priority", run(SNDLIB, "--setup", "3", "--requests", "requests")[3], {"requests": ASKS.replace(",7,", ",3,")})
+                (ROWS.replace("1000000", "8001").replace("5000000", "40005"),
+                 {"requests": ASKS.replace("312500", "2501").replace("75000", "601")}))
+    checks.same("another setup priority", run(SNDLIB, "--setup", "3", "--requests", "requests")[3],
+                {"requests": ASKS.replace(",7,", ",3,")})
     priced = SNDLIB.replace("8.00 0.00 0.00 0.00", "8.00 0.00 2.40 0.00").replace("0.00 5.00 0.00 2.00", "0.00 5.00 0.20 2.00")
     rows = ROWS.replace("10.0.0.1,111", "10.0.0.1,2").replace("10.0.0.0,111", "10.0.0.0,2").replace(",111,", ",1,")
     status, found, said, _ = run(priced)
-    checks.same("routing costs are metrics", (status, found, said.splitlines()[0]), (0, rows, "3 routers, 2 circuits, 2 demands; metrics are the routing costs"))
+    checks.same("routing costs are metrics", (status, found, said.splitlines()[0]),
+                (0, rows, "3 routers, 2 circuits, 2 demands; metrics are the routing costs"))
     checks.same("kilometers in place of them", run(priced, "--metric", "km")[1], ROWS)
     checks.same("each metric 1", run(SNDLIB, "--metric", "one")[1], ROWS.replace(",111,", ",1,"))
     checks.same("no routing costs", run(SNDLIB, "--metric", "cost")[:3], (1, "", "network: --metric cost: a link has no routing cost\n"))
@@ -123,8 +131,10 @@ def sndlib(_, checks):
         "# router, east, south, name\n192.168.0.1 0 -0 A\n192.168.0.2 1 -0 B 2\n192.168.0.3 400 -300 C\n"))
     bare = SNDLIB.replace("( 1.00 0.00 )", "").replace("( 40.00 1.00 )", "( )").replace("8.00 0.00", "0.00 0.00")
     status, rows, said, written = run(bare, "--places", "places", "--capacity", "7")
-    checks.same("a site without a position, and a link without a capacity", (rows, said.splitlines()[:3], len(written["places"].splitlines())), (
-        ROWS.replace(",111,", ",1,").replace("1000000", "7"), ["3 routers, 2 circuits, 2 demands; metrics are 1", "no position: the site B 2",
+    checks.same("a site without a position, and a link without a capacity",
+                (rows, said.splitlines()[:3], len(written["places"].splitlines())), (
+        ROWS.replace(",111,", ",1,").replace("1000000", "7"),
+        ["3 routers, 2 circuits, 2 demands; metrics are 1", "no position: the site B 2",
                                                                 "no capacity: 2 links, which have 7 bytes per second"], 3))
 
 
@@ -139,24 +149,31 @@ def zoo(_, checks):
         "no capacity: 2 links, which have 1,250,000,000 bytes per second", "left out: Country of a node", "left out: Network of the graph",
         "left out: id of an edge", "left out: link from a site to itself")))
     directed = graphml(node("a") + node("b") + node("c") + edge("a", "b", '<data key="LinkSpeedRaw">8</data>') + edge("c", "b") +
-                       edge("b", "a", '<data key="LinkSpeedRaw">16</data>') + edge("a", "b", '<data key="LinkSpeedRaw">0</data>') + edge("c", "a", "", 'directed="false"'), "directed")
+                       edge("b", "a", '<data key="LinkSpeedRaw">16</data>') + edge("a", "b", '<data key="LinkSpeedRaw">0</data>')
+                       + edge("c", "a", "", 'directed="false"'), "directed")
     status, rows, said, _ = run(directed, "--capacity", "5")
-    checks.same("directed edges", rows, both(1, 2, 0, 1, 1, 2) + put(3, 2, 2, 3, 1, 5) + put(1, 4, 2, 5, 1, 0) + both(3, 1, 6, 1, 5) + "end,1,6\n")
+    checks.same("directed edges", rows, both(1, 2, 0, 1, 1, 2) + put(3, 2, 2, 3, 1, 5) + put(1, 4, 2, 5, 1, 0) + both(3, 1, 6, 1, 5)
+                + "end,1,6\n")
     checks.true("edges of one way are listed", "no reverse: 2 links, which carry no route\n" in said, said)
     west = graphml(node("a", "A", (179.5, 0)) + node("b", "B", (-179.5, 0)) + edge("a", "b"))
     checks.same("a network across the 180th meridian", [run(west, "--places", "places")[it] for it in (1, 3)], [
-        both(1, 2, 0, 111, 1250000000) + "end,1,2\n", {"places": "# router, km to the east, km to the south, name\n192.168.0.1 0.0 0.0 A\n192.168.0.2 111.2 0.0 B\n"}])
+        both(1, 2, 0, 111, 1250000000) + "end,1,2\n",
+        {"places": "# router, km to the east, km to the south, name\n192.168.0.1 0.0 0.0 A\n192.168.0.2 111.2 0.0 B\n"}])
     same = graphml(node("a", "A", (1, 2)) + node("b", "B", (1, 2)) + edge("a", "b"))
     status, rows, said, _ = run(same)
-    checks.true("two sites at one position", rows == both(1, 2, 0, 1, 1250000000) + "end,1,2\n" and "one position for 2 sites: 1 2\n" in said, said)
+    checks.true("two sites at one position", rows == both(1, 2, 0, 1, 1250000000) + "end,1,2\n"
+                and "one position for 2 sites: 1 2\n" in said, said)
     checks.same("one site", run(graphml(node("a", "A", (1, 2))), "--places", "places"), (
         0, "", "0 routers, 0 circuits, 0 demands; metrics are 1\nno row: the site A has no link\nleft out: Network of the graph\n",
         {"places": "# router, km to the east, km to the south, name\n"}))
     for speed, unit in (("&lt;10", "G"), ("10", "Q"), ("fast", "")):
-        status, rows, said, _ = run(graphml(node("a") + node("b") + edge("a", "b", f'<data key="LinkSpeed">{speed}</data><data key="LinkSpeedUnits">{unit}</data>')))
+        status, rows, said, _ = run(graphml(node("a") + node("b")
+                                            + edge("a", "b",
+                                                   f'<data key="LinkSpeed">{speed}</data><data key="LinkSpeedUnits">{unit}</data>')))
         checks.true(f"a speed that can't be read: {speed} {unit}", status == 0 and "left out: LinkSpeed that can't be read\n" in said
                     and rows == both(1, 2, 0, 1, 1250000000) + "end,1,2\n", said)
-    default = KEYS.replace('attr.name="LinkSpeedRaw" attr.type="string"/>', 'attr.name="LinkSpeedRaw" attr.type="string"><default>80</default></key>')
+    default = KEYS.replace('attr.name="LinkSpeedRaw" attr.type="string"/>',
+                           'attr.name="LinkSpeedRaw" attr.type="string"><default>80</default></key>')
     checks.same("a default", run(graphml(node("a") + node("b") + edge("a", "b"), keys=default))[1], both(1, 2, 0, 1, 10) + "end,1,2\n")
     sixteen = ZOO.replace("utf-8", "utf-16").encode("utf-16")
     checks.same("in another encoding", run(sixteen, "--places", "places"), run(ZOO, "--places", "places"))
@@ -168,7 +185,8 @@ def zoo(_, checks):
 def refusals(_, checks):
     pair = node("a") + node("b")
     for name, text, why in [
-            ("neither format", "put,1.1.1.1\n", "neither SNDlib's native format nor GraphML"), ("nothing", "", "neither SNDlib's native format nor GraphML"),
+            ("neither format", "put,1.1.1.1\n", "neither SNDlib's native format nor GraphML"),
+            ("nothing", "", "neither SNDlib's native format nor GraphML"),
             ("SNDlib's XML", '<network xmlns="http://sndlib.zib.de/network"/>', "no GraphML: the document is a network"),
             ("a solution", SNDLIB.replace("type: network", "type: solution"), "line 1: a network is wanted, not a solution"),
             ("a section that isn't there", SNDLIB.replace("META", "MATE"), "line 3: there is no section MATE"),
@@ -184,15 +202,18 @@ def refusals(_, checks):
             ("a demand below 0", SNDLIB.replace("2.50", "-2.50"), "line 16: a number is below 0"),
             ("bytes that are no text", SNDLIB.encode() + b"\xff", f"byte {len(SNDLIB) + 1} is no UTF-8"),
             ("a document that is cut", ZOO[:400], None), ("a document without a graph", "<graphml/>", "no graph is there"),
-            ("a node without an id", graphml("<node/>"), "a node has no id"), ("a node twice", graphml(node("a") + node("a")), "node a: the site a is there twice"),
+            ("a node without an id", graphml("<node/>"), "a node has no id"),
+            ("a node twice", graphml(node("a") + node("a")), "node a: the site a is there twice"),
             ("an edge to no node", graphml(pair + edge("a", "c")), "edge a c: there is no site c"),
             ("an edge without ends", graphml(pair + "<edge/>"), "edge None None: there is no site None"),
             ("a latitude that is a word", graphml(node("a", "A", (1, "north"))), "node a: latitude is no number: north"),
-            ("a speed that is a word", graphml(pair + edge("a", "b", '<data key="LinkSpeedRaw">fast</data>')), "edge a b: linkspeedraw is no number: fast"),
+            ("a speed that is a word", graphml(pair + edge("a", "b", '<data key="LinkSpeedRaw">fast</data>')),
+             "edge a b: linkspeedraw is no number: fast"),
             ("a speed below 0", graphml(pair + edge("a", "b", '<data key="LinkSpeedRaw">-1</data>')), "edge a b: a speed is below 0"),
             ("too many routers", graphml("".join(node(at) for at in range(1025)) + "".join(edge(at, at + 1) for at in range(1024))),
              "1025 routers and 2048 links are there, and routed takes 1024 and 16384"),
-            ("too many links", graphml(pair + edge("a", "b") * 8193), "2 routers and 16386 links are there, and routed takes 1024 and 16384")]:
+            ("too many links", graphml(pair + edge("a", "b") * 8193),
+             "2 routers and 16386 links are there, and routed takes 1024 and 16384")]:
         status, rows, said, written = run(text, "--places", "places", "--requests", "requests")
         checks.true(f"refused: {name}", (status, rows, written) == (1, "", {}) and said.count("\n") == 1
                     and (said == f"network: {why}\n" if why else said.startswith("network: no XML: ")), said)

@@ -24,8 +24,8 @@ from routed.pcep.wire import pack
 DEPLOY = os.path.join(TOP, "deploy")
 UNITS = sorted(name for name in os.listdir(DEPLOY) if name.endswith((".service", ".socket")))
 MOST_EXPOSED = 4.0  # of systemd-analyze security
-FILES = """bin/routed bin/routed-tools lib/python3/dist-packages/routed/front/listen.py lib/python3/dist-packages/routed/feed/ospf/ospf.py lib/routed/keep
-lib/routed/serve lib/routed/fed lib/systemd/system/routed-serve.service lib/systemd/system/routed-feed.service
+FILES = """bin/routed bin/routed-tools lib/python3/dist-packages/routed/front/listen.py lib/python3/dist-packages/routed/feed/ospf/ospf.py
+lib/routed/keep lib/routed/serve lib/routed/fed lib/systemd/system/routed-serve.service lib/systemd/system/routed-feed.service
 lib/systemd/system/routed-pcep.service share/doc/routed/examples/etc/routed/pcep.conf lib/python3/dist-packages/routed/pcep/front.py
 lib/systemd/system/routed-solve.socket lib/systemd/system/routed-solve@.service lib/sysusers.d/routed.conf lib/tmpfiles.d/routed.conf
 share/man/man1/routed.1.gz share/man/man1/routed-tools.1.gz share/man/man5/routed-formats.5.gz share/doc/routed/docs/run/OPERATORS.md
@@ -48,12 +48,14 @@ def package(program, checks):
     if skipped("dpkg-deb", "make"):
         return
     with tempfile.TemporaryDirectory() as room:
-        made = subprocess.run(["make", "-s", "deb", f"PROGRAM={program.path}", f"OUT={room}", "COMPRESS=-Znone"], cwd=TOP, capture_output=True, text=True, timeout=300)
+        made = subprocess.run(["make", "-s", "deb", f"PROGRAM={program.path}", f"OUT={room}", "COMPRESS=-Znone"], cwd=TOP,
+                              capture_output=True, text=True, timeout=300)
         found = [name for name in os.listdir(room) if name.endswith(".deb")]
         checks.true("make deb makes a package", made.returncode == 0 and len(found) == 1, made.stderr[-1000:])
         deb, empty = os.path.join(room, found[0]), os.path.join(room, "empty")
         subprocess.run(["dpkg-deb", "-x", deb, empty], check=True)
-        said = {field: subprocess.run(["dpkg-deb", "-f", deb, field], capture_output=True, text=True).stdout for field in ("Package", "Depends", "Version")}
+        said = {field: subprocess.run(["dpkg-deb", "-f", deb, field], capture_output=True, text=True).stdout
+                for field in ("Package", "Depends", "Version")}
         checks.same("its name", said["Package"], "routed\n")
         checks.same("what it depends on", re.sub(r" \(.*?\)", "", said["Depends"]), "libc6, python3\n")
         checks.same("its version is that of the tree", said["Version"], text_of("VERSION"))
@@ -83,7 +85,8 @@ def unpacked(program, checks, room, top):
     """The programs and the units' commands, with PATH and PYTHONPATH to the unpacked package, in a folder of nothing else."""
     home = os.path.join(room, "home")
     os.makedirs(home)
-    env = {"PATH": f"{top}/bin:/usr/bin:/bin", "PYTHONPATH": f"{top}/lib/python3/dist-packages", "PYTHONDONTWRITEBYTECODE": "1", "HOME": home}
+    env = {"PATH": f"{top}/bin:/usr/bin:/bin", "PYTHONPATH": f"{top}/lib/python3/dist-packages", "PYTHONDONTWRITEBYTECODE": "1",
+           "HOME": home}
 
     def run(*words, rows=""):
         ran = subprocess.run(words, input=rows, env=env, cwd=home, capture_output=True, text=True, timeout=PATIENCE)
@@ -95,16 +98,19 @@ def unpacked(program, checks, room, top):
     checks.true("it answers", wanted[1].startswith(b"version 1\nask 1 v1 route "), wanted[1][:100])
     journal, requests = (os.path.join(top, f"share/doc/routed/examples/nsfnet.{kind}") for kind in ("journal", "requests"))
     status, out, err = run("routed-tools", "sweep", journal, requests)
-    checks.true("routed-tools sweep finds routed on the path", (status, err) == (0, "") and "network version=10 routers=14 links=42" in out, (status, out[:300], err))
+    checks.true("routed-tools sweep finds routed on the path", (status, err) == (0, "") and "network version=10 routers=14 links=42" in out,
+                (status, out[:300], err))
     status, out, err = run("routed-tools", "draw", journal)
     checks.true("routed-tools draw", (status, err) == (0, "") and out.count('class="circuit"') == 21, (status, err))
     status, _, err = run("routed-tools", "why", "cost")
     checks.true("routed-tools why says what is missing", status == 2 and "--frr DIR" in err, err)
     for words, status in ((("routed-tools", "--help"), 0), (("routed-tools",), 2), (("routed-tools", "nothing"), 2)):
         checks.same(f"the status of {' '.join(words)}", run(*words)[0], status)
-    with started(["routed-tools", "listen", "--journal", "day.journal", "--ask", "./ask", "--updates", "./updates"], env=env, cwd=home) as listening:
+    with started(["routed-tools", "listen", "--journal", "day.journal", "--ask", "./ask", "--updates", "./updates"], env=env,
+                 cwd=home) as listening:
         checks.same("routed-tools listen", listening.stdout.readline(), "ready\n")
-        checks.same("routed-tools connect brings updates", run("routed-tools", "connect", "./updates", rows=text_of("examples/nsfnet.journal"))[1].splitlines()[-1:],
+        checks.same("routed-tools connect brings updates",
+                    run("routed-tools", "connect", "./updates", rows=text_of("examples/nsfnet.journal"))[1].splitlines()[-1:],
                     ["version 10"])
         listening.terminate()
         checks.same("its status after a signal", listening.wait(PATIENCE), 143)
@@ -119,13 +125,15 @@ def command_of(unit, top, env, folder):
         for name, value in re.findall(r"(?m)^(\w+)=(.*)$", text_of(f"deploy/etc/{path}")):
             given[name] = re.sub(r"^/(run|var/lib)/routed", folder, value)
     words = re.search(r"(?m)^ExecStart=(.*)$", text)[1].split()
-    return [part for word in words for part in (given[word.strip("${}")].split() if word[0] == "$" else [re.sub("^/usr", top, word)])], given
+    return [part for word in words for part in (given[word.strip("${}")].split() if word[0] == "$"
+                                                else [re.sub("^/usr", top, word)])], given
 
 
 def units(checks, home, top, env):
     os.makedirs(os.path.join(home, "updates"))
     words, given = command_of("routed-serve.service", top, env, home)
-    with open(os.path.join(home, "said"), "w+", encoding="utf-8") as said, started([*words, "--watch", os.path.join(home, "watch")], env=given, stderr=said) as server:
+    with open(os.path.join(home, "said"), "w+", encoding="utf-8") as said, started([*words, "--watch", os.path.join(home, "watch")],
+                                                                                   env=given, stderr=said) as server:
         checks.same("the command of routed-serve.service", server.stdout.readline(), "ready\n")
         said.seek(0)
         checks.true("a first start says that its network is empty", "keep: 000001 begins with an empty network\n" in said.read())
@@ -133,7 +141,8 @@ def units(checks, home, top, env):
         checks.same("the modes of its sockets", modes, ["0o660"] * 2)
         router = Router()
         words, given = command_of("routed-feed.service", top, env, home)
-        with started([*words, "--port", str(router.port), "--collect", "0"], env=given, stdin=subprocess.DEVNULL, stderr=subprocess.DEVNULL):
+        with started([*words, "--port", str(router.port), "--collect", "0"], env=given, stdin=subprocess.DEVNULL,
+                     stderr=subprocess.DEVNULL):
             router.accept()
             router.send(PAIR)
             asking, line, end = Connection(os.path.join(home, "ask")), " v0 ", time.monotonic() + PATIENCE
@@ -179,18 +188,22 @@ def text_start(name):
 
 
 def hardened(_, checks):
-    checks.same("the units", UNITS, ["routed-feed.service", "routed-pcep.service", "routed-serve.service", "routed-solve.socket", "routed-solve@.service"])
+    checks.same("the units", UNITS, ["routed-feed.service", "routed-pcep.service", "routed-serve.service", "routed-solve.socket",
+                                     "routed-solve@.service"])
     for unit in UNITS:
         text = text_of(f"deploy/{unit}")
-        checks.true(f"{unit} starts only where it is configured", re.search("(?m)^(ConditionPathExists|EnvironmentFile)=/etc/routed/", text))
+        checks.true(f"{unit} starts only where it is configured",
+                    re.search("(?m)^(ConditionPathExists|EnvironmentFile)=/etc/routed/", text))
     if skipped("systemd-analyze"):
         return
     for unit in UNITS:
         if unit.endswith(".service"):
-            ran = subprocess.run(["systemd-analyze", "security", "--offline=true", "--no-pager", os.path.join(DEPLOY, unit)], capture_output=True, text=True)
+            ran = subprocess.run(["systemd-analyze", "security", "--offline=true", "--no-pager", os.path.join(DEPLOY, unit)],
+                                 capture_output=True, text=True)
             found = re.search(r"Overall exposure level for \S+: (\d+\.\d)", ran.stdout)
             checks.true(f"the exposure of {unit}", found and float(found[1]) < MOST_EXPOSED, found[0] if found else ran.stderr)
-    ran = subprocess.run(["systemd-analyze", "verify", "--man=no", *(os.path.join(DEPLOY, unit) for unit in UNITS)], capture_output=True, text=True)
+    ran = subprocess.run(["systemd-analyze", "verify", "--man=no", *(os.path.join(DEPLOY, unit) for unit in UNITS)], capture_output=True,
+                         text=True)
     said = [line for line in ran.stderr.splitlines() if re.search("routed", line) and "is not executable" not in line]
     checks.same("systemd-analyze verify", said, [])
 
@@ -204,7 +217,8 @@ def manual(program, checks):
     for name, text in make.pages(program.path).items():
         checks.same(f"man/{name} is what man/make writes", text_of(f"man/{name}") == text, True)
         if shutil.which("groff"):
-            ran = subprocess.run(["groff", "-t", "-man", "-ww", "-Tutf8", "-rLL=100n", os.path.join(TOP, "man", name)], capture_output=True, text=True)
+            ran = subprocess.run(["groff", "-t", "-man", "-ww", "-Tutf8", "-rLL=100n", os.path.join(TOP, "man", name)], capture_output=True,
+                                 text=True)
             checks.same(f"man/{name} is set", (ran.returncode, ran.stderr), (0, ""))
     skipped("groff")
     pages = text_of("man/routed.1") + text_of("man/routed-tools.1")

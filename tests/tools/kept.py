@@ -15,7 +15,7 @@ import time
 from checks import TOP
 from program.serving import PATIENCE
 from program.snapshots import snapshot_of
-from reference.formats import publish, whole_batches
+from reference.runs import publish, whole_batches
 from tools.fronts import Connection
 
 DEPLOY = os.path.join(TOP, "deploy")
@@ -65,7 +65,8 @@ def beginnings(program, checks):
         env, folder = around(program, room), os.path.join(room, "runs")
 
         def keep(*command):
-            ran = subprocess.run([os.path.join(DEPLOY, "keep"), folder, *(command or ["echo"])], env=env, capture_output=True, text=True, timeout=60)
+            ran = subprocess.run([os.path.join(DEPLOY, "keep"), folder, *(command or ["echo"])], env=env, capture_output=True, text=True,
+                                 timeout=60)
             return ran.returncode, ran.stdout, ran.stderr
 
         def ran(number, *said):
@@ -97,7 +98,8 @@ def beginnings(program, checks):
                     (0, ran("000004")[1], [f"keep: {line}" for line in said]))
         torn = last_of(begin + more)
         checks.same("its whole batches", (read("000004.begin"), torn.count("put,")), (torn, 41))
-        for number, name, text in ((4, "cut inside its beginning", torn[:len(torn) // 2]), (5, "without its last byte", torn[:-1]), (6, "of other bytes", "\0" * len(torn))):
+        for number, name, text in ((4, "cut inside its beginning", torn[:len(torn) // 2]), (5, "without its last byte", torn[:-1]),
+                                   (6, "of other bytes", "\0" * len(torn))):
             write(f"{number:06}.journal", text)
             checks.same(f"a journal {name}", keep(), ran(f"{number + 1:06}", f"{number:06}.journal ends inside its beginning: "
                                                          f"{number + 1:06} begins as {number:06} was to begin"))
@@ -110,19 +112,23 @@ def beginnings(program, checks):
         with open(os.path.join(room, "bin/cmp"), "w", encoding="ascii") as script:
             script.write("#!/bin/sh\nexit 137\n")
         os.chmod(script.name, 0o755)
-        checks.same("a comparison that is killed decides nothing", keep(), (1, "", "keep: 000008.journal can't be compared with 000008.begin: status 137\n"))
+        checks.same("a comparison that is killed decides nothing", keep(),
+                    (1, "", "keep: 000008.journal can't be compared with 000008.begin: status 137\n"))
         os.unlink(script.name)
         checks.same("a journal that is its beginning", (keep(), read("000009.begin")), (ran("000009"), torn))
         checks.same("beginnings that are in the journal are removed", os.path.exists(os.path.join(folder, "000008.begin")), False)
         write("000009.journal", torn + "drop,9.9.9.9,9.9.9.9\nend,2,1\n")
         status, out, err = keep()
-        checks.same("a journal that is refused", (status, out, err.splitlines()[-1:]), (1, "", ["keep: 000009.journal: batch 2 refused: absent 1"]))
+        checks.same("a journal that is refused", (status, out, err.splitlines()[-1:]),
+                    (1, "", ["keep: 000009.journal: batch 2 refused: absent 1"]))
         checks.same("nothing is made of it", os.path.exists(os.path.join(folder, "000010.begin")), False)
         os.unlink(os.path.join(folder, "000009.journal"))
-        with started([os.path.join(DEPLOY, "keep"), folder, "sh", "-c", "echo ready; sleep 60"], env=env, stderr=subprocess.DEVNULL) as held:
+        with started([os.path.join(DEPLOY, "keep"), folder, "sh", "-c", "echo ready; sleep 60"], env=env,
+                     stderr=subprocess.DEVNULL) as held:
             held.stdout.readline()
             checks.same("another server in the folder", keep(), (1, "", f"keep: {folder}: another server runs here\n"))
-        checks.true("a folder that isn't there", subprocess.run([os.path.join(DEPLOY, "keep"), "/nowhere", "echo"], capture_output=True).returncode)
+        checks.true("a folder that isn't there", subprocess.run([os.path.join(DEPLOY, "keep"), "/nowhere", "echo"],
+                                                                capture_output=True).returncode)
 
 
 # ---- kills

@@ -26,7 +26,8 @@ def placer(_, checks):
         sheet.place([Wanted(("second", at), [(box_of(x + 30, y, "1/2/3"), 0)]) for at, (x, y) in enumerate(points)])
         boxes = [box for key in sheet.spots if (box := sheet.box(key))]
         blocks = [(x - 7, y - 7, x + 7, y + 7) for x, y in points]
-        bad = sum(meets(one, other) for one, other in itertools.combinations(boxes, 2)) + sum(meets(box, it) for box in boxes for it in blocks)
+        bad = sum(meets(one, other) for one, other in itertools.combinations(boxes,
+                                                                             2)) + sum(meets(box, it) for box in boxes for it in blocks)
         bad += sum(not (0 <= box[0] and 0 <= box[1] and box[2] <= 900 and box[3] <= 600) for box in boxes)
         checks.same(f"{count} texts and {len(boxes) - count} more", bad, 0)
         out = [key for key in sheet.spots if not sheet.box(key)]
@@ -74,13 +75,15 @@ def crowded(checks):
         status, picture, said = draw(rows, places=places)
         numbers = [text.text for text in xml.fromstring(picture).iter(SVG + "text") if text.get("class") == "number"]
         listed = re.findall(r"(?:^|, |: )(\d+) Rechenzentrum", " ".join(notes(picture)))
-        checks.true(f"{sites} crowded sites: each has a name or a number that is listed", status == 0 and len(names(picture)) + len(numbers) == sites
+        checks.true(f"{sites} crowded sites: each has a name or a number that is listed",
+                    status == 0 and len(names(picture)) + len(numbers) == sites
                     and sorted(numbers, key=int) == listed == [str(at) for at in range(1, len(numbers) + 1)], (said, numbers, listed))
         at = list(places_in(picture).values())
         checks.true(f"{sites} crowded sites: no router covers another", len(at) == sites and least_distance(at) > 2 * 9, least_distance(at))
         found[f"{sites} crowded sites"] = picture
         circuits = list(dict.fromkeys(re.findall(r"(?m)^put,([^,]*,[^,]*,[^,]*,[^,]*),", rows)))[::2]
-        lines = "".join(f"scenario {at} out circuit {' '.join(it.split(','))}\nscenario {at} lost={at % 3} longer={at} most=1 overbooked=0\n"
+        lines = "".join(f"scenario {at} out circuit {' '.join(it.split(','))}\nscenario {at} lost={at % 3} longer={at} most=1 "
+                        "overbooked=0\n"
                         for at, it in enumerate(circuits, 1))
         status, picture, said = draw_failures(f"{lines}scenarios={len(circuits)} lost=1 longer=1 overbooked=0\n", places)
         counts = [text.text for text in xml.fromstring(picture).iter(SVG + "text") if text.get("class") == "counts"]
@@ -91,7 +94,8 @@ def crowded(checks):
                     and set(counts) | listed == wanted and len(counts) + len(listed) == len(wanted), (said, wanted - set(counts) - listed))
         found[f"failures of {sites} crowded sites"] = picture
         found[f"{sites} sites laid out"] = draw(rows)[1]
-    sizes = [math.prod(float(it) for it in re.search('viewBox="0 0 (.*?) (.*?)"', found[f"{sites} sites laid out"]).groups()) for sites in (14, 28, 50, 200)]
+    sizes = [math.prod(float(it) for it in re.search('viewBox="0 0 (.*?) (.*?)"', found[f"{sites} sites laid out"]).groups())
+             for sites in (14, 28, 50, 200)]
     checks.true("a picture grows with its network", all(1.3 * one < other for one, other in zip(sizes, sizes[1:])), sizes)
     return found
 
@@ -102,7 +106,8 @@ def examples(program, checks):
     commands = re.findall(r"^    (.*tools/routed-tools draw(?:-failures)? .*) > (examples/\S+\.svg)$", page, re.M)
     checks.true("the page draws pictures", len(commands) > 2, f"{len(commands)} commands")
     for command, path in commands:
-        command = command.replace("crates/routed/out/routed", f'"{program.path}"').replace("routed-tools sweep ", f'routed-tools sweep --program "{program.path}" ')
+        command = command.replace("crates/routed/out/routed",
+                                  f'"{program.path}"').replace("routed-tools sweep ", f'routed-tools sweep --program "{program.path}" ')
         drawn = subprocess.run(command, shell=True, cwd=TOP, capture_output=True, text=True).stdout
         checks.same(path, drawn, open(os.path.join(TOP, path)).read())
         found[path] = drawn

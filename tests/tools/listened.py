@@ -36,8 +36,10 @@ def listened(program, checks):
     asks = [f"ask,{at},10.0.0.{at},10.0.0.{(at * 5 + 1) % ROUTERS},{at % 8},{draw.choice([0, 5])},0x0,0x0,0x0," for at in range(ROUTERS)]
     versions = Versions(updates, asks)
     with tempfile.TemporaryDirectory() as room:
-        checks.parts_in(room, (listening, stopping, held_up, one_thread, signals, places, ports, modes, posted, marks, idle, begun, connected,
-                               snapshot, beside_asks, failed_journal, failed_snapshots, server_ends, causes, fresh), program, checks, versions)
+        checks.parts_in(room, (listening, stopping, held_up, one_thread, signals, places, ports, modes, posted, marks, idle, begun,
+                               connected,
+                               snapshot, beside_asks, failed_journal, failed_snapshots, server_ends, causes, fresh), program, checks,
+                               versions)
     print(f"listened: {CONNECTIONS} connections, {SIGNALS} signals, {time.monotonic() - start:.0f} s")
 
 
@@ -110,14 +112,16 @@ def silent_peer(checks, together, updating, versions):
         checks.same(f"batch {number} beside a connection that doesn't read", updating.talk(batch), f"version {number}\n")
         for at, taken in enumerate(together[1:]):
             found[at].append((number, taken.talk(f"{asks[len(found[at]) % len(asks)]}\n")))
-    checks.true("others beside a connection that doesn't read", all(versions.are_right([line.strip() for _, line in lines]) for lines in found))
+    checks.true("others beside a connection that doesn't read",
+                all(versions.are_right([line.strip() for _, line in lines]) for lines in found))
 
 
 def stopping(program, checks, versions, room):
     """Connections that end in the middle leave nothing to the next one; loopback TCP; modes, SIGTERM, and sockets that can't be had."""
     ask, batch = f"{versions.asks[0]}\n", versions.texts[1]
     said = subprocess.run([*LISTEN, "--help"], capture_output=True, text=True).stdout
-    for word in ["--journal", "--begin", "--ask", "--updates", "--clients", "--mode", "--ask-mode", "--updates-mode", "--idle", "--program", "busy", "refused",
+    for word in ["--journal", "--begin", "--ask", "--updates", "--clients", "--mode", "--ask-mode", "--updates-mode", "--idle", "--program",
+                 "busy", "refused",
                  "snapshot end", "snapshot refused", "ready", "SIGTERM", "127.0.0.1", "[ADDRESS]:PORT", "65,536", "300"]:
         checks.true(f"help of routed-tools listen names {word}", word in said, said)
     with Front(program, room, "--clients", "1", "--mode", "660") as front:
@@ -150,7 +154,8 @@ def stopping(program, checks, versions, room):
             checks.same("the journal after SIGTERM", kept.read(), batch)
     with Front(program, room) as front:
         found = (front.first, *front.ended())
-        checks.same("a journal that is there", found, ("", 3, f"routed: journal {front.journal}: open: File exists (os error 17)\nrouted: stopped\n"
+        checks.same("a journal that is there", found,
+                    ("", 3, f"routed: journal {front.journal}: open: File exists (os error 17)\nrouted: stopped\n"
                                                            f"listen: {program.path} ended with status 3\n"))
         checks.same("no socket stays", os.listdir(room), ["journal"])
     os.remove(front.journal)
@@ -186,7 +191,8 @@ serve(sys.stdin.buffer, sys.stdout.buffer)
 
 
 def held_up(program, checks, versions, room):
-    """A connection that doesn't read holds the server's lines up, too: they don't fill the memory of routed-tools listen. By a program of long lines."""
+    """A connection that doesn't read holds the server's lines up, too: they don't fill the memory of routed-tools listen. By a program of
+    long lines."""
     class Long:
         path = os.path.join(room, "routed")
 

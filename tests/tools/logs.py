@@ -30,7 +30,8 @@ def logged(program, checks, room):
             "!updates 1: batch 7 refused: expected 1", "updates 1: ended, 1 rows, 1 lines, T s", f"updates 2: connected, {me}",
             "!updates 2: batch 7 refused: expected 1", f"updates: busy, {me}", "updates 2: refused, for a line that isn't passed on",
             "updates 2: ended, 1 rows, 1 lines, T s", "stopped by SIGTERM"]
-    for level, wanted in (("info", [line.removeprefix("!") for line in info]), ("warning", [line[1:] for line in info if line[0] == "!"]), ("error", [])):
+    for level, wanted in (("info", [line.removeprefix("!") for line in info]), ("warning", [line[1:] for line in info if line[0] == "!"]),
+                          ("error", [])):
         os.mkdir(inner := os.path.join(room, level))
         with seen(program, inner, "--log-level", level) as front:
             spoken(front)
@@ -48,7 +49,8 @@ def priorities(program, checks, room):
     """Where standard error is the stream that systemd names, a line has its priority in front."""
     reading, writing = os.pipe()
     found = os.fstat(writing)
-    with Front(program, room, "--log-level", "info", env={**os.environ, "JOURNAL_STREAM": f"{found.st_dev}:{found.st_ino}"}, stderr=writing) as front:
+    with Front(program, room, "--log-level", "info", env={**os.environ, "JOURNAL_STREAM": f"{found.st_dev}:{found.st_ino}"},
+               stderr=writing) as front:
         spoken(front)
         front.child.terminate()
         front.child.wait(PATIENCE)
@@ -80,7 +82,8 @@ def blocked(program, checks, room):
         taken = Connection(front.ask)
         taken.talk(ASKS["route"])
         said = os.read(reading, 1 << 16).decode()
-        checks.true("and told once it is read", said.startswith("listen: 10 lines of the log were dropped\nlisten: ask 6: connected, "), said)
+        checks.true("and told once it is read", said.startswith("listen: 10 lines of the log were dropped\nlisten: ask 6: connected, "),
+                    said)
     for file in (reading, writing):
         os.close(file)
     counting = log.Log("x", "info", None)

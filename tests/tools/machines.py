@@ -64,10 +64,12 @@ def connections(program, checks):
             ("the second is lost", lines(1) + lines(3), [["none"], "lost"]),
             ("the last is lost", lines(1), [["none"], "lost"]),
             ("the first is cut", lines(1)[:27] + lines(2), ["lost"]),
-            ("the first is not at its version", lines(1, version=3) + lines(2), ["far: routed wrote 'version 3' where 'version 2' has to be"]),
+            ("the first is not at its version", lines(1, version=3) + lines(2),
+             ["far: routed wrote 'version 3' where 'version 2' has to be"]),
             ("the first fails at its end", lines(1, status=3) + lines(2), [["none"], "far: routed ended with status 3"]),
             ("the first fails before", lines(1, status=3, version=3) + lines(2), ["far: routed ended with status 3: version 3"]),
-            ("the second has a line more", lines(1) + lines(2, more="more\n"), [["none"], ["none"], "far: routed ended with status 0: more"])):
+            ("the second has a line more", lines(1) + lines(2, more="more\n"),
+             [["none"], ["none"], "far: routed ended with status 0: more"])):
         taken, found = Connections(given, 1, io.BytesIO(text.encode())), []
         try:
             for _ in range(2):
@@ -93,7 +95,8 @@ def alone(program, checks):
 
 def dask(program, checks):
     """A scheduler and two workers."""
-    pythons = [path for path in (sys.executable, "/usr/bin/python3") if not subprocess.run([path, "-c", "import distributed"], capture_output=True).returncode]
+    pythons = [path for path in (sys.executable, "/usr/bin/python3")
+               if not subprocess.run([path, "-c", "import distributed"], capture_output=True).returncode]
     if not pythons:
         print("skipped: sweeps by Dask, since no Python here has distributed")
         return
@@ -123,10 +126,12 @@ def dask(program, checks):
             checks.true(f"NSFNET {words}, one process", wanted[0] == 0 and wanted[1].count("\n") > 90, wanted)
             checks.same(f"NSFNET {words}, two workers", run([python], program.path, *far, *words, rows=rows, asks=asks), wanted)
         checks.same("an empty network, two workers", run([python], program.path, *far, rows="", asks=""), sweep(program.path, "", ""))
-        checks.true("no program is left at a worker", await_(lambda: not any(children(worker) for worker in workers), 20), [children(worker) for worker in workers])
+        checks.true("no program is left at a worker", await_(lambda: not any(children(worker) for worker in workers), 20),
+                    [children(worker) for worker in workers])
         path = wrapped(program, room, STOPS)
         status, out, err = run([python], path, *far)
-        checks.true("a worker's program that stops in the second scenario", (status, out) == (3, BEFORE + OF_CIRCUITS[:SECOND]) and re.fullmatch(
+        checks.true("a worker's program that stops in the second scenario",
+                    (status, out) == (3, BEFORE + OF_CIRCUITS[:SECOND]) and re.fullmatch(
             rf"sweep: tcp://127.0.0.1:\d+: scenario 2: {path} ended with status 3: routed: stopped\n", err), (status, out, err))
         path = wrapped(program, room, first=GOES)
         status, out, err = run([python], path, *far)
@@ -134,7 +139,8 @@ def dask(program, checks):
             rf"sweep: tcp://127.0.0.1:\d+: scenario 1: {path}: No such file or directory\n", err), (status, out, err))
         dies = THIRD + 'if not os.path.exists(room + "/once"):\n        touch("once"); os.kill(os.getppid(), signal.SIGKILL); stop(0)'
         status, out, err = run([python], wrapped(program, room, dies), *far)
-        checks.true("a worker that dies", status == 3 and (BEFORE + OF_CIRCUITS).startswith(out) and out.startswith(BEFORE) and re.fullmatch(
+        checks.true("a worker that dies", status == 3 and (BEFORE + OF_CIRCUITS).startswith(out) and out.startswith(BEFORE)
+                    and re.fullmatch(
             r"sweep: scenario \d: the worker tcp://127.0.0.1:\d+ is gone\n", err), (status, out, err))
         checks.same("the worker that is left", run([python], program.path, *far), WHOLE)
         ends(scheduler)
@@ -151,7 +157,8 @@ def children(process):
 
 @contextlib.contextmanager
 def ssh_server(room, port):
-    """A server of ssh for this user on loopback alone, with keys of its own; what GNU parallel takes for two machines that are both this one."""
+    """A server of ssh for this user on loopback alone, with keys of its own; what GNU parallel takes for two machines that are both this
+    one."""
     for name in ("host", "key"):
         subprocess.run(["ssh-keygen", "-q", "-t", "ed25519", "-N", "", "-f", f"{room}/{name}"], check=True)
     for name in ("bin", "far"):
@@ -167,9 +174,11 @@ def ssh_server(room, port):
     made = os.getuid() == 0 and not os.path.exists("/run/sshd")  # where it separates its privileges
     if made:
         os.mkdir("/run/sshd", 0o755)
-    server = subprocess.Popen([shutil.which("sshd", path="/usr/sbin:/usr/bin"), "-D", "-e", "-f", f"{room}/config"], stderr=subprocess.DEVNULL)
+    server = subprocess.Popen([shutil.which("sshd", path="/usr/sbin:/usr/bin"), "-D", "-e", "-f", f"{room}/config"],
+                              stderr=subprocess.DEVNULL)
     try:
-        login = f"ssh -F none -p {port} -i {room}/key -o UserKnownHostsFile={room}/known -o BatchMode=yes -o LogLevel=ERROR -l {getpass.getuser()}"
+        login = (f"ssh -F none -p {port} -i {room}/key -o UserKnownHostsFile={room}/known -o BatchMode=yes -o LogLevel=ERROR "
+                 f"-l {getpass.getuser()}")
         yield f"{login} 127.0.0.1", f"{login} localhost"
     finally:
         ends(server)
@@ -185,7 +194,8 @@ def free_port():
 
 def ssh(program, checks):
     """Two machines that GNU parallel reaches by ssh."""
-    absent = [name for name in ("parallel", "sshd", "ssh", "ssh-keygen", "perl") if not shutil.which(name, path=f"{os.environ['PATH']}:/usr/sbin")]
+    absent = [name for name in ("parallel", "sshd", "ssh", "ssh-keygen", "perl")
+              if not shutil.which(name, path=f"{os.environ['PATH']}:/usr/sbin")]
     if absent:
         print(f"skipped: sweeps over ssh, since there is no {absent[0]}")
         return
@@ -214,13 +224,16 @@ def ssh(program, checks):
         checks.true("a program that isn't there at the far side", (status, out) == (3, BEFORE) and re.fullmatch(
             rf"sweep: scenario 1: (127.0.0.1|localhost): {path} ended with status 127: sh: .*{path}: not found\n", err), (status, out, err))
         status, out, err = run(python, wrapped(program, room, THIRD + "os.kill(os.getppid(), signal.SIGKILL); stop(0)"), "--ssh", one)
-        checks.true("a far side that ends in the third scenario", (status, out) == (3, BEFORE + OF_CIRCUITS[:OF_CIRCUITS.index("scenario 3")])
+        checks.true("a far side that ends in the third scenario",
+                    (status, out) == (3, BEFORE + OF_CIRCUITS[:OF_CIRCUITS.index("scenario 3")])
                     and err == "sweep: scenario 3: 127.0.0.1 ended with status 137\n", (status, out, err))
         port = free_port()
         closed = re.sub(r"-p \d+", f"-p {port}", other)
         status, out, err = run(python, program.path, "--ssh", f"{one},{closed}")
-        checks.true("a machine that can't be reached", status == 3 and out.startswith(BEFORE) and (BEFORE + OF_CIRCUITS).startswith(out) and re.fullmatch(
-            rf"sweep: scenario \d: localhost ended with status 255: ssh: connect to host localhost port {port}: Connection refused\n", err), (status, out, err))
+        checks.true("a machine that can't be reached",
+                    status == 3 and out.startswith(BEFORE) and (BEFORE + OF_CIRCUITS).startswith(out) and re.fullmatch(
+            rf"sweep: scenario \d: localhost ended with status 255: ssh: connect to host localhost port {port}: Connection refused\n", err),
+            (status, out, err))
         ended(program, checks, room, one)
 
 

@@ -45,10 +45,12 @@ def by_browser(pictures):
         page = os.path.join(room, "page.html")
         with open(page, "w") as file:
             file.write("<meta charset='utf-8'><body>" + "".join(pictures) +
-                       "<pre id='said'></pre><script>document.fonts.ready.then(() => { document.getElementById('said').textContent = JSON.stringify("
+                       "<pre id='said'></pre><script>document.fonts.ready.then(() => { document.getElementById('said').textContent = "
+                       "JSON.stringify("
                        "[...document.querySelectorAll('svg')].map(svg => [...svg.querySelectorAll('text')].map(text => text.getBBox())"
                        ".map(box => [box.x, box.y, box.x + box.width, box.y + box.height]))) })</script>")
-        ran = subprocess.run([shutil.which("chromium"), "--headless", "--no-sandbox", "--disable-gpu", "--virtual-time-budget=10000", "--dump-dom",
+        ran = subprocess.run([shutil.which("chromium"), "--headless", "--no-sandbox", "--disable-gpu", "--virtual-time-budget=10000",
+                              "--dump-dom",
                               f"file://{page}"], capture_output=True, text=True, timeout=300)
         return json.loads(html.unescape(re.search(r'<pre id="said">(.*?)</pre>', ran.stdout, re.S)[1]))
 
@@ -64,7 +66,8 @@ def faults(picture, boxes):
     for (one, box), (other, second) in itertools.combinations(zip(shown, boxes), 2):
         if meet(box, second):
             found.append(f"{one[1]} covers {other[1]}")
-    routers = [(float(it.get("cx")), float(it.get("cy")), float(it.get("r"))) for it in xml.fromstring(picture).iter(SVG + "circle") if it.get("class") == "router"]
+    routers = [(float(it.get("cx")), float(it.get("cy")), float(it.get("r"))) for it in xml.fromstring(picture).iter(SVG + "circle")
+               if it.get("class") == "router"]
     for (kind, text), box in zip(shown, boxes):
         if not (0 <= box[0] and 0 <= box[1] and box[2] <= wide and box[3] <= high):
             found.append(f"{text} is cut")

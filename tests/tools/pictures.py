@@ -25,7 +25,8 @@ def circuits(_, checks):
     checks.same("both directions are one line", (len(shapes(picture, "circuit")), len(shapes(picture, "one-way"))), (1, 0))
     _, picture, _ = draw(PAIR + "end,1,2\ndrop,2.2.2.2,10.0.0.2\nend,2,1\n")
     checks.same("a link of one way has an arrow", classes(picture, "circuit", "one-way", "arrow"), ["one-way", "arrow", "arrow"])
-    checks.true("a link of one way is in the legend", "one direction alone, or in other groups than its reverse" in notes(picture), notes(picture))
+    checks.true("a link of one way is in the legend", "one direction alone, or in other groups than its reverse" in notes(picture),
+                notes(picture))
     checks.same("what is said of a link of one way", hovers(picture, "one-way"), [
         "1.1.1.1 to 2.2.2.2, one way\n10.0.0.1 to 10.0.0.2: metric 10, group 0x1, 1,000 bytes per second unreserved at priority 0"])
     _, picture, _ = draw(PAIR + "end,1,2\ndrop,2.2.2.2,10.0.0.2\nend,2,1\n", "--version", "1")
@@ -48,11 +49,13 @@ def circuits(_, checks):
 
 def routes(_, checks):
     _, picture, _ = draw(PAIR + "end,1,2\n", "--ask", "7", replies=REPLY)
-    checks.same("a route is on top of its circuit, and its ends are marked, there and in the legend", classes(picture, "circuit", "route", "from", "to"),
+    checks.same("a route is on top of its circuit, and its ends are marked, there and in the legend",
+                classes(picture, "circuit", "route", "from", "to"),
                 ["circuit", "route", "from", "to", "from", "to"])
     text = "ask 7 v1: 1.1.1.1 to 2.2.2.2, cost 10, 1 link"
     checks.same("its cost and its ends are in the legend", [note for note in notes(picture) if note[0] != "g"],
-                ["widest: 1,000 bytes per second unreserved at priority 0; dotted: none", text, "ring: where a route begins", "diamond: where it ends"])
+                ["widest: 1,000 bytes per second unreserved at priority 0; dotted: none", text, "ring: where a route begins",
+                 "diamond: where it ends"])
     checks.same("what is said of a route", hovers(picture, "route"), [text])
     at, begins = places_in(picture), next(it for it in xml.fromstring(picture).iter(SVG + "circle") if it.get("class") == "from")
     checks.same("the ring is round the head-end", (float(begins.get("cx")), float(begins.get("cy"))), at["1.1.1.1"])
@@ -72,11 +75,14 @@ def routes(_, checks):
 def of_books(checks):
     """Of the lines of a book the last route that was placed is drawn."""
     placed = REPLY.replace("ask 7 v1", "place 7 v2")
-    for name, more in (("alone", ""), ("before it found none", "place 7 v2 none\nplace 7 refused: twice\n"), ("and lost", "lost 7\nbase 2 v3\nover 1.1.1.1,10.0.0.1 7\n")):
+    for name, more in (("alone", ""), ("before it found none", "place 7 v2 none\nplace 7 refused: twice\n"),
+                       ("and lost", "lost 7\nbase 2 v3\nover 1.1.1.1,10.0.0.1 7\n")):
         status, picture, said = draw(PAIR + "end,1,2\n", "--ask", "7", replies=f"base 1 v1\n{placed}{more}")
-        checks.same(f"a route of a book {name}", (status, said, hovers(picture, "route")), (0, "", ["place 7 v2: 1.1.1.1 to 2.2.2.2, cost 10, 1 link"]))
+        checks.same(f"a route of a book {name}", (status, said, hovers(picture, "route")),
+                    (0, "", ["place 7 v2: 1.1.1.1 to 2.2.2.2, cost 10, 1 link"]))
     again = placed.replace("v2", "v1").replace("0a000002", "0a000009") + placed
-    checks.same("the last route of a book", hovers(draw(PAIR + "end,1,2\n", "--ask", "7", replies=again)[1], "route"), ["place 7 v2: 1.1.1.1 to 2.2.2.2, cost 10, 1 link"])
+    checks.same("the last route of a book", hovers(draw(PAIR + "end,1,2\n", "--ask", "7", replies=again)[1], "route"),
+                ["place 7 v2: 1.1.1.1 to 2.2.2.2, cost 10, 1 link"])
     status, picture, said = draw(PAIR + "end,1,2\n", "--ask", "7", replies="place 7 v1 none\n")
     checks.same("a book that placed nothing", (status, picture, said), (1, "", "draw: no reply to 7\n"))
 
@@ -107,7 +113,8 @@ def overbooked(_, checks):
     status, picture, said = draw(LINE + "end,1,4\n", overbooked=line + whole)
     checks.same("an overbooked circuit", (status, said, classes(picture, "band", "circuit")), (0, "", ["band", "circuit", "circuit"]))
     checks.true("the band is in the legend", "overbooked: more is asked of it than it has unreserved" in notes(picture), notes(picture))
-    checks.true("what is said of it", "overbooked at priority 7: 1,100 bytes per second are asked of 1,000" in hovers(picture, "circuit")[0], hovers(picture, "circuit"))
+    checks.true("what is said of it", "overbooked at priority 7: 1,100 bytes per second are asked of 1,000" in hovers(picture, "circuit")[
+        0], hovers(picture, "circuit"))
     bands = [re.sub("Z?$", "", band.get("d")) for band in shapes(picture, "band")]
     checks.same("the band is under its circuit", bands, [shapes(picture, "circuit")[0].get("d")])
     _, picture, _ = draw(LINE + "end,1,4\n", overbooked=whole)
@@ -116,13 +123,15 @@ def overbooked(_, checks):
     checks.same("an overbooked link that isn't there", (status, picture, said),
                 (1, "", "draw: overbooked: the network has no link 1.1.1.1 10.0.0.9 2.2.2.2 10.0.0.2\n"))
     status, picture, said = draw(LINE + "end,1,4\n", overbooked="text\n")
-    checks.true("a file that is no sweep", status == 1 and picture == "" and re.fullmatch(r"draw: overbooked: \S+ has no lines of a sweep\n", said), said)
+    checks.true("a file that is no sweep", status == 1 and picture == ""
+                and re.fullmatch(r"draw: overbooked: \S+ has no lines of a sweep\n", said), said)
 
 
 def marks(_, checks):
     """A router without transit is drawn otherwise, and told in the legend; no route passes through it."""
     def shown(*words, **texts):
-        status, picture, said = draw(LINE + "end,1,4\nnode,2.2.2.2,0\nnode,9.9.9.9,0\nend,2,2\nnode,2.2.2.2,1\nnode,8.8.8.8,1\nend,3,2\n", *words, **texts)
+        status, picture, said = draw(LINE + "end,1,4\nnode,2.2.2.2,0\nnode,9.9.9.9,0\nend,2,2\nnode,2.2.2.2,1\nnode,8.8.8.8,1\nend,3,2\n",
+                                     *words, **texts)
         return status, said, picture and (len(shapes(picture, "no-transit")) - 1, "no transit" in picture)
 
     for version, wanted in (("1", (-1, False)), ("2", (1, True)), ("3", (-1, False))):
@@ -143,10 +152,13 @@ def places(_, checks):
     status, picture, _ = draw(PAIR + "end,1,2\n", places="1.1.1.1 0 0 a\x01b\n2.2.2.2 1 1 c\n")
     checks.same("a character that no document has", sorted(text.text for text in names(picture)), ["a\ufffdb", "c"])
     for name, given in (("with no y", "1.1.1.1 0\n"), ("without numbers", "1.1.1.1 a b\n")):
-        checks.same(f"a place {name} is refused", draw(PAIR + "end,1,2\n", places=given), (1, "", "draw: places, line 1: an address, x and y are wanted\n"))
+        checks.same(f"a place {name} is refused", draw(PAIR + "end,1,2\n", places=given),
+                    (1, "", "draw: places, line 1: an address, x and y are wanted\n"))
     for number in ("nan", "inf", "-1e13"):
-        checks.same(f"a place at {number}", draw(PAIR + "end,1,2\n", places=f"1.1.1.1 0 {number}\n"), (1, "", "draw: places, line 1: x and y are at most 1e+12\n"))
-    checks.same("a place twice", draw(PAIR + "end,1,2\n", places="1.1.1.1 0 0\n\n1.1.1.1 1 0\n"), (1, "", "draw: places, line 3: 1.1.1.1 is there twice\n"))
+        checks.same(f"a place at {number}", draw(PAIR + "end,1,2\n", places=f"1.1.1.1 0 {number}\n"),
+                    (1, "", "draw: places, line 1: x and y are at most 1e+12\n"))
+    checks.same("a place twice", draw(PAIR + "end,1,2\n", places="1.1.1.1 0 0\n\n1.1.1.1 1 0\n"),
+                (1, "", "draw: places, line 3: 1.1.1.1 is there twice\n"))
     for name, words, line in (("a reply of no lines", ("--ask", "7"), "--ask needs --replies, the lines that it is one of"),
                               ("a version below 0", ("--version", "-1"), "argument --version: invalid version value: '-1'")):
         status, picture, said = draw(PAIR + "end,1,2\n", *words)
@@ -154,9 +166,12 @@ def places(_, checks):
     status, picture, said = draw(PAIR + "end,1,2\n", replies=REPLY)
     checks.same("replies of which none is drawn are refused", (status, picture, said.splitlines()[-1:]),
                 (2, "", ["draw: error: --replies needs --ask, which says whose route is drawn"]))
-    for name, rows, why in (("no rows", "<svg/>\n", "row 1 refused: kind"), ("a word that is no kind", PAIR + "end,1,2\nfoo\n", "row 4 refused: kind"),
-                            ("too few fields", "put,1.1.1.1\n", "row 1 refused: fields"), ("a bad mask", PAIR.replace("0x1", "1", 1), "row 1 refused: mask 7"),
-                            ("another number", PAIR + "end,2,2\n", "batch 2 refused: expected 1"), ("another count", PAIR + "end,1,1\n", "batch 1 refused: counted 2"),
+    for name, rows, why in (("no rows", "<svg/>\n", "row 1 refused: kind"),
+                            ("a word that is no kind", PAIR + "end,1,2\nfoo\n", "row 4 refused: kind"),
+                            ("too few fields", "put,1.1.1.1\n", "row 1 refused: fields"),
+                            ("a bad mask", PAIR.replace("0x1", "1", 1), "row 1 refused: mask 7"),
+                            ("another number", PAIR + "end,2,2\n", "batch 2 refused: expected 1"),
+                            ("another count", PAIR + "end,1,1\n", "batch 1 refused: counted 2"),
                             ("a link twice", PAIR + PAIR + "end,1,4\n", "batch 1 refused: duplicate 3"),
                             ("a link that isn't there", "drop,1.1.1.1,10.0.0.1\nend,1,1\n", "batch 1 refused: absent 1")):
         status, picture, said = draw(rows)
@@ -201,7 +216,8 @@ def where(checks):
         checks.same("a new router joins those that are kept", (len(again), len(open(kept).read().splitlines())), (14, 14))
         with open(kept, "w") as file:
             file.write("1.1.1.1 0\n")
-        checks.same("what is kept is no position", draw(rows, "--keep", kept), (1, "", "draw: places, line 1: an address, x and y are wanted\n"))
+        checks.same("what is kept is no position", draw(rows, "--keep", kept),
+                    (1, "", "draw: places, line 1: an address, x and y are wanted\n"))
         checks.same("and stays as it is", open(kept).read(), "1.1.1.1 0\n")
 
 
@@ -224,7 +240,8 @@ def layouts(_, checks):
     corners = [at[corner] for corner in ((0, 0), (0, 11), (11, 11), (11, 0))]
     sides = [math.dist(one, other) for one, other in zip(corners, corners[1:] + corners[:1])]
     diagonals = math.dist(corners[0], corners[2]), math.dist(corners[1], corners[3])
-    checks.true("the corners of a grid are its corners", min(diagonals) > 1.15 * max(sides) and max(sides) < 1.3 * min(sides), (sides, diagonals))
+    checks.true("the corners of a grid are its corners", min(diagonals) > 1.15 * max(sides) and max(sides) < 1.3 * min(sides),
+                (sides, diagonals))
     for name, routers, pairs in (("no router", [], []), ("one router", ["a"], []), ("two routers", ["a", "b"], [("a", "b")]),
                                  ("a star", list(range(40)), [(0, it) for it in range(1, 40)]), ("routers alone", list(range(30)), [])):
         at = lay_out(routers, pairs)
@@ -242,7 +259,8 @@ def failures(_, checks):
     counts = [text.text for text in xml.fromstring(picture).iter(SVG + "text") if text.get("class") == "counts"]
     checks.same("what each circuit's failure does", (kinds, counts), (["longer", "lost", "longer", "none"], ["0/2/2", "1/0/0", "0/1/0"]))
     checks.same("the routers of failures", sorted(text.text for text in names(picture)), ["Router 1", "Router 2", "Router 3", "Router 4"])
-    checks.same("what is overbooked while nothing fails", [band.get("d") for band in shapes(picture, "band")], [shapes(picture, "longer")[0].get("d")])
+    checks.same("what is overbooked while nothing fails", [band.get("d") for band in shapes(picture, "band")],
+                [shapes(picture, "longer")[0].get("d")])
     checks.same("what is said of a failure", hovers(picture, "longer")[0].split("\n"), [
         "without Router 1 – Router 2 (1.1.1.1 10.0.12.1 2.2.2.2 10.0.12.2)", "2 get a longer one: 1, 2",
         "overbooked then: 1.1.1.1 10.0.14.1 4.4.4.4 10.0.14.4", "overbooked then: 4.4.4.4 10.0.34.4 3.3.3.3 10.0.34.3",
@@ -255,14 +273,18 @@ def failures(_, checks):
     checks.same("a link that is overbooked more than before", classes(drawn(more + OF_CIRCUITS)[1], "overbooked", "none"),
                 ["overbooked"] if "scenario 4 overbooked" in OF_CIRCUITS else ["none"])
     _, picture, _ = drawn(BEFORE + OF_CIRCUITS.replace("scenario 4 out circuit", "scenario 4 out link"))
-    checks.true("a link that fails alone has an arrow", classes(picture, "arrow") and "one direction alone" in notes(picture), notes(picture))
+    checks.true("a link that fails alone has an arrow", classes(picture, "arrow") and "one direction alone" in notes(picture),
+                notes(picture))
     _, picture, err = drawn("before routes=0 without=0 overbooked=0\nscenarios=0 lost=0 longer=0 overbooked=0\n", places="")
     checks.same("a network without circuits", (err, notes(picture)), ("", ["The network has no circuits."]))
-    twice = OF_CIRCUITS.replace("scenario 4 out circuit 3.3.3.3 10.0.34.3 4.4.4.4 10.0.34.4", "scenario 4 out circuit 3.3.3.3 10.1.23.3 2.2.2.2 10.1.23.2")
-    paths = [line.get("d") for line in xml.fromstring(drawn(twice)[1]).iter(SVG + "path") if line.get("class") in ("lost", "longer", "overbooked", "none")]
+    twice = OF_CIRCUITS.replace("scenario 4 out circuit 3.3.3.3 10.0.34.3 4.4.4.4 10.0.34.4",
+                                "scenario 4 out circuit 3.3.3.3 10.1.23.3 2.2.2.2 10.1.23.2")
+    paths = [line.get("d") for line in xml.fromstring(drawn(twice)[1]).iter(SVG + "path")
+             if line.get("class") in ("lost", "longer", "overbooked", "none")]
     checks.true("two circuits of one pair whose failures are drawn are apart", len(set(paths)) == 4, paths)
     status, picture, err = drawn(OF_CIRCUITS, "1.1.1.1 0 0\n2.2.2.2 1 1\n3.3.3.3 0 1\n9.9.9.9 0 0\n")
-    checks.same("failures without some positions", (status, err, len(places_in(picture))), (0, "draw-failures: places, line 4: the network has no router 9.9.9.9\n", 4))
+    checks.same("failures without some positions", (status, err, len(places_in(picture))),
+                (0, "draw-failures: places, line 4: the network has no router 9.9.9.9\n", 4))
     for name, given, why in [
             ("a sweep that is cut", (OF_CIRCUITS[:OF_CIRCUITS.index("scenarios=")],), "the sweep isn't whole"),
             ("a scenario that lacks", (OF_CIRCUITS[OF_CIRCUITS.index("scenario 2 out"):],), "the sweep isn't whole"),

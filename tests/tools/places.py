@@ -27,13 +27,15 @@ def places(program, checks, versions, room):
                 found = ran.returncode, ran.stdout, ran.stderr.splitlines()[-1:]
             except subprocess.TimeoutExpired as late:
                 found = "it listens", late.stdout, []
-            line = (f"listen: error: argument {option}: {place!r} is no place: that is the path of a UNIX socket (with a slash where it has "
+            line = (f"listen: error: argument {option}: {place!r} is no place: that is the path of a UNIX socket (with a slash where it "
+                    "has "
                     "a colon), a port from 0 to 65535, ADDRESS:PORT or [ADDRESS]:PORT")
             checks.same(f"{option} {place!r}", (*found, os.listdir(room)), (2, "", [line], []))
             for name in os.listdir(room):
                 os.remove(os.path.join(room, name))
     with Front(program, room, ask="./a:1", cwd=room):
-        checks.same("a path with a colon and a slash", Connection(os.path.join(room, "a:1")).talk(f"{versions.asks[0]}\n"), f"{versions.replies[0][0]}\n")
+        checks.same("a path with a colon and a slash", Connection(os.path.join(room, "a:1")).talk(f"{versions.asks[0]}\n"),
+                    f"{versions.replies[0][0]}\n")
 
 
 def ports(program, checks, versions, room):
@@ -47,16 +49,19 @@ def ports(program, checks, versions, room):
         print("listened: no IPv6 here: [::1]:PORT isn't tried")
     with Front(program, room, updates="0", ask=f"{host}:0") as front:
         told = [front.first, front.said.next(), front.said.next()]
-        numbers = [re.fullmatch(rf"{kind} {re.escape(at)}:([1-9]\d*)\n", line) for kind, at, line in zip(("updates", "ask"), ("127.0.0.1", host), told)]
+        numbers = [re.fullmatch(rf"{kind} {re.escape(at)}:([1-9]\d*)\n", line)
+                   for kind, at, line in zip(("updates", "ask"), ("127.0.0.1", host), told)]
         checks.true("the ports that were chosen", all(numbers) and told[2] == "ready\n", told)
         updating, taken = Connection(("127.0.0.1", int(numbers[0][1]))), Connection((host.strip("[]"), int(numbers[1][1])))
-        checks.same("connections to them", (updating.talk(versions.texts[1]), taken.talk(ask)), ("version 1\n", f"{versions.replies[1][0]}\n"))
+        checks.same("connections to them", (updating.talk(versions.texts[1]), taken.talk(ask)),
+                    ("version 1\n", f"{versions.replies[1][0]}\n"))
 
 
 def modes(program, checks, versions, room):
     """Each socket has its mode."""
     for at, (words, wanted) in enumerate([
-        ([], [0o600, 0o600]), (["--mode", "660"], [0o660, 0o660]), (["--ask-mode", "666"], [0o666, 0o600]), (["--updates-mode", "660"], [0o600, 0o660]),
+        ([], [0o600, 0o600]), (["--mode", "660"], [0o660, 0o660]), (["--ask-mode", "666"], [0o666, 0o600]),
+        (["--updates-mode", "660"], [0o600, 0o660]),
         (["--mode", "640", "--ask-mode", "660", "--updates-mode", "0"], [0o660, 0]),
     ]):
         os.mkdir(inner := os.path.join(room, str(at)))
@@ -65,7 +70,8 @@ def modes(program, checks, versions, room):
     for option, text in (("--mode", "8"), ("--ask-mode", "1000"), ("--updates-mode", "-1")):
         with Front(program, room, f"{option}={text}") as front:
             status, said = front.ended()
-            checks.true(f"{option} {text}", status == 2 and said.endswith(f"listen: error: argument {option}: invalid mode value: '{text}'\n"), said)
+            checks.true(f"{option} {text}",
+                        status == 2 and said.endswith(f"listen: error: argument {option}: invalid mode value: '{text}'\n"), said)
 
 
 def posted(program, checks, versions, room):
@@ -81,7 +87,8 @@ def posted(program, checks, versions, room):
         updating, line = admitted(place, ask)
         checks.same("and nothing is published by it", (line, front.kept()), (f"{versions.replies[0][0]}\n", ""))
         updating.leave()
-        rows = ["foo", "version 1", " end,1,0", "END,1,0", "ends,1,0", "putt", "snapshots", "snapshot,1", "snapshot ", f"{MARK}end,1,0", "#",
+        rows = ["foo", "version 1", " end,1,0", "END,1,0", "ends,1,0", "putt", "snapshots", "snapshot,1", "snapshot ", f"{MARK}end,1,0",
+                "#",
                 "foo\rask,1", "ask,1\rfoo", '"end",1,0', 'end,1,"0', "\0", ",", "ask\tx", "9" * 70_000]
         for number, row in enumerate(rows, 1):
             taken, line = admitted(place, ask)
@@ -93,7 +100,8 @@ def posted(program, checks, versions, room):
         taken.say("\n\r\n" + ask + "drop\nput,1\nnode\nend\nask\n" + ask)
         found = re.sub(r"row \d+", "row", taken.leave())
         reply = f"ask {ask.split(',')[1]} v{number} "
-        checks.true("rows of the updates that the server refuses", re.fullmatch(rf"{reply}.*\n(row refused: fields\n){{5}}{reply}.*\n", found), found)
+        checks.true("rows of the updates that the server refuses",
+                    re.fullmatch(rf"{reply}.*\n(row refused: fields\n){{5}}{reply}.*\n", found), found)
 
 
 def marks(program, checks, versions, room):
@@ -123,23 +131,28 @@ def marks(program, checks, versions, room):
 def begun(program, checks, versions, room):
     """The batches of --begin are published before anybody is let in; where one isn't, the front ends and says which."""
     begin, ask = os.path.join(room, "begin"), f"{versions.asks[0]}\n"
-    for name, text in (("as the program writes it", versions.texts[5]), ("with a byte order mark, carriage returns and quotes", dressed(versions.texts[5]))):
+    for name, text in (("as the program writes it", versions.texts[5]),
+                       ("with a byte order mark, carriage returns and quotes", dressed(versions.texts[5]))):
         with open(begin, "w", encoding="utf-8", newline="") as file:
             file.write(text)
         with Front(program, room, "--begin", begin) as front:
-            checks.same(f"a first ask, and the next batch, {name}", (Connection(front.ask).talk(ask), Connection(front.updates).talk(batches_of(versions)[5])),
+            checks.same(f"a first ask, and the next batch, {name}",
+                        (Connection(front.ask).talk(ask), Connection(front.updates).talk(batches_of(versions)[5])),
                         (f"{versions.replies[5][0]}\n", "version 6\n"))
             checks.same(f"the journal begins so: {name}", front.kept(), versions.texts[6])
         os.unlink(front.journal)
-    for name, text, line in (("no rows", "foo\n", "row 1 refused: kind"), ("changes without an end", versions.texts[1] + "node,1.1.1.1,0\n", "unended 1"),
+    for name, text, line in (("no rows", "foo\n", "row 1 refused: kind"),
+                             ("changes without an end", versions.texts[1] + "node,1.1.1.1,0\n", "unended 1"),
                              ("another number", "end,2,0\n", "batch 2 refused: expected 1"), ("an ask", ask, "row 1 refused: kind"),
-                             ("a batch that doesn't fit", "end,1,0\ndrop,9.9.9.9,9.9.9.9\nend,2,1\nend,3,0\n", "batch 2 wasn't published"), ("no file", None, None)):
+                             ("a batch that doesn't fit", "end,1,0\ndrop,9.9.9.9,9.9.9.9\nend,2,1\nend,3,0\n", "batch 2 wasn't published"),
+                             ("no file", None, None)):
         if text is not None:
             with open(begin, "w", encoding="ascii") as file:
                 file.write(text)
         path = begin if text is not None else os.path.join(room, "nowhere")
         with Front(program, room, "--begin", path) as front:
-            checks.same(f"a beginning of {name}", (front.first, *front.ended()), ("", 3, f"listen: {path}: {line or 'read: No such file or directory'}\n"))
+            checks.same(f"a beginning of {name}", (front.first, *front.ended()),
+                        ("", 3, f"listen: {path}: {line or 'read: No such file or directory'}\n"))
         with contextlib.suppress(FileNotFoundError):
             os.unlink(front.journal)
 
@@ -208,7 +221,8 @@ def causes(program, checks, versions, room):
         checks.same("a program that isn't there", (front.first, *front.ended()), ("", 3, f"listen: {absent}: No such file or directory\n"))
     checks.same("nothing is left", os.listdir(room), [])
     with open("/dev/full", "wb") as full:
-        ran = subprocess.run([*LISTEN, "--program", program.path, "--journal", f"{room}/journal", "--ask", f"{room}/ask", "--updates", path],
+        ran = subprocess.run([*LISTEN, "--program", program.path, "--journal", f"{room}/journal", "--ask", f"{room}/ask", "--updates",
+                              path],
                              stdout=full, stderr=subprocess.PIPE, text=True, timeout=PATIENCE)
     checks.same("standard output is full", (ran.returncode, ran.stderr), (3, "listen: standard output: write: No space left on device\n"))
     copy = os.path.join(room, "copy")
@@ -216,7 +230,8 @@ def causes(program, checks, versions, room):
         shutil.copytree(os.path.join(TOP, folder), f"{copy}/{folder}", ignore=shutil.ignore_patterns("__pycache__"))
     shutil.copy(os.path.join(TOP, "crates.txt"), copy)
     around = {**os.environ, "PATH": os.path.dirname(sys.executable) + ":/usr/bin:/bin", "ROUTED_PROGRAM": ""}
-    ran = subprocess.run([f"{copy}/tools/routed-tools", "listen", "--journal", absent, "--ask", f"{room}/ask", "--updates", path], capture_output=True, text=True,
+    ran = subprocess.run([f"{copy}/tools/routed-tools", "listen", "--journal", absent, "--ask", f"{room}/ask", "--updates", path],
+                         capture_output=True, text=True,
                          env=around)
     wanted = f"listen: {copy}/crates/routed/out/routed: No such file or directory (README.md says how it is built)\n"
     checks.same("a program that isn't built", (ran.returncode, ran.stdout, ran.stderr), (3, "", wanted))

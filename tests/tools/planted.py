@@ -1,7 +1,7 @@
 """A tool of this tree in whose callbacks exceptions are planted: `planted.py FILE TOOL WORDS`.
 
-Each line of FILE names one of PLACES, as `Channel.take`, and maybe whose, as `Pcc.tick 127.0.0.1` or `Watcher.tell 2`. The next call of the first line's place
-raises, before it does anything, or with a `!` behind the name after it has done all. The line is gone then."""
+Each line of FILE names one of PLACES, as `Channel.take`, and maybe whose, as `Pcc.tick 127.0.0.1` or `Watcher.tell 2`. The next call of the
+first line's place raises, before it does anything, or with a `!` behind the name after it has done all. The line is gone then."""
 import os
 import sys
 

@@ -1,5 +1,5 @@
-"""Tests of the one reader of journals: what it takes and refuses is what the texts of tests/program/scripts and tests/program/journals say, and each
-tool that reads a journal reads one with a byte order mark, carriage returns and quotes as `routed` does."""
+"""Tests of the one reader of journals: what it takes and refuses is what the texts of tests/program/scripts and tests/program/journals say,
+and each tool that reads a journal reads one with a byte order mark, carriage returns and quotes as `routed` does."""
 import os
 import re
 import subprocess
@@ -45,7 +45,8 @@ def refusals(checks):
             (f"put,1.1.1.1,10.0.0.1,1.1.1.1,10.0.0.2,1,0x1,{most}", "self-link"),
             ("node,1.1.1.1,2", "number 3"), ("node,256.1.1.1,2", "address 2"), ("drop,1.1.1.1,1.1.1.1,", "fields"),
             ("drop,1.1.1.01,1.1.1.1", "address 2"), ("drop,1.1.1.1,1.1.1", "address 3"), ("end,+1,0", "number 2"), ("end,1, 0", "number 3"),
-            ("end," + "9" * 100_000 + ",0", "number 2"), ('"drop,1.1.1.1",1.1.1.1', "kind"), ("END,1,0", "kind"), ("end,\u0661,0", "number 2")]:
+            ("end," + "9" * 100_000 + ",0", "number 2"), ('"drop,1.1.1.1",1.1.1.1', "kind"), ("END,1,0", "kind"),
+            ("end,\u0661,0", "number 2")]:
         checks.same(f"a row: {row[:60]}", refusal(next(records(row.encode()))), words)
 
 
@@ -67,7 +68,8 @@ def whole_batches(checks):
         out, words = (kept("journals", name[:-8] + kind).decode() for kind in (".out", ".words"))
         if name.endswith(".journal") and not words and not re.search("^batch|^request", out, re.M):
             torn = re.search(r"journal torn after (\d+)", out)
-            checks.same(f"whole batches of {name}", counted(kept("journals", name)), int(torn[1]) if torn else len(re.findall("(?m)^version", out)))
+            checks.same(f"whole batches of {name}", counted(kept("journals", name)),
+                        int(torn[1]) if torn else len(re.findall("(?m)^version", out)))
             tried += 1
     checks.true("journals were counted", tried > 8, tried)
 
@@ -91,7 +93,8 @@ def readers(program, checks):
         checks.true("routed reads the dressed journal as the plain one", texts[0] == texts[1] and texts[0][0] == 0, texts)
         drawn = [tool("draw", path, "--title", "") for path in paths[:2]]
         checks.same("draw: a byte order mark, carriage returns and quotes", drawn[1], drawn[0])
-        checks.same("draw: circuits, and no link of one way", (drawn[1][1].count('class="circuit"'), drawn[1][1].count('class="one-way"')), (21, 0))
+        checks.same("draw: circuits, and no link of one way", (drawn[1][1].count('class="circuit"'), drawn[1][1].count('class="one-way"')),
+                    (21, 0))
         swept = [tool("sweep", path, requests, "--program", program.path) for path, requests in
                  ((paths[0], os.path.join(TOP, "examples/nsfnet.requests")), (paths[1], paths[2]))]
         checks.true("sweep: a network of 21 circuits", "links=42 circuits=21" in swept[0][1], swept[0])

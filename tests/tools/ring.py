@@ -95,7 +95,8 @@ most failures 2 request 2 lost=2 longer=0
 most failures 3 request 3 lost=2 longer=0
 scenarios=4 lost=4 longer=1 overbooked=0
 """
-OF_PAIRS = "".join(f"scenario {place} out {one}\nscenario {place} out {other}\nscenario {place} {counts}\n" for place, one, other, counts in (
+OF_PAIRS = "".join(f"scenario {place} out {one}\nscenario {place} out {other}\nscenario {place} {counts}\n"
+                   for place, one, other, counts in (
     (1, AB, AD, "lost=3 longer=0 most=0 overbooked=0"), (2, AB, BC, "lost=1 longer=1 most=5 overbooked=0"),
     (3, AB, CD, "lost=2 longer=0 most=0 overbooked=0"), (4, AD, BC, "lost=2 longer=0 most=0 overbooked=0"),
     (5, AD, CD, "lost=1 longer=0 most=0 overbooked=0"), (6, BC, CD, "lost=1 longer=0 most=0 overbooked=0")))
@@ -113,7 +114,8 @@ def sweep(program, rows, asks, *words):
 
 def facts(program, rows, asks, pattern, *words):
     """The lines of a sweep in which the pattern is found, without the ranked ones."""
-    return [line for line in sweep(program.path, rows, asks, *words)[1].splitlines() if re.search(pattern, line) and not line.startswith("most ")]
+    return [line for line in sweep(program.path, rows, asks, *words)[1].splitlines() if re.search(pattern, line)
+            and not line.startswith("most ")]
 
 
 WRAPPED = """#!{python}

@@ -8,7 +8,7 @@ import threading
 
 from program.serving import BATCHES, PATIENCE, ROUTERS, batches_of, judged, wait_for
 from program.snapshots import snapshot_of
-from reference.formats import publish, whole_batches
+from reference.runs import publish, whole_batches
 from tools.fronts import Connection, Front, admitted, busy
 
 
@@ -121,7 +121,8 @@ def failed_snapshots(program, checks, versions, room):
             checks.same(f"a snapshot by {text}", updating.hear(2), f"snapshot refused: {line}\n{reply}")
         os.remove(Wrapped.path)
         updating.say(f"snapshot\n{ask}")
-        checks.same("a snapshot where the program is gone", updating.hear(2), f"snapshot refused: {Wrapped.path}: No such file or directory\n{reply}")
+        checks.same("a snapshot where the program is gone", updating.hear(2),
+                    f"snapshot refused: {Wrapped.path}: No such file or directory\n{reply}")
         hung = os.path.join(room, "hung")
         wrap(f"echo put,1; echo $$ > {hung}; exec sleep 1000")
         updating.say(f"snapshot\n{ask}")

@@ -143,7 +143,8 @@ class Streams:
 
     def have_turns(self):
         """Which streams have a turn, and which wait for one."""
-        return sorted(self.channels.index(stream) for stream in self.turns.taken), [self.channels.index(stream) for stream in self.turns.queue]
+        return sorted(self.channels.index(stream) for stream in self.turns.taken), [self.channels.index(stream)
+                                                                                    for stream in self.turns.queue]
 
 
 def asks(at, count, first=0):

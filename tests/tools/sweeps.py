@@ -1,4 +1,5 @@
-"""Tests of routed-tools sweep and routed-tools join: failures worked by hand, failures by tests/reference/formats.py, several jobs, parts, and what is refused."""
+"""Tests of routed-tools sweep and routed-tools join: failures worked by hand, failures by tests/reference/formats.py, several jobs, parts,
+and what is refused."""
 import contextlib
 import hashlib
 import os
@@ -12,9 +13,11 @@ import time
 
 from checks import TOOLS, TOP
 from reference.changes import counts_mended
-from reference.formats import Refused, address_number, address_text, publish, whole_batches
+from reference.formats import Refused, address_number, address_text
+from reference.runs import publish, whole_batches
 from reference.sweeps import plain
-from tools.ring import A, AB, AD, ASKS, B, BC, BEFORE, C, CD, D, DROPS, FIRST, HANGS, MASKS, OF_CIRCUITS, OF_PAIRS, OF_ROUTERS, RING, SWEEP, THIRD, ask, circuit, facts, journal, link, sweep, wrapped
+from tools.ring import A, AB, AD, ASKS, B, BC, BEFORE, C, CD, D, DROPS, FIRST, HANGS, MASKS, OF_CIRCUITS, OF_PAIRS, OF_ROUTERS, RING
+from tools.ring import SWEEP, THIRD, ask, circuit, facts, journal, link, sweep, wrapped
 
 from routed.sweep.failures import Network
 from routed.sweep.solving import MOST_ROWS, Solve
@@ -38,7 +41,8 @@ def ring(program, checks):
              f"{C} 10.0.23.3 {B} 10.0.23.2": (("scenario 1", 150),), f"{D} 10.0.34.4 {C} 10.0.34.3": (("scenario 1", 210),)}
     checks.same("a link that is overbooked has a line where it gets worse, and none where it stays or gets better",
                 sorted(facts(program, RING, loaded, " overbooked ")), sorted(
-                    f"{where} overbooked {name} priority=7 asked={asked} above=0 unreserved=100" for name, found in taken.items() for where, asked in found))
+                    f"{where} overbooked {name} priority=7 asked={asked} above=0 unreserved=100" for name, found in taken.items()
+                    for where, asked in found))
     nothing = "network version=0 routers=0 links=0 circuits=0 requests=0\nbefore routes=0 without=0 overbooked=0\n" \
               "scenarios=0 lost=0 longer=0 overbooked=0\n"
     checks.same("an empty network", sweep(program.path, "", ""), (0, nothing, ""))
@@ -77,11 +81,12 @@ def parts(program, checks):
     checks.same("a router without transit is passed in no scenario, and is an end in each",
                 facts(program, marked, ask(1, A, C) + ask(2, A, B) + ask(3, B, D), "network|request"), [
                     "network version=3 routers=4 links=8 circuits=4 requests=3", "scenario 1 longer request 2 cost=35 was=10 more=25",
-                    "scenario 2 lost request 1 none was=25", "scenario 3 longer request 3 cost=25 was=20 more=5", "scenario 4 lost request 1 none was=25",
-                    "scenario 4 longer request 3 cost=25 was=20 more=5"])
+                    "scenario 2 lost request 1 none was=25", "scenario 3 longer request 3 cost=25 was=20 more=5",
+                    "scenario 4 lost request 1 none was=25", "scenario 4 longer request 3 cost=25 was=20 more=5"])
     equal = journal(circuit(1, 2), circuit(2, 4), circuit(1, 3), circuit(3, 4))
     checks.same("another route of the same cost isn't longer", facts(program, equal, ask(1, A, D), "lost=.*overbooked"),
-                [*(f"scenario {at} lost=0 longer=0 most=0 overbooked=0" for at in (1, 2, 3, 4)), "scenarios=4 lost=0 longer=0 overbooked=0"])
+                [*(f"scenario {at} lost=0 longer=0 most=0 overbooked=0" for at in (1, 2, 3, 4)),
+                 "scenarios=4 lost=0 longer=0 overbooked=0"])
 
 
 def loads(program, checks):
@@ -172,7 +177,8 @@ def drawn(draw):
 
     def hop():
         """An interface, all interfaces of one circuit or of several, a router, or all of it."""
-        return draw.choice([f"{draw.choice(locals_)}/32", f"{draw.choice(locals_)}/32", f"{draw.choice(locals_)}/24", "10.1.0.7/22", "10.1.0.0/16",
+        return draw.choice([f"{draw.choice(locals_)}/32", f"{draw.choice(locals_)}/32", f"{draw.choice(locals_)}/24", "10.1.0.7/22",
+                            "10.1.0.0/16",
                             f"10.0.0.{draw.randrange(1, 7)}/32", "10.0.0.0/30", "0.0.0.0/0"])
 
     def hops():
@@ -227,7 +233,8 @@ def jobs(program, checks):
 def asked(program, checks):
     """A scenario asks the requests that it can change, of one program."""
     hopped = RING.replace("end,1,8", circuit(1, 2, 90).replace("10.0.12.", "10.0.21.") + "end,1,10")
-    asks = (ASKS + ask(5, B, C, hops="10.0.34.3/32l") + ask(6, A, B, hops="10.0.21.0/24l 2.2.2.2/32l") + ask(7, C, D, hops=f"{C}/32s 10.0.34.0/24s")
+    asks = (ASKS + ask(5, B, C, hops="10.0.34.3/32l") + ask(6, A, B, hops="10.0.21.0/24l 2.2.2.2/32l")
+            + ask(7, C, D, hops=f"{C}/32s 10.0.34.0/24s")
             + ask(8, A, B, hops=object_of(["10.0.14.0/30l"])))
     wanted = {AB: "1268", AB.replace("10.0.12.", "10.0.21."): "6", AD: "38", BC: "15", CD: "57"}
     with tempfile.TemporaryDirectory() as room:
@@ -263,7 +270,8 @@ def streams(program, checks):
         status, out, err = sweep(wrapped(program, room), RING, many)
         counts = re.findall(r"(?m)^scenario \d+ (lost=\d+ longer=.*)$", out)
         checks.same("more requests and replies than pipes hold", (status, counts, err),
-                    (0, [f"lost=0 longer={longer} most={most} overbooked={full}" for longer, most, full in ((5000, 5, 2), (0, 0, 0), (5000, 5, 2), (0, 0, 0))], ""))
+                    (0, [f"lost=0 longer={longer} most={most} overbooked={full}"
+                         for longer, most, full in ((5000, 5, 2), (0, 0, 0), (5000, 5, 2), (0, 0, 0))], ""))
 
 
 def small(room, rows, asks, most, program):
@@ -287,7 +295,8 @@ def progress(program, checks):
                 file.write(text)
         for name, is_all in (("standard error", False), ("both", True)):
             terminal, far = pty.openpty()
-            ran = subprocess.Popen([*SWEEP, f"{room}/journal", f"{room}/requests", "--program", slow], stdout=far if is_all else subprocess.PIPE, stderr=far)
+            ran = subprocess.Popen([*SWEEP, f"{room}/journal", f"{room}/requests", "--program", slow],
+                                   stdout=far if is_all else subprocess.PIPE, stderr=far)
             os.close(far)
             out = "" if is_all else ran.stdout.read().decode()
             said = b""
@@ -316,14 +325,16 @@ def joined(program, checks):
     three = parted(3)
     ranked = [f"most requests 1 scenario 1 lost=0 longer=2 bandwidth=0 out {AB}\nmost failures 1 request 1 lost=0 longer=1\n"
               "most failures 2 request 2 lost=0 longer=1\n",
-              f"most requests 1 scenario 2 lost=1 longer=0 bandwidth=30 out {AD}\nmost bandwidth 1 scenario 2 lost=1 longer=0 bandwidth=30 out {AD}\n"
+              f"most requests 1 scenario 2 lost=1 longer=0 bandwidth=30 out {AD}\nmost bandwidth 1 scenario 2 lost=1 longer=0 bandwidth=30 "
+              f"out {AD}\n"
               "most failures 1 request 3 lost=1 longer=0\n",
               f"most requests 1 scenario 3 lost=0 longer=1 bandwidth=0 out {BC}\nmost failures 1 request 1 lost=0 longer=1\n"]
     checks.same("parts of a ring", three, [
         BEFORE + scenarios[0] + ranked[0] + f"part 1/3 input={digest} scenarios=1 lost=0 longer=1 overbooked=1\n",
         BEFORE + scenarios[1] + ranked[1] + f"part 2/3 input={digest} scenarios=1 lost=1 longer=0 overbooked=0\n",
         BEFORE + scenarios[2] + scenarios[3] + ranked[2] + f"part 3/3 input={digest} scenarios=2 lost=0 longer=1 overbooked=0\n"])
-    for name, found, wanted in [("three parts", three, OF_CIRCUITS), ("one part", parted(1), OF_CIRCUITS), ("seven parts of four scenarios, two jobs", parted(7, "--jobs", "2"), OF_CIRCUITS),
+    for name, found, wanted in [("three parts", three, OF_CIRCUITS), ("one part", parted(1), OF_CIRCUITS),
+                                ("seven parts of four scenarios, two jobs", parted(7, "--jobs", "2"), OF_CIRCUITS),
                                 ("two parts of routers", parted(2, "--fail", "routers"), OF_ROUTERS)]:
         checks.same(f"joined: {name}", join("".join(found)), (0, BEFORE + wanted, ""))
     pairs = sweep(program.path, RING, ASKS, "--fail", "pairs")
@@ -339,18 +350,26 @@ def joined(program, checks):
     one, two, last = three
     for name, text, why in [
             ("nothing", "", "part 1/1 isn't there"), ("without the last", one + two, "part 3/3 isn't there"),
-            ("without the first", two + last, "part 2/3 stands where part 1/3 has to be"), ("in another order", one + last + two, "part 3/3 stands where part 2/3 has to be"),
-            ("one twice", one + two + two + last, "part 2/3 stands where part 3/3 has to be"), ("one of another count", one + parted(2)[1], "part 2/2 stands where part 2/3 has to be"),
+            ("without the first", two + last, "part 2/3 stands where part 1/3 has to be"),
+            ("in another order", one + last + two, "part 3/3 stands where part 2/3 has to be"),
+            ("one twice", one + two + two + last, "part 2/3 stands where part 3/3 has to be"),
+            ("one of another count", one + parted(2)[1], "part 2/2 stands where part 2/3 has to be"),
             ("cut", one + two + BEFORE, f"a part ends by {BEFORE.splitlines()[-1]!r}, and not by a line that says which part it is"),
-            ("cut before another", one + two[:two.index("part ")] + last, "a part ends by 'most failures 1 request 3 lost=1 longer=0', and not by a line that says which part it is"),
+            ("cut before another", one + two[:two.index("part ")] + last,
+             "a part ends by 'most failures 1 request 3 lost=1 longer=0', and not by a line that says which part it is"),
             ("without a scenario", one + two.replace(scenarios[1], "") + last, "part 2/3 hasn't the scenarios from 2 to 2"),
             ("with one twice", one + two.replace(scenarios[1], 2 * scenarios[1]) + last, "part 2/3 hasn't the scenarios from 2 to 2"),
-            ("cut in the scenarios", one + two[:two.index("most ")] + last, "a part ends by 'scenario 2 lost=1 longer=0 most=0 overbooked=0', and not by a line that says which part it is"),
-            ("with scenarios behind the ranking", one + two.replace("part 2", scenarios[1] + "part 2"), "a part ends by 'most failures 1 request 3 lost=1 longer=0', and not by a line that says which part it is"),
-            *((f"without {text.split(' scenario')[0].split(' request ')[0]}", one + two.replace(text, "") + last, "part 2/3 hasn't the ranking of its scenarios")
+            ("cut in the scenarios", one + two[:two.index("most ")] + last,
+             "a part ends by 'scenario 2 lost=1 longer=0 most=0 overbooked=0', and not by a line that says which part it is"),
+            ("with scenarios behind the ranking", one + two.replace("part 2", scenarios[1] + "part 2"),
+             "a part ends by 'most failures 1 request 3 lost=1 longer=0', and not by a line that says which part it is"),
+            *((f"without {text.split(' scenario')[0].split(' request ')[0]}", one + two.replace(text, "") + last,
+               "part 2/3 hasn't the ranking of its scenarios")
               for text in ranked[1].splitlines(keepends=True)),
-            ("with another count", one + two.replace("failures 1 request 3 lost=1", "failures 1 request 3 lost=2") + last, "part 2/3 hasn't the ranking of its scenarios"),
-            ("a whole sweep", BEFORE + OF_CIRCUITS, "a part ends by 'most failures 3 request 2 lost=0 longer=1', and not by a line that says which part it is")]:
+            ("with another count", one + two.replace("failures 1 request 3 lost=1", "failures 1 request 3 lost=2") + last,
+             "part 2/3 hasn't the ranking of its scenarios"),
+            ("a whole sweep", BEFORE + OF_CIRCUITS,
+             "a part ends by 'most failures 3 request 2 lost=0 longer=1', and not by a line that says which part it is")]:
         status, _, err = join(text)
         checks.same(f"not joined: {name}", (status, err), (1, f"join: {why}\n"))
     status, _, err = join(one + other[1] + last)
@@ -371,19 +390,23 @@ def refused(program, checks):
             ("a request that is none", RING, ASKS + "ask,5\n", "request row 5 refused: fields"),
             ("a bad mask", RING, ASKS.replace("0x2", "2"), "request row 3 refused: mask 8"),
             ("two requests of one id", RING, ASKS + ask(2, A, D), "request row 5 refused: same-id"),
-            ("neighbors of one address", journal(circuit(1, 2), link(A, "10.0.13.1", C, "10.0.12.2"), link(C, "10.0.12.2", A, "10.0.13.1")), ASKS,
+            ("neighbors of one address", journal(circuit(1, 2), link(A, "10.0.13.1", C, "10.0.12.2"), link(C, "10.0.12.2", A, "10.0.13.1")),
+             ASKS,
              f"{B} and {C} have the same address 10.0.12.2, seen from {A}")):
         checks.same(name, sweep(program.path, rows, asks), (1, "", f"sweep: {words}\n"))
     for words in (["/nowhere/journal", "/dev/null"], ["/dev/null", TOP]):
         ran = subprocess.run([*SWEEP, *words, "--program", program.path], capture_output=True, text=True)
-        checks.true(f"no file {words}", (ran.returncode, ran.stdout) == (1, "") and re.fullmatch(r"sweep: \[Errno \d+\] .*\n", ran.stderr), ran)
-    for words in (["/dev/null"], *(["/dev/null", "/dev/null", *more] for more in (["--fail", "links"], ["--jobs", "0"], ["--workers", "65"]))):
+        checks.true(f"no file {words}", (ran.returncode, ran.stdout) == (1, "") and re.fullmatch(r"sweep: \[Errno \d+\] .*\n", ran.stderr),
+                    ran)
+    for words in (["/dev/null"], *(["/dev/null", "/dev/null", *more]
+                                   for more in (["--fail", "links"], ["--jobs", "0"], ["--workers", "65"]))):
         ran = subprocess.run([*SWEEP, *words], capture_output=True, text=True)
         checks.true(f"a command line {words}", (ran.returncode, ran.stdout) == (2, "") and "sweep: error: " in ran.stderr, ran)
     with open("/dev/full", "w") as full:
         ran = subprocess.run([*SWEEP, "/dev/null", "/dev/null", "--program", program.path], stdout=full, stderr=subprocess.PIPE, text=True)
         checks.same("standard output is full", (ran.returncode, ran.stderr), (1, "sweep: [Errno 28] No space left on device\n"))
-    checks.same("a program that isn't there", sweep("/nowhere/routed", RING, ASKS), (3, "", "sweep: /nowhere/routed: No such file or directory\n"))
+    checks.same("a program that isn't there", sweep("/nowhere/routed", RING, ASKS),
+                (3, "", "sweep: /nowhere/routed: No such file or directory\n"))
     def says(line):
         return f"print('version 1\\n{line}\\n\\n\\n'); sys.exit(0)"
 
@@ -418,7 +441,8 @@ def refused(program, checks):
                 ("that stops before the network is there", 'stop(3, "routed: stopped\\n")', "ended with status 3: routed: stopped")):
             path = wrapped(program, room, script)
             status, out, err = sweep(path, RING, ASKS)
-            checks.true(f"a program {name}", (status, out) == (3, BEFORE) and re.fullmatch(f"sweep: scenario 1: {path} {said}\n", err), (status, out, err))
+            checks.true(f"a program {name}", (status, out) == (3, BEFORE) and re.fullmatch(f"sweep: scenario 1: {path} {said}\n", err),
+                        (status, out, err))
 
 
 def page(program, checks):

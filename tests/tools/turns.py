@@ -15,7 +15,8 @@ from routed.net.stream import LONGEST
 def turns(program, checks):
     start = time.monotonic()
     with tempfile.TemporaryDirectory() as room:
-        checks.parts_in(room, (few, one_row, in_order, updates, short, last_row, gone, refused, ended, failed, unread, idle, lineless, extra, late,
+        checks.parts_in(room, (few, one_row, in_order, updates, short, last_row, gone, refused, ended, failed, unread, idle, lineless,
+                               extra, late,
                                full, two_fronts, counted, marked, real), program, checks)
     print(f"turns: {FLOODING} and {TOGETHER} connections that flood, {time.monotonic() - start:.0f} s")
 
@@ -103,7 +104,8 @@ def short(program, checks, room):
     for name, rows, count in [
         ("two rows", asks(0, 2), 2), ("a turn's rows", asks(0, ROWS), ROWS), ("a row more", asks(0, ROWS + 1), ROWS + 1),
         ("carriage returns", asks(0, EACH)[:-1].replace(b"\n", b"\r") + b"\n", EACH), ("both", asks(0, EACH).replace(b"\n", b"\r\n"), EACH),
-        ("blank rows", b"\n\r\n\r" + asks(0, EACH).replace(b"\n", b"\n\n\r\n\r") + b"\n", EACH), ("blank rows alone", b"\n\r\n\r" * 50 + b"\n", 0),
+        ("blank rows", b"\n\r\n\r" + asks(0, EACH).replace(b"\n", b"\n\n\r\n\r") + b"\n", EACH),
+        ("blank rows alone", b"\n\r\n\r" * 50 + b"\n", 0),
         ("a row behind blank rows", b"\n\r" * 50 + row, 1), ("a row before blank rows", row + b"\n\r\n" * 50, 1),
     ]:
         streams = Streams(room, 2, 1)
@@ -111,7 +113,8 @@ def short(program, checks, room):
         streams.flood(1)
         checks.same(f"at the server, with {name}", streams.at_server(), [min(count, ROWS), 0 if count > 1 else ROWS])
         most = streams.answer_all()
-        checks.same(f"the lines, with {name}", (most, streams.hear(0), streams.hear(1)), (ROWS, (lines(0, count), False), (lines(1, EACH), False)))
+        checks.same(f"the lines, with {name}", (most, streams.hear(0), streams.hear(1)),
+                    (ROWS, (lines(0, count), False), (lines(1, EACH), False)))
         streams.leave(0)
         checks.same(f"our own request, with {name}", (streams.at_server(), streams.have_turns()), ([1, 0], ([], [])))
         streams.answer_all()
@@ -139,7 +142,8 @@ def last_row(program, checks, room):
 
 
 def gone(program, checks, room):
-    """A connection that closes in a turn, or waits for one: its rows are answered, turn by turn, and the next connection has none of their lines."""
+    """A connection that closes in a turn, or waits for one: its rows are answered, turn by turn, and the next connection has none of their
+    lines."""
     for at in range(2):
         streams = Streams(room, 3, 1)
         for other in range(3):
@@ -176,7 +180,8 @@ def refused(program, checks, room):
 
 
 def ended(program, checks, room):
-    """The server ends a stream that has a turn or waits for one: the connection ends, and the turn goes on to the next stream that is there."""
+    """The server ends a stream that has a turn or waits for one: the connection ends, and the turn goes on to the next stream that is
+    there."""
     for gone_ones, order in (([0], [1, 2, 3]), ([1], [0, 2, 3]), ([1, 0], [2, 3]), ([0, 1, 2], [3]), ([2, 1], [0, 3])):
         streams = Streams(room, 4, 1)
         for at in range(4):
@@ -194,7 +199,8 @@ def ended(program, checks, room):
 
 
 def failed(program, checks, room):
-    """An exception ends the connection of a stream that has a turn or waits for one, a second one the use of the stream: others have turns."""
+    """An exception ends the connection of a stream that has a turn or waits for one, a second one the use of the stream: others have
+    turns."""
     for name, at, count in (("with a turn", 0, 1), ("that waits", 1, 1), ("with a turn, twice", 0, 2), ("that waits, twice", 1, 2)):
         streams = Streams(room, 3, 1)
         for each in range(3):
@@ -242,7 +248,8 @@ def unread(program, checks, room):
 
 
 def idle(program, checks, room):
-    """A connection that is ended as idle, in a turn, before it has one, or with lines that it doesn't take: its place is free in the end."""
+    """A connection that is ended as idle, in a turn, before it has one, or with lines that it doesn't take: its place is free in the
+    end."""
     for name, at, long in (("in a turn", 0, b""), ("before its turn", 1, b""), ("with lines that it doesn't take", 0, b"." * LONG)):
         streams = Streams(room, 3, 1)
         for other in range(2):
@@ -254,6 +261,7 @@ def idle(program, checks, room):
         streams.answer_all()
         found, is_all = streams.hear(at)
         wanted = lines(at, EACH, long=long)
-        checks.true(f"a connection is ended that is idle {name}", is_all and (wanted.startswith(found) if long else found == wanted), found[-99:])
+        checks.true(f"a connection is ended that is idle {name}", is_all and (wanted.startswith(found) if long else found == wanted),
+                    found[-99:])
         checks.same(f"turns after it was ended {name}", (streams.have_turns(), list(streams.free)), (([], []), [streams.channels[at]]))
         checks.same(f"another one after it was ended {name}", streams.hear(2), (lines(2, EACH), False))
