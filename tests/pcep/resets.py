@@ -86,7 +86,7 @@ def resets(program, checks):
 
 def reset_all(program, checks, room, kind):
     """After each few resets another PCC has a session and is answered, and so is one that was there before."""
-    batches, start, found = RESETS // len(KINDS) // AT_ONCE, time.monotonic(), []
+    batches, start, found = RESETS // AT_ONCE, time.monotonic(), []
     name = f"{batches * AT_ONCE} resets, {kind.__name__.replace('_', ' ')}"
     takes_little = {"narrow": NARROW, "segment": SEGMENT} if kind is replies_wait else {}
     with Run(program.path, room) as run:
