@@ -8,12 +8,15 @@ much of the replies has been read, and how long the rest will take.
 from __future__ import annotations
 
 import argparse
+import contextlib
+import functools
 import os
 import subprocess
 import sys
 import time
 
 from . import program
+from .model.advice import format_of
 
 OFTEN = 0.5  # seconds between two looks
 ERASE = "\r\033[K"
@@ -21,14 +24,11 @@ ERASE = "\r\033[K"
 
 def read_of(process: int, path: str) -> float | None:
     """Which part of a file a process has read, from 0 to 1; None while it isn't open there."""
-    try:
-        size, named = os.stat(path).st_size, os.path.realpath(path)
+    with contextlib.suppress(OSError):  # it has ended
         for file in os.listdir(f"/proc/{process}/fd"):
-            if os.path.realpath(f"/proc/{process}/fd/{file}") == named:
+            if os.path.realpath(f"/proc/{process}/fd/{file}") == os.path.realpath(path):
                 with open(f"/proc/{process}/fdinfo/{file}", encoding="ascii") as told:
-                    return int(told.readline().split()[1]) / max(size, 1)
-    except OSError:  # it has ended
-        pass
+                    return int(told.readline().split()[1]) / max(os.stat(path).st_size, 1)
     return None
 
 
@@ -40,13 +40,16 @@ def line_of(part: float, seconds: float) -> str:
 
 def watch(run: subprocess.Popen, path: str) -> int:
     """Waits for the end of a run, and says how far it is."""
-    begun = time.monotonic()
+    begun, show = time.monotonic(), functools.partial(print, end="", file=sys.stderr, flush=True)
     while True:
         try:
-            return run.wait(OFTEN)
+            status = run.wait(OFTEN)
         except subprocess.TimeoutExpired:
             if (part := read_of(run.pid, path)) is not None:
-                print(ERASE + line_of(part, time.monotonic() - begun), end="", file=sys.stderr, flush=True)
+                show(ERASE + line_of(part, time.monotonic() - begun))
+        else:
+            show(ERASE)
+            return status
 
 
 def main(words: list[str] | None = None) -> int:
@@ -54,21 +57,25 @@ def main(words: list[str] | None = None) -> int:
     asked = argparse.ArgumentParser(prog="routed-tools audit", description=__doc__, formatter_class=argparse.RawDescriptionHelpFormatter)
     for name in ("journal", "requests", "replies"):
         asked.add_argument(f"--{name}", required=True, metavar="FILE")
-    asked.add_argument("--explain", action="store_true", help="say why a run stops, or which row a file is refused for")
+    asked.add_argument("--explain", action="store_true", help="the default, which says why a run stops, or which row a file is refused for")
     program.add_option(asked)
     given = asked.parse_args(words)
     path = program.find(given.program)
-    run_words = [path, "audit", "--journal", given.journal, "--requests", given.requests, "--replies", given.replies]
+    run_words = [path, "audit", "--journal", given.journal, "--requests", given.requests, "--replies", given.replies, "--explain"]
+    for name in (given.journal, given.requests, given.replies):
+        if os.path.isfile(name) or not os.path.exists(name) or os.path.isdir(name):  # a pipe can't be read twice
+            try:
+                with open(name, "rb") as file:
+                    told = format_of(file.read(4096))
+            except OSError as fault:
+                return program.failed("audit", fault, 3)
+            if told:
+                return program.failed("audit", f"{name}: {told}", 2)
     try:
-        with subprocess.Popen(run_words + ["--explain"] * given.explain) as run:
-            if not sys.stderr or not sys.stderr.isatty():
-                status = run.wait()
-            else:
-                status = watch(run, given.replies)
-                print(ERASE, end="", file=sys.stderr, flush=True)
+        with subprocess.Popen(run_words) as run:
+            status = watch(run, given.replies) if sys.stderr and sys.stderr.isatty() else run.wait()
     except OSError as fault:
-        print(f"audit: {path}: {fault.strerror}{program.hint(path)}", file=sys.stderr)
-        return 3
+        return program.failed("audit", f"{path}: {fault.strerror}{program.hint(path)}", 3)
     except KeyboardInterrupt:
         return 130
     return status if status >= 0 else 128 - status

@@ -2,15 +2,19 @@
 from __future__ import annotations
 
 import collections
+import contextlib
 import re
 import time
 
+from .model.database import Database
+from .model.journals import read_snapshot
 from .model.rows import Refused, Reply, Request
 from .net.endpoints import Endpoint
 from .net.loop import READ, WRITE, Loop
 from .net.stream import Stream
 
-VERSION = re.compile(r"version ([0-9]{1,20})")
+MOST_LINES = 40_000  # of a snapshot
+VERSION, RUN = re.compile(r"version ([0-9]{1,20})"), re.compile(r"run ([0-9]{1,20})")
 
 
 class Client:
@@ -21,6 +25,7 @@ class Client:
 
     def __init__(self, ask: str, watch: str | None = None, seconds: float = 60) -> None:
         self.version, self.asks = 0, Connection(ask, seconds)  # the newest version that was told or named
+        self.run: int | None = None  # the number of the run, once the place of versions has told it
         self.versions = Connection(watch, seconds) if watch is not None else None
 
     def __enter__(self) -> Client:
@@ -36,13 +41,17 @@ class Client:
 
     def ask(self, request: Request) -> Reply:
         """The reply to a request. Its version is no older than one that this client, or any other, was told before."""
+        return self.answer(request)[1]
+
+    def answer(self, request: Request) -> tuple[str, Reply]:
+        """The same, behind its line as it came."""
         self.asks.stream.write(f"{request.text()}\n".encode())
         line = self.asks.line()
         reply = Reply.parse(line)
         if reply is None or reply.id != request.id:
             raise Refused(line)
         self.version = max(self.version, reply.version)
-        return reply
+        return line, reply
 
     def wait(self, version: int) -> int:
         """Waits until this version is published, or a later one. The newest that is known."""
@@ -50,6 +59,9 @@ class Client:
             if self.versions is None:
                 raise Refused("no place of versions was given")
             line = self.versions.line()
+            if found := RUN.fullmatch(line):
+                self.run = int(found[1])
+                continue
             found = VERSION.fullmatch(line)
             if not found:
                 raise Refused(line)
@@ -83,3 +95,16 @@ class Connection:
             self.stream.wait(True)
             self.loop.turn(end - time.monotonic())
         return self.lines.popleft().decode(errors="replace")
+
+
+def ask_snapshot(place: str, seconds: float = 60) -> Database:
+    """The database of a running server at its newest version, from its place of --show, or from that of updates."""
+    connection = Connection(place, seconds)
+    with contextlib.closing(connection.stream):
+        connection.stream.write(b"snapshot\n")
+        lines = [connection.line()]
+        while lines[-1] != "snapshot end":
+            if not lines[0].startswith("version ") or len(lines) > MOST_LINES:
+                raise Refused(lines[0])
+            lines.append(connection.line())
+    return read_snapshot("\n".join(lines).encode())

@@ -3,127 +3,9 @@ import argparse
 import os
 import tempfile
 
-from feed.played import A, A_B, B, BROKEN, BROKEN_DROPS, B_A, B_C, C, CHAIN, CHAIN_LINKS, CHAIN_ROUTERS, CHAIN_ROWS, C_B, HOLD
-from feed.played import MANY_DIGITS, PAIR, PAIR_ROWS, Feed, Router, going_on, removal, router_lsa, row, snapshot, te_lsa, update
+from feed.played import A, A_B, B, BROKEN_DROPS, B_A, B_C, C, CHAIN_LINKS, CHAIN_ROUTERS, CHAIN_ROWS, C_B
+from feed.played import MANY_DIGITS, PAIR_ROWS, Feed, Router, going_on, router_lsa, row, snapshot, update
 from tools.readers import dressed
-
-
-def restarted(checks):
-    """A feed that is killed, and one that comes to what it left behind: what went meanwhile is dropped in time."""
-    router = Router()
-    feed = Feed(router)
-    router.send(CHAIN)
-    checks.same("a feed that will be killed", feed.batch(), (CHAIN_ROWS, 1))
-    feed.process.kill()
-    feed.process.wait()
-    router.hang_up()
-    feed = Feed(router, version=1, told=snapshot(1, CHAIN_ROWS))
-    begun = feed.at
-    router.send(BROKEN)
-    checks.true("a circuit that went meanwhile is held at first", feed.line(HOLD - 0.01) is None)
-    drops = feed.batch()
-    checks.same("and dropped when the hold is over", (drops, feed.at <= begun + HOLD + 0.2), ((BROKEN_DROPS, 2), True))
-    router.send(CHAIN)
-    checks.same("it goes on as ever", feed.batch(), (CHAIN_ROWS[2:], 3))
-    checks.same("what is said of it", feed.end(), going_on(1, 4))
-    router.hang_up()
-
-    feed = Feed(router, "--hold", "3", version=7, told=snapshot(7, CHAIN_ROWS))
-    begun = feed.at
-    router.send(PAIR + update(te_lsa(A, A_B, B, B_A, metric=9, sequence=2)))
-    checks.same("what changed meanwhile is put at once", feed.batch(), ([row(A, A_B, B, B_A, metric=9)], 8))
-    feed.waits(begun + 2.9 - feed.at)
-    router.send(update(te_lsa(B, B_A, A, A_B, metric=8, sequence=2)))
-    checks.same("drops come first", feed.batch(), ([*BROKEN_DROPS, row(B, B_A, A, A_B, metric=8)], 9))
-    feed.end()
-    router.hang_up()
-
-    feed = Feed(router, "--hold", "0", version=7, told=snapshot(7, CHAIN_ROWS))
-    router.send(CHAIN)
-    checks.same("without a hold all that isn't told yet is dropped", [*sorted(feed.rest())],
-                sorted([f"drop,{A},{A_B}", f"drop,{B},{B_A}", *BROKEN_DROPS, *CHAIN_ROWS]))
-    feed.end()
-    router.hang_up()
-
-    feed = Feed(router, version=3, told=snapshot(3, []))
-    router.send(CHAIN)
-    checks.same("a program whose links are all gone", feed.batch(), (CHAIN_ROWS, 4))
-    feed.end()
-    router.hang_up()
-
-    marked, stub = f"node,{A},0", router_lsa(A, (B, A_B, 65535), sequence=2)
-    for name, play, wanted in [("that is gone meanwhile", PAIR, [f"node,{A},1"]), ("that is still there", PAIR + update(stub), [])]:
-        feed = Feed(router, "--hold", "3", version=2, told=snapshot(2, [*PAIR_ROWS, marked]))
-        router.send(play)
-        checks.true(f"a mark {name} is held", feed.line(3 - 0.01) is None)
-        checks.same(f"a mark {name}", (feed.rest(), feed.end()), (wanted, going_on(2, 2, 1, 3)))
-        router.hang_up()
-
-    rows = [row(A, f"12.{n >> 8}.{n & 255}.1", B, f"12.{n >> 8}.{n & 255}.2") for n in range(5000)]
-    feed = Feed(router, "--hold", "3", version=2, told=snapshot(2, rows))
-    begun = feed.at
-    router.send(CHAIN)
-    checks.same("what is there is put beside a database of two batches", feed.batch(), (CHAIN_ROWS, 3))
-    feed.waits(begun + 3 - feed.at)
-    drops = [",".join(["drop", *each.split(",")[1:3]]) for each in rows]
-    checks.same("whose links go in two batches", (feed.batch(), feed.batch(), feed.at), ((drops[:4096], 4), (drops[4096:], 5), begun + 3))
-    checks.same("and no more", (feed.is_quiet(), feed.end()), (True, going_on(2, 5000, 0, 3)))
-    router.hang_up()
-
-
-def trickle(checks):
-    """Links that come back one by one, and events without a pause, don't prolong the time for which links are held."""
-    names = [f"10.7.0.{n}" for n in range(8)]
-    rows = [row(A, name, B, name.replace("7", "8")) for name in names]
-    links = [te_lsa(A, name, B, name.replace("7", "8"), number=f"1.0.0.{n}") for n, name in enumerate(names)]
-    routers = (router_lsa(A, *[(B, name, 1) for name in names]), router_lsa(B, *[(A, name.replace("7", "8"), 1) for name in names]))
-    for name in ("restarted", "lost"):
-        router = Router()
-        if name == "lost":
-            feed = Feed(router, "--hold", "4")
-            router.send(update(*routers, *links))
-            feed.batch()
-            router.hang_up()
-            feed.again()
-        else:
-            feed = Feed(router, "--hold", "4", version=1, told=snapshot(1, rows))
-        begun, number = feed.at, 0
-        router.send(update(*routers))
-        while number < len(links) - 1 and feed.line(0.5) is None:
-            router.send(update(links[number]))
-            number += 1
-        checks.same(f"{name}: while links come back nothing is dropped", (number, feed.unread), (7, b""))
-        checks.true(f"{name}: nor before the time is over", feed.line(begun + 4 - 0.01 - feed.at) is None)
-        checks.same(f"{name}: one that doesn't come back is dropped then", feed.line(0.02), f"drop,{A},{names[-1]}")
-        feed.end()
-        router.hang_up()
-    router = Router()
-    feed = Feed(router, "--hold", "2", version=1, told=snapshot(1, rows))
-    begun = feed.at
-    router.send(update(*routers, *links[:-1]))
-    while (line := feed.line(0.004)) is None and feed.at < begun + 5:
-        router.send(update(links[0]) + removal(links[0]) + update(links[0]))
-    took = feed.at - begun
-    checks.true("a router that never rests", line == f"drop,{A},{names[-1]}" and took < 2 + 0.01, f"{line} after {took:.3f} s")
-    feed.end()
-
-
-def unreached(checks):
-    """A feed starts beside a program with a database while its router is gone: links stay, and `--hold` begins once the router is there."""
-    router = Router()
-    router.listening.close()
-    feed = Feed(router, "--hold", "3", version=1, told=snapshot(1, CHAIN_ROWS), is_accepted=False)
-    checks.true("nothing is dropped", feed.line(60) is None)
-    router = feed.router = Router(router.port)
-    feed.told += router.sent
-    feed.again()
-    begun = feed.at
-    router.send(BROKEN)
-    checks.true("what it doesn't tell of is held", feed.line(begun + 3 - 0.01 - feed.at) is None)
-    checks.same("and dropped", feed.batch(), (BROKEN_DROPS, 2))
-    checks.same("what is said", feed.end(), going_on(1, 4, 0, 3) +
-                f"ospf: no connection to 127.0.0.1 port {router.port}: Connection refused; what was put stays\n"
-                "ospf: connected again; links that were there are held for 3 s\n")
 
 
 def not_begun(checks):
@@ -160,14 +42,14 @@ def not_begun(checks):
     feed = Feed(router, version=None, is_accepted=False)
     feed.process.stdin.close()
     checks.same("no version, but the end", feed.ended(), (1, "", f"{pipes}the program ended\n"))
-    from routed.feed.batches import Ended
     from routed.feed.database import begun
+    from routed.net.loop import Stopped
     written, lines = [], [f"v{MANY_DIGITS} none", "v0"]
     program = argparse.Namespace(name="it", write=written.append)
     program.line = lambda: f"ask {written[0].split(',')[1]} {lines.pop(0)}" if lines else "no line"
     try:
         checks.fail(f"a version of many digits is none: {begun(program, None)}")
-    except Ended as fault:
+    except Stopped as fault:
         checks.same("a version of many digits is none", str(fault), "it: its version was asked for, and it answered: no line")
     for version, told in (None, ()), (7, ()), (7, whole[:3]):
         feed = Feed(router, version=version, told=told, is_accepted=False)

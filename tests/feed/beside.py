@@ -2,16 +2,13 @@
 import contextlib
 import os
 import re
-import select
-import signal
 import socket
 import subprocess
 import tempfile
 import time
 
-from checks import TOOLS
 from feed.lab import lab_rows, recorded
-from feed.played import A, A_B, B, BROKEN, BROKEN_DROPS, B_A, C, CHAIN, CHAIN_ROWS, FEED, IN_PROCESS, PAIR, PATIENCE, Feed, Router
+from feed.played import A, A_B, B, BROKEN, BROKEN_DROPS, B_A, CHAIN, CHAIN_ROWS, FEED, IN_PROCESS, PAIR, PATIENCE, Feed, Router
 from feed.played import going_on, removal
 from feed.played import router_lsa, te_lsa, update
 
@@ -65,59 +62,6 @@ def beside_server(program, checks):
         said = feed.communicate(timeout=PATIENCE)[1]
         checks.same("the server is killed", (feed.returncode, said),
                     (1, going_on(1, 4, 0, 1) + "ospf: standard input and output: the program ended\n"))
-
-
-def behind_front(program, checks):
-    """Behind the real routed-tools listen: a feed is killed, a circuit goes, and the next feed drops it; then the server is killed."""
-    with tempfile.TemporaryDirectory() as room, contextlib.ExitStack() as clean:
-        journal, ask, updates = (os.path.join(room, name) for name in ("day.journal", "ask", "updates"))
-        given = [TOOLS, "listen", "--program", program.path, "--journal", journal, "--ask", ask, "--updates", updates]
-        front = subprocess.Popen(given, stdout=subprocess.PIPE)
-        clean.callback(front.wait)
-        clean.callback(front.terminate)
-        checks.same("a front", front.stdout.readline(), b"ready\n")
-        asker = socket.socket(socket.AF_UNIX)
-        asker.connect(ask)
-        router, replies = Router(), asker.makefile("r")
-
-        def started(*words):
-            """A feed, once the place of the one before is free."""
-            while True:
-                feed = Feed(router, "--hold", "1", command=("--to", updates), is_accepted=False)
-                until(lambda: feed.process.poll() is not None or select.select([router.listening], [], [], 0)[0], "a feed")
-                if feed.process.poll() is None:
-                    router.accept()
-                    return feed
-                if not feed.ended()[2].endswith("answered: busy\n"):
-                    raise AssertionError(feed.said.decode())
-
-        def reply():
-            asker.sendall(f"ask,7,{A},{C},0,1000,0x0,0x0,0x0,\n".encode())
-            return replies.readline()
-
-        feed = started()
-        router.send(CHAIN)
-        until(lambda: " v1 " in reply(), "version 1")
-        checks.same("what a feed put is answered", reply(),
-                    "ask 7 v1 route cost=14 hops=2 again=no ero=0014140101080a000001200001080a0000032000\n")
-        feed.process.kill()
-        feed.process.wait()
-        router.hang_up()
-        feed = started()
-        router.send(BROKEN)
-        until(lambda: " v1 " not in reply(), "version 2")
-        checks.same("what went meanwhile isn't", reply(), "ask 7 v2 unknown-to\n")
-        with open(journal, encoding="ascii") as file:
-            checks.same("and nothing else was written", file.read(), "\n".join([*CHAIN_ROWS, "end,1,4", *BROKEN_DROPS, "end,2,2\n"]))
-        with open(f"/proc/{front.pid}/task/{front.pid}/children", encoding="ascii") as children:
-            for child in map(int, children.read().split()):
-                os.kill(child, signal.SIGKILL)
-        status, out, said = feed.ended()
-        checks.same("the server is killed", (status, out, said), (1, "", f"{going_on(1, 4, 0, 1)}ospf: {updates}: the program ended\n"))
-        checks.same("and the front with it", front.wait(PATIENCE), 137)
-        router.hang_up()
-        feed = Feed(router, command=("--to", updates), is_accepted=False)
-        checks.same("nobody listens there", feed.ended(), (1, "", f"ospf: can't connect to {updates}: No such file or directory\n"))
 
 
 def with_program(program, checks):

@@ -1,4 +1,4 @@
-"""An OSPF API that is played, the LSAs that it sends, and a feed at work.
+"""An OSPF API that is played, the LSAs that it sends, and a feed at work, whichever its protocol is.
 
 However slow the machine is, the same comes of it: the feed goes by a clock that the test moves on, once the feed has
 read all that it was sent and has nothing more to do. Where the real program is beside it, the clock is the real one,
@@ -33,6 +33,7 @@ QUIET = 3 * COLLECT  # seconds in which nothing may come
 LATE = 10.0  # seconds of the test's clock by which what has to come is there
 HOLD = 20.0  # seconds that the feed holds links by default
 NOON = 1000.0  # what the test's clock shows first
+RUN = "0123456789abcdef"  # the name of the program's run
 REPORT = struct.Struct("dQ")  # the time, and the bytes that were read by then
 
 
@@ -90,11 +91,17 @@ PAIR_ROWS = [row(A, A_B, B, B_A), row(B, B_A, A, A_B)]
 class Router:
     """An OSPF API: takes a connection, connects back, and sends what it is told."""
 
+    name, is_reflected = "ospf", False
+
     def __init__(self, port=0):
         self.listening = socket.create_server(("127.0.0.1", port))
         self.listening.settimeout(PATIENCE)
         self.port = self.listening.getsockname()[1]
+        self.where = f"127.0.0.1 port {self.port}"
         self.sent = 0  # bytes; the end of a connection counts as one
+
+    def words(self):
+        return ["--port", str(self.port)]
 
     def accept(self):
         self.asking, peer = self.listening.accept()
@@ -110,6 +117,14 @@ class Router:
             data += more
         return data
 
+    def is_waiting(self):
+        """Whether somebody connects."""
+        return bool(select.select([self.listening], [], [], 0)[0])
+
+    def end_of(self):
+        """The last bytes before the feed ends the connection."""
+        return self.take(1)
+
     def send(self, data):
         self.hearing.sendall(data)
         self.sent += len(data)
@@ -119,12 +134,34 @@ class Router:
         self.hearing.close()
         self.sent += 1
 
+    # ---- what scenarios of both protocols say
+
+    @staticmethod
+    def put(router, local, neighbor, remote, **more):
+        return update(te_lsa(router, local, neighbor, remote, **more))
+
+    @staticmethod
+    def gone(router, local, neighbor, remote, **more):
+        return removal(te_lsa(router, local, neighbor, remote, **more))
+
+    @staticmethod
+    def routers(*ways):
+        """The router LSAs of circuits, each of a router, its local address, the neighbor and the remote address."""
+        both = [*ways, *((neighbor, remote, router, local) for router, local, neighbor, remote in ways)]
+        return update(*[router_lsa(one, *[(far, local, 300) for router, local, far, _ in both if router == one])
+                        for one in sorted({router for router, *_ in both})])
+
+    @staticmethod
+    def stub(router, *links):
+        return update(router_lsa(router, *[(neighbor, local, 65535) for local, neighbor in links], sequence=2))
+
 
 def played(clock, reports, *words):
     """The feed in a process of its own, with all patience for connections and, where the ends of two pipes are given, by
     the clock that comes from the first. Each time that nothing is left to do, it says so to the second."""
-    from routed.feed.ospf import api, ospf
-    api.PATIENCE = PATIENCE
+    from routed.feed import command
+    from routed.feed.ospf import ospf
+    ospf.PATIENCE = PATIENCE
     if clock >= 0:
         at, count = NOON, 0
         wait, read = selectors.PollSelector.select, os.read
@@ -153,20 +190,21 @@ def played(clock, reports, *words):
                 at, = struct.unpack("d", read(clock, 8))
 
         time.monotonic, selectors.PollSelector.select, os.read = lambda: at, selected, counted
-    sys.exit(ospf.main(list(words)))
+    sys.exit(command.main(list(words)))
 
 
 class Feed:
     """A feed at work, whose program is the test, or a command; then it goes by the real clock. The program is at a version,
     and at a greater one than 0 it answers what the feed asks next by the lines that are told."""
 
-    def __init__(self, router, *words, command=(), version=0, told=(), is_accepted=True):
+    def __init__(self, router, *words, command=(), version=0, told=(), is_accepted=True, run=f"run {RUN}"):
+        self.run = run
         ends = ("-1", "-1")
         self.is_real = bool(command)
         if not self.is_real:
             (clock, self.clock), (self.reports, reports) = os.pipe(), os.pipe()
             ends = str(clock), str(reports)
-        self.process = subprocess.Popen([*IN_PROCESS, *ends, "--port", str(router.port), *words, *command],
+        self.process = subprocess.Popen([*IN_PROCESS, *ends, *router.words(), *words, *command],
                                         stdin=subprocess.PIPE, stdout=subprocess.PIPE, stderr=subprocess.PIPE, bufsize=0,
                                         pass_fds=() if self.is_real else (clock, reports))
         self.unread, self.said = b"", b""
@@ -178,6 +216,8 @@ class Feed:
             os.close(reports)
             if "--once" not in words:
                 self.begin(version, told)
+                if {"--sids", "--srlgs"} & {*words} and version is not None:
+                    self.name_run()
         if is_accepted:
             router.accept()
 
@@ -197,6 +237,12 @@ class Feed:
             raise AssertionError(f"the feed doesn't ask what is there: {row}")
         for line in told:
             self.say(line)
+
+    def name_run(self):
+        """Answers the row by which the feed asks for the name of the program's run."""
+        if (row := self.line()) != "run":
+            raise AssertionError(f"the feed doesn't ask for the run: {row}")
+        self.say(self.run)
 
     def ended(self):
         """The status of a feed that ends by itself, what it wrote since, and what it said."""
@@ -333,8 +379,11 @@ def snapshot(version, rows):
     return [f"version {version}", *batches, "snapshot end"]
 
 
-def going_on(version, links, marks=0, hold=HOLD):
-    return (f"ospf: going on from version {version}, of {links} links and {marks} marks; "
+Router.pair, Router.chain, Router.broken = PAIR, CHAIN, BROKEN
+
+
+def going_on(version, links, marks=0, hold=HOLD, name="ospf"):
+    return (f"{name}: going on from version {version}, of {links} links and {marks} marks; "
             f"what the router doesn't tell of within {hold:g} s is dropped\n")
 
 

@@ -5,10 +5,11 @@ import re
 import socket
 import time
 
-from feed.begun import journals, not_begun, restarted, trickle, unreached
-from feed.beside import behind_front, beside_server, once, with_program, words
+from feed.begun import journals, not_begun
+from feed.beside import beside_server, once, with_program, words
+from feed.both import scenarios
 from feed.lab import lab
-from feed.played import A, A_B, B, B_A, B_C, C, COLLECT, C_B, INFINITE, MANY_DIGITS, NAN, PAIR, PAIR_ROWS, PATIENCE, QUIET, ROUTERS, Feed
+from feed.played import A, A_B, B, B_A, C, COLLECT, INFINITE, NAN, PAIR, PAIR_ROWS, PATIENCE, ROUTERS, Feed
 from feed.played import Router, fed, lsa, message, raw, removal, router_lsa, row, te_lsa, tlv, update
 
 
@@ -203,109 +204,6 @@ def streams(checks):
         checks.true(f"{name} ends the connection, and a new one is made", feed.is_quiet() and "what was put stays" in feed.end())
 
 
-def anew(checks):
-    """A router that starts anew has nothing at first: what was there is held for a time."""
-    router = Router()
-    feed = Feed(router, "--hold", "2")
-    router.send(PAIR)
-    feed.batch()
-    router.hang_up()
-    feed.again()
-    back = feed.at
-    checks.true("nothing is dropped at first", feed.is_quiet())
-    router.send(update(*ROUTERS, te_lsa(A, A_B, B, B_A, metric=9)))
-    checks.same("what is there again is put as it is", feed.batch(), ([row(A, A_B, B, B_A, metric=9)], 2))
-    checks.true("what doesn't come back is held", feed.line(back + 2 - 0.01 - feed.at) is None)
-    checks.same("until that time is over", feed.line(0.02), f"drop,{B},{B_A}")
-    checks.same("and then dropped", (feed.line(), feed.say("version 3")), ("end,3,1", None))
-    router.send(removal(te_lsa(A, A_B, B, B_A, metric=9)))
-    checks.same("after that nothing is held", feed.batch(), ([f"drop,{A},{A_B}"], 4))
-    router.send(PAIR)
-    checks.same("links", feed.batch()[0], PAIR_ROWS)
-    router.hang_up()
-    feed.again()
-    router.send(PAIR)
-    feed.waits(QUIET)
-    router.send(removal(te_lsa(A, A_B, B, B_A)))
-    checks.same("that came back and then go are dropped at once", feed.line(1), f"drop,{A},{A_B}")
-    feed.end()
-
-
-def refusals(checks):
-    """The lines that come back: one batch at a time, numbered by them, and what a refused one leads to."""
-    chain = update(router_lsa(A, (B, A_B, 1)), router_lsa(B, (A, B_A, 1), (C, B_C, 1)), router_lsa(C, (B, C_B, 1)),
-                   te_lsa(A, A_B, B, B_A), te_lsa(B, B_A, A, A_B), te_lsa(B, B_C, C, C_B, number="1.0.0.3"), te_lsa(C, C_B, B, B_C))
-    rows = [*PAIR_ROWS, row(B, B_C, C, C_B), row(C, C_B, B, B_C)]
-
-    def begun():
-        router = Router()
-        feed = Feed(router)
-        router.send(chain)
-        return router, feed
-
-    router, feed = begun()
-    first = [feed.line() for _ in range(5)]
-    router.send(update(te_lsa(A, A_B, B, B_A, metric=8, sequence=2)))
-    feed.waits(2 * COLLECT)
-    feed.say("ask 1 v0 none")
-    checks.same("a batch", first, [*rows, "end,1,4"])
-    checks.true("is the only one before its line comes", feed.is_quiet())
-    feed.say("version 1")
-    checks.same("then comes the next", feed.batch(), ([row(A, A_B, B, B_A, metric=8)], 2))
-    checks.true("and nothing more", feed.is_quiet())
-    checks.same("nothing is said of it", feed.end(), "")
-
-    _, feed = begun()
-    batches = [feed.batch(answer)[0] for answer in ("batch 1 refused: full", "batch 1 refused: full", "batch 1 refused: full",
-                                                    "version 1", "version 2")]
-    checks.same("halves until it is known which change doesn't fit", batches, [rows, rows[:2], rows[:1], rows[1:2], rows[2:]])
-    checks.true("which isn't tried again", feed.is_quiet())
-    checks.same("and is said", feed.end(), f"ospf: batch 1 refused: full: put {A} {A_B} is left out\n")
-
-    for first in (0, 4711):  # rows of earlier feeds count, too, where the program outlives them
-        router, feed = begun()
-        batches = [feed.batch(answer)[0] for answer in (
-            f"row {first + 2} refused: number 6\nbatch 1 refused: counted 3",
-            f"row {first + 7} refused: number 6\nbatch 1 refused: counted 1",
-            "version 1", f"row {first + 11} refused: number 6\nbatch 2 refused: counted 1",
-            f"row {first + 14} refused: number 6\nbatch 2 refused: counted 0", "version 2", "version 3")]
-        checks.same("halves until it is known which row is refused", batches,
-                    [rows, rows[:2], rows[:1], rows[1:3], rows[1:2], rows[2:3], rows[3:]])
-        checks.true("which is left out", feed.is_quiet())
-        router.send(removal(te_lsa(A, A_B, B, B_A)))
-        checks.same("a drop", feed.batch()[0], [f"drop,{A},{A_B}"])
-        checks.same("after which it is tried again", feed.batch()[0], rows[1:2])
-        checks.same("what is said of it", feed.end(), f"ospf: row {first + 14} refused: number 6: put {B} {B_A} is left out\n")
-
-    _, feed = begun()
-    checks.same("changes that were left open", [feed.batch("batch 1 refused: counted 6"), feed.batch()], [(rows, 1)] * 2)
-    checks.same("are gone with the refused batch", (feed.is_quiet(), feed.end()),
-                (True, "ospf: batch 1 refused: counted 6: changes were left open, which are dropped with this batch; trying again\n"))
-
-    router, feed = begun()
-    feed.batch()
-    router.send(removal(te_lsa(A, A_B, B, B_A)))
-    drops = [feed.batch("batch 2 refused: memory") for _ in range(9)]
-    checks.same("a drop that is refused is tried again", drops, [([f"drop,{A},{A_B}"], 2)] * 9)
-    checks.same("and is never left out", feed.ended(),
-                (1, "", f"ospf: batch 2 refused: memory: drop {A} {A_B}: for the 9th time in a row\n"))
-
-    others = "another program has published, and the feed has to be the only one: end that program, and start the feed again"
-    unknown = "the program's database isn't the one that the feed began with: start the feed again"
-    for answer, said in [("batch 1 refused: exhausted", ""), ("batch 1 refused: expected 4", others),
-                         ("batch 1 refused: expected 1", others),
-                         ("version 2", others), ("batch 2 refused: long", others), ("batch 1 refused: absent 2", unknown),
-                         (f"version {MANY_DIGITS}", others), (f"batch {MANY_DIGITS} refused: long", others)]:
-        router, feed = begun()
-        feed.batch(answer)
-        checks.same(f"{answer[:40]} ends the feed", feed.ended(), (1, "", f"ospf: {answer}{said and ': '}{said}\n"))
-    for answer, said in [("too many rows", "the program takes no more rows"), ("version 1\nversion 2", f"version 2: {others}"),
-                         ("row 9 refused: kind\nversion 1", f"row 9 refused: kind, and then version 1: {unknown}")]:
-        router, feed = begun()
-        feed.batch(answer)
-        checks.same(f"{answer!r} ends the feed", feed.ended(), (1, "", f"ospf: {said}\n"))
-
-
 def many(checks):
     """More changes than a batch may have."""
     router = Router()
@@ -349,9 +247,8 @@ def feed(program, checks):
     except OSError as fault:
         print(f"skipped: the feed, since no socket can be had: {fault}")
         return
-    for part in (columns, left_out, wrapped, changes, marks, runs, streams, anew, refusals, restarted, trickle, unreached, not_begun,
-                 journals,
-                 many, queued, lab):
+    for part in (columns, left_out, wrapped, changes, marks, runs, streams, not_begun, journals, many, queued, lab):
         part(checks)
-    for part in (with_program, beside_server, once, words, behind_front):
+    for part in (with_program, beside_server, once, words):
         part(program, checks)
+    scenarios(checks, Router, program)

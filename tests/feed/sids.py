@@ -9,7 +9,7 @@ import stat
 import subprocess
 import tempfile
 
-from feed.played import A, A_B, B, B_A, B_C, C, FEED, HOLD, PAIR_ROWS, PATIENCE, ROUTERS, Feed, Router
+from feed.played import A, A_B, B, B_A, B_C, C, FEED, HOLD, PAIR_ROWS, PATIENCE, ROUTERS, RUN, Feed, Router
 from feed.played import lsa, raw, removal, router_lsa, row, snapshot, te_lsa, tlv, update
 
 OWN, OF_BACKUP, OF_GROUP, INDEX = 0x60, 0xe0, 0x70, 0  # flags: a local label of one link; of a backup; of links; of no label
@@ -44,7 +44,7 @@ class Told:
         """The lines that were written since the last look."""
         text = text_of(self.path)
         new, self.read = text[self.read:], len(text)
-        return new.splitlines()
+        return new.removeprefix(f"run,{RUN}\n").splitlines()
 
     def batch(self, answer=None):
         """The next batch, and the lines of the file that stand there before it is answered, since the answer may bring more."""
@@ -82,6 +82,7 @@ def lines(checks):
     told = Told("--verbose")
     checks.same("no file before the first look", os.path.exists(told.path), False)
     checks.same("all SIDs, with the first batch", told.play(*ROUTERS, *LINKS, *BOTH), (SIDS, PAIR_ROWS))
+    checks.same("the first line is the run", text_of(told.path).splitlines()[:2], [f"run,{RUN}", SIDS[0]])
     checks.same("a label that changes: at the present version", told.quiet(link_lsa(A, A_B, sid(18), sequence=2)), [f"sid,1,{A},{A_B},18"])
     checks.same("a refreshed one is nothing", told.quiet(link_lsa(A, A_B, sid(18), sequence=3)), [])
     checks.same("a SID that is gone", told.quiet(link_lsa(A, A_B, sequence=4)), [f"sid,1,{A},{A_B},"])
@@ -188,6 +189,15 @@ def held(checks):
     told.end()
 
 
+def runs(checks):
+    """The file says which run of the program it is of, if the program has a name for it."""
+    for answer, wanted in (("run 00ff", ["run,00ff", SIDS[0]]), ("row 1 refused: kind", SIDS)):
+        told = Told(run=answer)
+        told.play(*ROUTERS, *LINKS, *BOTH)
+        checks.same(f"a program that answers {answer!r}", text_of(told.path).splitlines()[:2], wanted)
+        told.end()
+
+
 def again(checks):
     """A feed that starts again makes the file anew, by a rename."""
     grouped = [each.replace("0x00000000", "0x00000001") for each in PAIR_ROWS]
@@ -232,4 +242,4 @@ def sids(_, checks):
     except OSError as fault:
         print(f"skipped: the feed's SIDs, since no socket can be had: {fault}")
         return
-    checks.parts((lines, which, malformed, groups, refusals, held, again, faults), checks)
+    checks.parts((lines, which, malformed, groups, refusals, held, runs, again, faults), checks)

@@ -134,8 +134,10 @@ def head_end(program, checks):
         starts = [at for at, one in enumerate(found) if (one.source, one.kind) == (PCE, OPEN)] + [len(found)]
         checks.same("sessions", len(starts), 4)
         networks = runs.publish(runs.whole_batches(texts["journal"]))[0]
+        run, *sids = texts["sids"].splitlines()
+        checks.true("the SIDs say which run they are of", re.fullmatch("run,[0-9a-f]{16}", run), run)
         for number, (start, end) in enumerate(zip(starts, starts[1:]), 1):
-            session(checks, number, found[start:end], networks, texts["sids"].splitlines())
+            session(checks, number, found[start:end], networks, sids)
         audited(checks, texts["journal"], pairs, ran.stdout)
         capture(checks, os.path.join(room, "lab.pcap"), texts["messages"])
 

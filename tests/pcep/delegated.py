@@ -5,7 +5,7 @@ import socket
 import struct
 import tempfile
 
-from pcep.played import NORTH, SOUTH, Front, Pcc, bandwidth, hop, ip, lspa, metric, report_of, rows, told, told_one
+from pcep.played import NORTH, SOUTH, Front, Pcc, bandwidth, hop, ip, lspa, report_of, rows, told, told_one
 from reference import formats
 from reference.formats import Network
 
@@ -69,10 +69,9 @@ def delegated(checks, room):
     checks.same("calm: the first move", pcc.again(), [to_south])
     pcc.report(ero=south, srp=1)
     front.publish(*rows([(1, 2, 30)]))
-    checks.same("calm: the next waits", (pcc.again(), [at for at, _ in front.laters]), ([], [100]))
-    front.time = 100
-    front.laters[0][1]()
-    checks.same("calm: and comes", [told(*one) for one in pcc.messages()], [to_north])
+    checks.same("calm: the next waits", (pcc.again(), front.go_on(99, pcc)), ([], []))
+    checks.same("calm: and comes", front.go_on(1, pcc), [to_north])
+    checks.same("calm: no timer of the loop", front.laters, [])
     front, pcc, _ = begun(north)
     front.held = []
     front.publish(*rows([(1, 3, 1), (3, 4, 1)]))
@@ -91,17 +90,13 @@ def delegated(checks, room):
     checks.same("revoked", (pcc.report(flags=8, ero=south), front.publish("drop,10.0.0.1,10.1.3.1"), pcc.again()), ([], None, []))
     checks.same("delegated again", pcc.report(flags=9, ero=south), [to_north])
     checks.same("removed", (pcc.report(flags=13), pcc.session.lsps.all), ([], {}))
-    for name, more, wanted in [("a hop bound", [metric(3, 5)], True), ("an XRO", [pack(17, bytes(4), must=True)], True),
-                               ("without P", [metric(3, 5, must=False)], False)]:
-        front, pcc, _ = begun(north)
-        found = pcc.report(ero=north, more=more)
-        checks.same(f"an LSP with {name}", (found, pcc.report(ero=north, more=more)), ([f"{to_north} returned"] if wanted else [], []))
     front, pcc, _ = begun(north)
     front.owned = True
     checks.same("an LSP of another PCC", pcc.report(2, ero=north), [f"{to_north} returned"])
     for name, objects, wanted in [("no LSP", [pack(33, bytes(8))], "PCErr 6/8"), ("nothing", [], "PCErr 6/8"),
                                   ("no ERO", [pack(32, struct.pack("!I", 9 << 12) + tlv(18, bytes(16)))], "PCErr 6/9"),
-                                  ("no identifiers", [pack(32, struct.pack("!I", 9 << 12)), pack(7, b"")], "PCErr 6/11")]:
+                                  ("no name", [pack(32, struct.pack("!I", 9 << 12) + tlv(18, bytes(16))), pack(7, b"")], "PCErr 6/14"),
+                                  ("no identifiers", [pack(32, struct.pack("!I", 9 << 12) + tlv(17, b"a")), pack(7, b"")], "PCErr 6/11")]:
         checks.same(f"a report with {name}", told_one(pcc, wire.message(10, *objects)), [wanted])
     front, pcc, _ = begun(north)
     front.held = []
@@ -245,7 +240,7 @@ def races(checks, room):
     front, pcc = begun((1, south))
     pcc.messages()
     pcc.report(1, ero=north, name=b"1")
-    checks.same("an update that is reported without its number", pcc.session.lsps.all[1].srp, 0)
+    checks.same("an update that is reported without its number", pcc.session.lsps.all[1].waits, False)
     for flags in (9, 1):
         front, pcc = begun()
         pcc.say(report_of(1, flags))

@@ -8,7 +8,7 @@ from pcep.played import NORTH, SOUTH, Front, Pcc, bandwidth, hop, lspa, metric, 
 
 from routed.net.endpoints import Stopped
 from routed.pcep import wire
-from routed.pcep.network import Sids
+from routed.pcep.sids import Sids
 from routed.pcep.session import Session
 from routed.pcep.wanted import request_of, wanted as read_wanted
 from routed.pcep.wire import pack, tlv
@@ -78,6 +78,19 @@ def updated(checks, room):
     checks.same("each session has other SRP numbers", len(numbers), 3)
 
 
+def looked_at(checks, room):
+    """At each version those LSPs alone are looked at that PCInitiate has made."""
+    front = Front(room)
+    front.publish(*rows())
+    pcc, times = Pcc(front, is_sr=False), []
+    for number in range(1, 101):
+        pcc.report(number, 8, wire.addresses_ero(NORTH)[4:], b"%d" % number)
+    pcc.report(0, 0)
+    front.clock = lambda: times.append(None) or 0.0
+    pcc.session.lsps.making.initiate()
+    checks.true("LSPs that PCInitiate hasn't made aren't looked at", len(times) < 10, len(times))
+
+
 def initiated(checks, room):
     """LSPs of a file, and requests that had no path."""
     path = os.path.join(room, "wanted")
@@ -108,6 +121,16 @@ def initiated(checks, room):
     checks.same("it is reported", pcc.report(3, 0x89, ero, b"red", 1), [])
     call()
     checks.same("and then none", sum("was to be made" in line for line in front.said), 1)
+    late = Pcc(front, is_sr=False, peer="10.0.0.1")
+    front.laters.clear()
+    late.report(0, 0)
+    late.session.lsps.making.reread()
+    checks.same("one that may still be reported isn't made twice", late.messages(), [])
+    front.laters.pop()[1]()
+    late.session.lsps.making.initiate()
+    checks.same("one that isn't reported is made again once the file is read again, and not before",
+                (late.messages(), late.session.lsps.making.reread(), [told(*one) for one in late.messages()]),
+                ([], None, [f"PCInitiate {to_north}"]))
     front.publish("drop,10.0.0.1,10.1.2.1")
     checks.same("and moved as others", pcc.again(), [f"PCUpd {' '.join(SOUTH)}"])
     front.unwanted, front.made = lambda peer: ["red"], {}
@@ -143,16 +166,17 @@ def segments(checks, room):
     checks.same("a link without a SID is no lack of a path", pcc.ask(setup_type=1), ["NO-PATH 1"])
     front.publish(*rows())
     pcc.session.most_sids = 1
-    checks.same("more SIDs than the PCC takes", pcc.ask(setup_type=1), ["PCErr 10/4"])
-    for flags, most, wanted in ((0, 1, "PCErr 10/4"), (1, 1, f"{with_labels} [16, 15024]"), (0, 0, f"{with_labels} [16, 15024]")):
+    checks.same("more SIDs than the PCC takes", pcc.ask(setup_type=1), ["PCErr 10/3"])
+    for flags, most, wanted in ((0, 1, "PCErr 10/3"), (1, 1, f"{with_labels} [16, 15024]"), (0, 0, f"{with_labels} [16, 15024]")):
         sub = tlv(34, bytes([0, 0, 0, 2, 0, 1, 0, 0]) + tlv(26, bytes([0, 0, flags, most])))
         said = Pcc(front, False)
         said.say(wire.message(1, pack(1, bytes([0x20, 30, 120, 9]) + sub)) + wire.message(2))
         said.messages()
         checks.same(f"an MSD of {most} with the flags {flags}", said.ask(setup_type=1), [wanted])
     pcc.session.most_sids = None
+    checks.same("two bounds on SIDs, the first of which is 0", pcc.ask(metric(11, 0), metric(11, 5), setup_type=1), ["PCErr 10/3"])
     segments_of, front.segments = front.segments, lambda *_: [("10.1.2.1", NORTH[0], 16)] * count
-    for count, wanted in ((3226, 3226), (3227, "PCErr 10/4")):
+    for count, wanted in ((3226, 3226), (3227, "PCErr 10/3")):
         found, = pcc.ask(setup_type=1)
         checks.same(f"{count} SIDs", found if count > 3226 else found.count(NORTH[0]), wanted)
     front.segments = segments_of

@@ -170,6 +170,15 @@ def wanted_again(program, checks, room):
                     ["remove 3", f"make red to 10.0.0.4 by {NEAR[0]}"])
 
 
+def updated(client):
+    """The SRPs of the updates of LSPs 1 and 2, in any order."""
+    found = {}
+    for _ in range(2):
+        of = {one.kind: one.body for one in client.raw()[1]}
+        found[struct.unpack("!I", of[32][:4])[0] >> 12], = struct.unpack("!4xI", of[33][:8])
+    return found[1], found[2]
+
+
 def figures(program, checks, room):
     """--metrics: what was sent and answered is counted."""
     with Run(program.path, room) as run:
@@ -193,11 +202,12 @@ def figures(program, checks, room):
         client.report(1)
         client.report(2, name=b"red")
         client.report(0, 0)
-        srps = made(client)[1], made(client)[1]
+        srps = updated(client)
         client.report(1, ero=addresses(NORTH), srp=srps[0])
         client.report(2, ero=addresses(NORTH), name=b"red", srp=srps[1])
+        wait(lambda: run.figures()['updates_total{outcome="accepted"}'] == 2)
         run.publish("drop,10.0.0.1,10.1.2.1")
-        srps = made(client)[1], made(client)[1]
+        srps = updated(client)
         client.report(1, ero=addresses(SOUTH), srp=srps[0])
         client.socket.sendall(wire.error(23, 0, pack(33, struct.pack("!II", 0, srps[1]))))
         run.publish("drop,10.0.0.1,10.1.3.1")
@@ -205,13 +215,19 @@ def figures(program, checks, room):
         twice = Client(run.port, "127.0.9.1")
         twice.read()
         found = run.figures()
-        wanted = {"sessions": 1, "lsps": 2, "lsps_without_route": 2, "version": 3, "exceptions_total": 0,
+        wanted = {"sessions": 1, "lsps": 2, "lsps_without_route": 2, "version": 3, "exceptions_total": 0, "replies_lost": 0,
+                  **{f'turned_away_total{{reason="{reason}"}}': reason == "second" for reason in ("address", "key", "full", "second")},
                   **{f'messages_total{{type="{kind}"}}': count for kind, count in ((1, 1), (2, 1), (3, asked + 3), (6, 1), (10, 6))},
                   **{f'requests_total{{outcome="{outcome}"}}': count for outcome, count in counted.items() if count},
                   **{f'errors_total{{error="{error}"}}': count for error, count in (("4/4", 2), ("3/1", 1), ("9/1", 1))},
                   'refused_by_pccs_total{error="23/0"}': 1,
+                  **{f'lsps_at_fault{{fault="{fault}"}}': 0 for fault in ("silent", "down", "unknown", "lost")},
+                  'lsps_at_fault{fault="refused"}': 1, 'connected': 1, 'journal_followed': 1,
+                  'updates_total{outcome="accepted"}': 3, 'updates_total{outcome="refused"}': 1, 'updates_total{outcome="unanswered"}': 0,
+                  'sessions_ended_total': 0,
                   'moves_total{reason="new"}': 2, 'moves_total{reason="lost"}': 2, 'moves_total{reason="none"}': 2}
-        checks.same("figures: each is what was done", found, {name: float(value) for name, value in wanted.items()})
+        wanted = {name: float(value) for name, value in wanted.items()}
+        checks.same("figures: each is what was done", sorted(found.items() - wanted.items()), sorted(wanted.items() - found.items()))
         with open(os.path.join(TOP, "docs/run/PCEP.md"), encoding="utf-8") as file:
             page = file.read()
         checks.same("figures: each is on the page", [name for name in found if f"`routed_pcep_{name.partition('{')[0]}`" not in page], [])

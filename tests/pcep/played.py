@@ -13,6 +13,7 @@ from routed.pcep.network import Network as Followed
 from routed.pcep.session import Session
 from routed.pcep.wire import pack, tlv
 
+UP, GOING_UP = 1, 4  # O flags of an LSP
 FREE = ",".join(["125000000"] * 8)
 # From 1 to 4 by 2 of cost 100, and by 3 of cost 200.
 CIRCUITS = [(1, 2, 50), (2, 4, 50), (1, 3, 100), (3, 4, 100)]
@@ -40,17 +41,29 @@ class Front:
 
     def __init__(self, folder, sids=None, **options):
         self.time, self.said, self.counted, self.held, self.laters = 0.0, [], {}, None, []
-        self.options = argparse.Namespace(stateful=True, gain=0, calm=0, group=0, reopen=False, initiate=None)
+        self.options = argparse.Namespace(stateful=True, gain=0, calm=0, group=0, reopen=False, initiate=None, mark=None, messages=0,
+                                          most_lsps=4096)
         vars(self.options).update(options)
         self.journal, self.reference, self.version, self.is_away = os.path.join(folder, "journal"), Network(), 0, False
         open(self.journal, "w").close()
-        self.network, self.sids, self.owned, self.made = Followed(self.journal), sids, False, {}
+        self.network, self.sids, self.owned, self.made = Followed(self.journal, self.say), sids, False, {}
 
     def clock(self):
         return self.time
 
     def say(self, level, text):
         self.said.append(text)
+
+    def go_on(self, seconds, *pccs):
+        """Lets time go on, by the seconds of a clock. What the PCCs are sent."""
+        found = []
+        for _ in range(seconds):
+            self.time += 1
+            for pcc in pccs:
+                pcc.say(wire.message(wire.KEEPALIVE))
+                pcc.session.tick(self.time)
+                found += [told(*one) for one in pcc.messages() if one[0] != wire.KEEPALIVE]
+        return found
 
     def count(self, what, value):
         self.counted[what, value] = self.counted.get((what, value), 0) + 1
@@ -66,8 +79,11 @@ class Front:
         self.network.reach(version)
         return self.sids.segments(self.network, head, route, version)
 
-    def owner(self, session, head, name):
-        return self.owned
+    def tally(self, what):
+        self.count(what, None)
+
+    def claims(self, peer, head, name):
+        return not self.owned
 
     def wanted(self, peer, name):
         return self.made.get(name)
@@ -78,9 +94,17 @@ class Front:
     def unwanted(self, peer):
         return []
 
+    def is_unwanted(self, peer, name):
+        return name in self.unwanted(peer)
+
     def ask(self, row, call, owner=None):
         line = self.reference.reply(self.version, f"ask,1,{row}") if self.version is not None else None
         call(line) if self.held is None else self.held.append((call, line))
+
+    def in_turn(self, asking):
+        while asking.has_more():
+            if form := asking.following():
+                self.ask(*form)
 
     def publish(self, *changes):
         self.version += 1
@@ -93,13 +117,15 @@ class Front:
 class Pcc:
     """A session, and what it sent."""
 
-    def __init__(self, front, is_up=True, capability=5, is_sr=True):
+    def __init__(self, front, is_up=True, capability=5, is_sr=True, keepalive=30, dead=120, peer="10.0.0.1", setup_types=(0, 1)):
         self.front, self.out, self.is_ended = front, b"", False
-        self.session = Session(front, "10.0.0.1", 1, self.take, self.ended, front.time)
+        self.session = Session(front, peer, 1, self.take, self.ended, front.time)
         self.messages()
         if is_up:
-            more = tlv(34, bytes([0, 0, 0, 2, 0, 1, 0, 0]) + tlv(26, bytes([0, 0, 0, 4]))) if is_sr else b""
-            self.say(wire.message(1, pack(1, bytes([0x20, 30, 120, 9]) + tlv(16, struct.pack("!I", capability)) + more)) + wire.message(2))
+            types = bytes([0, 0, 0, len(setup_types), *setup_types]) + bytes(-len(setup_types) % 4)
+            more = tlv(34, types + tlv(26, bytes([0, 0, 0, 4]))) if is_sr else b""
+            more += b"" if capability is None else tlv(16, struct.pack("!I", capability))
+            self.say(wire.message(1, pack(1, bytes([0x20, keepalive, dead, 9]) + more)) + wire.message(2))
             self.messages()
 
     def take(self, data):
@@ -119,21 +145,46 @@ class Pcc:
         self.say(request(*objects, **more))
         return [told(*one) for one in self.messages()]
 
-    def report(self, number=1, flags=9, ero=b"", name=b"blue", srp=0, setup_type=0, more=()):
-        front = [pack(33, struct.pack("!II", 0, srp) + wire.setup_type_tlv(setup_type))] if srp or setup_type else []
-        ids = tlv(18, ip(1) + bytes(8) + ip(4))
-        self.say(wire.message(10, *front, pack(32, struct.pack("!I", number << 12 | flags) + (tlv(17, name) + ids if number else b"")),
-                              pack(7, ero), *more))
+    def report(self, number=1, flags=9, ero=b"", name=b"blue", srp=0, setup_type=0, more=(), **words):
+        self.say(wire.message(10, *report(number, flags, ero, name, srp, setup_type, more, **words)))
         return [told(*one) for one in self.messages()]
+
+    def updates(self):
+        """The SRP and the ERO of each update that came."""
+        found = [{one.kind: one.body for one in objects} for kind, objects in self.messages() if kind == wire.UPDATE]
+        return [(struct.unpack("!4xI", of[33][:8])[0], of[7]) for of in found]
+
+    def answered(self, answer, most=30):
+        """How many updates come to a PCC that answers each of them at once."""
+        count, sent = 0, self.updates()
+        while sent and count < most:
+            count += len(sent)
+            for srp, ero in sent:
+                self.say(answer(srp, ero))
+            sent = self.updates()
+        return count
+
+    def faults(self):
+        """What is wrong with its LSPs."""
+        return [fault for lsp in self.session.lsps.all.values() for fault in lsp.faults()]
 
     def again(self):
         self.session.again()
         return [told(*one) for one in self.messages()]
 
 
-def request(*objects, ends=None, rp=0, must=True, setup_type=0, front=()):
+def report(number=1, flags=9, ero=b"", name=b"blue", srp=0, setup_type=0, more=(), state=None, error=None, ends=(1, 4), ids=None):
+    """The objects of a report. An LSP that has a route is UP."""
+    front = [pack(33, struct.pack("!II", 0, srp) + wire.setup_type_tlv(setup_type))] if srp or setup_type else []
+    tlvs = (tlv(17, name) if name else b"") + (tlv(18, ids or ip(ends[0]) + bytes(8) + ip(ends[1])) if ends or ids else b"")
+    tlvs += tlv(20, struct.pack("!I", error)) if error is not None else b""
+    state = (UP if ero else 0) if state is None else state
+    return [*front, pack(32, struct.pack("!I", number << 12 | flags | state << 4) + (tlvs if number else b"")), pack(7, ero), *more]
+
+
+def request(*objects, ends=None, rp=0, must=True, setup_type=0, front=(), number=7):
     ends = pack(4, ip(1) + ip(4), must=True) if ends is None else ends
-    return wire.message(3, *front, pack(2, struct.pack("!II", rp, 7) + wire.setup_type_tlv(setup_type), must=must), ends, *objects)
+    return wire.message(3, *front, pack(2, struct.pack("!II", rp, number) + wire.setup_type_tlv(setup_type), must=must), ends, *objects)
 
 
 def told(kind, objects):

@@ -11,12 +11,14 @@ from checks import TOOLS
 from pcep.answers import drawn, long
 from pcep.beside import OPENED, SILENT, TO_NORTH, TO_SOUTH, Client, Run, begun, wait
 from pcep.lsps import figures, shared, wanted_again
+from pcep.named import named
 from pcep.played import PATH, SOUTH, request, rows
 from program.serving import PATIENCE
 from reference import formats
+from pcep.storms import storm
 from tools.fronts import reset
 
-from routed.pcep import replies
+from routed.pcep import replies, wire
 from routed.pcep.keys import set_key
 from routed.pcep.wire import pack
 
@@ -35,9 +37,11 @@ def sockets(program, checks, room):
         checks.same("64 PCCs, 50 requests each", {client.read() for client in clients[2:] for _ in range(50)}, {PATH})
         twice = Client(run.port, "127.0.2.1")
         checks.same("two PCCs of one address", (twice.read(), twice.read()), ("PCErr 9/1", "end"))
+        checks.same("the first of them is asked by TCP whether it is there", clients[0].read(), "Keepalive")
         checks.same("the first of them goes on", clients[0].ask(), PATH)
         clients[1].socket.settimeout(SILENT)
-        sent, large = 0, request(pack(99, bytes(30000)))  # whose answers are large, too
+        one = request(pack(99, bytes(1000)))[4:]  # whose answer is large, too
+        sent, large = 0, wire.message(wire.REQUEST, *[one] * 60)
         try:
             while sent < 1 << 26:
                 sent += clients[1].socket.send(large)
@@ -262,5 +266,5 @@ def rolled(program, checks, room):
 def pcep_runs(program, checks):
     with tempfile.TemporaryDirectory() as room:
         checks.parts_in(room, (sockets, keys, gone, full, busy, crowded, stateless, idle, shared, wanted_again, figures, rolled, long,
-                               drawn),
+                               drawn, named, storm),
                         program, checks)

@@ -9,10 +9,15 @@ import struct
 import tempfile
 
 from checks import TOP
-from pcep.connections import collected, deaf, moved, places, reset, strange
+from pcep.connections import collected, crowded, deaf, heavy, in_slices, in_vain, moved, paced, places, reset, strange, unheard
 from pcep.delegated import delegated, followed, races
-from pcep.initiated import initiated, making, segments, updated
+from pcep.initiated import initiated, looked_at, making, segments, updated
+from pcep.opening import SESSIONS
 from pcep.played import FREE, PATH, SOUTH, Front, Pcc, bandwidth, fars, hop, ip, lspa, metric, request, rows, told, told_one
+from pcep.raised import raised
+from pcep.refusing import downs, other_words, refusals, silences
+from pcep.reported import REPORTED, constraints, marked, mixed, owners, setups
+from pcep.sources import journals
 
 from routed.pcep import wire
 from routed.pcep.wire import pack, tlv
@@ -40,6 +45,8 @@ def mapping(checks, room):
             ("a negative bandwidth", "PCErr 10/11", [bandwidth(-1)], {}),
             ("bandwidth that is no number", "PCErr 10/11", [bandwidth(float("nan"))], {}),
             ("more bandwidth than a row has", "PCErr 4/4", [bandwidth(2.0 ** 64)], {}),
+            ("more bandwidth than a row has, without P", "PCErr 4/4", [bandwidth(2.0 ** 64, must=False)], {}),
+            ("infinite bandwidth without P", "PCErr 4/4", [bandwidth(float("inf"), must=False)], {}),
             ("affinities that exclude", "NO-PATH 0", [lspa(exclude=1)], {}),
             ("affinities of which any", "NO-PATH 0", [lspa(any_=2)], {}),
             ("affinities that are all there", PATH, [lspa(any_=3, all_=1)], {}),
@@ -65,6 +72,8 @@ def mapping(checks, room):
             ("a hop bound", "PCErr 4/4", [metric(3, 9)], {}),
             ("a hop bound without P", PATH + " I [6]", [metric(3, 1, must=False)], {}),
             ("an IGP metric to be optimized", "PCErr 4/4", [metric(1, 0, 0)], {}),
+            ("an IGP metric to be optimized, without P", "PCErr 4/4", [metric(1, 0, 0, False)], {}),
+            ("an IGP bound without P", PATH + " I [6]", [metric(1, 9, must=False)], {}),
             ("a bound on delay", "PCErr 4/4", [metric(12, 9)], {}),
             ("the objective MCP", PATH, [pack(21, struct.pack("!HH", 1, 0), must=True)], {}),
             ("the objective MLP", "PCErr 4/4", [pack(21, struct.pack("!HH", 2, 0), must=True)], {}),
@@ -85,7 +94,19 @@ def mapping(checks, room):
             ("no ends", "PCErr 6/3", [], {"ends": b""}),
             ("an RP without P", "PCErr 10/1", [], {"must": False}),
             ("both directions", "PCErr 4/4", [], {"rp": 16}),
-            ("a reoptimization", "PCErr 4/4", [], {"rp": 8}),
+            ("a reoptimization", PATH, [pack(8, hop(2), must=True)], {"rp": 8}),
+            ("a reoptimization of an LSP of bandwidth 0", PATH, [pack(8, hop(2), must=True), bandwidth(0, 2), bandwidth(9)], {"rp": 8}),
+            ("a reoptimization of an LSP of bandwidth 1", "PCErr 4/4", [pack(8, hop(2), must=True), bandwidth(1, 2)], {"rp": 8}),
+            ("the same without P", "PCErr 4/4", [pack(8, hop(2)), bandwidth(1, 2, False)], {"rp": 8}),
+            ("the same without RRO", "PCErr 6/2", [bandwidth(1, 2)], {"rp": 8}),
+            ("its bandwidth that is no number", "PCErr 10/11", [bandwidth(-1, 2)], {"rp": 8}),
+            ("the request id 0", "PCErr 10/1", [], {"number": 0}),
+            ("an LSP object", PATH, [pack(32, struct.pack("!I", 1 << 12 | 9) + tlv(17, b"blue"), must=True)], {}),
+            ("an LSP object that is cut", "PCErr 10/11", [pack(32, struct.pack("!IHH", 1 << 12, 17, 9), must=True)], {}),
+            ("two END-POINTS", PATH, [pack(4, ip(4) + ip(1), must=True)], {}),
+            ("an ignored object of 1 KB", PATH + " I [99]", [pack(99, bytes(1020))], {}),
+            ("an ignored object above 1 KB", PATH, [pack(99, bytes(1024))], {}),
+            ("ignored objects above 1 KB together", PATH + " I [99]", [pack(99, bytes(600)), pack(98, bytes(600))], {}),
             ("an RRO", "PCErr 4/1", [pack(8, hop(2), must=True)], {}),
             ("an RRO without P", PATH + " I [8]", [pack(8, hop(2))], {}),
             ("the bandwidth of before without P", PATH + " I [5]", [bandwidth(1, 2, False)], {}),
@@ -100,6 +121,8 @@ def mapping(checks, room):
     pcc.say(request(rp=0xffffff00 | 7))
     (_, objects), = pcc.messages()
     checks.same("mapping: the flags of RP that come back", objects[0].body[:4], bytes([0, 0, 0, 7]))
+    without = Pcc(front, capability=None)
+    checks.same("an LSP object in a session without LSPs", without.ask(pack(32, bytes(4), must=True)), ["PCErr 3/1"])
     front.version = None
     checks.same("mapping: no server", pcc.ask(), ["NO-PATH 1"])
     checks.same("no RP", told_one(Pcc(front), wire.message(3, pack(4, ip(1) + ip(4), must=True))), ["PCErr 6/1"])
@@ -139,13 +162,16 @@ def malformed(checks, room):
         alone = [told(*one) for one in pcc.messages()]
         checks.same(f"message {data[1]} byte by byte", alone, told_one(Pcc(front), data))
     checks.same("messages whose length is no multiple of 4 aren't closed", count, 0)
+    closed, before = 0, front.counted.get(("messages", "malformed"), 0)
     for data in whole:
         for at in places_of_sizes(data):
             size, = struct.unpack_from("!H", data, at)
             for wrong in {*range(24), size - 4, size - 1, size + 1, size + 4, 0xffff} - {size}:
                 words = told_one(Pcc(front), data[:at] + struct.pack("!H", wrong & 0xffff) + data[at + 2:])
+                closed += words == ["Close 3"]
                 if wrong < 4 or wrong % 4 or at - 2 + wrong > len(data):
                     checks.same(f"message {data[1]}: the length {wrong} in place of {size} at {at}", words, ["Close 3"])
+    checks.same("malformed messages are counted", front.counted.get(("messages", "malformed")), before + closed)
     draw = random.Random(55)
     for _ in range(3000):
         data = bytearray(draw.choice(whole))
@@ -169,7 +195,7 @@ def malformed(checks, room):
         front.time = float(at)
         found += told_one(pcc, wire.message(99))
     checks.same("five unknown messages in more than a minute", found, ["PCErr 2/0"] * 5)
-    checks.same("a report without capability", told_one(Pcc(front, capability=0), whole[1]), ["PCErr 19/5", "Close 1"])
+    checks.same("a report without capability", told_one(Pcc(front, capability=None), whole[1]), ["PCErr 19/5", "Close 1"])
 
 
 def places_of_sizes(data):
@@ -182,7 +208,7 @@ def places_of_sizes(data):
 
 def timers(checks, room):
     front = Front(room)
-    for name, is_up, at, wanted in [("no Open", False, 60, ["PCErr 1/2"]), ("not yet", False, 59.9, []),
+    for name, is_up, at, wanted in [("no Open", False, 10, ["PCErr 1/2"]), ("not yet", False, 9.9, []),
                                     ("a Keepalive", True, 30, ["Keepalive"]),
                                     ("before it", True, 29.9, []), ("the dead timer", True, 120, ["Close 2"])]:
         front.time = 0.0
@@ -215,62 +241,91 @@ def timers(checks, room):
 
 # Each row of the table of docs/run/PCEP.md, by its first cell, and each item of the lists of errors, and the checks of it.
 TABLE = {
-    "END-POINTS, IPv4": ["no constraint", "an unknown source", "an unknown destination"],
+    "END-POINTS, IPv4": ["no constraint", "an unknown source", "an unknown destination", "END-POINTS, an address {name}",
+                         "END-POINTS, an address that two routers have"],
     "BANDWIDTH": ["bandwidth that is there", "bandwidth that isn't", "bandwidth between two bytes",
                   "bandwidth that the PCC has rounded down"],
     "LSPA": ["bandwidth at its setup priority", "bandwidth that isn't at its setup priority", "affinities that exclude",
              "affinities of which any", "affinities that are all there", "a holding priority and local protection"],
     "IRO of up to 7 IPv4 prefixes": ["an IRO", "an IRO of two prefixes", "an IRO of 7", "an IRO with L bits"],
     "METRIC of type TE, as a bound": ["a TE bound that is kept", "a TE bound that isn't"],
+    "METRIC of type SID depth (11), as a bound": ["a request of at most {most} SIDs"],
     "METRIC of type TE, to be optimized; OF 1": ["a TE metric to be optimized", "the objective MCP"],
+    "the flag for reoptimization of RP; RRO and BANDWIDTH of type 2 beside this flag": [
+        "a reoptimization", "a reoptimization of an LSP of bandwidth 0"],
+    "LSP in a request": ["an LSP object"],
     "reply `route`": ["no constraint", "SIDs", "a route of 8,183 links"],
     "reply `none`": ["bandwidth that isn't", "affinities that exclude"],
     "`unknown-from`, `unknown-to`": ["an unknown source", "an unknown destination"],
-    "no connection to the server, or a link of the route has no SID": [
-        "mapping: no server", "without a server", "a link without a SID is no lack of a path", "a SID that is gone"],
+    "no connection to the server, a link of the route has no SID, or the SIDs or the journal aren't those of the server's run": [
+        "mapping: no server", "without a server", "a link without a SID is no lack of a path", "a SID that is gone",
+        "SIDs of the run {head.strip()!r}", "a journal {name}: a path by SIDs"],
     ("a bound on the number of hops, another metric than TE, an objective function other than 1, an IRO of 8 hops or more or of other "
-     "subobjects, a bandwidth of 2^64 or more"): [
+     "subobjects"): [
         "a hop bound", "a hop bound without P", "a bound on delay", "an IGP metric to be optimized", "the objective MLP",
-        "the objective MBP without P", "an IRO of 8", "an IRO of 8 without P", "an IRO of an AS", "more bandwidth than a row has"],
-    "IPv6 or P2MP END-POINTS, the bandwidth of the existing LSP (BANDWIDTH of type 2)": [
+        "the objective MBP without P", "an IRO of 8", "an IRO of 8 without P", "an IRO of an AS"],
+    "IPv6 or P2MP END-POINTS, the bandwidth of the existing LSP (BANDWIDTH of type 2) without reoptimization": [
         "IPv6 ends", "P2MP ends", "the bandwidth of before", "the bandwidth of before without P"],
-    "SVEC, RRO": ["an SVEC", "an SVEC without P", "an RRO", "an RRO without P"],
-    "XRO and every other class": ["an XRO", "an XRO without P", "an unknown class", "an unknown class without P"],
+    "SVEC, RRO without reoptimization": ["an SVEC", "an SVEC without P", "an RRO", "an RRO without P"],
+    "XRO and every other class, LSP in a session without the stateful capability": [
+        "an XRO", "an XRO without P", "an unknown class", "an unknown class without P", "an LSP object in a session without LSPs"],
     "an unknown type of a known class": ["ends of an unknown type", "an unknown type", "an unknown type without P"],
-    "the flags of RP for a path in both directions and for reoptimization, END-POINTS with two equal addresses": [
-        "both directions", "a reoptimization", "the same ends"],
-    "RP or END-POINTS without the P flag": ["an RP without P", "ends without P"],
+    ("the flag of RP for a path in both directions, an IGP metric to be optimized, a bandwidth of 2^64 or more, a reoptimization of an LSP "
+     "that has bandwidth, END-POINTS with two equal addresses"): [
+        "both directions", "an IGP metric to be optimized, without P", "more bandwidth than a row has",
+        "more bandwidth than a row has, without P", "infinite bandwidth without P", "a reoptimization of an LSP of bandwidth 1",
+        "the same without P", "the same ends", "END-POINTS, both of one router"],
+    "RP or END-POINTS comes without the P flag, or the request id is 0": ["an RP without P", "ends without P", "the request id 0"],
     "an object that is too short, a float that is negative or not a number": [
         "a short LSPA", "bandwidth that is no number", "a negative bandwidth", "a setup priority above 7"],
-    "no RP, no END-POINTS": ["no RP", "no ends"],
-    "a report without LSP object, ERO or LSP identifiers": ["a report with {name}", "no LSP", "no ERO", "no identifiers"],
+    "no RP, no RRO in a reoptimization of an LSP that has bandwidth, no END-POINTS": ["no RP", "the same without RRO", "no ends"],
+    ("a report without LSP object or ERO, or the first report of an LSP without its name or, for RSVP-TE, without LSP identifiers"): [
+        "a report with {name}", "no LSP", "no ERO", "no name", "no identifiers", "the first report of an LSP has its name"],
     "a path setup type other than 0, or 1 if `--sids` is given": ["a setup type without SIDs", "a setup type that isn't known", "SIDs"],
     "a route of more SIDs than the PCC said that it can impose, or than a message has room for": ["more SIDs than the PCC takes",
                                                                                                   "{count} SIDs"],
+    "an Open that lists path setup type 1 without that TLV, if `--sids` is given": ["an Open that lists both setup types, {name}"],
     "an unknown message; five in a minute close the session": ["unknown messages", "five unknown messages in more than a minute"],
-    "the first message is no Open, no Open came within a minute, or no Keepalive came after the Open": [
+    "the first message is no Open, no Open came within 10 s, or no Keepalive came within a minute after the Open": [
         "first: {name}", "no Open", "timer: {name}", "timer: no Keepalive behind the Open"],
-    "a second session from one address": ["two PCCs of one address"],
+    "a PCC proposes other timers for the second time, or a dead timer that is shorter than the Keepalive timer": [
+        "for the second time", "whose dead timer ends before its Keepalive"],
+    "a second session from one address, while the first one is alive": ["two PCCs of one address", "beside one that is alive"],
     "a report in a session without the stateful capability": ["a report without capability"],
+    "a report of one LSP more than `--most-lsps` says; it closes the session": ["one LSP too many"],
+    "sends PCErr 1/4 with an Open": ["PCErr 1/4: {name}"],
+    "says in its Open that it sends no Keepalives": ["Keepalive 0, DeadTimer 3"],
+    "sends nothing for the time of its dead timer": ["the dead timer", "256 requests that wait for the server, and the dead timer",
+                                                     "and a PCC that waits for that isn't dead"],
+    "connects again, and its old connection has ended without a word": ["a PCC that begins again"],
+    "has the stateful capability without the U flag": ["a PCC without the U flag: a request", "its LSP is kept, and isn't moved"],
+    "cancels requests by a PCNtf": ["a request is cancelled", "the other alone is answered"],
+    "says by a PCNtf that it has too much to do": ["an overload of {name}"],
+    "sends a message that can't be cut into objects": ["message {data[1]}: the length"],
+    "sends one message of many requests": ["one message: asks at once", "one message: their bytes"],
+    "resets its connection": ["a reset: its session ends, and it is closed"],
+    **REPORTED,
 }
 
 
 def documented(checks, _):
     """Each row of the table of docs/run/PCEP.md, and each error of its lists, has checks by name, and there are checks of these names."""
     with open(os.path.join(TOP, "docs/run/PCEP.md"), encoding="utf-8") as file:
-        tables = file.read().partition("## What maps to what")[2].partition("\n## ")[0]
-    found = [match[1] or match[2] for match in re.finditer(r"(?m)^(?:\| (?!Object)(.*?) \||- (?:\d+/\d+(?:, |: ))+(.*)$)", tables)]
+        tables = file.read().partition("## What maps to what")[2].partition("\n## Bounds")[0]
+    found = [match[1] or match[2]
+             for match in re.finditer(r"(?m)^(?:\| (?!Object|A PCC)(.*?) \||- (?:\d+/\d+ \([^)]*\)(?:, |: ))+(.*)$)", tables)]
     checks.same("the rows of the page", found, [*TABLE])
     text = ""
     for path in glob.glob(os.path.join(HERE, "*.py")):
         with open(path, encoding="utf-8") as file:
-            text += file.read().partition("\nTABLE = {")[0]
+            text += re.split(r"\n(?:TABLE|REPORTED) = {", file.read())[0]
     for row, names in TABLE.items():
         checks.same(f"checks of the row {row}", [name for name in names if f'"{name}' not in text], [])
 
 
 def pcep(_, checks):
     with tempfile.TemporaryDirectory() as room:
-        checks.parts_in(room, (mapping, malformed, timers, deaf, reset, collected, places, moved, strange, delegated, followed, races,
-                               updated,
-                               initiated, making, segments, documented), checks)
+        checks.parts_in(room, (mapping, malformed, timers, deaf, reset, collected, paced, unheard, heavy, in_slices, in_vain, crowded,
+                               places, moved, strange, delegated, followed, races, updated, initiated, looked_at, making, segments,
+                               *SESSIONS, refusals, other_words, silences, downs, constraints, mixed, setups, owners, marked, journals,
+                               raised, documented), checks)

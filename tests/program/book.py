@@ -25,8 +25,8 @@ sys.path.insert(1, os.path.dirname(os.path.dirname(os.path.abspath(__file__))))
 from checks import Checks
 from program import kept_books
 from program.drawn_books import IDS, ROWS, STREAMS, WANTED, Drawn, drawn_stream, kinds_of, stream
-from program.known_books import BASE, DIRECT, ENDS, HERE, LOWERED, MASKS, SCRIPTS, Reference, address, held, known, lowered, place
-from program.known_books import status_of, worked
+from program.known_books import BASE, CIRCUIT, DIRECT, ENDS, HERE, LOWERED, MASKS, SCRIPTS, Reference, address, held, known, lowered
+from program.known_books import place, status_of, worked
 from program.refusal import COMPILER, Refuser, each
 from program.refused import REFUSALS, is_stopped
 from reference import books, runs, wrong
@@ -311,6 +311,11 @@ def keeps(program, checks):
     known_ones = [(name, rows) for name, rows, _ in known() if len(rows) < 100_000]
     kept_books.remade(program, checks, [*((name, rows) for name, rows, _ in worked()), *known_ones,
                                         *((f"drawn {seed}", drawn_stream(seed)) for seed in range(20))])
+    changed = CIRCUIT.replace(",10,0x1,", ",20,0x1,").splitlines(keepends=True)
+    among = BASE + changed[0] + place(1) + changed[1] + place(2) + "end,2,2\nnode,2.2.2.2,0\nrelease,1\nend,9,1\nnode,1.1.1.1,0\n"
+    among += place(3) + "end,3,1\n"
+    kept_books.gone_on(program, checks, [*((name, rows) for name, rows, _ in worked()), ("rows among open changes", among)])
+    kept_books.most_rows(program, checks, BASE + place(1))
     kept_books.refused_files(program, checks)
     rows = held(os.path.join(SCRIPTS, "over_and_lost.rows"))
     kept_books.full(program, checks, "over and lost", rows)

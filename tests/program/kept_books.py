@@ -68,6 +68,43 @@ def remade(program, checks, streams):
             checks.same(f"the book of what is kept of {name}", ran(program, room, kept.text), (0, kept.accepted, b"", kept.text))
 
 
+CHANGES = ("put,", "drop,", "node,")
+
+
+def rows_again(rows, steps, read):
+    """What was kept before a crash, and the rows to send again, if so many rows had been answered by then: the changes between the last
+    end row and the last kept row, and all rows after that row."""
+    kept = [at for at in range(read) if steps[at][1]]
+    last = kept[-1] + 1 if kept else 0
+    ends = [at for at in range(last) if rows[at].startswith("end,")]
+    open_rows = [row for row in rows[ends[-1] + 1 if ends else 0:last] if row.startswith(CHANGES)]
+    return b"".join(steps[at][1] for at in kept), "".join(open_rows + rows[last:]).encode("latin-1")
+
+
+def gone_on(program, checks, streams):
+    """After a crash at any row, a run over what was kept and the rows that are sent again keeps what the whole run would have kept."""
+    faults, tried, with_open = [], 0, 0
+    with tempfile.TemporaryDirectory() as room:
+        for name, text in streams:
+            kept, rows = Kept(text), (text if isinstance(text, str) else text.decode("latin-1")).splitlines(keepends=True)
+            assert len(kept.steps) - len(rows) in (0, 1), name  # the last line is a step of its own
+            for before, again in dict.fromkeys(rows_again(rows, kept.steps, read) for read in range(len(rows) + 1)):
+                tried += 1
+                with_open += not kept.rows.endswith(again)
+                if ran(program, room, before + again)[3] != kept.text:
+                    faults.append((name, before, again))
+    checks.same("books that go on after a crash", faults[:1], [])
+    checks.true("books go on with open changes, too", tried > with_open > 2, (tried, with_open))
+
+
+def most_rows(program, checks, begins):
+    """A kept book and the rows that are added to it have at most 1,000,000 rows together. Of the rows within the limit all are kept."""
+    kept = Kept(begins)
+    rows = kept.rows + b"drop,1.1.1.1,10.0.0.1\n" * (1_000_001 - len(kept.steps))
+    with tempfile.TemporaryDirectory() as room:
+        checks.same("a kept book of too many rows", ran(program, room, rows), (2, kept.lines + b"too many rows\n", b"", kept.text))
+
+
 def refused_files(program, checks):
     """A file that is there already, or can't be made, is left as it is."""
     with tempfile.TemporaryDirectory() as room:

@@ -73,29 +73,40 @@ def chain(program, checks):
     checks.true("each hop of the first", hops == wanted)
 
 
-def high_water(process):
-    """The most kilobytes that a running process has had resident, 0 once it is gone."""
+def kilobytes(process, file, field):
+    """A figure that a running process has in a file of /proc, in kilobytes. It is 0 once the process is gone."""
     try:
-        with open(f"/proc/{process}/status") as status:
-            return next((int(line.split()[1]) for line in status if line.startswith("VmHWM")), 0)
+        with open(f"/proc/{process}/{file}", encoding="ascii") as lines:
+            return next((int(line.split()[1]) for line in lines if line.startswith(f"{field}:")), 0)
     except (FileNotFoundError, ProcessLookupError):
         return 0
 
 
+def high_water(process):
+    """The most kilobytes that a running process has had resident. Linux counts pages on each processor and adds them up later, so this
+    may be wrong by half a megabyte."""
+    return kilobytes(process, "status", "VmHWM")
+
+
+def own(process):
+    """The kilobytes of a running process that are backed by no file, to the page."""
+    return kilobytes(process, "smaps_rollup", "Anonymous")
+
+
 def memory(program, checks):
     """However long a stream is, it takes little memory, which its longest record alone decides."""
-    def peak(rows, *words):
-        """The most megabytes that the program has resident until it waits for more rows than these."""
+    def megabytes(figure, rows, *words):
+        """A figure of the program once it waits for more rows than these, in megabytes."""
         child = subprocess.Popen([program.path, "solve", *words], stdin=subprocess.PIPE, stdout=subprocess.DEVNULL)
         child.stdin.write(rows)
         child.stdin.flush()
         end = time.monotonic() + 300
         while child.poll() is None and not waits(child) and time.monotonic() < end:
             time.sleep(0.001)
-        most = high_water(child.pid)
+        found = figure(child.pid)
         child.stdin.close()
         child.wait()
-        return most / 1024
+        return found / 1024
 
     def waits(child):
         """Whether it has read all that was written, and sleeps."""
@@ -104,12 +115,12 @@ def memory(program, checks):
         with open(f"/proc/{child.pid}/stat") as stat:
             return left[0] == 0 and stat.read().rpartition(")")[2].split()[0] == "S"
 
-    mark = peak(LINK.encode() * 1_000_000)
+    mark = megabytes(high_water, LINK.encode() * 1_000_000)
     checks.true("a million open puts in 16 MB", 0 < mark < 16, f"{mark:.1f} MB")
-    mark = peak(b"foo," * 250_000 + b"\n")
+    mark = megabytes(high_water, b"foo," * 250_000 + b"\n")
     checks.true("a row of a megabyte in 16 MB", 0 < mark < 16, f"{mark:.1f} MB")
     # 3,000 sets of administrative groups, each asked for as often as grows a tree
     rows = CIRCUIT + "".join(f"ask,7,1.1.1.1,2.2.2.2,0,1000,0x{2 * groups:x},0x0,0x0,\n" * 8 for groups in range(3000))
-    none, one, many = (peak(rows.encode(), "--trees", megabytes) for megabytes in ("0", "1", "64"))
+    none, one, many = (megabytes(own, rows.encode(), "--trees", most) for most in ("0", "1", "64"))
     checks.true("no tree, a megabyte of trees, and more", none < one + 0.5 < none + 2 < none + 8 < many,
                 f"{none:.1f}, {one:.1f} and {many:.1f} MB")

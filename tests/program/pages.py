@@ -8,7 +8,7 @@ from checks import TOP
 
 BLOCK = re.compile(r"(?:^    .*\n)+", re.M)  # the commands of a page, or what they print
 # pages whose commands make files and are typed at the top
-TYPED = ["README.md", "examples/README.md", "docs/run/C.md", "docs/run/FEED.md", "docs/run/OPERATORS.md"]
+TYPED = ["README.md", "examples/README.md", "docs/run/ASK.md", "docs/run/C.md", "docs/run/FEED.md", "docs/run/OPERATORS.md"]
 
 
 def kept_files():
@@ -19,7 +19,8 @@ def kept_files():
 
 
 def made(page):
-    """The files that the commands of a page make, by their names."""
+    """The files that the commands of a page make, by their names. What the page quotes of their output is left out."""
+    page = re.sub(r"<!-- printed by .*? -->\n\n(?:    .*\n)+", "", page)
     fenced = re.findall(r"^```sh\n(.*?)^```$", page, re.M | re.S)
     for line in "".join(BLOCK.findall(page) + fenced).splitlines():
         yield from re.findall(r"(?:> *|(?:-o|--journal) |--client \S+=|--(?:ask|updates) (?!\d))([^\s&;>|]+)", line)

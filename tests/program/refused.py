@@ -39,12 +39,12 @@ def lines_of(versions):
 # What --explain says of a refused call.
 CAUSES = {
     "malloc": rb"(routed: (out of memory|client 1: no thread)\n)?",  # nothing while the command line is read; a thread takes memory too
-    "read": rb"routed: (standard input|(journal|updates|requests|replies) /\S+): read: Input/output error \(os error 5\)\n",
+    "read": rb"routed: (standard input|(journal|updates|requests|replies|clients-from) /\S+): read: Input/output error \(os error 5\)\n",
     "write": rb"routed: (standard output|keep /\S+): (write|flush): No space left on device \(os error 28\)\n",
-    "open": rb"routed: (journal|updates|requests|replies|keep|a client's requests|a client's replies) /\S+: open: Too many open files \(os "
-            rb"error 24\)\n",
+    "open": rb"routed: (journal|updates|requests|replies|keep|clients-from|a client's requests|a client's replies) /\S+: open: Too many "
+            rb"open files \(os error 24\)\n",
     "thread": rb"routed: a worker couldn't be started\n",
-    "break": rb"routed: [a-z ]*(/\S+)?: (read|write|flush): Interrupted system call \(os error 4\)\n",
+    "break": rb"routed: [a-z -]*(/\S+)?: (read|write|flush): Interrupted system call \(os error 4\)\n",
 }
 
 
@@ -157,18 +157,20 @@ class Snapshot:
 
 
 class Serve:
-    """`serve` with NSFNET's updates on standard input, and a client whose requests are a file."""
+    """`serve` with NSFNET's updates on standard input, and a client of `--clients-from` whose requests are a file."""
 
     def __init__(self, program):
         self.program, self.versions = program.path, Versions(text_of(UPDATES), text_of(REQUESTS).splitlines())
 
     def run(self, refuser, number, flags):
-        journal, replies = (os.path.join(refuser.room.name, f"{kind} of serve {flags} {number}".replace(" ", "-"))
-                            for kind in ("journal", "replies"))
-        words = [self.program, "serve", "--explain", "--journal", journal, "--client", f"{REQUESTS}={replies}"]
+        journal, replies, clients = (os.path.join(refuser.room.name, f"{kind} of serve {flags} {number}".replace(" ", "-"))
+                                     for kind in ("journal", "replies", "clients"))
+        with open(clients, "w", encoding="ascii") as file:
+            file.write(f"{REQUESTS}={replies}\n")
+        words = [self.program, "serve", "--explain", "--journal", journal, "--clients-from", clients]
         ran = refuser.run(words, flags[0], number, *flags[1:], stdin=UPDATES)
         kept, lines = (text_of(path) if os.path.exists(path) else "" for path in (journal, replies))
-        for path in (journal, replies):
+        for path in (journal, replies, clients):
             if os.path.exists(path):
                 os.remove(path)
         most = len(self.versions.texts) - 1

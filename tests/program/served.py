@@ -17,6 +17,7 @@ import tempfile
 import threading
 import time
 
+from program.listed import listed
 from program.refusal import COMPILER, Refuser
 from program.served_bytes import streams
 from program.serving import AT, BATCHES, CLIENTS, MOMENT, PATIENCE, ROUTERS, Serving, ask_on, batches_of, circuit_at, judged, reply_at
@@ -57,6 +58,7 @@ def served(program, checks):
         hung_up(program, checks, folder("hung_up"))
         streams(program, checks, folder("streams"), draw)
         refusals(program, checks, folder("refusals"))
+        listed(program, checks, folder("listed"))
         kills(program, checks, folder("kills"), versions, draw)
     print(f"served: {CLIENTS} clients, {KILLS} kills, {time.monotonic() - start:.0f} s")
 
@@ -284,7 +286,7 @@ def refusals(program, checks, room):
         return f"routed: a file is named twice: {room}/{name}\n"
 
     for name, words, said in [
-        ("no client", [], f"{missing}\n  --client <IN=OUT>"),
+        ("no client", [], "routed: there are 1 to 64 clients\n"),
         ("65 clients", [f"@in{number}=@out{number}" for number in range(65)], "routed: there are 1 to 64 clients\n"),
         ("a client without =", ["--client", "@a"], pair), ("a client of no words", ["--client", ""], pair),
         ("a client without IN", ["=@b"], pair), ("a client without OUT", ["@a="], pair),
@@ -303,8 +305,8 @@ def refusals(program, checks, room):
     status, out, errors = serve(["@a=@b"])
     checks.same("serve without a journal", (status, out, errors.decode()[:len(missing)]), (1, b"", missing))
     _, _, text = program.run(["serve", "--help"])
-    for word in [b"--journal", b"--client", b"in=out", b"mkfifo", b"/dev/fd/n", b"stopped", b"status", b"--explain", b"1 to 64",
-                 b"1,048,576"]:
+    for word in [b"--journal", b"--client", b"--clients-from file", b"in=out", b"mkfifo", b"/dev/fd/n", b"stopped", b"status",
+                 b"--explain", b"1 to 64", b"1,048,576"]:
         checks.true(f"help of serve names {word.decode()}", word in b" ".join(text.lower().split()), text)
     absent = "open: No such file or directory (os error 2)\n"
     for name, journal, client, why in [

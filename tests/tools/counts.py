@@ -161,7 +161,8 @@ def full(program, checks, room):
 def two_fronts(program, checks, room):
     """Two fronts in one process have turns of their own, as many as the process may use processors."""
     def front(name):
-        return listen.Front(argparse.Namespace(program="routed", journal=os.path.join(room, name), log_level="error"))
+        return listen.Front(argparse.Namespace(program="routed", journal=os.path.join(room, name), run=None, renew=False,
+                                               log_level="error"))
 
     numbers = signal.SIGTERM, signal.SIGINT, signal.SIGCHLD
     before, allowed = [signal.getsignal(number) for number in numbers], os.sched_getaffinity(0)
@@ -193,7 +194,7 @@ def two_fronts(program, checks, room):
 COUNTING = r"""#!/usr/bin/env python3
 import os, select, sys
 counts = open(os.path.join(os.path.dirname(sys.argv[0]), "counts"), "w")
-pairs = [word.split("=") for word in sys.argv if "=" in word]
+pairs = [line.rstrip().split("=") for line in open(sys.argv[sys.argv.index("--clients-from") + 1])]
 streams = [[0, 1, b"", []]] + [[os.open(rows, os.O_RDONLY), os.open(lines, os.O_WRONLY), b"", []] for rows, lines in pairs]
 poll, by_file = select.poll(), {stream[0]: stream for stream in streams}
 for file in by_file:

@@ -7,6 +7,7 @@ import socket
 import subprocess
 
 from feed import played as feeds
+from feed.speaker import Speaker
 from pcep.beside import OPENED, TO_NORTH, TO_SOUTH, Client, Run, begun, wait
 from pcep.played import PATH, request, rows
 from program.serving import PATIENCE
@@ -42,17 +43,21 @@ def of_pcep(program, checks, room):
         for number, (place, act) in enumerate([
                 ("Pcc.go_on", lambda one: one.socket.sendall(request())), ("Pcc.go_on!", lambda one: one.socket.sendall(request())),
                 ("Session.message", lambda one: one.socket.sendall(request())),
-                ("Session.answered", lambda one: one.socket.sendall(request())),
+                ("Answers.begin", lambda one: one.socket.sendall(request())),
+                ("Answers.answered", lambda one: one.socket.sendall(request())),
+                ("Answers.answered!", lambda one: one.socket.sendall(request())),
+                ("Pcc.proceed", lambda one: one.socket.sendall(request() * 100)),
                 ("Pcc.flush", lambda one: one.socket.sendall(request())), ("Pcc.flush!", lambda one: one.socket.sendall(request())),
                 ("Pcc.tick", lambda one: None), ("Pcc.tick!", lambda one: None),
                 ("Session.again", lambda one: run.publish(*rows())), ("Moves.again", lambda one: run.publish(*rows())),
+                ("Moves.following", lambda one: one.report(0, 0)), ("Moves.following!", lambda one: one.report(0, 0)),
                 ("Moves.answered", lambda one: one.report(0, 0)), ("Making.reread", lambda one: run.pcep.send_signal(signal.SIGHUP)),
                 ("Pcc.close", lambda one: one.socket.sendall(wire.close(1)))], 2):
             source = f"127.0.30.{number}"
             victim = Client(run.port, source)
             victim.open()
             victim.ask()
-            if place == "Moves.answered":
+            if place.startswith(("Moves.answered", "Moves.following")):
                 victim.report(1, name=place.encode())
                 victim.ask()
             plant(room, f"{place} {source}")
@@ -67,6 +72,11 @@ def of_pcep(program, checks, room):
             checks.same(f"{place}: a next session of the same PCC", (following.open(), following.ask()), (OPENED, PATH))
             following.close()
             wait(lambda: run.figures()["sessions"] == 1)
+        plant(room, "Returning.look 127.0.30.1")
+        second = Client(run.port, "127.0.30.1")
+        checks.same("Returning.look: it ends", second.read(), "end")
+        checks.same("Returning.look: the first session goes on", honest.read(), "Keepalive")
+        judge("Returning.look", "127.0.30.1")
         plant(room, "Front.take")
         checks.same("Front.take: it ends", Client(run.port, "127.0.30.99").read(), "end")
         judge("Front.take", "a connection")
@@ -107,21 +117,25 @@ def of_server(program, checks, room):
 
 def of_feed(program, checks, room):
     """The connection to the router ends and comes again, and so does a reader of figures."""
-    router = feeds.Router()
+    for router in (feeds.Router(), Speaker()):
+        feed_ended(program, checks, room, router)
+
+
+def feed_ended(program, checks, room, router):
     place = os.path.join(room, "feed")
-    words = "--port", str(router.port), "--collect", "0.05", "--metrics", place, "--", program.path, "solve"
+    words = *router.words(), "--collect", "0.05", "--metrics", place, "--", program.path, "solve"
     made = subprocess.Popen([*planted(room, "feed"), *words], stdin=subprocess.PIPE, stdout=subprocess.PIPE, stderr=subprocess.PIPE,
                             text=True)
     try:
         for count, called in enumerate(("Lsdb.take", "Lsdb.network"), 1):
             plant(room, called)
             router.accept()
-            router.send(feeds.PAIR)
+            router.send(router.pair)
             eventually(checks, f"{called}: a figure", lambda: figures_of(room, "feed").get(("routed_feed_exceptions_total", None)), count)
-            checks.same(f"{called}: the connection ends", router.take(1), b"")
+            checks.same(f"{called}: the connection ends", router.end_of(), b"")
             router.hang_up()
         router.accept()
-        router.send(feeds.PAIR)
+        router.send(router.pair)
         eventually(checks, "and the next has its rows", lambda: figures_of(room, "feed").get(("routed_feed_version", None)), 1)
         plant(room, "http.answer_to")
         with contextlib.suppress(status.Unread):
@@ -130,8 +144,8 @@ def of_feed(program, checks, room):
     finally:
         made.terminate()
         said = [line for line in made.communicate(timeout=PATIENCE)[1].splitlines() if "connected again" not in line]
-    here = f"127.0.0.1 port {router.port}"
-    lost = f"ospf: no connection to {here}: an exception has ended it; what was put stays"
-    wanted = [f"ospf: {re.escape(here)}: {ENDED}", re.escape(lost)] * 2 + [f"ospf: a reader of figures: {ENDED}"]
+    name = router.name
+    lost = f"{name}: no connection to {router.where}: an exception has ended it; what was put stays"
+    wanted = [f"{name}: {re.escape(router.where)}: {ENDED}", re.escape(lost)] * 2 + [f"{name}: a reader of figures: {ENDED}"]
     checks.true("the lines of the feed", len(said) == len(wanted) and all(map(re.fullmatch, wanted, said)), said)
     router.hang_up()

@@ -65,14 +65,14 @@ def of_loop(_, checks, room):
         checks.true(f"{name}: its line", re.fullmatch(rf"one: ended by an exception, KeyError at {__file__}:\d+: 'key'", said[0]), said)
     said, owner, called = [], Owner(), []
     made = loop.Loop(said.append)
-    made.of(owner).after(0, lambda: http.is_http(None))
+    made.of(owner).after(0, lambda: http.answer_to(None, str))
     made.of(owner).after(0, lambda: endpoints.Endpoint(None))
     made.of(owner).after(0, lambda: called.append("third"))
     made.turn()
     checks.same("times: the others come", (owner.ended, len(said), called), (2, 2, ["third"]))
     checks.true("times: a line names the line of the tools", re.fullmatch(
-        rf"one: ended by an exception, AttributeError at routed/net/http\.py:{line_of('net/http.py', 'asked.partition(b')}: "
-        r".*'partition'", said[0]), said)
+        rf"one: ended by an exception, TypeError at routed/net/http\.py:{line_of('net/http.py', 'len(asked)')}: "
+        r".*'NoneType'.*", said[0]), said)
     checks.true("times: and the one that called another's code", re.fullmatch(
         rf"one: ended by an exception, TypeError at {re.escape(re.__file__)}:\d+, called at "
         rf"routed/net/endpoints\.py:{line_of('net/endpoints.py', 're.fullmatch(')}: .*",
@@ -279,7 +279,7 @@ def answer(rows, lines, others):
             lines.write(b"ask %s v0 unknown-from\\n" % row.split(b",")[1])
         else:
             others.write(b"a line\\n")
-rows, lines = next(word for word in sys.argv if "=" in word).split("=")
+rows, lines = open(sys.argv[sys.argv.index("--clients-from") + 1]).read().rstrip().split("=")
 rows, lines, own = open(rows, "rb"), open(lines, "wb", buffering=0), open(1, "wb", buffering=0)
 threading.Thread(target=answer, args=(rows, lines, lines), daemon=True).start()
 answer(sys.stdin.buffer, own, lines)

@@ -17,6 +17,7 @@ from program.serving import CLIENTS, PATIENCE
 from tools.fronts import Connection, Front, admitted, busy
 from tools.logs import blocked, logged, priorities
 from tools.reading import ASKS, PAIR, answered, eventually, exchanged, figures_of, got, seen, sent
+from tools.watchers import came_and_went, in_parts
 
 from routed.front import metrics, status
 from routed.net import http
@@ -28,14 +29,23 @@ REFUSALS = [  # an alarm, its figure and a word of it, and whether one refusal i
     ("RoutedBatchRefused", "routed_refused_batches_total", "version", False),
     ("RoutedRowRefused", "routed_refused_rows_total", "row", False),
     ("RoutedFeedBatchRefused", "routed_feed_refused_batches_total", "version", False)]
+RISES = [  # an alarm of pcep, and the figure that rises from 0 to 1, or falls to 0, after 5 minutes
+    ("RoutedPcepWithoutRoute", "routed_pcep_lsps_without_route", "0x20 1x100"),
+    ("RoutedPcepOnLostRoute", 'routed_pcep_lsps_at_fault{fault="lost"}', "0x20 1x100"),
+    *(("RoutedPcepLspAtFault", f'routed_pcep_lsps_at_fault{{fault="{fault}"}}', "0x20 1x100") for fault in ("down", "silent", "unknown")),
+    ("RoutedPcepUpdateRefused", 'routed_pcep_updates_total{outcome="refused"}', "0x20 1x100"),
+    ("RoutedPcepSessionEnded", "routed_pcep_sessions_ended_total", "0x20 1x100"),
+    ("RoutedPcepNoServer", "routed_pcep_connected", "1x20 0x100"),
+    ("RoutedPcepJournal", "routed_pcep_journal_followed", "1x20 0x100"),
+    ("RoutedPcepRepliesLost", "routed_pcep_replies_lost", "0x20 1x100")]
 VERSIONS = 2000  # more lines than a socket keeps for a connection that doesn't read
 
 
 def figures(program, checks):
     start = time.monotonic()
     with tempfile.TemporaryDirectory() as room:
-        checks.parts_in(room, (text, sums, alarms, watched, half_closed, page, logged, priorities, blocked, each, screen, of_feed, audited),
-                        program, checks)
+        checks.parts_in(room, (text, sums, alarms, watched, named, half_closed, came_and_went, in_parts, page, logged, priorities, blocked,
+                               each, screen, of_feed, audited), program, checks)
     print(f"figures: {CLIENTS} connections, {VERSIONS} versions, {time.monotonic() - start:.0f} s")
 
 
@@ -158,17 +168,28 @@ def alarms(program, checks, room):
         checks.same("promtool on the alarms", ran.returncode, 0)
         cases = os.path.join(room, "cases.yml")
         with open(cases, "w", encoding="utf-8") as file:
-            file.write(f"rule_files: [{rules}]\nevaluation_interval: 15s\ntests:\n" + "".join(first_refusal(*it) for it in REFUSALS))
+            file.write(f"rule_files: [{rules}]\nevaluation_interval: 15s\ntests:\n" + "".join(first_refusal(*it) for it in REFUSALS)
+                       + "".join(rise(*it) for it in RISES))
         ran = subprocess.run([tool, "test", "rules", cases], capture_output=True, text=True)
         checks.same("promtool on a first refusal", (ran.returncode, ran.stdout + ran.stderr if ran.returncode else ""), (0, ""))
+
+
+def raised(alarm, time, is_raised):
+    return f"      - {{eval_time: {time}, expr: 'count(ALERTS{{alertname=\"{alarm}\", alertstate=\"firing\"}}) or vector(0)', " \
+           f"exp_samples: [{{labels: '{{}}', value: {int(is_raised)}}}]}}\n"
+
+
+def rise(alarm, series, values):
+    """A case for promtool: a figure that changes after 5 minutes. The alarm is raised soon after that."""
+    return (f"  - interval: 15s\n    input_series:\n      - {{series: '{series}', values: '{values}'}}\n"
+            f"    promql_expr_test:\n" + raised(alarm, "4m", False) + raised(alarm, "12m", True))
 
 
 def first_refusal(alarm, figure, word, later):
     """A case for promtool: a figure that isn't there for 5 minutes begins at 1. The alarm is raised, and `later` says whether it still
     is."""
     def at(time, is_raised):
-        return f"      - {{eval_time: {time}, expr: 'count(ALERTS{{alertname=\"{alarm}\", alertstate=\"firing\"}}) or vector(0)', " \
-               f"exp_samples: [{{labels: '{{}}', value: {int(is_raised)}}}]}}\n"
+        return raised(alarm, time, is_raised)
     return (f"  - interval: 15s\n    input_series:\n      - {{series: '{figure}{{word=\"{word}\"}}', values: '_x20 1x100'}}\n"
             f"    promql_expr_test:\n" + at("4m", False) + at("6m", True) + at("25m", later))
 
@@ -205,6 +226,29 @@ def watched(program, checks, room):
             taken.socket.close()
         updating.talk(f"node,1.1.1.1,0\nend,{VERSIONS + 2},1\n")
         eventually(checks, "those that have gone", lambda: figures_of(room).get(("routed_connections", "watch")), 0)
+
+
+def named(program, checks, room):
+    """The line `run` is answered by the name of the server's run, where versions are told and where updates come in."""
+    names = set()
+    for at in range(2):
+        inner = os.path.join(room, str(at))
+        os.mkdir(inner)
+        with seen(program, inner) as front:
+            taken, updating = Connection(os.path.join(inner, "watch")), Connection(front.updates)
+            taken.say("run")
+            updating.say(f"{PAIR}run\nend,1,2\nrun\r\n")
+            told = updating.hear(3).splitlines()
+            checks.same("the name among rows of updates", (bool(re.fullmatch("run [0-9a-f]{16}", told[0])), told[1:]),
+                        (True, ["version 1", told[0]]))
+            taken.say("\nrunning\nrun\n" + "run" * 1000 + "\n")
+            found = [taken.lines.next() for _ in range(2)]
+            while len(found) < 4 and found.count(f"{told[0]}\n") < 2:
+                found.append(taken.lines.next())
+            names_told = [line for line in found if not line.startswith("version")]
+            checks.same("the name where versions are told", names_told, [f"{told[0]}\n"] * 2)
+            names.add(told[0])
+    checks.same("each run has another name", len(names), 2)
 
 
 def half_closed(program, checks, room):
@@ -280,6 +324,9 @@ def each(program, checks, room):
             checks.same("and one of another address", other.recv(100), b"ask 1 v0 unknown-from\n")
 
 
+OTHER = "give the place of --metrics of listen, pcep or a feed"
+
+
 def told(*words):
     """The status, standard output and standard error of `routed-tools status`."""
     ran = subprocess.run([sys.executable, TOOLS, "status", *words], capture_output=True, text=True, timeout=PATIENCE)
@@ -298,20 +345,21 @@ def screen(program, checks, room):
         checks.same("the screen", (found, err, lines.get("version"), lines.get("asks"), lines.get("refused rows"),
                                    lines.get("connections")),
                     (0, "", "1, 999,999 left", "none 1, route 1", "kind 1", "ask 1, metrics 1, updates 1"))
-        checks.same("a place that is no HTTP", told(front.ask), (1, "", f"status: {front.ask}: timed out\n"))
+        checks.same("a place that is no HTTP", told(front.ask), (1, "", f"status: {front.ask}: timed out; {OTHER}\n"))
     with socket.create_server(("127.0.0.1", 0)) as wrong:
         port, answer = str(wrong.getsockname()[1]), b"HTTP/1.1 200 OK\r\n\r\nrouted_version x\n"
         telling = threading.Thread(target=lambda: tell(wrong, answer))
         telling.start()
         checks.same("a figure that is no number", told(port),
-                    (1, "", f"status: {port}: a figure is no number: could not convert string to float: 'x'\n"))
+                    (1, "", f"status: {port}: a figure is no number: could not convert string to float: 'x'; {OTHER}\n"))
         telling.join()
     absent = os.path.join(room, "absent")
-    checks.same("a place that isn't there", told(absent), (1, "", f"status: {absent}: No such file or directory\n"))
+    checks.same("a place that isn't there", told(absent), (
+        1, "", f"status: {absent}: No such file or directory; start the server with --metrics, or give the place that it was given\n"))
     checks.same("no place", told("a:b")[0], 2)
     with socket.create_server(("127.0.0.1", 0)) as silent:
         port = str(silent.getsockname()[1])
-        checks.same("a place that never answers", told(port), (1, "", f"status: {port}: timed out\n"))
+        checks.same("a place that never answers", told(port), (1, "", f"status: {port}: timed out; {OTHER}\n"))
 
 
 def tell(listener, answer):
@@ -367,9 +415,10 @@ def audited(program, checks, room):
     checks.same("the audit of the tool", (ran.returncode, ran.stdout, ran.stderr), wanted)
     ran = subprocess.run([*tool[:-2], "--replies", room + "/absent", "--explain"], capture_output=True)
     checks.same("a file that isn't there", (ran.returncode, ran.stdout, ran.stderr),
-                program.run(["audit", *words[:-1], room + "/absent", "--explain"]))
+                (3, b"", f"audit: {room}/absent: No such file or directory; give the path of a file that is there\n".encode()))
     ran = subprocess.run([*tool[:3], "--program", "/nowhere/routed", *words], capture_output=True)
-    checks.same("no program", (ran.returncode, ran.stderr), (3, b"audit: /nowhere/routed: No such file or directory\n"))
+    wanted = b"audit: /nowhere/routed: No such file or directory; give the path of a file that is there\n"
+    checks.same("no program", (ran.returncode, ran.stderr), (3, wanted))
     slow = os.path.join(room, "slow")
     with open(slow, "w") as file:
         file.write(f'#!/bin/sh\nexec 5<"{replies}"\nread -r line <&5\nsleep 1.2\nexit 2\n')

@@ -22,15 +22,18 @@ from tools.fronts import Connection
 from routed.pcep.wire import pack
 
 DEPLOY = os.path.join(TOP, "deploy")
-UNITS = sorted(name for name in os.listdir(DEPLOY) if name.endswith((".service", ".socket")))
+UNITS = sorted(name for name in os.listdir(DEPLOY) if name.endswith((".service", ".socket", ".timer")))
+CONFIGURED = [f"etc/routed/{name}.conf" for name in ("feed", "pcep", "serve", "solve")]
 MOST_EXPOSED = 4.0  # of systemd-analyze security
 FILES = """bin/routed bin/routed-tools lib/python3/dist-packages/routed/front/listen.py lib/python3/dist-packages/routed/feed/ospf/ospf.py
 lib/routed/keep lib/routed/serve lib/routed/fed lib/systemd/system/routed-serve.service lib/systemd/system/routed-feed.service
-lib/systemd/system/routed-pcep.service share/doc/routed/examples/etc/routed/pcep.conf lib/python3/dist-packages/routed/pcep/front.py
+lib/systemd/system/routed-pcep.service lib/systemd/system/routed-roll.timer lib/python3/dist-packages/routed/pcep/front.py
 lib/systemd/system/routed-solve.socket lib/systemd/system/routed-solve@.service lib/sysusers.d/routed.conf lib/tmpfiles.d/routed.conf
-share/man/man1/routed.1.gz share/man/man1/routed-tools.1.gz share/man/man5/routed-formats.5.gz share/doc/routed/docs/run/OPERATORS.md
-share/doc/routed/examples/nsfnet.journal share/doc/routed/examples/etc/routed/serve.conf share/doc/routed/copyright
-share/doc/routed/changelog.Debian.gz""".split()
+lib/systemd/system/routed-serve.service.d/port.conf.example lib/systemd/system/routed-roll.service
+share/man/man1/routed.1.gz share/man/man1/routed-tools.1.gz share/man/man5/routed-formats.5.gz share/man/man7/routed-service.7.gz
+share/doc/routed/docs/run/OPERATORS.md
+share/routed/examples/nsfnet.journal share/routed/alarms.yml share/routed/dashboard.json share/doc/routed/copyright
+share/doc/routed/SECURITY.md share/doc/routed/NEWS.gz share/doc/routed/changelog.gz""".split()
 
 
 def skipped(*tools):
@@ -61,11 +64,14 @@ def package(program, checks):
         checks.same("its version is that of the tree", said["Version"], text_of("VERSION"))
         held = subprocess.run(["dpkg-deb", "-c", deb], capture_output=True, text=True).stdout.splitlines()
         checks.same("files of root alone", [line for line in held if line.split()[1] != "root/root"], [])
-        checks.same("nothing is configured", [line for line in held if "./etc" in line or "/wants/" in line], [])
+        checks.same("no unit is enabled", [line for line in held if ".wants/" in line], [])
+        checks.same("its configuration", sorted(line.split("./")[1] for line in held if "./etc" in line and line[0] == "-"), CONFIGURED)
+        told = subprocess.run(["dpkg-deb", "-I", deb, "conffiles"], capture_output=True, text=True).stdout.split()
+        checks.same("an upgrade keeps what was changed there", told, [f"/{name}" for name in CONFIGURED])
         for name in FILES:
             checks.true(f"it has {name}", os.path.isfile(os.path.join(empty, "usr", name)))
         checks.same("no file of Python's cache", [line for line in held if "__pycache__" in line], [])
-        modules = {name for name in files_below(os.path.join(TOP, "python/routed")) if name.endswith(".py")}
+        modules = {name for name in files_below(os.path.join(TOP, "python/routed")) if name.endswith((".py", ".c"))}
         installed = files_below(os.path.join(empty, "usr/lib/python3/dist-packages/routed"))
         checks.same("all modules are installed, each in its folder", installed, modules)
         unpacked(program, checks, room, os.path.join(empty, "usr"))
@@ -96,7 +102,7 @@ def unpacked(program, checks, room, top):
     wanted = program.solve(rows)
     checks.same("routed solve", run("routed", "solve", rows=rows), (wanted[0], wanted[1].decode(), ""))
     checks.true("it answers", wanted[1].startswith(b"version 1\nask 1 v1 route "), wanted[1][:100])
-    journal, requests = (os.path.join(top, f"share/doc/routed/examples/nsfnet.{kind}") for kind in ("journal", "requests"))
+    journal, requests = (os.path.join(top, f"share/routed/examples/nsfnet.{kind}") for kind in ("journal", "requests"))
     status, out, err = run("routed-tools", "sweep", journal, requests)
     checks.true("routed-tools sweep finds routed on the path", (status, err) == (0, "") and "network version=10 routers=14 links=42" in out,
                 (status, out[:300], err))
@@ -123,7 +129,7 @@ def command_of(unit, top, env, folder):
     text = text_of(f"deploy/{unit}")
     for path in re.findall(r"(?m)^EnvironmentFile=/etc/(.*)$", text):
         for name, value in re.findall(r"(?m)^(\w+)=(.*)$", text_of(f"deploy/etc/{path}")):
-            given[name] = re.sub(r"^/(run|var/lib)/routed", folder, value)
+            given[name] = re.sub(r"/(run|var/lib)/routed", folder, value)
     words = re.search(r"(?m)^ExecStart=(.*)$", text)[1].split()
     return [part for word in words for part in (given[word.strip("${}")].split() if word[0] == "$"
                                                 else [re.sub("^/usr", top, word)])], given
@@ -132,9 +138,8 @@ def command_of(unit, top, env, folder):
 def units(checks, home, top, env):
     os.makedirs(os.path.join(home, "updates"))
     words, given = command_of("routed-serve.service", top, env, home)
-    with open(os.path.join(home, "said"), "w+", encoding="utf-8") as said, started([*words, "--watch", os.path.join(home, "watch")],
-                                                                                   env=given, stderr=said) as server:
-        checks.same("the command of routed-serve.service", server.stdout.readline(), "ready\n")
+    with open(os.path.join(home, "said"), "w+", encoding="utf-8") as said, started(words, env=given, stderr=said) as server:
+        checks.same("the command of routed-serve.service", (server.stdout.readline(), server.stdout.readline()), ("run 1\n", "ready\n"))
         said.seek(0)
         checks.true("a first start says that its network is empty", "keep: 000001 begins with an empty network\n" in said.read())
         modes = [oct(os.stat(os.path.join(home, name)).st_mode & 0o777) for name in ("ask", "updates/socket")]
@@ -173,24 +178,39 @@ def units(checks, home, top, env):
 
 
 def hardened(_, checks):
-    checks.same("the units", UNITS, ["routed-feed.service", "routed-pcep.service", "routed-serve.service", "routed-solve.socket",
-                                     "routed-solve@.service"])
+    checks.same("the units", UNITS, ["routed-feed.service", "routed-pcep.service", "routed-roll.service", "routed-roll.timer",
+                                     "routed-serve.service", "routed-solve.socket", "routed-solve@.service"])
     for unit in UNITS:
         text = text_of(f"deploy/{unit}")
-        checks.true(f"{unit} starts only where it is configured",
-                    re.search("(?m)^(ConditionPathExists|EnvironmentFile)=/etc/routed/", text))
+        checks.same(f"{unit} has no condition but being enabled", re.findall("(?m)^(?:Condition|Assert).*", text), [])
+        if not unit.endswith(".timer"):
+            checks.true(f"{unit} may fail however often", "\nStartLimitIntervalSec=0\n" in text.partition("\n[Service]")[0])
+        if "\nRestart=" in text:
+            checks.true(f"{unit} starts again after 5 seconds", "\nRestartSec=5\n" in text)
+    for unit in ("routed-feed.service", "routed-pcep.service", "routed-serve.service"):
+        checks.true(f"{unit} says when it is ready, and that its loop turns",
+                    re.search(r"(?m)^Type=notify\n(.*\n)*WatchdogSec=\d+\n", text_of(f"deploy/{unit}")))
     if skipped("systemd-analyze"):
         return
     for unit in UNITS:
         if unit.endswith(".service"):
-            ran = subprocess.run(["systemd-analyze", "security", "--offline=true", "--no-pager", os.path.join(DEPLOY, unit)],
-                                 capture_output=True, text=True)
-            found = re.search(r"Overall exposure level for \S+: (\d+\.\d)", ran.stdout)
-            checks.true(f"the exposure of {unit}", found and float(found[1]) < MOST_EXPOSED, found[0] if found else ran.stderr)
+            rated(checks, unit, ["--offline=true", os.path.join(DEPLOY, unit)])
+    with tempfile.TemporaryDirectory() as room:
+        units_of = os.path.join(room, "etc/systemd/system")
+        os.makedirs(os.path.join(units_of, "routed-serve.service.d"))
+        shutil.copy(os.path.join(DEPLOY, "routed-serve.service"), units_of)
+        shutil.copy(os.path.join(DEPLOY, "routed-serve.service.d/port.conf.example"), f"{units_of}/routed-serve.service.d/port.conf")
+        rated(checks, "routed-serve.service with ports", ["--offline=true", f"--root={room}", "routed-serve.service"])
     ran = subprocess.run(["systemd-analyze", "verify", "--man=no", *(os.path.join(DEPLOY, unit) for unit in UNITS)], capture_output=True,
                          text=True)
     said = [line for line in ran.stderr.splitlines() if re.search("routed", line) and "is not executable" not in line]
     checks.same("systemd-analyze verify", said, [])
+
+
+def rated(checks, name, words):
+    ran = subprocess.run(["systemd-analyze", "security", "--no-pager", *words], capture_output=True, text=True)
+    found = re.search(r"Overall exposure level for \S+: (\d+\.\d)", ran.stdout)
+    checks.true(f"the exposure of {name}", found and float(found[1]) < MOST_EXPOSED, found[0] if found else ran.stderr)
 
 
 def manual(program, checks):
@@ -207,7 +227,8 @@ def manual(program, checks):
             checks.same(f"man/{name} is set", (ran.returncode, ran.stderr), (0, ""))
     skipped("groff")
     pages = text_of("man/routed.1") + text_of("man/routed-tools.1")
-    for word in ("put,router,local", "--accept-torn", "--explain", "--begin FILE", "draw-failures", "ROUTED_PROGRAM"):
+    for word in ("put,router,local", "--accept-torn", "--explain", "--begin FILE", "draw-failures", "ROUTED_PROGRAM",
+                 "systemctl enable --now routed-serve"):
         checks.true(f"a manual page has {word}", word.replace("-", "\\-") in pages)
 
 

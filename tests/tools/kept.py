@@ -70,8 +70,8 @@ def beginnings(program, checks):
             return ran.returncode, ran.stdout, ran.stderr
 
         def ran(number, *said):
-            words = " ".join(f"--{kind} {folder}/{number}.{'begin' if kind == 'begin' else 'journal'}" for kind in ("begin", "journal"))
-            return 0, f"{words}\n", "".join(f"keep: {line}\n" for line in said)
+            words = " ".join(f"--{kind} {folder}/{number}.{kind}" for kind in ("begin", "journal"))
+            return 0, f"--run {int(number)} {words}\n", "".join(f"keep: {line}\n" for line in said)
 
         def write(name, text):
             with open(os.path.join(folder, name), "w", encoding="ascii") as file:
@@ -139,6 +139,7 @@ class Updater:
 
     def __init__(self):
         self.told, self.sent, self.count = {}, None, 0  # the row of each key that was told, and the change without its line
+        self.runs = []  # the number of each run that told it
 
     def learn(self, links):
         """Compares what a server has with what was told; the one change without its line may be there or not."""
@@ -183,7 +184,7 @@ class Updater:
         good = None
         with contextlib.suppress(OSError, EOFError):
             version = int(heard(taken, "snapshot\n").split()[1])
-            links = {}
+            links, self.runs = {}, self.runs + [int(heard(taken).split()[1])]
             while (line := heard(taken)) != "snapshot end\n":
                 kind, rest = line.rstrip("\n").split(",", 1)
                 if kind == "put":
@@ -242,7 +243,8 @@ def kills(program, checks):
                 is_served = at % 2 or at in (0, KILLS)
                 timer = threading.Timer(draw.uniform(0, SERVING if is_served else took), kill, [child, at // 2 % 4])
                 if is_served:
-                    checks.same(f"start {at} is ready", child.stdout.readline(), "ready\n")
+                    said = [child.stdout.readline() for _ in range(2)]
+                    checks.true(f"start {at} is ready", said[0].startswith("run ") and said[1] == "ready\n", said)
                     took = time.monotonic() - begun  # (not the longest: one slow start would move later kills out of starts)
                 else:
                     timer.start()
@@ -253,6 +255,7 @@ def kills(program, checks):
             if good is False:
                 wrong.append(at)
     checks.same("what was told is there after each start", wrong, [])
+    checks.true("the number of each run is above that of the run before", updater.runs == sorted(set(updater.runs)), updater.runs)
     checks.true("the kills are spread over starts and runs", min(phases.values()) > KILLS // 5, phases)
     print(f"kept: {KILLS} kills, {updater.count} batches, {phases}, in {time.monotonic() - start:.0f} s")
 

@@ -1,6 +1,5 @@
 """The texts of pictures: none covers another or a router, or is cut, and what has no room is numbered and listed."""
 import itertools
-import math
 import os
 import random
 import re
@@ -67,7 +66,8 @@ def apart(program, checks):
 
 
 def crowded(checks):
-    """Pictures of networks whose names have hardly any room; those that have none are numbered and listed."""
+    """Pictures of networks whose names have hardly any room; those that have none are numbered and listed, and more than 60
+    are counted."""
     found = {}
     for sites in (14, 28, 50, 200):
         places = "".join(f"172.16.0.{at} {at * at % 7} {at * at % 11} Rechenzentrum {at} <Nord> & Süd\n" for at in range(1, sites + 1))
@@ -75,9 +75,11 @@ def crowded(checks):
         status, picture, said = draw(rows, places=places)
         numbers = [text.text for text in xml.fromstring(picture).iter(SVG + "text") if text.get("class") == "number"]
         listed = re.findall(r"(?:^|, |: )(\d+) Rechenzentrum", " ".join(notes(picture)))
-        checks.true(f"{sites} crowded sites: each has a name or a number that is listed",
-                    status == 0 and len(names(picture)) + len(numbers) == sites
-                    and sorted(numbers, key=int) == listed == [str(at) for at in range(1, len(numbers) + 1)], (said, numbers, listed))
+        counted = [int(count) for count in re.findall(r"(\d+) names have no room", " ".join(notes(picture)))]
+        checks.true(f"{sites} crowded sites: each has a name, a number that is listed, or is counted",
+                    status == 0 and len(names(picture)) + len(numbers) + sum(counted) == sites
+                    and sorted(numbers, key=int) == listed == [str(at) for at in range(1, len(numbers) + 1)]
+                    and len(numbers) <= 60 and all(count > 60 for count in counted), (said, numbers, listed, counted))
         at = list(places_in(picture).values())
         checks.true(f"{sites} crowded sites: no router covers another", len(at) == sites and least_distance(at) > 2 * 9, least_distance(at))
         found[f"{sites} crowded sites"] = picture
@@ -94,9 +96,13 @@ def crowded(checks):
                     and set(counts) | listed == wanted and len(counts) + len(listed) == len(wanted), (said, wanted - set(counts) - listed))
         found[f"failures of {sites} crowded sites"] = picture
         found[f"{sites} sites laid out"] = draw(rows)[1]
-    sizes = [math.prod(float(it) for it in re.search('viewBox="0 0 (.*?) (.*?)"', found[f"{sites} sites laid out"]).groups())
-             for sites in (14, 28, 50, 200)]
-    checks.true("a picture grows with its network", all(1.3 * one < other for one, other in zip(sizes, sizes[1:])), sizes)
+    wide, areas = [], []
+    for sites in (14, 28, 50, 200):
+        size = re.search('viewBox="0 0 (.*?) (.*?)"', found[f"{sites} sites laid out"]).groups()
+        wide.append(int(size[0]))
+        areas.append(wide[-1] * int(size[1]))
+    checks.true("a picture grows with its network, until it is as wide as a screen",
+                1.3 * areas[0] < areas[1] and 1.3 * areas[1] < areas[2] < areas[3] and wide[3] == 1200 == max(wide), (areas, wide))
     return found
 
 

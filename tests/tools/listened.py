@@ -52,6 +52,9 @@ def listening(program, checks, versions, room):
     with Front(program, room) as front:
         checks.same("routed-tools listen is ready", front.first, "ready\n")
         checks.same("its sockets are its user's alone", [os.stat(path).st_mode & 0o777 for path in (front.ask, front.updates)], [0o600] * 2)
+        with open(f"/proc/{front.server()}/cmdline", encoding="utf-8") as file:
+            words = file.read().split("\0")
+        checks.true("the server's command line names no client", "--clients-from" in words and "--client" not in words, words)
         updating = Connection(front.updates)
         for number, batch in enumerate(batches[:20], 1):
             checks.same(f"batch {number} by a socket", updating.talk(batch), f"version {number}\n")
@@ -182,7 +185,7 @@ def serve(rows, lines):
     for row in rows:
         lines.write(b"ask %s v0 %s\\n" % (row.split(b",")[1], b"x" * 100_000))
         lines.flush()
-pairs = [word.split("=") for word in sys.argv if "=" in word]
+pairs = [line.rstrip().split("=") for line in open(sys.argv[sys.argv.index("--clients-from") + 1])]
 threads = [threading.Thread(target=serve, args=(open(rows, "rb"), open(lines, "wb"))) for rows, lines in pairs]
 for thread in threads:
     thread.start()

@@ -16,9 +16,10 @@ import types
 from checks import TOP
 from tools.ring import A, ASKS, B, BEFORE, DROPS, HANGS, OF_CIRCUITS, OF_ROUTERS, RING, SWEEP, THIRD, ask, link, sweep, wrapped
 
-from routed.model.networks import Stopped, read_requests
 from routed.model.rows import Link
+from routed.sweep.failures import read_requests
 from routed.sweep.machines import Connections, Lost
+from routed.sweep.solving import Stopped
 
 WHOLE = (0, BEFORE + OF_CIRCUITS, "")
 STOPS = 'if row == "drop,1.1.1.1,10.0.14.1":\n    stop(3, "routed: stopped\\n")'  # in the second scenario
@@ -88,7 +89,7 @@ def alone(program, checks):
     status, out, err = run([sys.executable, "-S"], program.path, "--dask", "tcp://127.0.0.1:9")
     checks.true("no distributed", (status, out) == (3, BEFORE) and re.fullmatch(r"sweep: \S+: No module named '\w+'\n", err), err)
     found = run([sys.executable], program.path, "--ssh", "nowhere", environment={"PATH": "/nowhere"})
-    checks.same("no parallel", found, (3, BEFORE, "sweep: parallel: No such file or directory\n"))
+    checks.same("no parallel", found, (3, BEFORE, "sweep: parallel: No such file or directory; give the path of a file that is there\n"))
     for words in (["--dask", "x"], ["--dask", "tcp://127.0.0.1:9", "--jobs", "1"], ["--dask", "tcp://127.0.0.1:9", "--ssh", "x"]):
         status, out, err = run([sys.executable], program.path, *words)
         checks.true(f"a command line {words}", (status, out) == (2, "") and "sweep: error: " in err, err)
@@ -137,7 +138,7 @@ def dask(program, checks):
         path = wrapped(program, room, first=GOES)
         status, out, err = run([python], path, *far)
         checks.true("a program that isn't there at a worker", (status, out) == (3, BEFORE) and re.fullmatch(
-            rf"sweep: tcp://127.0.0.1:\d+: scenario 1: {path}: No such file or directory\n", err), (status, out, err))
+            rf"sweep: tcp://127.0.0.1:\d+: scenario 1: {path}: No such file or directory; .*\n", err), (status, out, err))
         dies = THIRD + 'if not os.path.exists(room + "/once"):\n        touch("once"); os.kill(os.getppid(), signal.SIGKILL); stop(0)'
         status, out, err = run([python], wrapped(program, room, dies), *far)
         checks.true("a worker that dies", status == 3 and (BEFORE + OF_CIRCUITS).startswith(out) and out.startswith(BEFORE)
@@ -233,7 +234,8 @@ def ssh(program, checks):
         status, out, err = run(python, program.path, "--ssh", f"{one},{closed}")
         checks.true("a machine that can't be reached",
                     status == 3 and out.startswith(BEFORE) and (BEFORE + OF_CIRCUITS).startswith(out) and re.fullmatch(
-            rf"sweep: scenario \d: localhost ended with status 255: ssh: connect to host localhost port {port}: Connection refused\n", err),
+            rf"sweep: scenario \d: localhost ended with status 255: ssh: connect to host localhost port {port}: "
+            r"Connection refused; .*\n", err),
             (status, out, err))
         ended(program, checks, room, one)
 

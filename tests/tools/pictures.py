@@ -17,6 +17,7 @@ LINE = "".join(link(*one, *other) for one, other in (
     (("1.1.1.1", "10.0.0.1"), ("2.2.2.2", "10.0.0.2")), (("2.2.2.2", "10.0.0.2"), ("1.1.1.1", "10.0.0.1")),
     (("2.2.2.2", "10.0.1.1"), ("3.3.3.3", "10.0.1.2")), (("3.3.3.3", "10.0.1.2"), ("2.2.2.2", "10.0.1.1"))))
 PAIR = link("1.1.1.1", "10.0.0.1", "2.2.2.2", "10.0.0.2") + link("2.2.2.2", "10.0.0.2", "1.1.1.1", "10.0.0.1")
+ALL = "give all that sweep prints of single circuits"
 REPLY = "ask 7 v1 route cost=10 hops=1 again=no ero=000c140101080a0000022000\n"
 
 
@@ -166,14 +167,14 @@ def places(_, checks):
     status, picture, said = draw(PAIR + "end,1,2\n", replies=REPLY)
     checks.same("replies of which none is drawn are refused", (status, picture, said.splitlines()[-1:]),
                 (2, "", ["draw: error: --replies needs --ask, which says whose route is drawn"]))
-    for name, rows, why in (("no rows", "<svg/>\n", "row 1 refused: kind"),
-                            ("a word that is no kind", PAIR + "end,1,2\nfoo\n", "row 4 refused: kind"),
-                            ("too few fields", "put,1.1.1.1\n", "row 1 refused: fields"),
-                            ("a bad mask", PAIR.replace("0x1", "1", 1), "row 1 refused: mask 7"),
-                            ("another number", PAIR + "end,2,2\n", "batch 2 refused: expected 1"),
-                            ("another count", PAIR + "end,1,1\n", "batch 1 refused: counted 2"),
-                            ("a link twice", PAIR + PAIR + "end,1,4\n", "batch 1 refused: duplicate 3"),
-                            ("a link that isn't there", "drop,1.1.1.1,10.0.0.1\nend,1,1\n", "batch 1 refused: absent 1")):
+    for name, rows, why in (("no rows", "<svg/>\n", "it is a network of another format: .*"),
+                            ("a word that is no kind", PAIR + "end,1,2\nfoo\n", "row 4 refused: kind; .*"),
+                            ("too few fields", "put,1.1.1.1\n", "row 1 refused: fields; .*"),
+                            ("a bad mask", PAIR.replace("0x1", "1", 1), "row 1 refused: mask 7; .*"),
+                            ("another number", PAIR + "end,2,2\n", "batch 2 refused: expected 1; .*"),
+                            ("another count", PAIR + "end,1,1\n", "batch 1 refused: counted 2; .*"),
+                            ("a link twice", PAIR + PAIR + "end,1,4\n", "batch 1 refused: duplicate 3; .*"),
+                            ("a link that isn't there", "drop,1.1.1.1,10.0.0.1\nend,1,1\n", "batch 1 refused: absent 1; .*")):
         status, picture, said = draw(rows)
         checks.true(f"a file of {name} is refused", status == 1 and picture == "" and re.fullmatch(rf"draw: \S+/rows: {why}\n", said), said)
     status, picture, _ = draw("")
@@ -257,21 +258,22 @@ def failures(_, checks):
     checks.same("failures are drawn", (status, err), (0, ""))
     kinds = classes(picture, "lost", "longer", "overbooked", "none")
     counts = [text.text for text in xml.fromstring(picture).iter(SVG + "text") if text.get("class") == "counts"]
-    checks.same("what each circuit's failure does", (kinds, counts), (["longer", "lost", "longer", "none"], ["0/2/2", "1/0/0", "0/1/0"]))
+    checks.same("what each circuit's failure does", (kinds, counts),
+                (["overbooked", "lost", "longer", "none"], ["0/2/2", "1/0/0", "0/1/0"]))
     checks.same("the routers of failures", sorted(text.text for text in names(picture)), ["Router 1", "Router 2", "Router 3", "Router 4"])
     checks.same("what is overbooked while nothing fails", [band.get("d") for band in shapes(picture, "band")],
-                [shapes(picture, "longer")[0].get("d")])
-    checks.same("what is said of a failure", hovers(picture, "longer")[0].split("\n"), [
+                [shapes(picture, "overbooked")[0].get("d")])
+    checks.same("what is said of a failure", hovers(picture, "overbooked")[0].split("\n"), [
         "without Router 1 – Router 2 (1.1.1.1 10.0.12.1 2.2.2.2 10.0.12.2)", "2 get a longer one: 1, 2",
         "overbooked then: 1.1.1.1 10.0.14.1 4.4.4.4 10.0.14.4", "overbooked then: 4.4.4.4 10.0.34.4 3.3.3.3 10.0.34.3",
         "overbooked while nothing fails, at priority 7: 120 bytes per second are asked of 100"])
     only = "scenario 4 overbooked 4.4.4.4 10.0.34.4 3.3.3.3 10.0.34.3 priority=7 asked=60 above=60 unreserved=100\nscenario 4 lost"
     _, picture, _ = drawn(BEFORE + OF_CIRCUITS.replace("scenario 4 lost", only))
-    checks.same("a failure by which a link is overbooked alone", (classes(picture, "overbooked", "none"), notes(picture)[2]),
-                (["overbooked"], "no route is lost or longer, and a link is overbooked more than before"))
+    checks.same("a failure by which a link is overbooked alone", (classes(picture, "overbooked", "none"), notes(picture)[1]),
+                (["overbooked", "overbooked"], "no request loses its route, and a link is overbooked more than before"))
     more = BEFORE.replace("asked=60 above=60", "asked=60 above=59", 1)
     checks.same("a link that is overbooked more than before", classes(drawn(more + OF_CIRCUITS)[1], "overbooked", "none"),
-                ["overbooked"] if "scenario 4 overbooked" in OF_CIRCUITS else ["none"])
+                ["overbooked", "overbooked" if "scenario 4 overbooked" in OF_CIRCUITS else "none"])
     _, picture, _ = drawn(BEFORE + OF_CIRCUITS.replace("scenario 4 out circuit", "scenario 4 out link"))
     checks.true("a link that fails alone has an arrow", classes(picture, "arrow") and "one direction alone" in notes(picture),
                 notes(picture))
@@ -286,13 +288,34 @@ def failures(_, checks):
     checks.same("failures without some positions", (status, err, len(places_in(picture))),
                 (0, "draw-failures: places, line 4: the network has no router 9.9.9.9\n", 4))
     for name, given, why in [
-            ("a sweep that is cut", (OF_CIRCUITS[:OF_CIRCUITS.index("scenarios=")],), "the sweep isn't whole"),
-            ("a scenario that lacks", (OF_CIRCUITS[OF_CIRCUITS.index("scenario 2 out"):],), "the sweep isn't whole"),
-            ("two circuits at once", (OF_CIRCUITS.replace("scenario 2 out", "scenario 1 out"),), "scenario 1 has two circuits out"),
-            ("routers", (OF_CIRCUITS.replace("out circuit", "out router"),), "scenario 1 has no circuit out"),
+            ("a sweep that is cut", (OF_CIRCUITS[:OF_CIRCUITS.index("scenarios=")],), f"the sweep isn't whole; {ALL}"),
+            ("a scenario that lacks", (OF_CIRCUITS[OF_CIRCUITS.index("scenario 2 out"):],), f"the sweep isn't whole; {ALL}"),
+            ("two circuits at once", (OF_CIRCUITS.replace("scenario 2 out", "scenario 1 out"),), f"scenario 1 has two circuits out; {ALL}"),
+            ("routers", (OF_CIRCUITS.replace("out circuit", "out router"),), f"scenario 1 has no circuit out; {ALL}"),
             ("a place without numbers", (OF_CIRCUITS, "1.1.1.1 a b\n"), "places, line 1: an address, x and y are wanted")]:
         checks.same(f"not drawn: {name}", drawn(*given), (1, "", f"draw-failures: {why}\n"))
 
 
+def sizes(_, checks):
+    """From 14 to 1,024 routers a picture is no wider than a screen, texts and routes have one size, and the ends of a route have names."""
+    for routers in (14, 50, 200, 1024):
+        rows = big_network(routers, 2 * routers)
+        given = "".join(f"172.16.{at >> 8}.{at & 255} {at % 32} {at // 32} R{at}\n" for at in range(1, routers + 1))
+        middle = routers // 2  # which has other routers on all sides
+        hop = f"0a00{middle - 1 >> 7:02x}{2 * (middle - 1 & 127) + 1:02x}"  # the next router's interface
+        _, picture, _ = draw(rows, "--ask", "7", places=given, replies=REPLY.replace("0a000002", hop))
+        root = xml.fromstring(picture)
+        checks.true(f"the width for {routers} routers", 720 <= int(root.get("width")) <= 1200, root.get("width"))
+        checks.true(f"texts of {routers} routers have 15 pixels", "text{font:15px " in picture
+                    and root.get("viewBox").split()[2] == root.get("width"))
+        checks.true(f"the route of {routers} routers", "stroke-width:3;" in shapes(picture, "route")[0].get("style"))
+        checks.true(f"the names of its ends among {routers}", {f"R{middle}", f"R{middle + 1}"} <= {text.text for text in names(picture)})
+    _, part, _ = draw(LINE + "end,1,4\n", "--around", "R1", "--hops", "1", places="1.1.1.1 0 0 R1\n2.2.2.2 1 0 R2\n3.3.3.3 2 0 R3\n")
+    checks.same("the part round a router", sorted(text.text for text in names(part)), ["R1", "R2"])
+    status, picture, said = draw(LINE + "end,1,4\n", "--around", "R9")
+    checks.same("no such router", (status, picture, said),
+                (1, "", "draw: --around: the network has no routers R9; give the address of one\n"))
+
+
 def pictures(program, checks):
-    checks.parts((circuits, routes, overbooked, marks, places, failures, layouts, placer, apart), program, checks)
+    checks.parts((sizes, circuits, routes, overbooked, marks, places, failures, layouts, placer, apart), program, checks)

@@ -162,8 +162,8 @@ def connected(program, checks, versions, room):
     connect = [sys.executable, "-m", "routed", "connect"]
     around = {**os.environ, "PYTHONPATH": os.path.join(TOP, "python"), "PYTHONDONTWRITEBYTECODE": "1"}
 
-    def run(place, rows):
-        ran = subprocess.run([*connect, place], input=rows, env=around, capture_output=True, text=True, timeout=PATIENCE)
+    def run(place, rows, *more):
+        ran = subprocess.run([*connect, place, *more], input=rows, env=around, capture_output=True, text=True, timeout=PATIENCE)
         return ran.returncode, ran.stdout, ran.stderr
 
     with Front(program, room, ask="127.0.0.1:0") as front:
@@ -179,7 +179,8 @@ def connected(program, checks, versions, room):
             checks.same("it ends with the socket", child.wait(PATIENCE), 0)
         front.ended()
         for given, why in ((front.updates, "No such file or directory"), (place, "Connection refused")):
-            checks.same(f"nobody listens: {why}", run(given, ""), (1, "", f"connect: {given}: {why}\n"))
+            checks.same(f"nobody listens: {why}", run(given, "", "--wait", "0"),
+                        (1, "", f"connect: {given}: {why}; start the server, or give the place of one that runs\n"))
     checks.same("no place", run("a:b", "")[0], 2)
 
 

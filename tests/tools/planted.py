@@ -8,10 +8,11 @@ import sys
 sys.dont_write_bytecode = True
 sys.path.insert(1, os.path.join(os.path.dirname(os.path.dirname(os.path.dirname(os.path.abspath(__file__)))), "python"))
 from routed import tools
+from routed.feed.bgpls import lsdb
 from routed.feed.ospf import lsas
 from routed.front import accounts, channels, listen, snapshots, watch
 from routed.net import http, stream
-from routed.pcep import asks, front, making, moves, pcc, session, versions
+from routed.pcep import admission, answers, asks, front, making, moves, pcc, session, versions
 
 
 class Planted(Exception):
@@ -22,10 +23,11 @@ PLACES = {
     "listen": [(channels.Channel, "begin take settle read_lines end_idle finish"), (channels.Updates, "go_on drop_changes"),
                (accounts.Account, "rows lines"), (snapshots.Snapshots, "begin look"), (watch.Watcher, "tell go_on"),
                (http, "answer_to"), (http.Reading, "close"), (stream.Stream, "peer drop"), (listen.Front, "signalled")],
-    "pcep": [(pcc.Pcc, "go_on flush tick close"), (session.Session, "message answered again"), (moves.Moves, "again answered"),
-             (making.Making, "reread"), (front.Front, "take signalled"), (asks.Connection, "read"), (versions.Watch, "read"),
+    "pcep": [(pcc.Pcc, "go_on proceed flush tick close"), (session.Session, "message again"),
+             (answers.Answers, "begin answered"), (moves.Moves, "again following answered"), (making.Making, "reread"),
+             (admission.Returning, "look"), (front.Front, "take signalled"), (asks.Connection, "read"), (versions.Watch, "read"),
              (http, "answer_to")],
-    "feed": [(lsas.Lsdb, "take network"), (http, "answer_to")]}
+    "feed": [(lsas.Lsdb, "take network"), (lsdb.Lsdb, "take network"), (http, "answer_to")]}
 
 
 def plant(file, where, name):

@@ -2,6 +2,7 @@
 import contextlib
 import errno
 import os
+import select
 import selectors
 import socket
 import tempfile
@@ -244,6 +245,16 @@ def filled(checks, name, pair, _):
     peer.say(b"and back")
     settle(loop)
     checks.same(f"{name}: and it is read", reader.found, [b"and back"])
+    if stream.socket:
+        peer.socket.shutdown(socket.SHUT_WR)
+        settle(loop)
+        stream.write(bytes(sent))
+        stream.wait(True)
+        found = bytearray()
+        while len(found) < len(sent) and select.select([peer.source], [], [], 1)[0]:
+            found += peer.hear()
+            settle(loop)
+        checks.true(f"{name}: where the other side has ended its own", stream.is_ended and found == sent, (len(found), len(sent)))
     for one in (stream, peer):
         one.close()
 

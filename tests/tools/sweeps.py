@@ -18,6 +18,9 @@ from tools.ring import SWEEP, THIRD, ask, circuit, facts, journal, link, sweep, 
 from routed.sweep.failures import Network
 
 
+PARTS = "give what sweep --part I/N printed, for I from 1 to N"
+
+
 def ring(program, checks):
     """A ring of four routers, each failure worked by hand."""
     for words, wanted in (((), OF_CIRCUITS), (("--fail", "routers"), OF_ROUTERS)):
@@ -235,7 +238,8 @@ def joined(program, checks):
                 file.write(text)
         checks.same("joined: files", join("", *(os.path.join(room, str(at)) for at in range(3))), (0, BEFORE + OF_CIRCUITS, ""))
         status, out, err = join("", os.path.join(room, "none"))
-        checks.true("not joined: a file that isn't there", (status, out) == (1, "") and err.startswith("join: [Errno 2] "), err)
+        checks.true("not joined: a file that isn't there", (status, out) == (1, "") and
+                    err.endswith(": No such file or directory; give the path of a file that is there\n"), err)
     other, others = parted(3, asks=ASKS.replace(",30,", ",29,")), "another journal, other requests, other failures or another program"
     one, two, last = three
     for name, text, why in [
@@ -261,11 +265,11 @@ def joined(program, checks):
             ("a whole sweep", BEFORE + OF_CIRCUITS,
              "a part ends by 'most failures 3 request 2 lost=0 longer=1', and not by a line that says which part it is")]:
         status, _, err = join(text)
-        checks.same(f"not joined: {name}", (status, err), (1, f"join: {why}\n"))
+        checks.same(f"not joined: {name}", (status, err), (1, f"join: {why}; {PARTS}\n"))
     status, _, err = join(one + other[1] + last)
-    checks.true("not joined: a part of other requests", status == 1 and err == f"join: part 2/3 is of {others}\n", err)
+    checks.true("not joined: a part of other requests", status == 1 and err == f"join: part 2/3 is of {others}; {PARTS}\n", err)
     status, _, err = join(one + two.replace("unreserved=100", "unreserved=101", 1) + last)
-    checks.true("not joined: a part whose program says otherwise", status == 1 and err == f"join: part 2/3 is of {others}\n", err)
+    checks.true("not joined: a part whose program says otherwise", status == 1 and err == f"join: part 2/3 is of {others}; {PARTS}\n", err)
     for word in ("0/1", "2/1", "1", "1/0", "1/2/3", "-1/2", "x"):
         ran = subprocess.run([*SWEEP, "/dev/null", "/dev/null", "--part", word], capture_output=True, text=True)
         checks.true(f"no part: {word}", (ran.returncode, ran.stdout) == (2, "") and "sweep: error: " in ran.stderr, ran)
@@ -274,19 +278,23 @@ def joined(program, checks):
 def refused(program, checks):
     """Journals and requests that aren't good, and programs that don't answer."""
     for name, rows, asks, words in (
-            ("a torn journal", RING + circuit(2, 4), ASKS, "journal torn after 1"),
-            ("a row that is none", "foo\n", ASKS, "journal torn after 0"),
-            ("a batch that doesn't fit", RING + "drop,1.1.1.1,10.0.0.9\nend,2,1\n", ASKS, "batch 2 refused: absent 1"),
-            ("a request that is none", RING, ASKS + "ask,5\n", "request row 5 refused: fields"),
-            ("a bad mask", RING, ASKS.replace("0x2", "2"), "request row 3 refused: mask 8"),
-            ("two requests of one id", RING, ASKS + ask(2, A, D), "request row 5 refused: same-id"),
+            ("a torn journal", RING + circuit(2, 4), ASKS, "journal torn after 1: unended 2; write an end row behind the last change"),
+            ("a row that is none", "foo\n", ASKS,
+             "journal torn after 0: row 1 refused: kind; a row begins with put, drop, node, end or ask"),
+            ("a batch that doesn't fit", RING + "drop,1.1.1.1,10.0.0.9\nend,2,1\n", ASKS,
+             "batch 2 refused: absent 1; drop only links that are there"),
+            ("a request that is none", RING, ASKS + "ask,5\n",
+             "request row 5 refused: fields; a put row has 15 fields, an ask row 10, a drop, node or end row 3"),
+            ("a bad mask", RING, ASKS.replace("0x2", "2"), "request row 3 refused: mask 8; write 0x and one to eight hexadecimal digits"),
+            ("two requests of one id", RING, ASKS + ask(2, A, D), "request row 5 refused: same-id; give each request an id of its own"),
             ("neighbors of one address", journal(circuit(1, 2), link(A, "10.0.13.1", C, "10.0.12.2"), link(C, "10.0.12.2", A, "10.0.13.1")),
              ASKS,
              f"{B} and {C} have the same address 10.0.12.2, seen from {A}")):
         checks.same(name, sweep(program.path, rows, asks), (1, "", f"sweep: {words}\n"))
     for words in (["/nowhere/journal", "/dev/null"], ["/dev/null", TOP]):
         ran = subprocess.run([*SWEEP, *words, "--program", program.path], capture_output=True, text=True)
-        checks.true(f"no file {words}", (ran.returncode, ran.stdout) == (1, "") and re.fullmatch(r"sweep: \[Errno \d+\] .*\n", ran.stderr),
+        checks.true(f"no file {words}", (ran.returncode, ran.stdout) == (1, "") and
+                    re.fullmatch(r"sweep: \S+: (No such|Is a d)[^:\n]*; give .*\n", ran.stderr),
                     ran)
     for words in (["/dev/null"], *(["/dev/null", "/dev/null", *more]
                                    for more in (["--fail", "links"], ["--jobs", "0"], ["--workers", "65"]))):
@@ -294,9 +302,10 @@ def refused(program, checks):
         checks.true(f"a command line {words}", (ran.returncode, ran.stdout) == (2, "") and "sweep: error: " in ran.stderr, ran)
     with open("/dev/full", "w") as full:
         ran = subprocess.run([*SWEEP, "/dev/null", "/dev/null", "--program", program.path], stdout=full, stderr=subprocess.PIPE, text=True)
-        checks.same("standard output is full", (ran.returncode, ran.stderr), (1, "sweep: [Errno 28] No space left on device\n"))
+        checks.same("standard output is full", (ran.returncode, ran.stderr),
+                    (1, "sweep: No space left on device; make room, and run this again\n"))
     checks.same("a program that isn't there", sweep("/nowhere/routed", RING, ASKS),
-                (3, "", "sweep: /nowhere/routed: No such file or directory\n"))
+                (3, "", "sweep: /nowhere/routed: No such file or directory; give the path of a file that is there\n"))
     def says(line):
         return f"print('version 1\\n{line}\\n\\n\\n'); sys.exit(0)"
 
@@ -309,7 +318,8 @@ def refused(program, checks):
         for name, script, said in (
                 ("that stops", "sys.exit(print('routed: stopped', file=sys.stderr) or 3)", "{} ended with status 3: routed: stopped"),
                 ("that is ended", "os.kill(os.getpid(), signal.SIGKILL)", "{} was ended by signal 9"),
-                ("that takes no such words", "sys.exit(print(*words[5:], file=sys.stderr) or 1)", "{} ended with status 1: --workers 5"),
+                ("that takes no such words", "sys.exit(print(*words[5:], file=sys.stderr) or 1)",
+                 "{} ended with status 1: --workers 5 --explain"),
                 ("without a line", "sys.exit(0)", "{} wrote 0 lines, which aren't versions and 4 replies"),
                 ("with replies of another order", says("ask 2 v1 none"), "{} wrote no reply to request 1: ask 2 v1 none"),
                 ("with other words", says("ask 1 v1 nothing"), "{} wrote no reply to request 1: nothing"),
@@ -320,7 +330,8 @@ def refused(program, checks):
             path = wrapped(program, room, first=f"if words[0] == 'batch':\n    {script}")
             checks.same(f"a program {name}", sweep(path, RING, ASKS, "--workers", "5"), (3, "", f"sweep: {said.format(path)}\n"))
         path = wrapped(program, room, first="if words[0] == 'snapshot':\n    sys.exit(print('too many rows') or 2)")
-        checks.same("a program that makes no snapshot", sweep(path, RING, ASKS), (1, "", "sweep: too many rows\n"))
+        checks.same("a program that makes no snapshot", sweep(path, RING, ASKS), (
+            1, "", "sweep: too many rows; begin with a snapshot of the journal: routed snapshot --journal FILE\n"))
         for name, script, said in (
                 ("that refuses a scenario", f"{DROPS}print('batch 2 refused: exhausted', flush=True); continue",
                  "wrote 'batch 2 refused: exhausted' where 'version 2' has to be"),

@@ -1,4 +1,4 @@
--- Which texts spell which addresses.
+-- Lemmas on the texts of IPv4 addresses: which text is read as which address.
 use Rattle.std.proofs.Common.{◌≡◌, ◌≢◌, ℕ, ◌^◌, ◌<◌, ◌/◌, ◌%◌, zero, suc, List, [], ◌∷◌, ◌++◌, length, get_or, map, Option, Some, None, Result, Ok, Err, IfOk, OnErr, refl, sym, ap, ◌∙◌, lit<, arith}
 use Rattle.std.proofs.lemmas.Bool.{ltb-true, lt-ltb}
 use Rattle.std.proofs.lemmas.Fmt.{digits_decimal, decimal_nonempty}
@@ -13,7 +13,8 @@ use Rattle.cspf_addr.proofs.CutLemmas.{Lacks, Lacks-digits, before-front, after-
 use Rattle.cspf_addr.proofs.Readers.{ok_spelled, only_spelled}
 use Rattle.cspf_addr.proofs.NumberLemmas.{own, chosen, number_of-spelled, number_of-decimal}
 
--- Two steps gave a value, so the first step gave a value.
+-- If `option_and_then f o` has a value, `o` has a value, and `f` turns the value of `o` into the
+-- value of `option_and_then f o`.
 pub first_step : {A B : Type 0} (o : Option A) (f : A → Option B) (y : B)
     → option_and_then f o ≡ Some y → (x : A) × (o ≡ Some x) × (f x ≡ Some y)
 first_step None f y found = absurd (cc)
@@ -32,13 +33,13 @@ octet_of-decimal : (n : ℕ) → n < 256 → octet_of (decimal n) ≡ Some n
 unfolding octet_of
 octet_of-decimal n small = rw (number_of-decimal n (omega arith), lt-ltb n 256 small) refl
 
--- If the map of an option has a value, so has the option.
+-- If `option_map` of an option has a value, the option has a value.
 mapped : {A B : Type 0} (f : A → B) (o : Option A) (y : B) → option_map f o ≡ Some y
     → (x : A) × (o ≡ Some x) × (f x ≡ y)
 mapped f None y found = absurd (cc)
 mapped f (Some x) y found = (x, refl, cc)
 
--- four options that have values
+-- The four options have values, and `all` is the list of these values.
 record Four (first second third fourth : Option ℕ) (all : List ℕ) : Type 0 where
   a : ℕ
   b : ℕ
@@ -69,7 +70,8 @@ four_steps (Some a) (Some b) (Some c) (Some d) all found = record {
   whole = cc;
 }
 
--- the four octets of a text, and that the text spells them
+-- The text is the decimal texts of the four octets `all`, separated by points, and each octet is
+-- below 256.
 record Spelled (text all : List ℕ) : Type 0 where
   a : ℕ
   b : ℕ
@@ -116,7 +118,7 @@ octets_spelled text all found =
       whole = first.1;
     }
 
--- Each of the four octets is below 256.
+-- If four octets are below 256, so is the octet at each index of their list.
 four_small : (a b c d : ℕ) → a < 256 → b < 256 → c < 256 → d < 256 → (i : ℕ)
     → get_or (a ∷ b ∷ c ∷ d ∷ []) i 0 < 256
 four_small a b c d ha hb hc hd zero = ha
@@ -125,7 +127,7 @@ four_small a b c d ha hb hc hd (suc (suc zero)) = hc
 four_small a b c d ha hb hc hd (suc (suc (suc zero))) = hd
 four_small a b c d ha hb hc hd (suc (suc (suc (suc i)))) = lit< tt
 
--- Four octets make a number below 2^32, and these octets are the bytes of this number.
+-- The number that four octets below 256 make is below 2^32, and its bytes are these octets.
 four_number : (a b c d n : ℕ) → a < 256 → b < 256 → c < 256 → d < 256
     → from_be_bytes w32 (a ∷ b ∷ c ∷ d ∷ []) ≡ n
     → (n < 2 ^ 32) × (to_be_bytes w32 n ≡ a ∷ b ∷ c ∷ d ∷ [])
@@ -179,21 +181,21 @@ pub addresses_spelled_once : AreAddressesSpelledOnce
 addresses_spelled_once text n =
     (address_of-spelled text n, λ h. ap address_of h.1 ∙ address_of-address_text n h.0)
 
--- If an address was read, the text is the text of this address.
+-- If the reader's result `r` is an address, the text is the text of this address.
 pub address_ok : {E : Type 0} (text : List ℕ) (r : Result ℕ E) → result_ok r ≡ address_of text
     → IfOk r (λ n. text ≡ address_text n)
 address_ok text r same =
     ok_spelled r (address_of text) (λ n. text ≡ address_text n) same
     (λ n found. (address_of-spelled text n found).1)
 
--- If no address was read, the text isn't the text of an address.
+-- If the reader's result `r` is an error, the text isn't the text of an address.
 pub address_err : {E : Type 0} (text : List ℕ) (r : Result ℕ E) → result_ok r ≡ address_of text
     → OnErr r ((n : ℕ) → n < 2 ^ 32 → text ≢ address_text n)
 address_err text (Ok n) same = tt
 address_err text (Err e) same =
     λ n small spelled. let found = ap address_of spelled ∙ address_of-address_text n small in cc
 
--- If the text is the text of an address, this address was read.
+-- If a text is the text of an address, the reader's result `r` is this address.
 pub address_only : {E : Type 0} (text : List ℕ) (r : Result ℕ E) → result_ok r ≡ address_of text
     → (n : ℕ) → n < 2 ^ 32 → text ≡ address_text n → r ≡ Ok n
 address_only text r same n small spelled =

@@ -1,4 +1,4 @@
--- A text that is cut at the first byte `mark`.
+-- How a text is cut at its first byte `mark`.
 use Rattle.std.proofs.Common.{◌≡◌, ◌≢◌, ℕ, ◌+◌, ◌-◌, ◌<◌, ◌≤◌, Bool, true, false, cond, ltb, eqb, List, [], ◌∷◌, ◌++◌, length, get_or, take, drop, add-one, suc, Some, None, refl, sym, ap, ◌∙◌, arith}
 use Rattle.std.proofs.lemmas.Bool.{ltb-true, ltb-false, eqb-true, eq-eqb, ne_eqb}
 use Rattle.std.proofs.lemmas.List.{take_rest, drop_all, take_at, length-drop}
@@ -21,24 +21,28 @@ place_none : (place whole : ℕ) (b : Bool) → ltb place whole ≡ b → place 
 place_none place whole true test most found = absurd (cc)
 place_none place whole false test most found = omega (arith, ltb-false _ _ test)
 
--- The index that is found is the index of the first byte `mark`.
+-- If a search for the byte `mark` finds an index, this is the index of the first byte `mark` of the
+-- text.
 pub position_some : (mark : ℕ) (text : List ℕ) (at : ℕ)
     → position (λ byte. eqb byte mark) text ≡ Some at
     → (position_or_len (λ byte. eqb byte mark) text ≡ at) × (at < length text)
 position_some mark text at found = place_some _ _ at _ refl found
 
--- If no index is found, no byte of the text is `mark`.
+-- If a search for the byte `mark` finds no index, the whole text comes before the first byte
+-- `mark`.
 pub position_none : (mark : ℕ) (text : List ℕ) → position (λ byte. eqb byte mark) text ≡ None
     → position_or_len (λ byte. eqb byte mark) text ≡ length text
 position_none mark text found = place_none _ _ _ refl (prefix_len-le-length _ text) found
 
--- The part of the text before the index is the text before the first byte `mark`.
+-- If a search for the byte `mark` finds an index, the part of the text before this index is
+-- `text_before mark text`.
 pub before_some : (mark : ℕ) (text : List ℕ) (at : ℕ)
     → position (λ byte. eqb byte mark) text ≡ Some at → take at text ≡ text_before mark text
 unfolding text_before
 before_some mark text at found = ap (λ n. take n text) (sym (position_some mark text at found).0)
 
--- The part of the text after the index is the text after the first byte `mark`.
+-- If a search for the byte `mark` finds an index, the part of the text after this index is
+-- `text_after mark text`.
 pub after_some : (mark : ℕ) (text : List ℕ) (at : ℕ)
     → position (λ byte. eqb byte mark) text ≡ Some at
     → take (length text - (at + 1)) (drop (at + 1) text) ≡ text_after mark text
@@ -46,7 +50,8 @@ unfolding text_after
 after_some mark text at found =
     take_rest text (at + 1) ∙ ap (λ n. drop (n + 1) text) (sym (position_some mark text at found).0)
 
--- If no byte is `mark`, the two parts are the whole text and the empty text.
+-- If no byte of a text is `mark`, the text before `mark` is the whole text, and the text after
+-- `mark` is empty.
 pub before_none : (mark : ℕ) (text : List ℕ) → position (λ byte. eqb byte mark) text ≡ None
     → text ≡ text_before mark text
 unfolding text_before
@@ -62,13 +67,15 @@ after_none mark text found = sym (drop_all _ text (omega (arith, position_none m
 abbrev pub Lacks : ℕ → List ℕ → Type 0
 Lacks mark text = AllByRecursion (λ byte. byte ≢ mark) text
 
--- A text of digits has no byte that isn't a digit.
+-- If a text has only decimal digits, and `mark` is a byte below the digit 0, no byte of the text is
+-- `mark`.
 pub Lacks-digits : (mark : ℕ) (text : List ℕ) → mark < 48 → AllDigits 10 text → Lacks mark text
 Lacks-digits mark [] low digits = tt
 Lacks-digits mark (byte ∷ rest) low digits =
     (λ same. omega (arith, same, digit_from_value byte digits.0), Lacks-digits mark rest low digits.1)
 
--- After a text without `mark`, the first `mark` is the next byte.
+-- If a text without `mark` is followed by `mark`, the index of the first `mark` is the length of
+-- this text.
 position-front : (mark : ℕ) (front back : List ℕ) → Lacks mark front
     → position_or_len (λ byte. eqb byte mark) (front ++ mark ∷ back) ≡ length front
 position-front mark [] back lacks = rw (eq-eqb mark mark refl) refl
@@ -84,7 +91,8 @@ drop_behind mark front back = rw add-one (behind mark front back)
     behind mark [] back = refl
     behind mark (byte ∷ front) back = behind mark front back
 
--- A text without `mark`, then `mark` and more bytes: the cut gives the first text and these bytes.
+-- If a text without `mark` is followed by `mark` and more bytes, the cut gives this text and these
+-- bytes.
 pub before-front : (mark : ℕ) (front back : List ℕ) → Lacks mark front
     → text_before mark (front ++ mark ∷ back) ≡ front
 unfolding text_before
@@ -98,7 +106,8 @@ after-front mark front back lacks =
     ap (λ at. drop (at + 1) (front ++ mark ∷ back)) (position-front mark front back lacks)
     ∙ drop_behind mark front back
 
--- If bytes follow the first `mark`, the text is the two parts with `mark` between them.
+-- If bytes follow the first `mark` of a text, the text consists of the part before it, `mark`, and
+-- the part after it.
 pub cut_whole : (mark : ℕ) (text : List ℕ) → 0 < length (text_after mark text)
     → text ≡ text_before mark text ++ mark ∷ text_after mark text
 unfolding text_before text_after
@@ -112,7 +121,7 @@ cut_whole mark text some =
         → position_or_len (λ byte. eqb byte mark) text < length text
     inside mark text some = omega (arith, simp length-drop at some)
 
--- If two texts lack a byte, so does the joined text.
+-- If no byte of two texts is `mark`, no byte of the joined text is `mark`.
 pub Lacks-append : (mark : ℕ) (front back : List ℕ) → Lacks mark front → Lacks mark back
     → Lacks mark (front ++ back)
 Lacks-append mark [] back lacks_front lacks_back = lacks_back

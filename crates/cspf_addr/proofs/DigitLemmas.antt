@@ -1,4 +1,4 @@
--- Texts of digits, one digit at a time.
+-- Lemmas for reading a text of digits, one digit at a time.
 use Rattle.std.proofs.Common.{◌≡◌, ℕ, ◌+◌, ◌*◌, ◌^◌, ◌<◌, ◌≤◌, Bool, true, false, ◌&&◌, List, [], ◌∷◌, length, get_or, take, suc, zero, refl, sym, ap, ◌∙◌, arith}
 use Rattle.std.proofs.lemmas.Bool.{ltb-true, lt-ltb}
 use Rattle.std.proofs.lemmas.Str.Parse.{digits_value-take-le}
@@ -14,7 +14,7 @@ pub and_parts : (x y : Bool) → (x && y) ≡ true → (x ≡ true) × (y ≡ tr
 and_parts true y h = (refl, h)
 and_parts false y h = absurd (cc)
 
--- If the test holds, all bytes are digits.
+-- If the test `are_digits` is true, all bytes are digits of the base.
 pub AllDigits-are_digits : (base : ℕ) (ds : List ℕ) → are_digits base ds ≡ true → AllDigits base ds
 unfolding are_digits
 AllDigits-are_digits base [] h = tt
@@ -22,7 +22,7 @@ AllDigits-are_digits base (c ∷ cs) h =
     let parts = and_parts _ _ h in
     (ltb-true _ _ parts.0, AllDigits-are_digits base cs parts.1)
 
--- If all bytes are digits, the test holds.
+-- If all bytes are digits of the base, the test `are_digits` is true.
 pub are_digits-AllDigits : (base : ℕ) (ds : List ℕ) → AllDigits base ds → are_digits base ds ≡ true
 unfolding are_digits
 are_digits-AllDigits base [] h = refl
@@ -35,7 +35,8 @@ AllDigits-at base [] i h within = absurd (omega arith)
 AllDigits-at base (c ∷ cs) zero h within = h.0
 AllDigits-at base (c ∷ cs) (suc i) h within = AllDigits-at base cs i h.1 (omega arith)
 
--- Appending a digit never makes the value smaller.
+-- The value of a whole text of digits is at least the value of the digits up to and including the
+-- one at the index `at`.
 digits_value_more_le : (base : ℕ) (text : List ℕ) (at value : ℕ) → 1 ≤ base → at < length text
     → value ≡ digits_value base (take at text)
     → value * base + digit_value (get_or text at 0) ≤ digits_value base text
@@ -43,7 +44,8 @@ digits_value_more_le base text at value least within same =
     rw same
     (rw (← digits_value_more base text at within) (digits_value-take-le base text (at + 1) least))
 
--- If appending the next digit gives no value below 2^64, the whole text has no value below 2^64.
+-- If the first digits of a text, with the next digit appended, have a value of 2^64 or more, the
+-- whole text has a value of 2^64 or more.
 pub digits_more_none : (base : ℕ) (text : List ℕ) (at value : ℕ) → 1 ≤ base → at < length text
     → value ≡ digits_value base (take at text)
     → (digit_value (get_or text at 0) < base → 2 ^ 64 ≤ value * base + digit_value (get_or text at 0)) → are_digits base text ≡ true → 2 ^ 64 ≤ digits_value base text
@@ -51,7 +53,8 @@ digits_more_none base text at value least within same more all =
     let large = more (AllDigits-at base text at (AllDigits-are_digits base text all) within) in
     omega (arith, large, digits_value_more_le base text at value least within same)
 
--- One more digit of the text is appended to the value.
+-- `value` is the value of the first digits of a text. If the next byte is a digit, the value
+-- including this digit is `value` times the base, plus this digit.
 pub digits_more_some : (base : ℕ) (text : List ℕ) (at value more : ℕ) → at < length text
     → AllDigits base (take at text) × (value ≡ digits_value base (take at text))
     → (digit_value (get_or text at 0) < base) × (more ≡ value * base + digit_value (get_or text at 0))
@@ -61,7 +64,8 @@ digits_more_some base text at value more within before next = (
   next.1 ∙ rw before.1 (sym (digits_value_more base text at within)),
 )
 
--- After the last digit the value is the value of the whole text.
+-- If all digits of a text have been read, the value of the digits that have been read is the value
+-- of the whole text.
 pub digits_whole : (base : ℕ) (text : List ℕ) (at value : ℕ) → length text ≤ at
     → AllDigits base (take at text) × (value ≡ digits_value base (take at text))
     → (are_digits base text ≡ true) × (value ≡ digits_value base text)

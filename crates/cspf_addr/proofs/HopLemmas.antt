@@ -1,4 +1,4 @@
--- Which texts spell which hops.
+-- Lemmas on the texts of hops: which text is read as which hop.
 use Rattle.std.proofs.Common.{◌≡◌, ℕ, ◌-◌, Bool, true, false, List, [], ◌∷◌, ◌++◌, length, get_or, Option, Some, None, Ok, refl, sym, arith, Result, Err, ◌∙◌, ap, ◌<◌, ◌+◌, cond, eqb, take, lit<}
 use Rattle.std.proofs.lemmas.List.{take_at, take_all, take_more, length_push}
 use Rattle.std.proofs.lemmas.Bool.{eqb-true}
@@ -21,7 +21,7 @@ unfolding hop_of loose_of
 hop_of-empty [] empty = sym (nothing_after _)
 hop_of-empty (byte ∷ rest) empty = absurd (omega arith)
 
--- The letter that is written for a hop is read back.
+-- The letter that is written for a strict or loose hop is read as strict or loose again.
 loose_of-letter : (loose : Bool) → loose_of (hop_letter loose) ≡ Some loose
 unfolding loose_of
 loose_of-letter true = refl
@@ -32,7 +32,8 @@ last_byte : (front : List ℕ) (letter : ℕ)
 last_byte [] letter = refl
 last_byte (byte ∷ front) letter = last_byte front letter
 
--- The text of a prefix and then the letter of a hop are read as this hop.
+-- If a text is read as the prefix of a hop, this text followed by the hop's letter is read as the
+-- hop.
 hop_of-front : (front : List ℕ) (hop : Hop) → prefix_of front ≡ Ok hop.prefix
     → hop_of (front ++ (hop_letter hop.loose ∷ [])) ≡ Some hop
 unfolding hop_of
@@ -40,7 +41,8 @@ hop_of-front front hop read =
     let at : length (front ++ (hop_letter hop.loose ∷ [])) - 1 ≡ length front = omega (arith, length_push front (hop_letter hop.loose)) in
     rw (at, take_at front (hop_letter hop.loose ∷ []) (length front) refl, read, last_byte front (hop_letter hop.loose), loose_of-letter hop.loose) refl
 
--- If a hop was read, its prefix and its letter were read.
+-- A hop is read in two steps: its prefix and its letter. If both together read a hop, the first
+-- step read the hop's prefix, and the second the hop's letter.
 two_steps : (found : Result PrefixParts PrefixError) (letter : Option Bool) (hop : Hop)
     → option_and_then (λ prefix. option_and_then (λ loose. Some (record { prefix = prefix; loose = loose })) letter) (result_ok found) ≡ Some hop
     → (found ≡ Ok hop.prefix) × (letter ≡ Some hop.loose)
@@ -60,13 +62,14 @@ letter_cases letter false true true first second found = absurd (cc)
 letter_cases letter false true false first second found = eqb-true letter 115 second
 letter_cases letter false false loose first second found = absurd (cc)
 
--- If a letter is read, it is the letter that is written.
+-- If a letter is read as that of a strict or loose hop, it is the letter that is written for such a
+-- hop.
 letter_of-loose : (letter : ℕ) (loose : Bool) → loose_of letter ≡ Some loose
     → letter ≡ hop_letter loose
 unfolding loose_of
 letter_of-loose letter loose found = letter_cases letter _ _ loose refl refl found
 
--- A text that isn't empty is the text without its last byte, and then this byte.
+-- A text that isn't empty is the text without its last byte, followed by this byte.
 all_but_last : (text : List ℕ) → 0 < length text
     → text ≡ take (length text - 1) text ++ (get_or text (length text - 1) 0 ∷ [])
 all_but_last text some =
@@ -100,7 +103,7 @@ pub hop_texts_read : AreHopTextsRead
 hop_texts_read text hop =
     (hop_of-text text hop, λ h. ap hop_of h.whole ∙ hop_of-front h.front hop h.prefix)
 
--- If the prefix of a hop is read back, so is the hop.
+-- If the prefix of a hop is read back from its text, the hop is read back from its text.
 pub hop_of-written : (hop : Hop) → prefix_of (prefix_text hop.prefix) ≡ Ok hop.prefix
     → hop_of (hop_text hop) ≡ Some hop
 unfolding hop_text

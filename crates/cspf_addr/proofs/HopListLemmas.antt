@@ -1,4 +1,4 @@
--- Lists of hops: how they are kept in places, and how they are read.
+-- How lists of hops are kept in an array of seven places, and how they are read.
 use Rattle.std.proofs.Common.{◌≡◌, ℕ, ◌+◌, ◌-◌, ◌<◌, List, [], ◌∷◌, ◌++◌, length, get_or, set, drop, replicate, Some, None, Result, Ok, Err, append_assoc, append-nil, refl, sym, ap, ◌∙◌, arith}
 use Rattle.std.proofs.lemmas.List.{length-set, drop-set-lt, drop-drop, drop-replicate}
 use Rattle.std.proofs.lemmas.List.{drop_more, drop_all}
@@ -13,7 +13,8 @@ use Rattle.cspf_addr.specs.declared.hop.Hop.{Hop}
 one_less : (count : ℕ) → 7 - count - 1 ≡ 7 - (count + 1)
 one_less count = omega arith
 
--- One more hop is put into the first free place.
+-- If the first `count` places hold hops, `count` is below 7, and the next place is set to one more
+-- hop, the first `count + 1` places hold hops.
 pub kept_after_push : (places : List Hop) (count : ℕ) (hop : Hop) → AreKept places count → count < 7
     → AreKept (set places count hop) (count + 1)
 kept_after_push places count hop kept room = record {
@@ -27,7 +28,8 @@ kept_after_push places count hop kept room = record {
       ∙ ap (λ n. replicate n free_place) (one_less count))));
 }
 
--- the result of a reader that has read these hops, from its result for the other parts
+-- the result of a reader that has read `hops`: these hops followed by the hops of the remaining
+-- parts, or the error of the remaining parts
 abbrev pub joined : List Hop → Result (List Hop) HopsError → Result (List Hop) HopsError
 joined hops (Ok more) = Ok (hops ++ more)
 joined hops (Err e) = Err e
@@ -42,7 +44,9 @@ part_here : (parts : List (List ℕ)) (n : ℕ) (part : List ℕ) → n < length
 part_here parts n part within at =
     drop_more parts n part within ∙ ap (λ first. first ∷ drop (n + 1) parts) (sym at)
 
--- The next part is a hop, so the reader goes on.
+-- A reader has read the first `n` parts as `hops`, and the next part is a hop. The result for the
+-- whole text then consists of `hops`, this hop and the hops of the remaining parts, or is the error
+-- of the remaining parts.
 pub read_more : (parts : List (List ℕ)) (n : ℕ) (part : List ℕ) (hops : List Hop) (hop : Hop)
     → n < length parts → part ≡ get_or parts n part → Some hop ≡ hop_of part
     → joined hops (hops_from (n + 1) (drop n parts)) ≡ hops_from 1 parts
@@ -51,7 +55,8 @@ read_more parts n part hops hop within at found before =
     sym (joined_more hops hop (hops_from (n + 1 + 1) (drop (n + 1) parts)))
     ∙ rw (part_here parts n part within at, ← found) at before
 
--- The next part isn't a hop, so the text is refused.
+-- A reader has read the first `n` parts as `hops`. If the next part isn't a hop, the text is
+-- refused with the number `n + 1` of this part.
 pub read_refused : (parts : List (List ℕ)) (n : ℕ) (part : List ℕ) (hops : List Hop)
     → n < length parts → part ≡ get_or parts n part → None ≡ hop_of part
     → joined hops (hops_from (n + 1) (drop n parts)) ≡ hops_from 1 parts
@@ -59,7 +64,7 @@ pub read_refused : (parts : List (List ℕ)) (n : ℕ) (part : List ℕ) (hops :
 read_refused parts n part hops within at found before =
     rw (part_here parts n part within at, ← found) at before
 
--- All parts were read.
+-- If all parts were read as hops, these hops are the result for the whole text.
 pub read_all : (parts : List (List ℕ)) (n : ℕ) (hops : List Hop) → n ≡ length parts
     → joined hops (hops_from (n + 1) (drop n parts)) ≡ hops_from 1 parts
     → Ok hops ≡ hops_from 1 parts

@@ -1,4 +1,5 @@
--- Which texts are lists of hops, by their parts.
+-- Lemmas on the texts of lists of hops: a text is cut at its spaces, and each part is read as a
+-- hop.
 use Rattle.std.proofs.Common.{◌≡◌, ◌≢◌, ℕ, suc, ◌+◌, ◌<◌, ◌≤◌, ◌⊎◌, inl, inr, Bool, true, false, cond, eqb, ltb, List, [], ◌∷◌, ◌++◌, length, map, Option, Some, None, Result, Ok, Err, refl, sym, ap, subst, ◌∙◌, length-append, arith}
 use Rattle.std.proofs.lemmas.Bool.{ne_eqb, eqb-false, le-ltb, lt-ltb, ltb-true, ltb-false}
 use Rattle.std.proofs.lemmas.List.{length_push}
@@ -16,7 +17,7 @@ use Rattle.cspf_addr.proofs.CutLemmas.{Lacks, Lacks-append}
 use Rattle.cspf_addr.proofs.PrefixLemmas.{lacks_in_prefix_text}
 use Rattle.cspf_addr.proofs.HopLemmas.{hop_texts_read, hop_of-hop_text}
 
--- If no byte of a piece is `mark`, the byte at each index isn't `mark`.
+-- If no byte of a text is `mark`, then at each index of the text the byte isn't `mark`.
 lacks_by_place : (mark : ℕ) (piece : List ℕ) → Lacks mark piece
     → All (λ byte. eqb byte mark ≡ false) piece
 lacks_by_place mark piece lacks =
@@ -26,7 +27,8 @@ lacks_by_place mark piece lacks =
     each [] lacks = tt
     each (byte ∷ rest) lacks = (ne_eqb byte mark lacks.0, each rest lacks.1)
 
--- Pieces without spaces that are joined by spaces are cut into the same pieces.
+-- If texts without spaces are joined by spaces, and the result is cut at its spaces, the parts are
+-- these texts.
 pub split_join : (pieces : List (List ℕ)) → 0 < length pieces → AllByRecursion (Lacks 32) pieces
     → slice_split (λ byte. eqb byte 32) (join_with_byte 32 pieces) ≡ pieces
 split_join [] some lacks = absurd (omega arith)
@@ -37,7 +39,7 @@ split_join (piece ∷ next ∷ pieces) some lacks =
     (lacks_by_place 32 piece lacks.0) refl
     ∙ ap (λ rest. piece ∷ rest) (split_join (next ∷ pieces) (omega arith) lacks.1)
 
--- The parts of a text have no spaces.
+-- No part of a text that is cut at its spaces has a space.
 parts_lack : (text : List ℕ) → AllByRecursion (Lacks 32) (slice_split (λ byte. eqb byte 32) text)
 parts_lack [] = (tt, tt)
 parts_lack (byte ∷ text) = by_first (parts_lack text) (eqb byte 32) refl
@@ -53,13 +55,14 @@ parts_lack (byte ∷ text) = by_first (parts_lack text) (eqb byte 32) refl
     by_first rest true test = (tt, rest)
     by_first rest false test = onto (slice_split (λ c. eqb c 32) text) (eqb-false byte 32 test) rest
 
--- The parts of a text, joined by spaces, are the text.
+-- The parts of a text have no spaces, and joined by spaces they are the text.
 parts_are : (text : List ℕ) → AreParts text (parts_of text)
 unfolding parts_of
 parts_are text =
     record { whole = sym (join_with_byte-slice_split 32 text); without_space = parts_lack text }
 
--- A text has no other parts.
+-- If parts without spaces, joined by spaces, are a text, they are the parts into which this text is
+-- cut.
 parts_only : (text : List ℕ) (parts : List (List ℕ)) → 0 < length parts → AreParts text parts
     → parts_of text ≡ parts
 unfolding parts_of
@@ -91,7 +94,7 @@ length-AreHopTexts (text ∷ texts) (hop ∷ hops) each = ap suc (length-AreHopT
 length-AreHopTexts [] (hop ∷ hops) each = absurd each
 length-AreHopTexts (text ∷ texts) [] each = absurd each
 
--- Texts of hops are read as these hops.
+-- If texts are the texts of hops, they are read as these hops.
 hops_from-texts : (at : ℕ) (texts : List (List ℕ)) (hops : List Hop) → AreHopTexts texts hops
     → hops_from at texts ≡ Ok hops
 hops_from-texts at [] [] each = refl
@@ -117,7 +120,8 @@ texts_of-hops_from at (text ∷ texts) hops read =
         subst (AreHopTexts (text ∷ texts)) all
         ((hop_texts_read text hop).0 first, behind more later)
 
--- The parts before the number `place` are texts of hops, and this part isn't. The first part has the number `at`.
+-- The parts before the part with the number `place` are texts of hops, and the part with this
+-- number isn't. The first of all these parts has the number `at`.
 record IsNoHopFrom (at : ℕ) (parts : List (List ℕ)) (place : ℕ) : Type 0 where
   pub front : List (List ℕ)
   pub part : List ℕ
@@ -139,7 +143,8 @@ refused_at : (r : Result (List Hop) HopsError) (k place : ℕ) → r ≡ Err (Ba
     → r ≡ Err (BadHop place)
 refused_at r k place is same = is ∙ ap (λ n. Err (BadHop n)) same
 
--- One more hop before the other parts.
+-- If one more part that is a hop comes before the parts, the first part that isn't a hop stays the
+-- same.
 one_more : (at : ℕ) (part : List ℕ) (parts : List (List ℕ)) (place : ℕ) (hop : Hop)
     → hop_of part ≡ Some hop → IsNoHopFrom (at + 1) parts place
     → IsNoHopFrom at (part ∷ parts) place
@@ -154,7 +159,7 @@ one_more at part parts place hop first b = record {
   here = b.here;
 }
 
--- If a part is refused, it is the first part that isn't a hop.
+-- If the reader refuses a part, this part is the first that isn't a hop.
 no_hop-hops_from : (at : ℕ) (parts : List (List ℕ)) (place : ℕ)
     → hops_from at parts ≡ Err (BadHop place) → IsNoHopFrom at parts place
 no_hop-hops_from at [] place read = absurd (cc)
@@ -173,7 +178,7 @@ no_hop-hops_from at (part ∷ parts) place read =
         let same : k ≡ place = cc (rw (first, later) at read) in
         one_more at part parts place hop first (more (refused_at _ k place later same))
 
--- The first part that isn't a hop is refused.
+-- If a part isn't a hop, and the parts before it are texts of hops, the reader refuses this part.
 hops_from-no_hop : (at : ℕ) (front : List (List ℕ)) (part : List ℕ) (behind : List (List ℕ)) (hops : List Hop) → AreHopTexts front hops → ((hop : Hop) → ¬ IsHopText part hop)
     → hops_from at (front ++ part ∷ behind) ≡ Err (BadHop (length front + at))
 hops_from-no_hop at [] part behind hops before here = step (hop_of part) refl
@@ -200,7 +205,7 @@ not_many at (part ∷ parts) read =
     step behind (Some hop) first (Err (BadHop k)) later = cc (rw (first, later) at read)
     step behind (Some hop) first (Err TooManyHops) later = behind later
 
--- A text with a first byte isn't of length 0.
+-- The length of a text with a first byte isn't 0.
 longer_than_0 : (byte : ℕ) (text : List ℕ) → eqb (length (byte ∷ text)) 0 ≡ false
 longer_than_0 byte text = ne_eqb (length (byte ∷ text)) 0 (λ none. omega (arith, none))
 
@@ -236,7 +241,7 @@ hops_of-empty = refl
 not_empty : (byte : ℕ) (text : List ℕ) → byte ∷ text ≢ []
 not_empty byte text same = cc
 
--- The text of a hop isn't empty, and neither is the text of several hops.
+-- The next two lemmas: the text of a hop isn't empty, and neither is the text of one or more hops.
 hop_longer : (text : List ℕ) (hop : Hop) → IsHopText text hop → 0 < length text
 hop_longer text hop is =
     omega (arith, ap length is.whole, length_push is.front (hop_letter hop.loose))
@@ -262,7 +267,8 @@ hops_of-join (text ∷ texts) hops each most =
     (rw parts (omega (arith, length-AreHopTexts (text ∷ texts) hops each)))
     ∙ ap (hops_from 1) parts ∙ hops_from-texts 1 (text ∷ texts) hops each
 
--- A text has at most seven parts, and is read part by part.
+-- The text has at most seven parts, and the result for the text is that of its parts, read one
+-- after the other.
 record IsReadByParts (text : List ℕ) : Type 0 where
   few : length (parts_of text) ≤ 7
   read : hops_of text ≡ hops_from 1 (parts_of text)
@@ -278,7 +284,7 @@ by_parts byte text not = step (few_or_many _)
     step (inl few) =
         record { few = few; read = hops_of-few (byte ∷ text) (not_empty byte text) few }
 
--- If a text is read as hops, it has the texts of these hops.
+-- If a text is read as hops, it consists of the texts of these hops, separated by single spaces.
 read_texts : (text : List ℕ) (hops : List Hop) → hops_of text ≡ Ok hops → IsHopListText text hops
 read_texts [] hops read =
     let none : [] ≡ hops = cc hops_of-empty in
@@ -288,12 +294,14 @@ read_texts (byte ∷ text) hops read =
     let each = texts_of-hops_from 1 _ hops (sym by.read ∙ read) in
     record { parts = parts_of (byte ∷ text); whole = (parts_are (byte ∷ text)).whole; each = each; most = omega (arith, by.few, length-AreHopTexts _ hops each) }
 
--- A text is read as a list of hops exactly if it has the texts of these hops.
+-- A text is read as a list of hops exactly if it consists of the texts of these hops, separated by
+-- single spaces.
 pub hop_lists_read : AreHopListsRead
 hop_lists_read text hops =
     (read_texts text hops, λ is. ap hops_of is.whole ∙ hops_of-join is.parts hops is.each is.most)
 
--- If a part is refused, the text has a first part that isn't a hop.
+-- If the reader refuses the part with the number `place`, this part is the first of the text that
+-- isn't a hop.
 refused_part : (text : List ℕ) (place : ℕ) → hops_of text ≡ Err (BadHop place)
     → HasBadHop text place
 refused_part [] place read = absurd (cc hops_of-empty)
@@ -309,7 +317,7 @@ refused_part (byte ∷ text) place read =
           record { front = b.front; part = b.part; behind = b.behind; whole = b.whole; is_place = b.is_place; hops = b.hops; before = b.before; here = b.here };
     }
 
--- A list of parts that has this part isn't empty.
+-- If a list of parts has some part, the list isn't empty.
 some_parts : (parts front : List (List ℕ)) (part : List ℕ) (behind : List (List ℕ))
     → parts ≡ front ++ part ∷ behind → 0 < length parts
 some_parts parts front part behind whole =
@@ -324,7 +332,8 @@ part_refused text place has =
     ∙ hops_from-no_hop 1 bad.front bad.part bad.behind bad.hops bad.before bad.here
     ∙ ap (λ n. Err (BadHop n)) (sym bad.is_place)
 
--- The first part that isn't a hop is reported.
+-- If a text isn't empty and has at most seven parts, one of which isn't a hop, the error has the
+-- number of the first such part.
 pub bad_hops_named : AreBadHopsNamed
 bad_hops_named text place = (refused_part text place, part_refused text place)
 
@@ -346,7 +355,7 @@ too_many_refused text = (
   λ has. hops_of-many text (rw (parts_only text has.parts (omega (arith, has.many)) has.are_parts) has.many),
 )
 
--- The text that is written for a hop is a text of this hop.
+-- The texts that are written for hops are texts of these hops.
 hop_texts : (hops : List Hop) → AllByRecursion (λ hop. IsPrefix hop.prefix) hops
     → AreHopTexts (map hop_text hops) hops
 hop_texts [] proper = tt

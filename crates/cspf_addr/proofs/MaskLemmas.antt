@@ -1,4 +1,4 @@
--- Which texts spell which masks.
+-- Lemmas on the texts of masks: which text is read as which mask.
 use Rattle.std.proofs.Common.{◌≡◌, ℕ, ◌^◌, ◌<◌, ◌≤◌, Bool, true, false, cond, List, ◌++◌, length, take, drop, codes, Some, None, Result, Ok, IfOk, OnErr, lit<, refl, sym, ap, ◌∙◌, arith, ◌+◌, ◌*◌, ◌/◌, ◌%◌, [], ◌∷◌, map}
 use Rattle.std.proofs.lemmas.Bool.{ltb-true, lt-ltb, leb-true, le-leb}
 use Rattle.std.proofs.lemmas.Int.Digits.{digits_value-lt, digits_value_is}
@@ -27,7 +27,8 @@ short_value digits short all =
     let most : 16 ^ length digits ≤ 16 ^ 8 = pow-le-pow_right (lit< tt) short in
     omega (arith, most, digits_value-lt 16 digits (AllDigits-are_digits 16 digits all))
 
--- If a byte isn't a digit, or the value is too large, the text isn't a mask.
+-- If up to eight bytes aren't all hexadecimal digits, or their value is 2^64 or more, they aren't
+-- read as the digits of a mask.
 pub word_none : (digits : List ℕ) → length digits ≤ 8
     → (are_digits 16 digits ≡ true → 2 ^ 64 ≤ digits_value 16 digits)
     → None ≡ cond (are_digits 16 digits) (Some (digits_value 16 digits)) None
@@ -72,17 +73,17 @@ mask_of-spells text n spells =
 pub masks_read : AreMasksRead
 masks_read text n = (mask_of-spelled text n, mask_of-spells text n)
 
--- If a mask was read, the text spells it.
+-- If the reader's result `r` is a mask, the text spells this mask.
 pub mask_ok : {E : Type 0} (text : List ℕ) (r : Result ℕ E) → result_ok r ≡ mask_of text
     → IfOk r (SpellsMask text)
 mask_ok text r same = ok_spelled r (mask_of text) (SpellsMask text) same (mask_of-spelled text)
 
--- If no mask was read, the text spells no mask.
+-- If the reader's result `r` is an error, the text spells no mask.
 pub mask_err : {E : Type 0} (text : List ℕ) (r : Result ℕ E) → result_ok r ≡ mask_of text
     → OnErr r ((n : ℕ) → SpellsMask text n → ⊥)
 mask_err text r same = err_unspelled r (mask_of text) (SpellsMask text) same (mask_of-spells text)
 
--- If the text spells a mask, this mask was read.
+-- If a text spells a mask, the reader's result `r` is this mask.
 pub mask_only : {E : Type 0} (text : List ℕ) (r : Result ℕ E) → result_ok r ≡ mask_of text → (n : ℕ)
     → SpellsMask text n → r ≡ Ok n
 mask_only text r same n spells = only_spelled r (mask_of text) same n (mask_of-spells text n spells)
@@ -93,7 +94,7 @@ spells_one_mask text m n spells_m spells_n =
     let found : Some m ≡ Some n = sym (mask_of-spells text m spells_m) ∙ mask_of-spells text n spells_n in
     cc
 
--- The value of the hexadecimal digit that is written for a number is this number.
+-- If a number below 16 is written as a hexadecimal digit, the value of this digit is the number.
 glyph_value : (d : ℕ) → d < 16 → digit_value (digit_glyph false d) ≡ d
 glyph_value d small = grind (arith, nat_tests)
 

@@ -1,4 +1,4 @@
--- Which texts spell which numbers.
+-- Lemmas on the texts of numbers: which text is read as which number.
 use Rattle.std.proofs.Common.{◌≡◌, ◌≢◌, ℕ, ◌^◌, ◌<◌, ◌≤◌, Bool, true, false, cond, not, ◌&&◌, ◌||◌, ltb, eqb, List, length, get_or, Option, Some, None, IfSome, IfNone, refl, sym, ap, ◌∙◌, inl, inr, arith}
 use Rattle.std.proofs.lemmas.Bool.{ltb-true, lt-ltb, le-ltb, cases_lt}
 use Rattle.std.proofs.lemmas.Bool.Decides.{nat_tests}
@@ -10,16 +10,19 @@ use Rattle.std.specs.Str.Parse.{AllDigits, digits_value}
 use Rattle.cspf_addr.specs.Numbers.{are_digits, has_plain_start, is_decimal, number_of, AreSpelledOnce}
 use Rattle.cspf_addr.proofs.DigitLemmas.{and_parts, AllDigits-are_digits, are_digits-AllDigits}
 
--- The definitions of digits here match those of the standard library.
+-- `AllDigits 10` and `digits_value 10` are a numeral model of the standard library. They say which
+-- texts are decimal digits, and which value these digits have.
 pub own : IsNumeralModel (AllDigits 10) (digits_value 10)
 own = numerals_by_value (AllDigits 10) tells_digits
 
--- If a choice between a number and `None` gave a number, its test holds.
+-- If a choice between `Some v` and `None` by the test `b` gives a number, `b` is true, and the
+-- number is `v`.
 pub chosen : (b : Bool) (v n : ℕ) → cond b (Some v) None ≡ Some n → (b ≡ true) × (v ≡ n)
 chosen true v n same = (refl, cc)
 chosen false v n same = absurd (cc)
 
--- A text without a leading zero isn't empty, and its first byte is `0` only if this is its only byte.
+-- If `has_plain_start` holds of a text, the text isn't empty, and its first byte is `0` only if
+-- this is its only byte.
 plain_start : (text : List ℕ) → has_plain_start text ≡ true
     → (0 < length text) × (get_or text 0 0 ≡ 48 → length text ≡ 1)
 plain_start text plain = (
@@ -87,20 +90,20 @@ number_of-decimal n small =
 pub spelled_once : AreSpelledOnce
 spelled_once text n = (number_of-spelled text n, λ h. ap number_of h.1 ∙ number_of-decimal n h.0)
 
--- If a number was read, the text is what is written for it.
+-- If the reader's result `r` is a number, the text is what is written for this number.
 pub number_some : (text : List ℕ) (r : Option ℕ) → r ≡ number_of text
     → IfSome r (λ n. text ≡ decimal n)
 number_some text None same = tt
 number_some text (Some n) same = (number_of-spelled text n (sym same)).1
 
--- If no number was read, the text isn't what is written for a number.
+-- If the reader's result `r` is `None`, the text isn't what is written for a number below 2^64.
 pub number_none : (text : List ℕ) (r : Option ℕ) → r ≡ number_of text
     → IfNone r ((n : ℕ) → n < 2 ^ 64 → text ≢ decimal n)
 number_none text None same =
     λ n small spelled. let found = ap number_of spelled ∙ number_of-decimal n small in cc
 number_none text (Some n) same = tt
 
--- If the text is what is written for a number, this number was read.
+-- If a text is what is written for a number, the reader's result `r` is this number.
 pub number_only : (text : List ℕ) (r : Option ℕ) → r ≡ number_of text → (n : ℕ) → n < 2 ^ 64
     → text ≡ decimal n → r ≡ Some n
 number_only text r same n small spelled = same ∙ (ap number_of spelled ∙ number_of-decimal n small)
@@ -110,7 +113,8 @@ refused : (b : Bool) (value : ℕ) → (b ≡ true → 2 ^ 64 ≤ value)
 refused true value large = rw (le-ltb value (2 ^ 64) (large refl)) refl
 refused false value large = refl
 
--- If a text has no leading zero, the reader of digits reads its number.
+-- If a text isn't empty and has no leading zero, the value that the reader of digits returns is the
+-- number that the text spells.
 pub number_value : (text : List ℕ) (r : Option ℕ) → has_plain_start text ≡ true
     → IfSome r (λ n. (are_digits 10 text ≡ true) × (n ≡ digits_value 10 text))
     → IfNone r (are_digits 10 text ≡ true → 2 ^ 64 ≤ digits_value 10 text)

@@ -1,4 +1,4 @@
--- Which texts spell which prefixes.
+-- Lemmas on the texts of prefixes: which text is read as which prefix.
 use Rattle.std.proofs.Common.{◌≡◌, ◌≢◌, ℕ, ◌^◌, ◌<◌, ◌≤◌, ◌/◌, ◌%◌, Bool, true, false, cond, ltb, leb, List, ◌∷◌, ◌++◌, Option, Some, None, Ok, Err, refl, sym, ap, subst, ◌∙◌, lit<, arith}
 use Rattle.std.proofs.lemmas.Bool.{ltb-false, le-leb, lt-leb}
 use Rattle.std.proofs.lemmas.Fmt.{digits_decimal, digits_value-decimal}
@@ -35,12 +35,12 @@ length_some text n passes found =
     let value : digits_value 10 text ≡ n = (chosen _ _ _ found).1 in
     rw (passes, value) refl
 
--- A number above 32 is refused as a prefix length.
+-- A decimal number above 32 is refused as a prefix length.
 pub length_more : (text : List ℕ) (n : ℕ) → is_decimal text ≡ true → number_of text ≡ Some n
     → 32 < n → length_of text ≡ Err error.TooLong
 length_more text n passes found long = length_some text n passes found ∙ rw (lt-leb n 32 long) refl
 
--- A number of at most 32 is read as a prefix length.
+-- A decimal number of at most 32 is read as a prefix length.
 pub length_fits : (text : List ℕ) (n : ℕ) → is_decimal text ≡ true → number_of text ≡ Some n
     → n ≤ 32 → length_of text ≡ Ok n
 length_fits text n passes found short =
@@ -87,7 +87,8 @@ refused_from text (Some address) true front back other =
     let cut = cut_whole 47 text (is_decimal-some (text_after 47 text) back) in
     (address, text_after 47 text, record { small = spelled.0; decimal = back; whole = rw spelled.1 at cut })
 
--- Any other text is refused.
+-- A text that isn't an address, a slash and decimal digits without leading zeros is refused as
+-- `NotAPrefix`.
 pub others_refused : AreOthersRefused
 others_refused text other = refused_from text _ _ refl refl other
 

@@ -8,6 +8,6 @@ use Rattle.cspf_addr.specs.contracts.addr.AddrPartialOrd.TheImpl as addr_partial
 abbrev pub ComparesAsNumbers : Type 0
 ComparesAsNumbers = (a b : ℕ) → (addr_ord.ghosts).cmp a b ≡ nat_cmp a b
 
--- `partial_cmp` of two addresses, and so `<`, is that of their numbers, too.
+-- `partial_cmp` of two addresses, and so `<`, is `partial_cmp` of their numbers.
 abbrev pub PartlyComparesAsNumbers : Type 0
 PartlyComparesAsNumbers = (a b : ℕ) → (addr_partial_ord.ghosts).partial_cmp a b ≡ Some (nat_cmp a b)

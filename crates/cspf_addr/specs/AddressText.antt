@@ -11,11 +11,11 @@ use Rattle.cspf_addr.specs.Numbers.{number_of}
 unfoldable pub address_text : ℕ → List ℕ
 address_text n = join_with_byte 46 (map decimal (to_be_bytes w32 n))
 
--- the text before the first byte `mark`, or the whole text if it has none
+-- the part of a text before its first byte `mark`, or the whole text if no byte is `mark`
 unfoldable pub text_before : ℕ → List ℕ → List ℕ
 text_before mark text = before_first (λ byte. byte == mark) text
 
--- the text after the first byte `mark`, or the empty text if it has none
+-- the part of a text after its first byte `mark`, or the empty text if no byte is `mark`
 unfoldable pub text_after : ℕ → List ℕ → List ℕ
 text_after mark text = after_first (λ byte. byte == mark) text
 

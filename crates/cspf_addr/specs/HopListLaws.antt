@@ -14,19 +14,20 @@ AreHopTexts (text ∷ texts) (hop ∷ hops) = IsHopText text hop × AreHopTexts 
 AreHopTexts [] (hop ∷ hops) = ⊥
 AreHopTexts (text ∷ texts) [] = ⊥
 
--- The text has the texts of these hops, at most seven, separated by single spaces.
+-- The text consists of the texts of these hops, at most seven, separated by single spaces.
 pub record IsHopListText (text : List ℕ) (hops : List Hop) : Type 0 where
   pub parts : List (List ℕ)
   pub whole : text ≡ join_with_byte 32 parts
   pub each : AreHopTexts parts hops
   pub most : length hops ≤ MOST_HOPS
 
--- The text has these parts, separated by single spaces, and no part has a space.
+-- The text consists of these parts, separated by single spaces, and no part has a space.
 pub record AreParts (text : List ℕ) (parts : List (List ℕ)) : Type 0 where
   pub whole : text ≡ join_with_byte 32 parts
   pub without_space : AllByRecursion (λ part. AllByRecursion (λ byte. byte ≢ 32) part) parts
 
--- The parts before this number are texts of hops, and the part with this number isn't. The numbers begin at 1.
+-- The parts before the part with this number are texts of hops, and the part with this number
+-- isn't. Parts are numbered from 1.
 pub record IsFirstNoHop (parts : List (List ℕ)) (place : ℕ) : Type 0 where
   pub front : List (List ℕ)
   pub part : List ℕ
@@ -51,17 +52,18 @@ pub record HasTooManyParts (text : List ℕ) : Type 0 where
   pub are_parts : AreParts text parts
   pub many : MOST_HOPS < length parts
 
--- Exactly the texts of lists of hops are read as these lists.
+-- A text is read as a list of hops exactly if it is the text of this list.
 abbrev pub AreHopListsRead : Type 0
 AreHopListsRead =
     (text : List ℕ) (hops : List Hop) → (hops_of text ≡ Ok hops) ↔ IsHopListText text hops
 
--- If there are at most seven parts, the first part that isn't a hop is reported.
+-- A text that isn't empty and has at most seven parts is refused with the number of its first part
+-- that isn't a hop, if there is one. No other text is refused with the number of a part.
 abbrev pub AreBadHopsNamed : Type 0
 AreBadHopsNamed =
     (text : List ℕ) (place : ℕ) → (hops_of text ≡ Err (error.BadHop place)) ↔ HasBadHop text place
 
--- A text is refused as too long exactly if it has more than seven parts.
+-- A text is refused as `TooManyHops` exactly if it has more than seven parts.
 abbrev pub AreTooManyRefused : Type 0
 AreTooManyRefused =
     (text : List ℕ) → (hops_of text ≡ Err error.TooManyHops) ↔ HasTooManyParts text

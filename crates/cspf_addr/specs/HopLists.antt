@@ -14,8 +14,8 @@ use Rattle.cspf_addr.specs.declared.hop_reader.HopsError.TheVariants as error
 unfoldable pub parts_of : List ℕ → List (List ℕ)
 parts_of text = slice_split (λ byte. byte == 32) text
 
--- The hops that these parts spell, or the error for the first part that isn't a hop. The first part has the number
--- `at`.
+-- The hops that these parts spell, or the error for the first part that isn't a hop. The first of
+-- these parts has the number `at`.
 abbrev pub hops_from : ℕ → List (List ℕ) → Result (List Hop) HopsError
 hops_from at [] = Ok []
 hops_from at (part ∷ parts) = do

@@ -31,7 +31,7 @@ pub record IsHopText (text : List ℕ) (hop : Hop) : Type 0 where
   pub whole : text ≡ front ++ (hop_letter hop.loose ∷ [])
   pub prefix : prefix_of front ≡ Ok hop.prefix
 
--- Exactly these texts are read as the hop.
+-- A text is read as a hop exactly if it is a text of this hop.
 abbrev pub AreHopTextsRead : Type 0
 AreHopTextsRead = (text : List ℕ) (hop : Hop) → (hop_of text ≡ Some hop) ↔ IsHopText text hop
 

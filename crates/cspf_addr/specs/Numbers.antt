@@ -9,7 +9,7 @@ use Rattle.std.specs.Str.Parse.{digits_value}
 unfoldable pub are_digits : ℕ → List ℕ → Bool
 are_digits base text = list_all (λ byte. nat_lt (digit_value byte) base) text
 
--- The text isn't empty and has no leading zero. The text `0` itself counts.
+-- The text isn't empty and has no leading zero. The text `0` passes, too.
 abbrev pub has_plain_start : List ℕ → Bool
 has_plain_start text =
     nat_lt 0 (length text) && (length text == 1 || not (slice_index text 0 == 48))

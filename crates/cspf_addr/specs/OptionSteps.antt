@@ -1,7 +1,8 @@
--- `>>=` for an `Option`: the steps of a reader that may find nothing.
+-- Defines `>>=` for an `Option`. It chains two steps of a parser, each of which may find nothing.
 use Rattle.std.specs.Prelude.{Option, option_and_then}
 
--- the second step, if the first step gave a value
+-- the result of the second step for the value of the first step, or `None` if the first step gave
+-- no value
 infixl 10 ◌>>=◌
 abbrev pub ◌>>=◌ : {A B : Type 0} → Option A → (A → Option B) → Option B
 first >>= second = option_and_then second first

@@ -1,7 +1,8 @@
 -- The parts of an address prefix.
 use Rattle.std.specs.Prelude.{◌≡◌, ℕ, ◌-◌, ◌*◌, ◌/◌, ◌^◌, ◌<◌, ◌≤◌}
 
--- an address, and the prefix length: how many of its first bits count
+-- an address, and the prefix length, which says how many of the address's first bits belong to the
+-- prefix
 pub record PrefixParts : Type 0 where
   pub address : ℕ
   pub length : ℕ
@@ -14,7 +15,8 @@ first_bits length address = address / 2 ^ (32 - length) * 2 ^ (32 - length)
 abbrev pub with_first_bits : ℕ → ℕ → PrefixParts
 with_first_bits length address = record { address = first_bits length address; length = length }
 
--- The address has 32 bits, the length is at most 32, and no bit after the prefix is set.
+-- The address is below 2^32, the length is at most 32, and no bit of the address after the first
+-- `length` bits is set.
 pub record IsPrefix (prefix : PrefixParts) : Type 0 where
   pub most : prefix.length ≤ 32
   pub small : prefix.address < 2 ^ 32

@@ -44,13 +44,14 @@ abbrev pub prefix_with : ℕ → ℕ → Result PrefixParts PrefixError
 prefix_with length address =
     if nat_le length 32 then Ok (with_first_bits length address) else Err error.TooLong
 
--- Such a text is read as its address and the value of its digits. There may be any number of digits.
+-- A text of an address, a slash and decimal digits is read as this address and the value of these
+-- digits. There may be any number of digits.
 abbrev pub ArePrefixTextsRead : Type 0
 ArePrefixTextsRead =
     (text : List ℕ) (address : ℕ) (digits : List ℕ) → IsPrefixText text address digits
     → prefix_of text ≡ prefix_with (digits_value 10 digits) address
 
--- Any other text is refused as no prefix.
+-- If a text isn't refused as `NotAPrefix`, it is an address, a slash and decimal digits.
 abbrev pub AreOthersRefused : Type 0
 AreOthersRefused = (text : List ℕ) → prefix_of text ≢ Err error.NotAPrefix
     → (address : ℕ) × (digits : List ℕ) × IsPrefixText text address digits

@@ -98,7 +98,7 @@ fn octet(text: &[u8]) -> Option<u8>
     u8::try_from(number(text)?).ok()
 }
 
-/// The four bytes of the address that a text spells, in network order.
+/// The four bytes, in network order, of the address that a text spells.
 #[tactic(auto, unfolding(crate::specs::AddressText::octets_of))]
 fn octets(text: &[u8]) -> Option<[u8; 4]>
     ensures { result ≡ octets_of text.now }

@@ -1,8 +1,8 @@
 ghost use Rattle.std.specs.Prelude.{◌≡◌, ◌==◌, position};
 ghost use Rattle.cspf_addr.specs.AddressText.{text_before, text_after};
 
-/// The text before the first byte `mark`, and the text after it. If no byte is `mark`, they are the
-/// whole text and the empty text.
+/// The part of a text before its first byte `mark`, and the part after this byte. If no byte is
+/// `mark`, the parts are the whole text and the empty text.
 pub(crate) fn cut(text: &[u8], mark: u8) -> (&[u8], &[u8])
     ensures before { result.0.now ≡ text_before mark text.now }
     ensures after { result.1.now ≡ text_after mark text.now }

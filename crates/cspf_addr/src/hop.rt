@@ -7,12 +7,12 @@ ghost use Rattle.cspf_addr.specs.HopText.{hop_of, loose_of, AreHopTextsRead, Are
 use crate::prefix::Prefix;
 use std::alloc::{AllocError, Global};
 
-/// A hop of an explicit route. It stands for any router that its prefix covers. A strict hop is
-/// adjacent to the hop before it. On the way to a loose hop the route may visit other routers (RFC
-/// 3209 4.3.3.1).
+/// A hop of an explicit route. The hop stands for any router with an address that the prefix
+/// covers. A strict hop is adjacent to the hop before it. On the way to a loose hop the route may
+/// visit other routers (RFC 3209 4.3.3.1).
 #[derive(Clone, Copy, Debug, PartialEq, Eq)]
 pub struct Hop {
-    /// The prefix that covers the routers that the hop may be.
+    /// The prefix. The hop stands for any router with an address that this prefix covers.
     pub prefix: Prefix,
     /// Whether the route may visit other routers on the way to this hop.
     pub loose: bool,

@@ -43,7 +43,7 @@ fn part_count(text: &[u8]) -> usize
     text.iter().filter(|byte| **byte == b' ').count() + 1
 }
 
-/// The hops that the parts of a text spell.
+/// The hops that the parts of a text spell, or the error for the first part that isn't a hop.
 fn read_parts(text: &[u8]) -> Result<Hops, HopsError>
     requires { length (parts_of text.now) ≤ MOST_HOPS }
     ensures { result ≡ hops_from 1 (parts_of text.now) }
@@ -58,9 +58,9 @@ fn read_parts(text: &[u8]) -> Result<Hops, HopsError>
     Ok(hops)
 }
 
-/// Law: a text is read as a list of hops exactly if it has the texts of these hops, at most seven,
-/// separated by single spaces. Otherwise a text of more than seven parts is refused as too long,
-/// and of any other text the first part that isn't a hop is reported.
+/// Law: a text is read as a list of hops exactly if it consists of the texts of these hops, at most
+/// seven, separated by single spaces. A text of more than seven parts is refused as `TooManyHops`.
+/// For any other text the error has the number of the first part that isn't a hop.
 pub fn hop_lists_are_read()
     ensures read { AreHopListsRead }
     ensures bad { AreBadHopsNamed }

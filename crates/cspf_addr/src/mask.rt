@@ -12,8 +12,9 @@ use std::alloc::{AllocError, Global};
 use std::marker::Model;
 use thiserror::Error;
 
-/// A set of administrative groups, with one bit for each group (RFC 3630 2.5.9). A mask has the
-/// groups of a link, or is an affinity of a request (RFC 3209 4.7.4).
+/// A set of administrative groups, with one bit for each group (RFC 3630 2.5.9). A mask holds the
+/// groups that a link belongs to, or the groups that an affinity of a request names (RFC 3209
+/// 4.7.4).
 #[derive(Clone, Copy, Debug, PartialEq, Eq)]
 pub struct Mask(u32);
 

@@ -14,7 +14,8 @@ use std::alloc::{AllocError, Global};
 use std::marker::Model;
 use thiserror::Error;
 
-/// An address prefix of 0 to 32 bits (RFC 3209 4.3.3.2). All bits after the prefix are zero.
+/// An address prefix of 0 to 32 bits (RFC 3209 4.3.3.2). All bits of the address after the prefix
+/// length are zero.
 #[derive(Clone, Copy, Debug, PartialEq, Eq)]
 pub struct Prefix {
     address: Addr,
@@ -33,7 +34,7 @@ impl Model for Prefix {
     ghost inverse = { λ p. record { address = p.address; length = p.length } };
 }
 
-/// Why a prefix isn't made.
+/// Why a text, or an address with a length, isn't a prefix.
 #[derive(Clone, Copy, Debug, PartialEq, Eq, Error)]
 pub enum PrefixError {
     /// The text isn't an address, a slash and a decimal number.
@@ -108,8 +109,8 @@ impl Prefix {
     }
 
     /// The prefix that a text spells, as in `10.0.0.0/8`: an address, a slash and a length in
-    /// decimal without leading zeros. Bits of the address after the prefix may be set; they are
-    /// dropped.
+    /// decimal without leading zeros. Bits of the address after the prefix length may be set; these
+    /// bits are dropped.
     #[tactic(auto, unfolding(crate::specs::Prefixes::prefix_of))]
     pub fn parse(text: &[u8]) -> Result<Prefix, PrefixError>
         ensures value { result ≡ prefix_of text.now }
@@ -151,8 +152,8 @@ fn read_length(text: &[u8]) -> Result<u8, PrefixError>
     Ok(bits as u8)
 }
 
-/// Law: a text of an address, a slash and a decimal number is read as these two. Any other text is
-/// refused. A prefix is read back from its text.
+/// Law: a text of an address, a slash and a decimal number is read as this address and this number.
+/// Any other text is refused. A prefix is read back from its text.
 pub fn prefixes_are_spelled()
     ensures read { ArePrefixTextsRead }
     ensures refused { AreOthersRefused }

@@ -1,4 +1,4 @@
--- A journal's first batches, and then one more batch.
+-- The database and the plans of a journal's first batches, after one more batch.
 use Rattle.std.proofs.Common.{◌≡◌, ℕ, ◌+◌, ◌<◌, List, [], ◌∷◌, ◌++◌, length, take, get_or, inl, inr, sym, ap, subst, ◌∙◌, arith}
 use Rattle.std.proofs.lemmas.Bool.{cases_eq}
 use Rattle.std.proofs.lemmas.List.{get_or_at, get_or_append_left, get_or_default, length_push}
@@ -20,16 +20,18 @@ module _ (batches : List NumberedChanges) (i : ℕ) (b : NumberedChanges) (withi
   pub database_next : OneMoreBatch → after_changes (database_after (take i batches)) b.changes ≡ database_after (take (i + 1) batches)
   database_next law = sym (ap database_after one_more ∙ law (take i batches) b)
 
-  -- the batches stay lawful with the next batch, if it fits
+  -- if each of the first batches fits the database of the batches before it, and so does the next
+  -- batch, this holds of all these batches together
   pub lawful_next : LawfulByOneMore → AreLawful (take i batches) → Fits (database_after (take i batches)) b → AreLawful (take (i + 1) batches)
   lawful_next law lawful fits = subst AreLawful (sym one_more) ((law (take i batches) b).1 (lawful, fits))
 
-  -- A table with the database of the first batches makes the changes of the next batch. Then it has the
-  -- database of one more batch.
+  -- If a table with the database of the first i batches makes the changes of the next batch, it then has the
+  -- database of the first i + 1 batches.
   pub absorbed : OneMoreBatch → (before after : Database) → before ≡ database_after (take i batches) → after ≡ after_changes before b.changes → after ≡ database_after (take (i + 1) batches)
   absorbed law before after here absorbs = absorbs ∙ ap (λ d. after_changes d b.changes) here ∙ database_next law
 
-  -- the plans of the first batches with the plan of the next batch are the plans of one more batch
+  -- the plans of the first i batches, with the plan of the next batch behind them, are the plans of the first i + 1
+  -- batches
   pub one_more_plan : (plans : List Plan) (plan : Plan) → ArePlansUpTo batches plans i → IsPlanOf (database_after (take i batches)) b plan → ArePlansUpTo batches (plans ++ plan ∷ []) (i + 1)
   one_more_plan plans plan are is = record {
     many = omega (arith, length_push plans plan, are.many);

@@ -25,8 +25,8 @@ lack_id n id (q ∷ requests) found = go (eqb q.id id) refl found (lack_id (n + 
     go true same found behind = absurd (cc)
     go false other found behind = (eqb-false q.id id other, behind found)
 
--- If no earlier request has the id of a new request, the new request is found by its id at the next
--- index. The other ids are found where they were.
+-- If no earlier request has the id of a new request, the new request is found by its id at the next index. Each
+-- other id is found at the same index as before.
 pub place_more : (n : ℕ) (requests : List Request) (q : Request) (id : ℕ) → LackId requests q.id
     → place_from n id (requests ++ q ∷ []) ≡ cond (eqb q.id id) (Some (n + length requests)) (place_from n id requests)
 place_more n [] q id lack = ap (λ k. cond (eqb q.id id) (Some k) None) (omega arith)
@@ -136,7 +136,7 @@ own_place n (suc k) (r ∷ requests) q own found =
     ap (λ b. cond b (Some n) (place_from (n + 1) q.id requests)) (other_id r.id k requests q (IsDistinct-head nat_eq r.id (map (λ (x : Request). x.id) requests) own) found)
     ∙ own_place (n + 1) k requests q (IsDistinct-tail nat_eq r.id (map (λ (x : Request). x.id) requests) own) found ∙ ap Some (omega arith)
 
--- an index that is found is below the number of requests
+-- the index that is found for an id is below the number of requests
 pub place_within : (id : ℕ) (requests : List Request) (index : ℕ) → place_of id requests ≡ Some index → index < length requests
 place_within id requests index found =
     let there = place_found 0 id requests index found in

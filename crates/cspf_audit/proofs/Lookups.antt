@@ -21,6 +21,6 @@ get-set_other (x ∷ xs) zero (suc j) v apart = refl
 get-set_other (x ∷ xs) (suc i) zero v apart = refl
 get-set_other (x ∷ xs) (suc i) (suc j) v apart = get-set_other xs i j v (λ e. apart (ap suc e))
 
--- a slice of all elements of a list is written back: the list is then the slice
+-- if a slice of all elements of a list is changed and written back, the list is then the changed slice
 pub written : {A : Type 0} (old new : List A) (n : ℕ) → length new ≡ length old → n ≡ length old → take n (new ++ drop (length new) old) ≡ new
 written old new n kept whole = take_at new (drop (length new) old) n (kept ∙ sym whole)

@@ -1,4 +1,5 @@
--- The lines are read one after the other.
+-- How the findings of the replies' lines, and the claims (lines still to be compared with right
+-- replies), change as the lines are read one after the other.
 use Rattle.std.proofs.Common.{◌≡◌, ℕ, ◌+◌, ◌<◌, ◌⊎◌, suc, zero, List, [], ◌∷◌, ◌++◌, Contains, Some, length, take, get_or, inl, inr, refl, sym, ap, ◌∙◌, length-append, arith}
 use Rattle.std.proofs.lemmas.List.{take_at, take-append-le}
 use Rattle.std.proofs.lemmas.List.Elements.{Contains-append_left, Contains-append_right, Contains-append_cases}
@@ -36,7 +37,8 @@ get_snoc (z ∷ xs) x (suc i) y found = elim (get_snoc xs x i y found) [
 claimed_more : (claims more : List Claim) (index : ℕ) → IsClaimed claims index → IsClaimed (claims ++ more) index
 claimed_more claims more index claimed = (claimed.0, Contains-append_left claims more claimed.0 claimed.1, claimed.2)
 
--- a claim is still a claim after one more line
+-- if `IsClaim` holds of a claim (of a line to be compared with the right reply) for the lines so
+-- far, it holds after one more line
 pub claim_more : (requests : List Request) (last : ℕ) (seen : List (List ℕ)) (line : List ℕ) (claim : Claim) → IsClaim requests last seen claim → IsClaim requests last (seen ++ line ∷ []) claim
 claim_more requests last seen line claim is =
     let within = slice_get_within seen claim.line is.line is.is_line in record {
@@ -48,7 +50,8 @@ claim_more requests last seen line claim is =
       within = is.within;
     }
 
--- the findings stay right with the finding of one more line
+-- Each line so far has its right finding, or is still to be compared with the right reply. If this
+-- also holds of one more line, it holds of all these lines together.
 pub found_more : (batches : List NumberedChanges) (requests : List Request) (seen : List (List ℕ)) (line : List ℕ) (claims more : List Claim) (findings : List Finding) (found : Finding)
     → AreOpenFindings batches requests seen claims findings
     → IsFinding batches requests seen line found ⊎ ((found ≡ finding.Good) × IsClaimed (claims ++ more) (length seen))
@@ -72,7 +75,8 @@ found_more batches requests seen line claims more findings found open_ones next 
     go index l f (inr one) (inl other) = absurd (omega (arith, one.0, other.0, open_ones.counted))
     go index l f (inr one) (inr other) = rw (one.0, sym one.1, sym other.1, take_at seen (line ∷ []) (length seen) refl) next
 
--- an id that is named after one more line was named before it, or the line names it
+-- if one of the lines has an id after one more line was read, an earlier line or the new line has
+-- it
 pub named_cases : (seen : List (List ℕ)) (line : List ℕ) (id : ℕ) → IsNamed (seen ++ line ∷ []) id
     → IsNamed seen id ⊎ ((version : ℕ) × BeginsWithHead line (record { id = id; version = version }))
 named_cases seen line id (l, version, there, begins) = elim (Contains-append_cases seen (line ∷ []) l there) [

@@ -47,13 +47,13 @@ module _ (one : HasOneHead) (batches : List NumberedChanges) (requests : List Re
   same_id : (id version other more : ℕ) → BeginsWithHead line (record { id = id; version = version }) → BeginsWithHead line (record { id = other; version = more }) → id ≡ other
   same_id id version other more a b = ap (λ (head : Head). head.id) (one line (record { id = id; version = version }) (record { id = other; version = more }) a b)
 
-  -- the request at the index that is kept for an id has this id
+  -- if `ids` has an index for an id, the request at this index has the id
   found_at : (id index : ℕ) → get nat_cmp ids id ≡ Some index → (q : Request) × (slice_get requests index ≡ Some q) × (q.id ≡ id)
   found_at id index is =
       let there = place_found 0 id requests index (sym (places id) ∙ is) in
       (there.1, subst (λ k. slice_get requests k ≡ Some there.1) (omega (arith, there.2)) there.3, there.4)
 
-  -- no request at another index has this id
+  -- if `ids` has an index for an id, no request at another index has the id
   only_at : (id index : ℕ) → get nat_cmp ids id ≡ Some index → (other : ℕ) (q : Request) → slice_get requests other ≡ Some q → q.id ≡ id → other ≡ index
   only_at id index is other q there same =
       let found : Some (0 + other) ≡ Some index = sym (own_place 0 other requests q own there) ∙ ap (λ i. place_of i requests) same ∙ sym (places id) ∙ is in
@@ -69,9 +69,10 @@ module _ (one : HasOneHead) (batches : List NumberedChanges) (requests : List Re
   wasnt_named : (index : ℕ) (q : Request) → slice_get requests index ≡ Some q → slice_get before index ≡ Some false → ¬ IsNamed seen q.id
   wasnt_named index q there is now = let no : Some true ≡ Some false = sym ((named.each index q there).1 now) ∙ is in cc
 
-  -- ---- which requests have a line after this line
+  -- ---- which requests have a line, once this line is read
 
-  -- the line has the id of no request
+  -- if the line has the id of no request, the list that says which requests have a line stays the
+  -- same
   named_none : ((q : Request) (version : ℕ) → Contains requests q → ¬ BeginsWithHead line (record { id = q.id; version = version })) → AreNamed requests (seen ++ line ∷ []) before
   named_none none = record {
     counted = named.counted;
@@ -85,7 +86,8 @@ module _ (one : HasOneHead) (batches : List NumberedChanges) (requests : List Re
   }
 
   module _ (id version index : ℕ) (begins : BeginsWithHead line (record { id = id; version = version })) (is_at : get nat_cmp ids id ≡ Some index) where
-    -- the line has the id of the request at an index
+    -- the line has the id of the request at `index`. If `after` is the list before the line, but
+    -- with `true` at this index, `after` says which requests now have a line.
     named_at : (after : List Bool) → length after ≡ length before → slice_get after index ≡ Some true → ((other : ℕ) → other ≢ index → slice_get after other ≡ slice_get before other)
         → AreNamed requests (seen ++ line ∷ []) after
     named_at after counted marked others = record {
@@ -118,7 +120,8 @@ module _ (one : HasOneHead) (batches : List NumberedChanges) (requests : List Re
         named_at (slice_set before index true) (length-set before index true) (get-set_same before index true (slice_get_within before index false is))
         (λ other apart. get-set_other before index other true (λ same. apart (sym same)))
 
-    -- the line is the first line with the id
+    -- if no earlier line has the id of the request at `index`, the line is the first reply to this
+    -- request
     first_reply : slice_get before index ≡ Some false → (q : Request) × (slice_get requests index ≡ Some q) × IsFirstReply requests seen line q version
     first_reply is =
         let found = found_at id index is_at in (
@@ -131,10 +134,12 @@ module _ (one : HasOneHead) (batches : List NumberedChanges) (requests : List Re
           },
         )
 
-  -- ---- the findings, the claims and the named requests after the line
+  -- ---- the findings, the claims and the requests with a line, once this line is read
 
   module _ (claims : List Claim) (findings : List Finding) (open_ones : AreOpenFindings batches requests seen claims findings) (are_claims : AreClaims requests (length batches) seen claims) where
-    -- these are the findings, the claims and the named requests after one more line
+    -- `found`, `claimed` and `after` are the findings, the claims and the requests with a line,
+    -- after one more line was read. A claim says that a line is still to be compared with the right
+    -- reply.
     abbrev pub AreThose : List Finding → List Claim → List Bool → Type 0
     AreThose found claimed after =
         AreOpenFindings batches requests (seen ++ line ∷ []) claimed found
@@ -202,7 +207,8 @@ module _ (one : HasOneHead) (batches : List NumberedChanges) (requests : List Re
             only (zero, low, same) = same
             only (suc k, low, same) = absurd (omega arith)
 
--- if the state of the audit has these lists, it is the state after one more line
+-- if the state of the audit has these lists, and the lists are right for the lines that were read, the state is
+-- right for these lines
 pub has_read : (batches : List NumberedChanges) (requests : List Request) (seen : List (List ℕ)) (replies : ReplyFindings) (findings : List Finding) (claims : List Claim) (named : List Bool)
     → replies.findings.items ≡ findings → replies.claims.items ≡ claims → replies.named.items ≡ named
     → AreOpenFindings batches requests seen claims findings × AreClaims requests (length batches) seen claims × AreNamed requests seen named → HasReadLines batches requests replies seen

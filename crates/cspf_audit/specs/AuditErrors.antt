@@ -57,7 +57,7 @@ pub record IsAuditOf (journal requests : Records) (text : List ℕ) (audit : Aud
   pub few : length lines ≤ MOST_ROWS
   pub is_audit : IsAudit batches asked lines audit
 
--- the batches of the journal are lawful
+-- the journal has batches, and each fits the database of the batches before it
 abbrev pub HasLawfulJournal : Records → Type 0
 HasLawfulJournal journal = (batches : List NumberedChanges) × IsLawfulJournal journal batches
 
@@ -73,7 +73,7 @@ IsRowRefused records requests_error.TooManyRows = ⊥
 IsRowRefused records (requests_error.Bad row why) = IsRequestsFault records (requests_error.Bad row why)
 IsRowRefused records (requests_error.NotAsk row) = IsRequestsFault records (requests_error.NotAsk row)
 
--- one of the streams is too long, and the streams before it have no fault
+-- one of the streams is too long, and the streams that are checked before it have no fault
 abbrev pub IsOneTooLong : Records → Records → List ℕ → Type 0
 IsOneTooLong journal requests text =
     (MOST_ROWS < length journal)
@@ -81,9 +81,9 @@ IsOneTooLong journal requests text =
     × (IsRequestsFault requests requests_error.TooManyRows
     ⊎ (HasOwnRequests requests × HasTooManyLines text)))
 
--- Why streams aren't audited: the first reason that applies. The journal, its batches, the requests,
--- their ids and the replies are checked in this order. Nothing is claimed of a stream whose bytes
--- aren't known.
+-- Why streams aren't audited: the first reason that applies. The journal, its batches, the
+-- requests, their ids and the replies are checked in this order. Nothing is stated about a stream
+-- whose bytes aren't known.
 abbrev pub IsAuditError : Option (List ℕ) → Option (List ℕ) → Option (List ℕ) → AuditError → Type 0
 IsAuditError journal requests replies error.Memory = Unit {0}
 IsAuditError journal requests replies error.Device = Unit {0}

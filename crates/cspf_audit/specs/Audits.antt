@@ -10,7 +10,7 @@ use Rattle.cspf_audit.specs.declared.finding.Finding.{Finding}
 use Rattle.cspf_audit.specs.declared.finding.Finding.TheVariants as finding
 use Rattle.cspf_audit.specs.Findings.{IsNamed, AreFindings}
 
--- the fault of the line at this place, counted from 1, if its finding is a fault
+-- the fault of the line with this number, counted from 1, if the line's finding is a fault
 abbrev pub fault_at : ℕ → Finding → Option AuditFault
 fault_at place finding.PassedOver = None
 fault_at place finding.Good = None
@@ -20,12 +20,12 @@ fault_at place finding.Doubled = Some (fault.Doubled place)
 fault_at place finding.NoVersion = Some (fault.NoVersion place)
 fault_at place finding.Altered = Some (fault.Altered place)
 
--- a list of faults, with a fault before it if there is one
+-- the list of faults, with this fault in front of the list if there is one
 abbrev pub with_fault : Option AuditFault → List AuditFault → List AuditFault
 with_fault None faults = faults
 with_fault (Some f) faults = f ∷ faults
 
--- The faults of lines. The first line is at this place.
+-- The faults of lines that have these findings. The first of these lines has this number.
 abbrev pub faults_from : ℕ → List Finding → List AuditFault
 faults_from place [] = []
 faults_from place (found ∷ findings) = with_fault (fault_at place found) (faults_from (place + 1) findings)
@@ -40,7 +40,7 @@ is_good finding.Doubled = false
 is_good finding.NoVersion = false
 is_good finding.Altered = false
 
--- how many lines are good
+-- how many lines are good: they aren't skipped, and have no fault
 abbrev pub good_count : List Finding → ℕ
 good_count findings = count_by is_good findings
 
@@ -52,8 +52,9 @@ AreUnanswered lines (q ∷ requests) faults =
     ⊎ ((¬ IsNamed lines q.id)
     × ((more : List AuditFault) × (faults ≡ fault.Unanswered q.id ∷ more) × AreUnanswered lines requests more))
 
--- The audit of lines, by a journal's batches and the requests. The faults are those of the lines, in
--- their order, and then the requests that no line names. The audit also counts the good lines.
+-- The audit of the lines of the replies, given a journal's batches and the requests. First come the
+-- faults of lines, in the order of the lines, and then a fault for each request whose id no line
+-- has. The audit also counts the good lines.
 pub record IsAudit (batches : List NumberedChanges) (requests : List Request) (lines : List (List ℕ)) (audit : Audit) : Type 0 where
   pub findings : List Finding
   pub unanswered : List AuditFault

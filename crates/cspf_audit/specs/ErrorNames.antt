@@ -35,7 +35,7 @@ IsIoFault why e =
     ((error_kind why ≡ kind.OutOfMemory) × (e ≡ error.Memory))
     ⊎ ((error_kind why ≢ kind.OutOfMemory) × (e ≡ error.Device))
 
--- the audit's error for a journal that isn't lawful
+-- the audit's error if a journal can't be read, is torn, or has a batch that doesn't fit
 abbrev pub IsJournalFault : Records → AuditError → Type 0
 IsJournalFault records error.Memory = Unit {0}
 IsJournalFault records error.Device = Unit {0}
@@ -45,7 +45,7 @@ IsJournalFault records (error.Batch number why) = IsUnlawfulJournal records numb
 IsJournalFault records (error.Requests why) = ⊥
 IsJournalFault records (error.SameId row) = ⊥
 
--- the audit's error for batches that aren't lawful
+-- the audit's error if memory is refused, or if a batch doesn't fit the database of the batches before it
 abbrev pub IsUnfitBatch : List NumberedChanges → AuditError → Type 0
 IsUnfitBatch batches error.Memory = Unit {0}
 IsUnfitBatch batches error.Device = ⊥

@@ -1,4 +1,5 @@
--- What the audit finds of a line, by a journal's batches, the requests and the lines before it.
+-- What the audit finds of a line. It depends on a journal's batches, the requests and the lines
+-- before this one.
 use Rattle.std.specs.Prelude.{◌≡◌, ℕ, ◌<◌, ◌≤◌, ◌⊎◌, ◌==◌, List, [], ◌∷◌, ◌++◌, Contains, Some, length, take, codes}
 use Rattle.std.specs.List.{before_first, slice_get}
 use Rattle.cspf_model.specs.declared.request.Request.{Request}
@@ -23,18 +24,18 @@ IsPassedOver line =
     (first_word line ≡ codes "version")
     ⊎ ((first_word line ≡ codes "applied") ⊎ (first_word line ≡ codes "batch"))
 
--- some line begins with this id and a version
+-- one of the lines begins with the word `ask`, this id and a version
 abbrev pub IsNamed : List (List ℕ) → ℕ → Type 0
 IsNamed lines id =
     (line : List ℕ) × (version : ℕ) × Contains lines line
     × BeginsWithHead line (record { id = id; version = version })
 
--- the line, with a line feed after it, is the reply of a best answer at this version
+-- the line and a line feed after it are the reply line of a best answer to the request at this version
 abbrev pub IsRightReply : Database → Request → ℕ → List ℕ → Type 0
 IsRightReply d q version line =
     (answer : Answer) × IsBestAnswer d q answer × IsReply q.id version answer (line ++ 10 ∷ [])
 
--- the line is the first with the id of this request, and names this version
+-- the line is the first line with the id of this request, and names this version
 pub record IsFirstReply (requests : List Request) (before : List (List ℕ)) (line : List ℕ) (q : Request) (version : ℕ) : Type 0 where
   pub head : BeginsWithHead line (record { id = q.id; version = version })
   pub asked : Contains requests q
@@ -60,7 +61,7 @@ IsFinding batches requests before line finding.Good =
     × (version ≤ length batches)
     × IsRightReply (database_after (take version batches)) q version line
 
--- each line has its finding
+-- There is one finding for each line, and `IsFinding` holds of the line and its finding.
 pub record AreFindings (batches : List NumberedChanges) (requests : List Request) (lines : List (List ℕ)) (findings : List Finding) : Type 0 where
   pub counted : length findings ≡ length lines
   pub each : (index : ℕ) (line : List ℕ) (found : Finding) → slice_get lines index ≡ Some line

@@ -11,7 +11,7 @@ IsAsked requests id = (q : Request) × Contains requests q × (q.id ≡ id)
 abbrev pub HaveOwnIds : List Request → Type 0
 HaveOwnIds requests = IsDistinct nat_eq (map (λ q. q.id) requests)
 
--- The request at this place, counted from 1, is the first that has the id of an earlier request.
+-- The request with this number, counted from 1, is the first request that has the id of an earlier request.
 pub record RepeatsId (requests : List Request) (place : ℕ) : Type 0 where
   pub before : List Request
   pub q : Request

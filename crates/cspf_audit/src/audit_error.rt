@@ -39,13 +39,14 @@ pub enum AuditError {
         /// Why the batch doesn't fit.
         refusal: Refusal,
     },
-    /// A row of the requests is refused: `Bad` or `NotAsk`.
+    /// A row of the requests is refused, because it can't be read (`Bad`) or is no request
+    /// (`NotAsk`).
     #[error("requests: {0}")]
     Requests(RequestsError),
     /// A row of the requests has the id of an earlier row.
     #[error("row {row} of the requests has the id of an earlier row")]
     SameId {
-        /// The number of that row, from 1 on.
+        /// The number of the row of the requests, counted from 1.
         row: u32,
     },
 }

@@ -1,4 +1,5 @@
-//! The audit itself: it reads the three streams in their order, and then judges each line.
+//! The audit itself: it reads the journal, the requests and the replies, in this order, and then
+//! judges each line of the replies.
 
 ghost use Rattle.std.specs.Prelude.{◌≤◌, length, IfOk, IfErr, IfSome};
 ghost use Rattle.cspf_rows.specs.declared.limits.TheConstants.{MOST_ROWS};
@@ -23,10 +24,11 @@ use std::alloc::{AllocError, Global};
 use std::collections::BTreeMap;
 use std::io::Read;
 
-/// Audits replies. Each line names a version of the journal, and has to be the reply to its request at
-/// that version. `best_by_rounds` computes that reply. Requests without a line are faults, too. Lines
-/// whose first word is `version`, `applied` or `batch` are skipped. Each stream is read whole, and is
-/// refused if it has more than `MOST_ROWS` rows or lines.
+/// Audits replies. Each line names a request and a version of the journal, and has to be the reply
+/// to this request at this version. `best_by_rounds` computes the answer of that reply. A request
+/// without a line is a fault, too. Lines whose first word is `version`, `applied` or `batch` are
+/// skipped. Each stream is read whole, and is refused if it has more than `MOST_ROWS` rows or
+/// lines.
 pub fn audit<R: Read + Drop, Q: Read + Drop, P: Read + Drop>(
     alloc: Global,
     journal: R,

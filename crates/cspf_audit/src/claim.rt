@@ -1,5 +1,6 @@
-/// A line that claims to be a reply: it is the first line with the id of a request, and its version is
-/// in the journal. The line is then compared with the reply.
+/// A line that still has to be compared with the right reply. It is the first line with the id of a
+/// request, and its version is in the journal. The right reply is the reply to this request at this
+/// version.
 #[derive(Clone, Copy, Debug, PartialEq, Eq)]
 pub(crate) struct Claim {
     /// The index of the line.

@@ -1,4 +1,5 @@
-//! Compares each line that claims to be a reply with the reply that the plain search computes.
+//! Compares each line that begins as a reply, and has no fault so far, with the reply that the
+//! plain search (`best_by_rounds`) computes.
 
 ghost use Rattle.std.specs.Prelude.{◌≡◌, ◌↔◌, IsTrue, IfOk, OnOk, ◌∷◌, ◌++◌, [], length};
 ghost use Rattle.cspf_audit.specs.Findings.{IsRightReply, AreFindings};
@@ -14,8 +15,9 @@ use cspf_model::{Batch, Request, one_best_answer};
 use cspf_search::best_by_rounds;
 use std::alloc::{AllocError, Global};
 
-/// Compares the lines that claim to be replies with the replies at their versions. The finding of a
-/// line that differs from its reply is `Altered`.
+/// Compares each line whose head has no fault with the right reply at the version that the line
+/// names. Each such line has a claim: it is still to be compared. The finding of a line that
+/// differs from the right reply becomes `Altered`.
 pub(crate) fn compare_all(
     alloc: Global,
     batches: &[Batch],

@@ -1,4 +1,5 @@
-//! Reads a journal whose batches are lawful, and plans each batch.
+//! Reads a journal whose batches are lawful: each fits the database of the batches before it. Plans
+//! each batch.
 
 ghost use Rattle.std.specs.Prelude.{◌≡◌, ◌≤◌, [], length, IfOk, IfErr, OnOk, IfSome};
 ghost use Rattle.std.specs.Vec.{vec_capacity};
@@ -17,8 +18,8 @@ use cspf_rows::{Journal, Rest, read_journal};
 use std::alloc::Global;
 use std::io::Read;
 
-/// The batches of a journal, and the plan of each batch: what it changes in the table of the batches
-/// before it.
+/// The batches of a journal, and a plan of each batch. The plan says what the batch changes in the
+/// table of the batches before it.
 #[derive(Drop)]
 pub(crate) struct LawfulJournal {
     /// The batches.
@@ -50,8 +51,8 @@ pub(crate) fn lawful_journal<R: Read + Drop>(
     Ok(LawfulJournal { batches, plans })
 }
 
-/// Plans each batch for the table of the batches before it. The first batch that doesn't fit is
-/// refused.
+/// Makes a plan for each batch: how the batch changes the table that the batches before it make. The
+/// first batch that doesn't fit is refused.
 fn plan_all(alloc: Global, batches: &[Batch]) -> Result<Vec<Plan>, AuditError>
     ensures lawful { OnOk result (AreLawful batches.now) }
     ensures planned { IfOk result (λ plans. ArePlansUpTo batches.now plans.items (length batches.now)) }
@@ -63,8 +64,8 @@ fn plan_all(alloc: Global, batches: &[Batch]) -> Result<Vec<Plan>, AuditError>
     Ok(plans)
 }
 
-/// Plans each batch for the table of the batches before it, or returns the first batch that doesn't
-/// fit. The plans are added to an empty list that has room for them, so the call takes no memory.
+/// Makes a plan for each batch: how the batch changes the table that the batches before it make. Or
+/// returns the first batch that doesn't fit. The plans are added to an empty list that has room for them, so the call takes no memory.
 fn plan_each(table: &mut Table, batches: &[Batch], plans: &mut Vec<Plan>) -> Result<(), UnfitBatch>
     requires empty { table.old ≡ no_links }
     requires none { plans.old.items ≡ [] }
@@ -74,7 +75,8 @@ fn plan_each(table: &mut Table, batches: &[Batch], plans: &mut Vec<Plan>) -> Res
     ensures err { IfErr result (λ unfit. IsFirstUnfit batches.now unfit.number unfit.refusal) }
 {
     // Laws: the next batch makes its changes in the database of the batches before it. If the next
-    // batch fits, the batches stay lawful.
+    // batch fits this database, each batch up to the next one fits the database of the batches
+    // before it.
     absorbing();
     lawful_batches();
     for batch in batches {

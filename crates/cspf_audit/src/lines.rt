@@ -52,7 +52,7 @@ pub(crate) fn read_lines<P: Read + Drop>(
     Ok(lines)
 }
 
-/// Reads all further lines of a reader.
+/// Reads all lines that the reader still has.
 fn read_all<B: BufRead>(
     alloc: Global,
     reader: &mut B,
@@ -78,7 +78,7 @@ fn read_all<B: BufRead>(
     }
 }
 
-/// Reads the next line. The result is `None` at the end.
+/// Reads the next line. The result is `None` at the end of the stream.
 fn next_line<B: BufRead>(alloc: Global, reader: &mut B) -> Result<Option<ReplyLine>, AuditError>
     ensures takes { IfOk result (TakesLine (B.remaining reader.old) (B.remaining reader.new)) }
     ensures error { IfErr result IsReadingFault }

@@ -22,9 +22,9 @@ impl Replay {
         Ok(Replay { table, version: 0 })
     }
 
-    /// Goes to a version of a journal, by the plans of its batches. If the version is above the present
-    /// version, only the batches between the two are absorbed. Otherwise the replay begins at version 0
-    /// again.
+    /// Changes the table to the database at `version` of the journal, by the plans of the journal's
+    /// batches. If `version` is at least the replay's version, the table makes only the changes of
+    /// the batches between the two. If `version` is lower, the replay first goes back to version 0.
     pub(crate) fn go_to(
         &mut self,
         alloc: Global,
@@ -51,7 +51,7 @@ impl Replay {
         Ok(())
     }
 
-    /// The table.
+    /// The table, which has the database at the replay's version.
     pub(crate) fn table(&self) -> &Table
         ensures { result.now ≡ self.now.table }
     {

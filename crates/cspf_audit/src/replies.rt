@@ -1,4 +1,5 @@
-//! What is found of each line of the replies by its head alone. The rest of the line is compared later.
+//! What the head of each line of the replies tells. The head is the word `ask`, an id and a
+//! version. The rest of the line is compared later.
 
 ghost use Rattle.std.specs.Prelude.{◌≡◌, ◌++◌, ◌∷◌, [], ◌<◌, ℕ, List, length, Some, OnOk, IfOk};
 ghost use Rattle.std.specs.BTreeMap.{get};
@@ -17,28 +18,31 @@ use cspf_model::Request;
 use std::alloc::{AllocError, Global};
 use std::collections::BTreeMap;
 
-/// The findings and the claims of the lines that were read.
+/// The findings of the lines that were read, and their claims (lines still to be compared with
+/// right replies).
 #[derive(Drop)]
 pub(crate) struct ReplyFindings {
-    /// The finding of each line. A line that claims to be a reply counts as good at first.
+    /// The finding of each line. A line that is still to be compared with the right reply has the
+    /// finding `Good` until then.
     pub(crate) findings: Vec<Finding>,
-    /// The lines that claim to be replies.
+    /// The lines that are still to be compared with right replies.
     pub(crate) claims: Vec<Claim>,
-    /// For each request, whether a line has its id.
+    /// For each request, whether one of the lines that were read has the request's id.
     pub(crate) named: Vec<bool>,
 }
 
-/// What is found of a line before it is compared with a reply.
+/// What the audit knows of a line before it compares the line with the right reply.
 #[derive(Clone, Copy)]
 enum Reading {
-    /// The finding of a line that isn't compared.
+    /// The line needn't be compared with the right reply: it has this finding.
     Settled(Finding),
-    /// The line claims to be the reply to the request at this index, at this version.
+    /// The line is to be compared with the right reply to the request at this index, at this
+    /// version.
     Claims(usize, u32),
 }
 
-/// Reads the lines of the replies. `ids` has the index of each request by its id, and `last` is the
-/// highest version.
+/// Reads the lines of the replies. `ids` has the index of each request by the request's id, and
+/// `last` is the highest version of the journal.
 pub(crate) fn read_replies(
     alloc: Global,
     lines: &[ReplyLine],
@@ -64,7 +68,9 @@ pub(crate) fn read_replies(
 }
 
 impl ReplyFindings {
-    /// Takes the next line.
+    /// Adds the finding of the next line of the replies. If the line is the first one with a
+    /// request's id, and names a version of the journal, also adds a claim: the line is still to be
+    /// compared with the right reply.
     fn take(
         &mut self,
         line: &[u8],
@@ -98,7 +104,8 @@ impl ReplyFindings {
     }
 }
 
-/// Reads a line, and marks the request whose id it has.
+/// Reads the head of a line. If the head has the id of a request, `named` becomes true at the index
+/// of this request.
 fn read_reply(line: &[u8], ids: &BTreeMap<u64, usize>, last: usize, named: &mut [bool]) -> Reading
     requires within { (id index : ℕ) → get nat_cmp ids.now id ≡ Some index
         → index < length named.old }

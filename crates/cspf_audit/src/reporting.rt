@@ -11,7 +11,8 @@ use crate::finding::Finding;
 use cspf_model::Request;
 use std::alloc::{AllocError, Global};
 
-/// The audit of lines with these findings. `named` says for each request whether a line has its id.
+/// Makes the audit of lines that have these findings. `named` says for each request whether a line
+/// has the request's id.
 pub(crate) fn report(
     alloc: Global,
     findings: &[Finding],
@@ -30,7 +31,8 @@ pub(crate) fn report(
     Ok(Audit { good, faults })
 }
 
-/// Adds the fault of each line that has a fault, and counts the good lines.
+/// Adds the fault of each line that has a fault, and counts the good lines, which aren't skipped
+/// and have no fault.
 fn report_lines(findings: &[Finding], faults: &mut Vec<AuditFault>) -> Result<u32, AllocError>
     requires most { length findings.now ≤ MOST_ROWS }
     ensures good { IfOk result (λ good. good ≡ good_count findings.now) }
@@ -48,7 +50,7 @@ fn report_lines(findings: &[Finding], faults: &mut Vec<AuditFault>) -> Result<u3
     Ok(good)
 }
 
-/// The fault of a line with this finding, if it is a fault.
+/// The fault of the line with this number and this finding, if the finding is a fault.
 fn fault_of(line: u32, finding: Finding) -> Option<AuditFault>
     ensures { result ≡ fault_at line finding }
 {

@@ -1,4 +1,4 @@
--- The database after changes of a base: its links at keys, and its marks.
+-- The database after changes of a base: its link at each key, and its marked routers, which carry no transit.
 use Rattle.std.proofs.Common.{◌≡◌, ◌↔◌, ℕ, Bool, true, false, not, cond, IsTrue, IfSome, Option, Some, None, List, [], ◌∷◌, reverse, find, refl, sym, ap, ◌∙◌}
 use Rattle.std.specs.Ordering.{nat_cmp, eq_by_cmp}
 use Rattle.std.specs.FinSet as set
@@ -16,7 +16,7 @@ use Rattle.cspf_model.proofs.Databases.LastChanges.{link_at-after_changes, tied_
 abbrev pub on_key : ChangeKey → Change → Bool
 on_key k c = eq_by_cmp change_key_cmp k (key_changed c)
 
--- The change that is found passes the test.
+-- The change that `find` returns passes the test.
 find_passes : (p : Change → Bool) (cs : List Change) (c : Change) → find p cs ≡ Some c → p c ≡ true
 find_passes p [] c e = absurd (cc)
 find_passes p (b ∷ cs) c e =
@@ -25,12 +25,13 @@ find_passes p (b ∷ cs) c e =
       | false ↦ λ _ there. find_passes p cs c there
     ] refl e
 
--- If the last change of a link's key puts a link, then the link has this key.
+-- If the last change with a link's key sets a link (`Put`), this link has the key.
 pub last_put : (k : Key) (cs : List Change) (l : Link) → last_on (link_key k) cs ≡ Some (Put l) → key_of l ≡ k
 last_put k cs l e =
     sym (link_keys_same k (key_of l) (change_keys_same (link_key k) (link_key (key_of l)) (find_passes (on_key (link_key k)) (reverse cs) (Put l) e)))
 
--- whether a router is marked after one change
+-- `mark_after` says whether a router is marked after one change. Only a change of the router's own
+-- mark matters. A marked router carries no transit.
 pub marked-after_change : (d : Database) (c : Change) (q : ℕ)
     → set.contains (after_change d c).marks q ≡ mark_after (cond (on_key (mark_key q) c) (Some c) None) (set.contains d.marks q)
 marked-after_change d (Put l) q =
@@ -46,7 +47,8 @@ marked-after_change d (Node router transit) q =
     chosen true = refl
     chosen false = refl
 
--- Whether a router is marked after changes. The changes are listed here from the last to the first.
+-- The last change of a router's mark decides whether the router is marked. A marked router carries
+-- no transit. The changes are listed here from the last to the first.
 marked-after_reversed : (d : Database) (cs : List Change) (q : ℕ)
     → set.contains (after_changes d (reverse cs)).marks q ≡ mark_after (find (on_key (mark_key q)) cs) (set.contains d.marks q)
 marked-after_reversed d [] q = refl
@@ -56,13 +58,14 @@ marked-after_reversed d (c ∷ cs) q =
     ∙ marked-after_change (after_changes d (reverse cs)) c q
     ∙ elim (on_key (mark_key q) c) as (λ b. mark_after (cond b (Some c) None) (set.contains (after_changes d (reverse cs)).marks q) ≡ mark_after (cond b (Some c) (find (on_key (mark_key q)) cs)) (set.contains d.marks q)) [ true ↦ refl | false ↦ marked-after_reversed d cs q ]
 
--- The last change of a router's mark decides whether the router is marked.
+-- The last change of a router's mark decides whether the router is marked. A marked router carries
+-- no transit.
 pub marked-after_changes : (d : Database) (cs : List Change) (q : ℕ)
     → set.contains (after_changes d cs).marks q ≡ mark_after (last_on (mark_key q) cs) (set.contains d.marks q)
 marked-after_changes d cs q =
     ap (λ bs. set.contains (after_changes d bs).marks q) (sym (reverse-reverse cs)) ∙ marked-after_reversed d (reverse cs) q
 
--- If a link's key is changed, the last change of it decides which link is there.
+-- If there are changes with a link's key, the last of them decides which link is at this key.
 pub link_by_last : (d : Database) (cs : List Change) (k : Key) (c : Change) → Some c ≡ last_on (link_key k) cs
     → link_left c ≡ link_at (after_changes d cs) k
 link_by_last d cs k c is =
@@ -73,7 +76,7 @@ pub link_by_none : (d : Database) (cs : List Change) (k : Key) → None ≡ last
 link_by_none d cs k is =
     sym (link_at-after_changes d cs k ∙ ap (λ o. link_after o (link_at d k)) (sym is))
 
--- A link that the last change puts at a key has this key.
+-- A link that the last change with a key sets (`Put`) has this key.
 pub keyed_by_last : (cs : List Change) (k : Key) (c : Change) → Some c ≡ last_on (link_key k) cs
     → IfSome (link_left c) (λ l. key_of l ≡ k)
 keyed_by_last cs k (Put l) is = last_put k cs l (sym is)
@@ -91,7 +94,8 @@ unmarked : (a b : Bool) → a ≡ b → IsTrue (not b) ↔ (¬ IsTrue a)
 unmarked a true e = (λ t. absurd (false≢true t), λ marked. absurd (marked e))
 unmarked a false e = (λ t marked. false≢true (sym e ∙ marked), λ marked. refl)
 
--- If a router's mark is changed, the last change decides whether the router has transit.
+-- If a router's mark is changed, the last change of the mark decides whether the router carries
+-- transit.
 pub transit_by_last : (d : Database) (cs : List Change) (q : ℕ) (c : Change) → Some c ≡ last_on (mark_key q) cs
     → IsTrue (not (mark_left c)) ↔ HasTransit (after_changes d cs) q
 transit_by_last d cs q c is =
@@ -105,7 +109,8 @@ transit_by_none d cs q is =
     marked-after_changes d cs q ∙ ap (λ o. mark_after o (set.contains d.marks q)) (sym is) in
     (λ free marked. free (sym same ∙ marked), λ free marked. free (same ∙ marked))
 
--- A link has its reverse if the link at the reverse's key runs back to it.
+-- If the link at the reverse's key runs back to the router of `l`, it is the reverse exactly if it also runs to the
+-- interface of `l`.
 pub reverse_found : (d : Database) (l back : Link) → Some back ≡ link_at d (l.to, l.remote) → key_of back ≡ (l.to, l.remote)
     → back.to ≡ l.from → (back.remote ≡ l.local) ↔ HasReverse d l
 reverse_found d l back found keyed to = (

@@ -1,4 +1,5 @@
--- The figures of links. A figure is the effective bandwidth of a link at a priority.
+-- The figures of links. A figure is a link's effective bandwidth at a priority: what the placements
+-- leave at this priority and at all more important ones.
 use Rattle.std.proofs.Common.{◌≡◌, ℕ, zero, suc, ◌+◌, ◌-◌, ◌<◌, ◌≤◌, List, [], slice_index, refl, ◌∙◌, arith}
 use Rattle.cspf_model.specs.declared.link.Link.{Link}
 use Rattle.cspf_model.specs.Database.{key_of}
@@ -7,7 +8,8 @@ use Rattle.cspf_book.specs.Placements.{counted}
 use Rattle.cspf_book.specs.Effective.{figure, figures, effective_link}
 use Rattle.cspf_book.specs.Laws.{FiguresNeverRise, NothingHeldIsBase, least_up_to}
 
--- The figure at a priority is the number at this index of the list of figures.
+-- The list of figures has the figure of each priority at the index with the priority's number. A
+-- figure is the effective bandwidth at a priority.
 pub slice_index-figures : (free : List ℕ) (held : ℕ → ℕ) (p : ℕ) → p < 8
     → slice_index (figures free held) p ≡ figure free held p
 slice_index-figures free held zero h = refl
@@ -20,7 +22,8 @@ slice_index-figures free held (suc (suc (suc (suc (suc (suc zero)))))) h = refl
 slice_index-figures free held (suc (suc (suc (suc (suc (suc (suc zero))))))) h = refl
 slice_index-figures free held (suc (suc (suc (suc (suc (suc (suc (suc p)))))))) h = absurd (omega arith)
 
--- A figure is at most the figure at each more important priority.
+-- A figure, which is the effective bandwidth at a priority, is at most the figure at each more
+-- important priority.
 pub figure-le : (free : List ℕ) (held : ℕ → ℕ) (p d q : ℕ) → q ≡ d + p
     → figure free held q ≤ figure free held p
 figure-le free held p zero q e =
@@ -29,14 +32,16 @@ figure-le free held p (suc d) zero e = absurd (omega arith)
 figure-le free held p (suc d) (suc q) e =
     let rest = figure-le free held p d q (omega arith) in omega (arith, rest)
 
--- The effective bandwidth of a link at a priority is the figure at it.
+-- The bandwidth of an effective link (the base's link with what the placements leave) at a priority
+-- is the bandwidth that `figure` computes for this priority.
 pub free-effective_link : (placements : List Placement) (l : Link) (p : ℕ) → p < 8
     → slice_index (effective_link placements l).free p ≡ figure l.free (counted placements (key_of l)) p
 unfolding effective_link
 free-effective_link placements l p h =
     slice_index-figures l.free (counted placements (key_of l)) p h
 
--- The figures never rise with the priority's number.
+-- The effective bandwidths of a link, which are computed from what the placements leave, never rise
+-- from priority 0 to priority 7.
 pub figures_fall : FiguresNeverRise
 figures_fall placements l p q le small =
     let at_p = free-effective_link placements l p (omega arith) in
@@ -44,18 +49,21 @@ figures_fall placements l p q le small =
     let falls = figure-le l.free (counted placements (key_of l)) p (q - p) q (omega arith) in
     omega (arith, at_p, at_q, falls)
 
--- A figure is at most the bandwidth that is left at its priority.
+-- A figure, which is the effective bandwidth at a priority, is at most the bandwidth that is left
+-- at this priority.
 pub figure-le-left : (free : List ℕ) (held : ℕ → ℕ) (p : ℕ) → figure free held p ≤ slice_index free p - held p
 figure-le-left free held zero = omega arith
 figure-le-left free held (suc p) = omega arith
 
--- If nothing is counted, a figure is the least of the bandwidths up to its priority.
+-- If no bandwidth is counted on a link, its effective bandwidth at a priority is the least of the
+-- link's bandwidths at the priorities up to this one.
 figure-nothing : (free : List ℕ) (held : ℕ → ℕ) → ((p : ℕ) → held p ≡ 0) → (p : ℕ) → figure free held p ≡ least_up_to free p
 figure-nothing free held none zero = let e = none 0 in omega (arith, e)
 figure-nothing free held none (suc p) =
     let rest = figure-nothing free held none p in let e = none (suc p) in omega (arith, rest, e)
 
--- Without placements nothing is counted.
+-- Without placements, the effective bandwidth of a link at a priority is the least of the link's
+-- bandwidths at the priorities up to this one.
 pub nothing_held : NothingHeldIsBase
 nothing_held l p small =
     free-effective_link [] l p small ∙ figure-nothing l.free (counted [] (key_of l)) (λ q. refl) p

@@ -43,7 +43,8 @@ remove-index_of id (p ∷ ps) own =
     later : (m n : ℕ) → m ≡ suc n → remove (p ∷ ps) m ≡ p ∷ remove ps n
     later m n e = rw e refl
 
--- An id that differs from all ids differs from the ids of the other placements.
+-- If an id differs from the ids of all placements, it differs from the ids of the placements that
+-- `others` returns.
 kept : (id m : ℕ) (placements : List Placement) → AllByRecursion (λ y. nat_eq m y ≡ false) (map id_of placements)
     → AllByRecursion (λ y. nat_eq m y ≡ false) (map id_of (others id placements))
 kept id m [] all = all
@@ -53,7 +54,8 @@ kept id m (q ∷ qs) all =
       | false ↦ (all.0, kept id m qs all.1)
     ]
 
--- The ids of the other placements are distinct, too.
+-- If the ids of all placements are distinct, so are the ids of the placements that `others`
+-- returns.
 pub own_ids-others : (id : ℕ) (placements : List Placement) → HaveDistinctIds placements → HaveDistinctIds (others id placements)
 unfolding IsDistinct
 own_ids-others id [] own = own
@@ -63,7 +65,7 @@ own_ids-others id (p ∷ ps) own =
       | false ↦ (kept id (id_of p) ps own.0, own_ids-others id ps own.1)
     ]
 
--- None of the other placements has the id.
+-- None of the placements that `others` returns for an id has this id.
 none-others : (id : ℕ) (placements : List Placement) → list_any (nat_eq id) (map id_of (others id placements)) ≡ false
 none-others id [] = refl
 none-others id (p ∷ ps) =
@@ -76,7 +78,8 @@ none-others id (p ∷ ps) =
     neither true b first second = first
     neither false b first second = second
 
--- The ids stay distinct if a placement replaces the placement with the same id.
+-- If the ids of placements are distinct, they stay distinct if a placement replaces the placement
+-- with the same id.
 pub own_ids-placed : (placements : List Placement) (p : Placement) → HaveDistinctIds placements
     → HaveDistinctIds (others (id_of p) placements ++ p ∷ [])
 own_ids-placed placements p own =
@@ -93,7 +96,7 @@ none-behind id (p ∷ ps) behind =
       | false ↦ λ e. none-behind id ps (omega arith)
     ] behind
 
--- The placement at the index of an id has this id.
+-- If the index of an id is the index of a placement, one of the placements has this id.
 pub id_at-index_of : (id : ℕ) (placements : List Placement) → index_of_id id placements < length placements
     → has_id id placements ≡ true
 id_at-index_of id [] within = absurd (omega arith)
@@ -103,7 +106,7 @@ id_at-index_of id (p ∷ ps) within =
       | false ↦ λ e. id_at-index_of id ps (omega arith)
     ] within
 
--- The index of an id, if none of the placements has the id.
+-- If none of the placements has the id, the index of the id is the number of placements.
 pub index_of-all : (id : ℕ) (placements : List Placement) (at : ℕ) → length placements ≤ at → at ≤ length placements
     → ((k : ℕ) (d : Placement) → k < at → nat_eq (id_of (get_or placements k d)) id ≡ false)
     → at ≡ index_of_id id placements
@@ -111,7 +114,7 @@ index_of-all id [] at behind within before = omega arith
 index_of-all id (p ∷ ps) at behind within before =
     sym (position_or_len_is (λ q. nat_eq (id_of q) id) (p ∷ ps) at p within (λ k h. before k p h) (λ h. absurd (omega arith)))
 
--- The index of an id, if the placement at this index has the id and no placement before has it.
+-- If the placement at index `at` has the id, and no placement before it has the id, `at` is the index of the id.
 pub index_of-found : (id : ℕ) (placements : List Placement) (at : ℕ) (p : Placement) → at ≤ length placements
     → ((k : ℕ) (d : Placement) → k < at → nat_eq (id_of (get_or placements k d)) id ≡ false)
     → p ≡ get_or placements at p → id_of p ≡ id → at ≡ index_of_id id placements
@@ -122,8 +125,8 @@ index_of-found id placements at p within before is same =
     itself : id_of p ≡ id → nat_eq (id_of p) id ≡ true
     itself e = grind arith
 
--- Removing the placement at `at` leaves fewer than `most` placements, if there are at most `most` and `at` isn't
--- `most`.
+-- Take at most `most` placements, and remove the one at index `at`, if there is one. If `at` isn't
+-- `most`, fewer than `most` placements are left.
 pub few_kept : (placements : List Placement) (at most : ℕ) → at ≤ length placements → length placements ≤ most
     → (at ≡ most → ⊥) → length (remove placements at) < most
 few_kept [] zero most within few apart = omega arith

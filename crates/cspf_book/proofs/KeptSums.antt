@@ -1,4 +1,4 @@
--- How the kept sums change, and that they stay what the placements count.
+-- How the stored sums change, and why they are always the bandwidths that the placements count.
 use Rattle.std.proofs.Common.{◌≡◌, ℕ, ◌+◌, ◌<◌, ◌≤◌, ◌*◌, ◌^◌, min, ◌||◌, ◌&&◌, Bool, true, false, cond, Option, Some, None, is_some, unwrap_or, IsSome, List, [], ◌∷◌, ◌++◌, length, take, remove, nat_eq, nat_le, slice_index, get_or, refl, sym, ap, subst, ◌∙◌, arith}
 use Rattle.std.specs.BTreeMap.{get}
 use Rattle.std.specs.Ordering.{eq_by_cmp}
@@ -32,7 +32,8 @@ has_key-more links i d k within =
     turned : (j : Key) → (nat_eq j.0 k.0 && nat_eq j.1 k.1) ≡ eq_by_cmp key_cmp j k
     turned j = sym (same_key_test k j) ∙ (eq_by_cmp_equiv keys_total).symm k j
 
--- If two tests never hold together, a bandwidth is counted for either of them.
+-- If two tests never both hold, the bandwidth that is counted if either holds is the sum of the
+-- bandwidths that are counted for each test.
 at_either : (h a b : Bool) (n : ℕ) → (b ≡ true → a ≡ false) → cond (h && (a || b)) n 0 ≡ cond (h && a) n 0 + cond (h && b) n 0
 at_either true true true n apart = absurd (let off = apart refl in cc)
 at_either true true false n apart = omega arith
@@ -40,12 +41,14 @@ at_either true false true n apart = omega arith
 at_either true false false n apart = refl
 at_either false a b n apart = refl
 
--- The link at index i, whose key is `key`, is counted after the first i links.
+-- In this module `key` is the key of the link at index i. A bandwidth is counted on this link after
+-- it is counted on the first i links.
 module _ (links : List Link) (i : ℕ) (l : Link) (key : Key) (hold bandwidth : ℕ) (within : i < length links) (its : key_of (get_or links i l) ≡ key) where
   more_at : (k : Key) → has_key (take (i + 1) links) k ≡ (has_key (take i links) k || eq_by_cmp key_cmp key k)
   more_at k = has_key-more links i l k within ∙ ap (λ j. has_key (take i links) k || eq_by_cmp key_cmp j k) its
 
-  -- If none of the first i links has this key, the bandwidth is counted there once.
+  -- None of the first i links has this key. At each key and priority, what the first i + 1 links
+  -- count is the sum of what the first i links count and what this key alone counts.
   split : has_key (take i links) key ≡ false → (k : Key) (p : ℕ)
       → cond (nat_le hold p && has_key (take (i + 1) links) k) bandwidth 0
       ≡ cond (nat_le hold p && has_key (take i links) k) bandwidth 0 + cond (nat_le hold p && eq_by_cmp key_cmp key k) bandwidth 0
@@ -53,21 +56,24 @@ module _ (links : List Link) (i : ℕ) (l : Link) (key : Key) (hold bandwidth : 
       ap (λ b. cond (nat_le hold p && b) bandwidth 0) (more_at k)
       ∙ at_either (nat_le hold p) (has_key (take i links) k) (eq_by_cmp key_cmp key k) bandwidth (λ tie. ap (has_key (take i links)) (sym (keys_same key k tie)) ∙ new)
 
-  -- the sums after the bandwidth is added on this link, too
+  -- None of the first i links has this key. If the bandwidth is added on the first i links and then
+  -- at this key, it is added on the first i + 1 links.
   pub more_along : (c d e : Counts) → has_key (take i links) key ≡ false → HasMoreAlong c d (take i links) hold bandwidth
       → HasMoreAt d e key hold bandwidth → HasMoreAlong c e (take (i + 1) links) hold bandwidth
   more_along c d e new along here = record {
     at = λ k p small. omega (arith, along.at k p small, here.at k p small, split new k p);
   }
 
-  -- the sums after the bandwidth is subtracted on this link, too
+  -- None of the first i links has this key. If the bandwidth is subtracted on the first i links and
+  -- then at this key, it is subtracted on the first i + 1 links.
   pub less_along : (c d e : Counts) → has_key (take i links) key ≡ false → HasMoreAlong d c (take i links) hold bandwidth
       → HasMoreAt e d key hold bandwidth → HasMoreAlong e c (take (i + 1) links) hold bandwidth
   less_along c d e new along here = record {
     at = λ k p small. omega (arith, along.at k p small, here.at k p small, split new k p);
   }
 
-  -- If one of the first i links has this key, nothing more is counted.
+  -- One of the first i links has this key. If the bandwidth is added on the first i links, it is
+  -- already added on the first i + 1 links, once at each key.
   pub more_again : (c d : Counts) → has_key (take i links) key ≡ true → HasMoreAlong c d (take i links) hold bandwidth
       → HasMoreAlong c d (take (i + 1) links) hold bandwidth
   more_again c d had along = record {
@@ -82,15 +88,16 @@ module _ (links : List Link) (i : ℕ) (l : Link) (key : Key) (hold bandwidth : 
       both : (k : Key) → (has_key (take i links) k || eq_by_cmp key_cmp key k) ≡ has_key (take i links) k
       both k = either (has_key (take i links) k) (eq_by_cmp key_cmp key k) (λ tie. ap (has_key (take i links)) (sym (keys_same key k tie)) ∙ had)
 
--- If two steps each leave the sums the same, both steps together leave them the same.
+-- If neither of two steps changes a sum, both steps together change no sum.
 pub same_sums_on : (c d e : Counts) → HasSameSums c d → HasSameSums d e → HasSameSums c e
 same_sums_on c d e first second = record { at = λ k p. second.at k p ∙ first.at k p }
 
--- If two steps each keep the keys, both steps together keep the keys.
+-- If no key loses its entry in either of two steps, no key loses its entry in both steps together.
 pub keeps_keys_on : (c d e : Counts) → KeepsKeys c d → KeepsKeys d e → KeepsKeys c e
 keeps_keys_on c d e first second = record { at = λ k h. second.at k (first.at k h) }
 
--- If the first i links and the next link have entries, the first i + 1 links have entries.
+-- The first i links have entries of sums. If these entries are kept, and the next link has an
+-- entry, the first i + 1 links have entries.
 pub keys_more : (c d : Counts) (links : List Link) (i : ℕ) (l : Link) → i < length links → HasKeys c (take i links) → KeepsKeys c d
     → IsSome (get key_cmp d.sums (key_of (get_or links i l))) → HasKeys d (take (i + 1) links)
 keys_more c d links i l within keys keeps there = record {
@@ -103,7 +110,7 @@ keys_more c d links i l within keys keeps there = record {
     which k false true had tie h = subst (λ j. IsSome (get key_cmp d.sums j)) (keys_same (key_of (get_or links i l)) k tie) there
     which k false false had tie h = absurd (cc)
 
--- Entering zeros at a key without an entry changes no sum.
+-- If an entry of zeros is made at a key that had no entry, no sum changes.
 pub entered_sums : (c d : Counts) (key : Key) → is_some (get key_cmp c.sums key) ≡ false
     → ((k : Key) → get key_cmp d.sums k ≡ cond (eq_by_cmp key_cmp key k) (Some no_sums) (get key_cmp c.sums k)) → HasSameSums c d
 entered_sums c d key none is = record { at = λ k p. ap (λ o. slice_index (unwrap_or o no_sums) p) (is k) ∙ chosen k p (eq_by_cmp key_cmp key k) refl }
@@ -119,7 +126,7 @@ entered_sums c d key none is = record { at = λ k p. ap (λ o. slice_index (unwr
         ap (λ ns. slice_index ns p) (sym (absent (get key_cmp c.sums k) none_here))
     chosen k p false tie = refl
 
--- Dropping an entry of zeros changes no sum.
+-- If an entry of zeros is dropped, no sum changes.
 pub forgotten_sums : (c d : Counts) (key : Key) → sums_at c key ≡ no_sums
     → ((k : Key) → get key_cmp d.sums k ≡ cond (eq_by_cmp key_cmp key k) None (get key_cmp c.sums k)) → HasSameSums c d
 forgotten_sums c d key none is = record { at = λ k p. ap (λ o. slice_index (unwrap_or o no_sums) p) (is k) ∙ chosen k p (eq_by_cmp key_cmp key k) refl }
@@ -129,7 +136,7 @@ forgotten_sums c d key none is = record { at = λ k p. ap (λ o. slice_index (un
     chosen k p true tie = ap (λ ns. slice_index ns p) (sym none ∙ ap (sums_at c) (keys_same key k tie))
     chosen k p false tie = refl
 
--- Entering zeros at a key drops no key.
+-- If an entry of zeros is made at a key, each key that had an entry still has one.
 pub entered_keys : (c d : Counts) (key : Key)
     → ((k : Key) → get key_cmp d.sums k ≡ cond (eq_by_cmp key_cmp key k) (Some no_sums) (get key_cmp c.sums k)) → KeepsKeys c d
 entered_keys c d key is = record { at = λ k h. subst IsSome (sym (is k)) (stays (eq_by_cmp key_cmp key k) (get key_cmp c.sums k) h) }
@@ -138,7 +145,8 @@ entered_keys c d key is = record { at = λ k h. subst IsSome (sym (is k)) (stays
     stays true o h = refl
     stays false o h = h
 
--- The sums at a key are replaced by greater ones.
+-- Replace the sums at a key by sums that are greater by a bandwidth at each priority from `hold` to
+-- 7. Then the bandwidth is added at this key (`HasMoreAt`).
 pub put_more : (c d : Counts) (key : Key) (sums : List ℕ) (hold bandwidth : ℕ) → HasSumsAt c d key sums
     → ((p : ℕ) → p < 8 → slice_index sums p ≡ sum_at c key p + cond (nat_le hold p) bandwidth 0) → HasMoreAt c d key hold bandwidth
 put_more c d key sums hold bandwidth is more = record {
@@ -160,7 +168,8 @@ put_more c d key sums hold bandwidth is more = record {
         ∙ (λ i. sum_at c (keys_same key k tie i) p + cond (and_true (nat_le hold p) i) bandwidth 0)
     chosen k p small false tie = without (nat_le hold p) (sum_at c k p)
 
--- The sums after the placement at an index is subtracted.
+-- Take the sums of all placements. If the bandwidth of the placement at an index is subtracted on
+-- the links of its route, the results are the sums of the other placements.
 pub count_without : (c d : Counts) (placements : List Placement) (at : ℕ) (p : Placement) → at < length placements
     → IsCountOf c placements → HasMoreAlong d c (get_or placements at p).route (get_or placements at p).hold (get_or placements at p).request.bandwidth
     → IsCountOf d (remove placements at)
@@ -168,7 +177,8 @@ count_without c d placements at p within is less = record {
   at = λ k q small. omega (arith, is.at k q small, less.at k q small, sum_by-remove (bandwidth_on k q) placements at p within);
 }
 
--- The sums after this placement is added again.
+-- Take the sums of all placements but the one at an index. If the bandwidth of this placement is
+-- added on the links of its route, the results are the sums of all placements.
 pub count_with : (c d : Counts) (placements : List Placement) (at : ℕ) (p : Placement) → at < length placements
     → IsCountOf c (remove placements at) → HasMoreAlong c d (get_or placements at p).route (get_or placements at p).hold (get_or placements at p).request.bandwidth
     → IsCountOf d placements
@@ -176,33 +186,37 @@ count_with c d placements at p within is more = record {
   at = λ k q small. omega (arith, is.at k q small, more.at k q small, sum_by-remove (bandwidth_on k q) placements at p within);
 }
 
--- The sums after one more placement is added.
+-- Take the sums of placements. If the bandwidth of one more placement is added on the links of its
+-- route, the results are the sums of these placements together with this one.
 pub count_more : (c d : Counts) (placements : List Placement) (p : Placement) → IsCountOf c placements
     → HasMoreAlong c d p.route p.hold p.request.bandwidth → IsCountOf d (placements ++ p ∷ [])
 count_more c d placements p is more = record {
   at = λ k q small. omega (arith, is.at k q small, more.at k q small, sum_by_push (bandwidth_on k q) placements p);
 }
 
--- If the sums don't change, they still are what the same placements count.
+-- If the sums are the bandwidths that some placements count, and no sum changes, they still are
+-- these bandwidths.
 pub count_same : (c d : Counts) (placements : List Placement) → HasSameSums c d → IsCountOf c placements → IsCountOf d placements
 count_same c d placements same is = record { at = λ k q small. same.at k q ∙ is.at k q small }
 
--- The sums are at least what each placement counts.
+-- At each key and priority the sum over all placements is at least the bandwidth that the placement
+-- at an index counts.
 pub is_counted : (c : Counts) (placements : List Placement) (at : ℕ) (p : Placement) → at < length placements → IsCountOf c placements
     → IsWithinSums c (get_or placements at p)
 is_counted c placements at p within is = record {
   at = λ k q small. omega (arith, is.at k q small, sum_by-remove (bandwidth_on k q) placements at p within);
 }
 
--- A sum within the bound of a version is within the bound of the next version.
+-- A sum that is at most 2 ^ 64 times a version is at most 2 ^ 64 times the next version.
 pub small_after : (version n m : ℕ) → n ≤ version * 2 ^ 64 → m ≤ n → m ≤ (version + 1) * 2 ^ 64
 small_after version n m small less = omega arith
 
--- A sum plus one bandwidth is within the bound of the next version.
+-- Take a sum that is at most 2 ^ 64 times a version. If it grows by at most a bandwidth below 2 ^
+-- 64, it is at most 2 ^ 64 times the next version.
 pub small_with : (version n m bandwidth : ℕ) → n ≤ version * 2 ^ 64 → bandwidth < 2 ^ 64 → m ≤ n + bandwidth → m ≤ (version + 1) * 2 ^ 64
 small_with version n m bandwidth small narrow more = omega arith
 
--- Placements count the same at priority 7 and at each higher number.
+-- Placements count the same bandwidth at priority 7 and at each number above 7.
 pub counted_least : (placements : List Placement) (k : Key) (p q : ℕ) → q ≡ min p 7 → counted placements k q ≡ counted placements k p
 counted_least [] k p q least = refl
 counted_least (r ∷ rs) k p q least =
@@ -214,7 +228,8 @@ counted_least (r ∷ rs) k p q least =
     same : bandwidth_on k q r ≡ bandwidth_on k p r
     same = ap (λ b. cond (b && has_key r.route k) r.request.bandwidth 0) test
 
--- The sums of some placements are small if they count at most as much as all placements of a version.
+-- If placements count at most as much as the placements of a book whose version is below 1,000,000, their sums are
+-- below 2 ^ 127.
 pub sums_small : (c d : Counts) (placements rest : List Placement) (version : ℕ) → HasSameSums c d → IsCountOf c rest
     → ((k : Key) (p : ℕ) → counted rest k p ≤ counted placements k p)
     → ((k : Key) (p : ℕ) → counted placements k p ≤ version * 2 ^ 64) → version < 1000000 → AreSmall d
@@ -222,7 +237,8 @@ sums_small c d placements rest version same is less small few = record {
   at = λ k p below. omega (arith, same.at k p, is.at k p below, less k p, small k p);
 }
 
--- Placing one request adds at most its bandwidth to what is counted.
+-- Placing one request adds at most its bandwidth to the bandwidth that is counted at a key and a
+-- priority.
 pub counted-placed : (id : ℕ) (placements : List Placement) (p : Placement) (k : Key) (priority : ℕ)
     → counted (others id placements ++ p ∷ []) k priority ≤ counted placements k priority + p.request.bandwidth
 counted-placed id placements p k priority =

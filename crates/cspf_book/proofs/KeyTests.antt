@@ -1,4 +1,4 @@
--- The two tests of a key are equal.
+-- Two tests that keys are the same give the same result.
 use Rattle.std.proofs.Common.{◌≡◌, ◌&&◌, Bool, true, false, IsTrue, nat_eq, refl, sym, arith}
 use Rattle.std.specs.Ordering.{eq_by_cmp}
 use Rattle.cspf_model.specs.Database.{Key, key_cmp}
@@ -10,7 +10,7 @@ same_tests true b there back = sym (there refl)
 same_tests false true there back = back refl
 same_tests false false there back = refl
 
--- The two tests whether keys are the same are equal.
+-- The order of keys and the comparison of their two parts agree on which keys are the same.
 pub same_key_test : (k j : Key) → eq_by_cmp key_cmp k j ≡ (nat_eq j.0 k.0 && nat_eq j.1 k.1)
 same_key_test k j = same_tests (eq_by_cmp key_cmp k j) (nat_eq j.0 k.0 && nat_eq j.1 k.1) there back
   where

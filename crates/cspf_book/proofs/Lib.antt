@@ -6,6 +6,9 @@ pub mod AlikeDatabases
 pub mod Currents
 pub mod OneLink
 pub mod Ids
+pub mod ById
+pub mod RouterBits
+pub mod ByKey
 pub mod TwiceUsed
 pub mod Covered
 pub mod TableLimits
@@ -17,4 +20,5 @@ pub mod LostRanks
 pub mod OverLists
 pub mod OneLostList
 pub mod UntouchedRoutes
+pub mod MovedEnds
 pub mod KeptSums

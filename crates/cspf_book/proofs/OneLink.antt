@@ -1,4 +1,5 @@
--- One effective link, and how it replaces an earlier one.
+-- A link with its effective bandwidths (what the placements leave), and how it replaces the same
+-- link with earlier effective bandwidths.
 use Rattle.std.proofs.Common.{◌≡◌, ◌≢◌, ℕ, zero, suc, ◌-◌, ◌<◌, min, Bool, true, false, cond, Option, Some, None, is_some, List, [], ◌∷◌, length, slice_index, slice_set, slice_index_or, refl, sym, ap, ◌∙◌, arith}
 use Rattle.std.proofs.Math.Nat.{ℕ_set}
 use mathlib.Core.HLevel.{is_prop→PathP, ¬_prop}
@@ -35,7 +36,9 @@ same_link l m e = λ i. record {
   two_ends = is_prop→PathP (λ j. (e j).from ≢ (e j).to) (λ j. ¬_prop) l.two_ends m.two_ends i;
 }
 
--- Eight figures, each the lesser of the figure before and of what is left at its priority.
+-- Take eight numbers. The first is the bandwidth that is left at priority 0. Each other number is
+-- the lesser of the number before it and the bandwidth that is left at its priority. Then these are
+-- the link's effective bandwidths (`figures`).
 pub eight_figures : (free : List ℕ) (held : ℕ → ℕ) (a b c d e f g h : ℕ) → a ≡ slice_index free 0 - held 0
     → b ≡ min a (slice_index free 1 - held 1) → c ≡ min b (slice_index free 2 - held 2)
     → d ≡ min c (slice_index free 3 - held 3) → e ≡ min d (slice_index free 4 - held 4)
@@ -52,7 +55,8 @@ eight_figures free held a b c d e f g h pa pb pc pd pe pf pg ph =
     let eighth : h ≡ figure free held 7 = ph ∙ ap (λ x. min x (slice_index free 7 - held 7)) seventh in
     λ i. first i ∷ second i ∷ third i ∷ fourth i ∷ fifth i ∷ sixth i ∷ seventh i ∷ eighth i ∷ []
 
--- The link with the effective bandwidths is the effective link.
+-- A link with the effective bandwidths of `l` (what the placements leave), and with all other
+-- attributes of `l`, is the effective link of `l`.
 pub effective_from : (placements : List Placement) (l r : Link) (free : List ℕ)
     → HasLinkFields r (record (fields_of_link l) { free = free }) → free ≡ figures l.free (counted placements (key_of l))
     → r ≡ effective_link placements l
@@ -67,7 +71,7 @@ one_change [] c e = absurd (omega arith)
 one_change (x ∷ []) c e = refl
 one_change (x ∷ y ∷ cs) c e = absurd (omega arith)
 
--- A batch that only puts a link over an alike link fits.
+-- A batch fits if it only replaces a link by a link with the same key that runs to the same router.
 pub one_fits : (d : Database) (l : Link) (b : NumberedChanges) → IsWithinLimits d
     → option_map ends_of_link (link_at d (key_of l)) ≡ Some (ends_of_link l) → b.changes ≡ Put l ∷ [] → Fits d b
 unfolding IsDistinct
@@ -91,7 +95,7 @@ pub ends_from : (l r : Link) (free : List ℕ) → HasLinkFields r (record (fiel
 ends_from l r free has =
     ap (λ f. ((f.from, f.local), f.to)) ((links_said r (record (fields_of_link l) { free = free })).0 has)
 
--- A link that runs to the same router as the base's link at its key.
+-- Link `m` has the same key as the base's link `l`, and both run to the same router.
 module _ (base old : Database) (k : Key) (keyed : AreAtTheirKeys base) (alike : AreAlike base old) (l m : Link) where
   ends_there : link_at base k ≡ Some l → ends_of_link m ≡ ends_of_link l
       → option_map ends_of_link (link_at base (key_of m)) ≡ Some (ends_of_link m)
@@ -99,7 +103,8 @@ module _ (base old : Database) (k : Key) (keyed : AreAtTheirKeys base) (alike : 
       ap (λ j. option_map ends_of_link (link_at base j)) (ap (λ (e : Key × ℕ). e.0) ends ∙ keyed k l is)
       ∙ ap (option_map ends_of_link) is ∙ ap Some (sym ends)
 
-  -- The link replaces a link with the same key that runs to the same router.
+  -- The database `old` differs from the base only in attributes of its links. It has a link with
+  -- the key of `m`, and this link and `m` run to the same router.
   pub ends_there_too : link_at base k ≡ Some l → ends_of_link m ≡ ends_of_link l
       → option_map ends_of_link (link_at old (key_of m)) ≡ Some (ends_of_link m)
   ends_there_too is ends = alike.ends (key_of m) ∙ ends_there is ends
@@ -108,14 +113,16 @@ module _ (base old : Database) (k : Key) (keyed : AreAtTheirKeys base) (alike : 
       → AreAlike base new
   alike_with new is ends put = rw put (alike_put base old m alike (ends_there is ends))
 
--- an effective link has the key of its link
+-- a link keeps its key if it gets its effective bandwidths (what the placements leave)
 pub key_of-effective_link : (placements : List Placement) (l : Link) → key_of (effective_link placements l) ≡ key_of l
 unfolding effective_link
 key_of-effective_link placements l = refl
 
--- The effective link of the base's link at a key.
+-- What a database has at each key after it gets the base's link at the key `k` with the link's
+-- effective bandwidths (what the placements leave).
 module _ (base old : Database) (placements : List Placement) (k : Key) (keyed : AreAtTheirKeys base) (alike : AreAlike base old) where
-  -- the link at each key after the effective link is put
+  -- A database gets the base's link at the key `k` with the link's effective bandwidths (what the
+  -- placements leave). Then it has this link at `k`, and at all other keys the links of `old`.
   pub at_put : (l : Link) (new : Database) → link_at base k ≡ Some l → new ≡ after_change old (Put (effective_link placements l)) → (q : Key)
       → link_at new q ≡ cond (eq_by_cmp key_cmp q k) (option_map (effective_link placements) (link_at base q)) (link_at old q)
   at_put l new is put q =
@@ -129,7 +136,7 @@ module _ (base old : Database) (placements : List Placement) (k : Key) (keyed : 
       chosen true tie = sym (ap (option_map (effective_link placements)) (ap (link_at base) (keys_same q k tie) ∙ is))
       chosen false off = refl
 
-  -- If the base has no link at the key, nothing is put.
+  -- If the base has no link at the key `k`, `old` has none either, and no link has to be set there.
   pub at_none : link_at base k ≡ None → (q : Key)
       → link_at old q ≡ cond (eq_by_cmp key_cmp q k) (option_map (effective_link placements) (link_at base q)) (link_at old q)
   at_none none q = chosen (eq_by_cmp key_cmp q k) refl

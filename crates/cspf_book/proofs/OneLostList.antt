@@ -1,4 +1,5 @@
--- For two databases there is only one list of the ids of placements that lose their routes.
+-- For two databases there is only one list of the ids of placements that lose their routes: the
+-- first database admits the route, and the second doesn't.
 use Rattle.std.proofs.Common.{◌≡◌, ◌⊎◌, inl, inr, zero, suc, List, [], ◌∷◌, map, refl, sym, ap, subst, ◌∙◌, arith}
 use Rattle.std.specs.List.{AllPairs, Contains}
 use Rattle.cspf_book.specs.declared.placement.Placement.{Placement}
@@ -14,12 +15,14 @@ one_way p r first back =
       | inr same ↦ elim back [ inl lower ↦ omega (arith, same.0) | inr tied ↦ omega (arith, same.1, tied.1) ]
     ]
 
--- A list in order stays in order without its first element.
+-- If each placement of a list comes before all later ones, this also holds of the list without its
+-- first placement.
 ordered_rest : (p : Placement) (ps : List Placement) → AllPairs ComesBefore (p ∷ ps) → AllPairs ComesBefore ps
 ordered_rest p ps ordered i j d first within =
     ordered (suc i) (suc j) d (omega arith) (omega arith)
 
--- The first element comes before each of the others.
+-- If each placement of a list comes before all later ones, the first comes before each other
+-- placement of the list.
 first_before : (p r : Placement) (ps : List Placement) → AllPairs ComesBefore (p ∷ ps) → Contains ps r → ComesBefore p r
 first_before p r ps ordered (k, within, is) =
     subst (ComesBefore p) is (ordered 0 (suc k) r (omega arith) (omega arith))
@@ -32,7 +35,9 @@ first_or_rest p r ps (suc k, within, is) = inr (k, omega arith, is)
 in_rest : (p r : Placement) (ps : List Placement) → Contains ps r → Contains (p ∷ ps) r
 in_rest p r ps (k, within, is) = (suc k, omega arith, is)
 
--- Two lists in order with the same elements and the same first element have the same rest.
+-- Two lists have the same first placement, and in the first list each placement comes before all
+-- later ones. If each placement of the first list is in the second, this also holds of the lists
+-- without their first placements.
 same_rest : (p q : Placement) (ps qs : List Placement) → p ≡ q → AllPairs ComesBefore (p ∷ ps)
     → ((r : Placement) → Contains (p ∷ ps) r → Contains (q ∷ qs) r) → (r : Placement) → Contains ps r → Contains qs r
 same_rest p q ps qs same ordered there r has =
@@ -45,7 +50,8 @@ same_rest p q ps qs same ordered there r has =
       | inr later ↦ later
     ]
 
--- Two lists in order with the same elements are equal.
+-- Two lists with the same placements are equal if in each list each placement comes before all
+-- later ones.
 one_list : (ps qs : List Placement) → AllPairs ComesBefore ps → AllPairs ComesBefore qs
     → ((r : Placement) → Contains ps r → Contains qs r) → ((r : Placement) → Contains qs r → Contains ps r) → ps ≡ qs
 one_list [] [] first second there back = refl

@@ -18,11 +18,11 @@ use Rattle.cspf_book.specs.Placements.{counted}
 use Rattle.cspf_book.specs.OverLinks.{priorities, is_over, over_at, over_on, over_by, over}
 use Rattle.cspf_book.specs.Laws.{AbsorbingKeepsCovered}
 
--- the priorities below n at which the link is over
+-- the link's key with each priority below n at which the link has less bandwidth than is counted on it
 abbrev pub over_up_to : List Placement → Link → ℕ → List Over
 over_up_to placements l n = map (over_at l) (filter (is_over placements l) (range_with_len 0 n))
 
--- The range of the numbers up to n ends with n.
+-- The numbers from 0 to n are the numbers below n, followed by n.
 range_with_len-more : (n : ℕ) → range_with_len 0 (n + 1) ≡ range_with_len 0 n ++ n ∷ []
 range_with_len-more n =
     sym (map-id (range_with_len 0 (n + 1))) ∙ map-range_with_len_more (λ k. k) 0 n n (omega arith)
@@ -35,7 +35,9 @@ over_up_to-more placements l n =
     ∙ ap (map (over_at l)) (filter-append (is_over placements l) (range_with_len 0 n) (n ∷ []))
     ∙ map-append (over_at l) (filter (is_over placements l) (range_with_len 0 n)) (filter (is_over placements l) (n ∷ []))
 
--- At one more priority the link has less bandwidth than is counted.
+-- `over_up_to` lists the priorities below n at which a link has less bandwidth than the placements
+-- count on it. If the link also has less at priority n, the list for the priorities below n + 1
+-- ends with priority n.
 pub over_listed : (placements : List Placement) (l : Link) (n : ℕ) (start list : List Over)
     → slice_index l.free n < counted placements (key_of l) n → list ≡ start ++ over_up_to placements l n
     → list ++ over_at l n ∷ [] ≡ start ++ over_up_to placements l (n + 1)
@@ -45,7 +47,9 @@ over_listed placements l n start list less so_far =
     ∙ ap (λ os. start ++ os)
     (sym (over_up_to-more placements l n ∙ ap (λ b. over_up_to placements l n ++ map (over_at l) (cond b (n ∷ []) [])) (lt-ltb (slice_index l.free n) (counted placements (key_of l) n) less)))
 
--- At one more priority the link has enough bandwidth.
+-- `over_up_to` lists the priorities below n at which a link has less bandwidth than the placements
+-- count on it. If the link has enough at priority n, the list for the priorities below n + 1 is the
+-- same.
 pub over_passed : (placements : List Placement) (l : Link) (n : ℕ) (start list : List Over)
     → counted placements (key_of l) n ≤ slice_index l.free n → list ≡ start ++ over_up_to placements l n
     → list ≡ start ++ over_up_to placements l (n + 1)
@@ -75,13 +79,14 @@ Contains-map f xs x (k, within, is) =
 Contains-priorities : (n : ℕ) → n < 8 → Contains priorities n
 Contains-priorities n small = (n, small, get_or-range_with_len 0 8 n n small ∙ zero-add n)
 
--- A link that is over at a priority is listed with it.
+-- If a link has less bandwidth at a priority than is counted on it, `over_on` lists the link's key with this
+-- priority.
 named : (placements : List Placement) (l : Link) (priority : ℕ) → priority < 8 → is_over placements l priority ≡ true
     → Contains (over_on placements l) (over_at l priority)
 named placements l priority small passes =
     Contains-map (over_at l) (filter (is_over placements l) priorities) priority (Contains-filter (is_over placements l) priorities priority (Contains-priorities priority small) passes)
 
--- A link that is at its key after one change was there before, or the change puts it.
+-- If a database has a link after one change, it had the link before, or the change sets it (`Put`).
 put_by_one : (d : Database) (c : Change) (l : Link) → link_at (after_change d c) (key_of l) ≡ Some l → (link_at d (key_of l) ≡ Some l) ⊎ (c ≡ Put l)
 put_by_one d c l is =
     elim (eq_by_cmp change_key_cmp (link_key (key_of l)) (key_changed c)) as (λ b. cond b (link_left c) (link_at d (key_of l)) ≡ Some l → (link_at d (key_of l) ≡ Some l) ⊎ (c ≡ Put l)) [
@@ -94,7 +99,9 @@ put_by_one d c l is =
     the_put (Remove from local) e = absurd (cc)
     the_put (Node router transit) e = absurd (cc)
 
--- A link that is over after the changes was there before them, or is listed.
+-- Take a link that the base has after the changes, with less bandwidth at a priority than the
+-- placements count on it. The base had this link before the changes, or the list `over` (of links
+-- with too little bandwidth) has it with the priority.
 over_or_kept : (d : Database) (placements : List Placement) (changes : List Change) (l : Link) (priority : ℕ) → priority < 8
     → is_over placements l priority ≡ true → link_at (after_changes d changes) (key_of l) ≡ Some l
     → (link_at d (key_of l) ≡ Some l) ⊎ Contains (over placements changes) (over_at l priority)
@@ -109,7 +116,9 @@ over_or_kept d placements (c ∷ cs) l priority small passes is =
       | inr later ↦ inr (Contains-append_right (over_by placements c) (over placements cs) (over_at l priority) later)
     ]
 
--- Changes of the base keep each covered link covered, unless it is listed.
+-- Take a link that the base has after changes. The base had it before, or the placements count at
+-- most its bandwidth at the priority. Otherwise the list `over` (of links with too little
+-- bandwidth) has it with this priority.
 pub absorbing_covered : AbsorbingKeepsCovered
 absorbing_covered base placements changes l priority is small =
     elim (cases_lt (slice_index l.free priority) (counted placements (key_of l) priority)) [

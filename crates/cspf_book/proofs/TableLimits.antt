@@ -21,7 +21,8 @@ len-from_list-le (n ∷ ns) =
     one_more true m = omega arith
     one_more false m = omega arith
 
--- The limits follow from the lists of links and of marks that a table returns.
+-- Take a database in which each link is at its own key. It is within its limits (`IsWithinLimits`)
+-- if the lists of its links and marked routers, and the number of its routers, are.
 pub limits_of : (d : Database) (rows : List Link) (marks : List ℕ) → length rows ≤ MOST_LINKS → rows ≡ links_of d
     → router_count d ≤ MOST_ROUTERS → AreAtTheirKeys d → d.marks ≡ set.from_list marks → length marks ≤ MOST_MARKS
     → IsWithinLimits d

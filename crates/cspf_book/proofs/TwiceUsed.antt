@@ -10,7 +10,7 @@ use Rattle.cspf_model.specs.Database.{Key, key_of, key_cmp, HaveOwnKeys}
 use Rattle.cspf_book.specs.Placements.{has_key}
 use Rattle.cspf_book.proofs.KeyTests.{same_key_test}
 
--- No link has the key exactly if each link's key differs from it.
+-- If no link has the key, the key differs from the key of each link.
 clear : (k : Key) (links : List Link) → has_key links k ≡ false → AllByRecursion (λ y. eq_by_cmp key_cmp k y ≡ false) (map key_of links)
 clear k [] e = tt
 clear k (l ∷ ls) e = let parts = or_parts _ _ e in (same_key_test k (key_of l) ∙ parts.0, clear k ls parts.1)
@@ -19,7 +19,8 @@ none_has : (k : Key) (links : List Link) → AllByRecursion (λ y. eq_by_cmp key
 none_has k [] all = refl
 none_has k (l ∷ ls) all = or_from _ _ (sym (same_key_test k (key_of l)) ∙ all.0) (none_has k ls all.1)
 
--- The link at index i is looked at: its key differs from each later key, or equals one of them.
+-- In this module `l` is the link at index i. Its key differs from the keys of all later links, or equals one of
+-- these keys.
 module _ (links : List Link) (i : ℕ) (within : i < length links) (l : Link) (is : l ≡ slice_index_or links i l)
     (whole : HaveOwnKeys (drop i links) ↔ HaveOwnKeys links) where
   behind : HaveOwnKeys (drop i links) ≡ HaveOwnKeys (l ∷ drop (i + 1) links)

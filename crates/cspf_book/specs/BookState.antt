@@ -28,7 +28,8 @@ state_code =
     (coded× database_code (coded× coded_ℕ (coded_list the_row.coded)))
     (λ s. (s.base, (s.version, s.placements))) (λ p. record { base = p.0; version = p.1.0; placements = p.1.1 }) (λ _. refl)
 
--- the effective database in which a request is placed: it doesn't count the earlier placement of the same id
+-- the effective database (the base's links with what placements leave) in which a request with this
+-- id is placed; the earlier placement with this id isn't counted
 abbrev pub effective_beside : BookState → ℕ → Database
 effective_beside s id = effective s.base (others id s.placements)
 
@@ -66,7 +67,8 @@ IsAnswerPlaced old q hold (route walk) new = IsPlacedAlong old q hold walk new
 
 -- Why a request isn't placed. `Full`: without the placement of this id, the book already has the most placements
 -- that it may have. Otherwise memory is refused, or the best answer is a route that can't be placed. `Twice`: the
--- route uses a link twice. `TooManyLinks`: it doesn't, but all routes together would be too long.
+-- route uses a link twice. `TooManyLinks`: the route uses no link twice, but the routes of all placements would
+-- have too many links.
 abbrev pub IsPlaceError : BookState → Request → PlaceError → Type 0
 IsPlaceError s q Memory = HasRoomFor s q.id
 IsPlaceError s q Full = MOST_PLACEMENTS ≤ length (others q.id s.placements)

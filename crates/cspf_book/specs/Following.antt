@@ -1,6 +1,6 @@
 -- Private: how a route is followed link by link in a database, and how the placements that lose their routes are
 -- listed.
-use Rattle.std.specs.Prelude.{◌≡◌, ◌≢◌, ◌-◌, ◌↔◌, ◌||◌, ℕ, Bool, List, AllPairs, Contains, map, nat_eq}
+use Rattle.std.specs.Prelude.{◌≡◌, ◌≢◌, ◌-◌, ◌↔◌, ℕ, Bool, List, AllPairs, Contains, map, nat_eq}
 use Rattle.std.specs.List.{list_any}
 use Rattle.cspf_model.specs.declared.link.Link.{Link}
 use Rattle.cspf_model.specs.declared.request.Request.{Request}
@@ -12,22 +12,19 @@ use Rattle.cspf_book.specs.declared.placement.Placement.{Placement}
 use Rattle.cspf_book.specs.Placements.{ends_of_link, id_of}
 use Rattle.cspf_book.specs.LostRoutes.{IsLost}
 
--- One of the changes affects the router: a link from it, or its mark.
+-- One of the changes affects the router: it changes a link that runs from the router, or says
+-- whether the router carries transit.
 abbrev pub changes_router : List Change → ℕ → Bool
 changes_router changes router = list_any (λ c. nat_eq (key_changed c).0 router) changes
 
--- One of the changes affects a router on the placement's route.
-abbrev pub touches : List Change → Placement → Bool
-touches changes p =
-    changes_router changes p.request.from || list_any (λ l. changes_router changes l.to) p.route
-
--- The database has an admissible link with the key of this link, which runs to the same router.
+-- The database has an admissible link with the same key as this link, and both links run to the same router.
 pub record HasItsLink (d : Database) (q : Request) (l : Link) : Type 0 where
   pub found : Link
   pub admissible : IsAdmissible d q found
   pub alike : ends_of_link found ≡ ends_of_link l
 
--- A walk may continue along link `l`, once it has reached the router over this many links.
+-- A walk that has reached this router over this many links may continue along the database's link at the key of
+-- `l`.
 pub record MayGoOn (d : Database) (q : Request) (links router : ℕ) (l : Link) : Type 0 where
   pub from : l.from ≡ router
   pub leaves : MayLeave d router links
@@ -41,7 +38,8 @@ HaveOtherIds placements = AllPairs (λ p r. id_of p ≢ id_of r) placements
 abbrev pub order_rank : Placement → ℕ × ℕ
 order_rank p = (7 - p.hold, id_of p)
 
--- the ranks of the placements that lose their routes, in any order
+-- `ranks` lists, in any order, the rank of each placement that loses its route. A rank is a pair: 7
+-- minus the placement's holding priority, and the placement's id.
 pub record AreRanksOfLost (before after : Database) (placements : List Placement) (ranks : List (ℕ × ℕ)) : Type 0 where
   pub lost : List Placement
   pub members : (p : Placement) → Contains lost p ↔ (Contains placements p × IsLost before after p)

@@ -1,4 +1,4 @@
--- Private: how a book keeps its state.
+-- Private: how a book stores its state.
 use Rattle.std.specs.Prelude.{◌≡◌, ◌≤◌, ◌*◌, ◌^◌, ℕ, List, length, map, nat_eq}
 use Rattle.std.specs.List.{IsDistinct}
 use Rattle.cspf_book.specs.declared.limits.TheConstants.{MOST_PLACEMENTS, MOST_ROUTES_LINKS}
@@ -6,6 +6,7 @@ use Rattle.cspf_book.specs.declared.placement.Placement.{Placement}
 use Rattle.cspf_book.specs.declared.book.Book.TheInside.{Inside}
 use Rattle.cspf_book.specs.Placements.{id_of, counted}
 use Rattle.cspf_book.specs.Kept.{IsCountOf}
+use Rattle.cspf_book.specs.ById.{AreIdsOf}
 use Rattle.cspf_model.specs.Database.{Key}
 use Rattle.cspf_book.specs.Effective.{effective}
 use Rattle.cspf_book.specs.BookState.{links_placed}
@@ -14,15 +15,17 @@ use Rattle.cspf_book.specs.BookState.{links_placed}
 abbrev pub HaveDistinctIds : List Placement → Type 0
 HaveDistinctIds placements = IsDistinct nat_eq (map id_of placements)
 
--- What holds of each book. The effective table and the sums are up to date. No version adds more than 2 ^ 64 to a
--- sum. No two placements share an id. The placements and their links are within the limits. The batch `one` has
--- one change.
+-- What holds of each book. The effective table (the base's links with what the placements leave),
+-- the counted sums and the versions by ids are those of the placements. Each sum is at most 2 ^ 64
+-- times the version. No two placements share an id. The placements and their links are within the
+-- limits. The batch `one` has one change.
 pub record IsBook (a : Inside) : Type 0 where
-  pub current : a.effective ≡ effective a.base a.placements.items
-  pub sums : IsCountOf a.counts a.placements.items
+  pub current : a.held.effective ≡ effective a.base a.placements.items
+  pub sums : IsCountOf a.held.counts a.placements.items
   pub small : (k : Key) (priority : ℕ) → counted a.placements.items k priority ≤ a.version * 2 ^ 64
+  pub ids : AreIdsOf a.ids a.version a.placements.items
   pub own_ids : HaveDistinctIds a.placements.items
   pub few : length a.placements.items ≤ MOST_PLACEMENTS
   pub links : a.links ≡ links_placed a.placements.items
   pub few_links : a.links ≤ MOST_ROUTES_LINKS
-  pub one : length a.one.changes ≡ 1
+  pub one : length a.held.one.changes ≡ 1

@@ -1,4 +1,5 @@
--- Private: the sums that are kept by the keys of links, and how they change.
+-- Private: the sums of counted bandwidth that are stored for the keys of links, and how these sums
+-- change.
 use Rattle.std.specs.Prelude.{◌≡◌, ◌+◌, ◌^◌, ◌<◌, ◌≤◌, ◌&&◌, ℕ, true, cond, Some, List, [], ◌∷◌, length, nat_le, slice_index, slice_index_or, unwrap_or, IsSome}
 use Rattle.std.specs.BTreeMap.{get}
 use Rattle.std.specs.Ordering.{eq_by_cmp}
@@ -12,15 +13,15 @@ use Rattle.cspf_book.specs.Placements.{has_key, bandwidth_on, counted}
 abbrev pub no_sums : List ℕ
 no_sums = 0 ∷ 0 ∷ 0 ∷ 0 ∷ 0 ∷ 0 ∷ 0 ∷ 0 ∷ []
 
--- the sums at a key, one for each priority
+-- the bandwidths that are counted at a key: one sum for each priority
 abbrev pub sums_at : Counts → Key → List ℕ
 sums_at c k = unwrap_or (get key_cmp c.sums k) no_sums
 
--- the sum at a key and a priority
+-- the sum of the bandwidths that are counted at a key and a priority
 abbrev pub sum_at : Counts → Key → ℕ → ℕ
 sum_at c k priority = slice_index (sums_at c k) priority
 
--- At each key and priority the kept sum is the bandwidth that the placements count.
+-- At each key and priority the stored sum is the bandwidth that the placements count.
 pub record IsCountOf (c : Counts) (placements : List Placement) : Type 0 where
   pub at : (k : Key) (priority : ℕ) → priority < 8 → sum_at c k priority ≡ counted placements k priority
 
@@ -28,15 +29,16 @@ pub record IsCountOf (c : Counts) (placements : List Placement) : Type 0 where
 pub record AreSmall (c : Counts) : Type 0 where
   pub at : (k : Key) (priority : ℕ) → priority < 8 → sum_at c k priority < 2 ^ 127
 
--- At each key and priority the sum is at least what this placement counts.
+-- At each key and priority the stored sum is at least the bandwidth that this placement counts.
 pub record IsWithinSums (c : Counts) (p : Placement) : Type 0 where
   pub at : (k : Key) (priority : ℕ) → priority < 8 → bandwidth_on k priority p ≤ sum_at c k priority
 
--- There is an entry at the key of each of these links.
+-- `c` has an entry of sums at the key of each of these links.
 pub record HasKeys (c : Counts) (links : List Link) : Type 0 where
   pub at : (k : Key) → has_key links k ≡ true → IsSome (get key_cmp c.sums k)
 
--- There is an entry for each link of the route of the placement at an index, if there is such a placement.
+-- `c` has an entry of sums for each link of the route of the placement at an index, if there is
+-- such a placement.
 abbrev pub HasKeysAt : Counts → List Placement → ℕ → Type 0
 HasKeysAt c placements at = (d : Placement) → at < length placements → HasKeys c (slice_index_or placements at d).route
 
@@ -44,20 +46,22 @@ HasKeysAt c placements at = (d : Placement) → at < length placements → HasKe
 pub record KeepsKeys (old new : Counts) : Type 0 where
   pub at : (k : Key) → IsSome (get key_cmp old.sums k) → IsSome (get key_cmp new.sums k)
 
--- the sums are the same at all keys
+-- `old` and `new` have the same sums at all keys and priorities.
 pub record HasSameSums (old new : Counts) : Type 0 where
   pub at : (k : Key) (priority : ℕ) → sum_at new k priority ≡ sum_at old k priority
 
--- The entry at one key has these sums, and all other entries stay.
+-- In `new` the entry at one key has these sums, and all other entries are those of `old`.
 pub record HasSumsAt (old new : Counts) (key : Key) (sums : List ℕ) : Type 0 where
   pub at : (k : Key) → get key_cmp new.sums k ≡ cond (eq_by_cmp key_cmp key k) (Some sums) (get key_cmp old.sums k)
 
--- `d` has more than `c` at one key, by this bandwidth at each priority from `hold` to 7.
+-- At one key the sums of `d` are greater than the sums of `c` by this bandwidth, at each priority from `hold` to 7.
+-- All other sums are the same.
 pub record HasMoreAt (c d : Counts) (key : Key) (hold bandwidth : ℕ) : Type 0 where
   pub at : (k : Key) (priority : ℕ) → priority < 8
       → sum_at d k priority ≡ sum_at c k priority + cond (nat_le hold priority && eq_by_cmp key_cmp key k) bandwidth 0
 
--- `d` has more than `c` at the keys of these links, by this bandwidth at each priority from `hold` to 7.
+-- At the keys of these links the sums of `d` are greater than the sums of `c` by this bandwidth, at each priority
+-- from `hold` to 7. All other sums are the same.
 pub record HasMoreAlong (c d : Counts) (links : List Link) (hold bandwidth : ℕ) : Type 0 where
   pub at : (k : Key) (priority : ℕ) → priority < 8
       → sum_at d k priority ≡ sum_at c k priority + cond (nat_le hold priority && has_key links k) bandwidth 0

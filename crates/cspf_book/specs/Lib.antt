@@ -6,7 +6,11 @@ pub mod BookState
 pub mod OverLinks
 pub mod LostRoutes
 pub mod Following
+pub mod RouterBits
+pub mod MovedEnds
+pub mod ByKey
 pub mod Laws
 pub mod Offers
 pub mod Kept
+pub mod ById
 pub mod Inside

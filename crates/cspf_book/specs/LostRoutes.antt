@@ -28,7 +28,8 @@ pub record IsLost (before after : Database) (p : Placement) : Type 0 where
 abbrev pub ComesBefore : Placement → Placement → Type 0
 ComesBefore p r = (r.hold < p.hold) ⊎ ((r.hold ≡ p.hold) × (id_of p < id_of r))
 
--- The ids of the placements whose routes are lost, each once. The least important comes first.
+-- The ids of the placements whose routes are lost (`before` admits the route, and `after` doesn't),
+-- each once. The least important comes first.
 pub record AreLost (before after : Database) (placements : List Placement) (ids : List ℕ) : Type 0 where
   pub lost : List Placement
   pub members : (p : Placement) → Contains lost p ↔ (Contains placements p × IsLost before after p)

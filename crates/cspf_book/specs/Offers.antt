@@ -9,8 +9,8 @@ use Rattle.cspf_book.specs.declared.error.PlaceError.TheVariants.{Memory, Full, 
 use Rattle.cspf_book.specs.declared.placement.Placement.{Placement}
 use Rattle.cspf_book.specs.BookState.{IsPlacementOf}
 
--- The placement that an answer offers: its route uses no link twice and has at most `room` links. Any other answer
--- offers no placement.
+-- An answer that is a route offers a placement along this route, which uses no link twice and has at most `room`
+-- links. Any other answer offers no placement.
 abbrev pub IsOffered : Request → ℕ → ℕ → Answer → Option Placement → Type 0
 IsOffered q hold room unknown_from (Some p) = ⊥
 IsOffered q hold room unknown_from None = Unit {0}
@@ -22,7 +22,7 @@ IsOffered q hold room (route walk) None = ⊥
 IsOffered q hold room (route walk) (Some p) =
     HaveOwnKeys walk × IsPlacementOf q hold walk p × (length walk ≤ room)
 
--- Why a walk isn't placed, if there is room for this many links. Memory is refused only for a walk that would
+-- Why a walk isn't placed if a route may have at most `room` links. Memory is refused only for a walk that would
 -- otherwise be placed.
 abbrev pub IsWalkRefused : ℕ → List Link → PlaceError → Type 0
 IsWalkRefused room walk Memory = HaveOwnKeys walk × (length walk ≤ room)

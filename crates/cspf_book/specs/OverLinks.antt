@@ -1,4 +1,4 @@
--- Which links have less bandwidth after changes of the base than placements hold on them.
+-- Which links, after changes of the base, have less bandwidth than the placements hold on them.
 use Rattle.std.specs.Prelude.{ℕ, Bool, List, [], ◌∷◌, filter, map, nat_lt, slice_index}
 use Rattle.std.specs.List.{flat_map}
 use Rattle.cspf_model.specs.declared.link.Link.{Link}
@@ -13,7 +13,8 @@ use Rattle.cspf_book.specs.Placements.{counted}
 abbrev pub priorities : List ℕ
 priorities = 0 ∷ 1 ∷ 2 ∷ 3 ∷ 4 ∷ 5 ∷ 6 ∷ 7 ∷ []
 
--- the link's unreserved bandwidth at the priority is less than what is counted on its key
+-- the link's unreserved bandwidth at the priority is less than the bandwidth that is counted on its
+-- key
 abbrev pub is_over : List Placement → Link → ℕ → Bool
 is_over placements l priority =
     nat_lt (slice_index l.free priority) (counted placements (key_of l) priority)
@@ -26,12 +27,14 @@ over_at l priority = record { from = l.from; local = l.local; priority = priorit
 abbrev pub over_on : List Placement → Link → List Over
 over_on placements l = map (over_at l) (filter (is_over placements l) priorities)
 
--- the same list for the link that a change puts
+-- the link that a change sets (`Put`), with each priority at which it has less bandwidth than the
+-- placements count on it; nothing if the change sets no link
 abbrev pub over_by : List Placement → Change → List Over
 over_by placements (Put l) = over_on placements l
 over_by placements (Remove from local) = []
 over_by placements (Node router transit) = []
 
--- the same list for all links that the changes put, in the order of the changes
+-- each link that the changes set (`Put`), with each priority at which it has less bandwidth than
+-- the placements count on it, in the order of the changes
 abbrev pub over : List Placement → List Change → List Over
 over placements changes = flat_map (over_by placements) changes

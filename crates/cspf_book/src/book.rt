@@ -1,4 +1,5 @@
-//! A book: a base database, the placements over it, and the effective database that results.
+//! A book: a base database, the placements over it, and the effective database that results (the
+//! base's links with what the placements leave).
 
 ghost use Rattle.std.specs.Prelude.{◌≡◌, ◌+◌, ◌<◌, [], IsTrue, IfOk, IfErr, OnOk, OnErr};
 ghost use Rattle.cspf_model.specs.Best.{IsBestAnswer};
@@ -17,12 +18,12 @@ use crate::effective_links::{refresh_puts, within_limits};
 use crate::error::{Absent, PlaceError};
 use crate::limits::{MOST_PLACEMENTS, MOST_ROUTES_LINKS};
 use crate::lost::lost;
-use crate::moves::{
-    enter_at, forget_at, index_of, links_at, put_in, set_aside, set_back, take_out,
-};
+use crate::moves::{Held, enter_at, forget_at, links_at, take_out};
 use crate::offer::offer_counted;
 use crate::over::{Over, find_over};
 use crate::placement::Placement;
+use crate::router_bits::bits_of;
+use crate::versions::Ids;
 use cspf_addr::Addr;
 use cspf_db::Table;
 use cspf_model::{Batch, Change, Outcome, Refusal, Request};
@@ -31,17 +32,16 @@ use std::alloc::{AllocError, Global};
 use std::marker::Model;
 
 /// A base database and the placements over it. A request is placed along the best route in the
-/// effective database. From then on it holds its bandwidth on the links of that route. Nothing is
-/// preempted.
+/// effective database, whose links have the bandwidth that earlier placements leave. From then on
+/// the request holds its bandwidth on the links of that route. Nothing is preempted.
 #[derive(Drop)]
 pub struct Book {
     base: Table,
-    effective: Table,
+    held: Held,
     placements: Vec<Placement>,
-    counts: Counts,
+    ids: Ids,
     links: usize,
     version: u32,
-    one: Batch,
 }
 
 impl Model for Book {
@@ -70,16 +70,19 @@ impl Book {
         })?;
         Ok(Book {
             base: Table::new(alloc)?,
-            effective: Table::new(alloc)?,
+            held: Held {
+                effective: Table::new(alloc)?,
+                counts: Counts::new(alloc),
+                one: Batch { number: 0, changes },
+            },
             placements: Vec::new(alloc),
-            counts: Counts::new(alloc),
+            ids: Ids::new(alloc),
             links: 0,
             version: 0,
-            one: Batch { number: 0, changes },
         })
     }
 
-    /// The version: how many base batches, placements and releases were accepted together.
+    /// The version: the number of accepted base batches, placements and releases, taken together.
     pub fn version(&self) -> u32
         ensures { result ≡ self.now.version }
     {
@@ -93,11 +96,12 @@ impl Book {
         &self.base
     }
 
-    /// The effective database: the base's links, each with the bandwidth that the placements leave.
+    /// The effective database: the base's links, each with the bandwidth that isn't held by
+    /// placements.
     pub fn effective(&self) -> &Table
         ensures { result.now ≡ effective self.now.base self.now.placements }
     {
-        &self.effective
+        &self.held.effective
     }
 
     /// The placements, in the order in which they were placed.
@@ -111,40 +115,48 @@ impl Book {
     pub fn counted(&self, from: Addr, local: Addr, priority: u8) -> u128
         ensures { result ≡ counted self.now.placements (from, local) priority }
     {
-        self.counts.sum(from, local, priority.min(7))
+        self.held.counts.sum(from, local, priority.min(7))
     }
 
-    /// The best answer to a request in the effective database. It reserves nothing.
+    /// The best answer to a request in the effective database (the base's links with what the
+    /// placements leave). No bandwidth is reserved.
     pub fn ask(&self, alloc: Global, request: &Request) -> Result<Outcome, AllocError>
         ensures { IfOk result (λ outcome. IsBestAnswer (effective self.now.base self.now.placements)
             request.now (answer_of outcome)) }
     {
-        best(alloc, &self.effective, request)
+        best(alloc, &self.held.effective, request)
     }
 
-    /// Lists the links that the batch puts with less unreserved bandwidth than the placements count
-    /// on their keys. There is one entry for each such link and priority, in the batch's order and
-    /// from priority 0 to 7. It isn't checked whether the batch fits.
+    /// Lists each link that the batch sets (`Put`) and each priority at which the link then has
+    /// less unreserved bandwidth than the placements count on its key. The entries are in the
+    /// batch's order, and for one link from priority 0 to 7. It isn't checked whether the batch
+    /// fits.
     pub fn over(&self, alloc: Global, batch: &Batch) -> Result<Vec<Over>, AllocError>
         ensures { IfOk result (λ list. list.items ≡ over self.now.placements batch.now.changes) }
     {
-        find_over(alloc, &self.counts, &batch.changes)
+        find_over(alloc, &self.held.counts, &batch.changes)
     }
 
     /// The ids of the placements that lose their routes by the batch: the base admits the route
-    /// now, and wouldn't after the changes. The least important comes first: by holding priority
-    /// from 7 down to 0, then by id. Bandwidth doesn't matter. It isn't checked whether the batch
-    /// fits.
+    /// now, and wouldn't admit it after the changes. The least important comes first: by holding
+    /// priority from 7 down to 0, then by id. Bandwidth doesn't matter. It isn't checked whether
+    /// the batch fits.
     pub fn lost(&self, alloc: Global, batch: &Batch) -> Result<Vec<u64>, AllocError>
         ensures { IfOk result (λ ids. AreLost self.now.base
             (after_changes self.now.base batch.now.changes) self.now.placements ids.items) }
     {
-        lost(alloc, &self.base, &self.placements, &batch.changes)
+        lost(
+            alloc,
+            &self.base,
+            &self.placements,
+            self.ids.bits(),
+            &batch.changes,
+        )
     }
 
     /// Makes all changes of a batch in the base if the batch fits, and otherwise changes nothing.
-    /// All placements stay, even if the base then has less bandwidth than they hold. It takes no
-    /// memory.
+    /// All placements stay, even if the base then has less bandwidth than they hold. No memory is
+    /// taken.
     pub fn try_absorb(&mut self, batch: &Batch) -> Result<(), Refusal>
         requires { self.old.version < MOST_VERSIONS }
         ensures ok { OnOk result (Fits self.old.base batch.now) }
@@ -158,22 +170,23 @@ impl Book {
     {
         self.base.try_absorb(batch)?;
         within_limits(&self.base);
-        self.effective.absorb(batch);
+        self.held.effective.absorb(batch);
         refresh_puts(
-            &mut self.effective,
-            &mut self.one,
+            &mut self.held.effective,
+            &mut self.held.one,
             &self.base,
-            &self.counts,
+            &self.held.counts,
             &batch.changes,
         );
         self.version += 1;
         Ok(())
     }
 
-    /// Places a request. It finds the best answer at setup priority 7 in the effective database
-    /// without the request's earlier placement. If the answer is a route, it becomes the placement
-    /// of this id, in place of the earlier placement. Without a route, or after an error, nothing
-    /// changes.
+    /// Places a request, whose setup priority has to be 7. Finds the best answer in the effective
+    /// database, whose links have what the placements leave. An earlier placement with the
+    /// request's id isn't counted there. If the answer is a route, the request is placed along it,
+    /// and the new placement replaces the earlier one. If the answer is no route, or after an
+    /// error, nothing changes.
     pub fn place(
         &mut self,
         alloc: Global,
@@ -191,73 +204,46 @@ impl Book {
         ensures why { IfErr result (λ why. IsPlaceError self.old request.now why) }
         ensures same { OnErr result (self.new ≡ self.old) }
     {
-        let at = index_of(&self.placements, request.id);
+        let at = self.ids.index_of(request.id);
         if at == MOST_PLACEMENTS {
             return Err(PlaceError::Full);
         }
         self.placements.reserve(1)?;
-        enter_at(&mut self.counts, &self.placements, at)?;
+        self.ids.reserve()?;
+        enter_at(&mut self.held.counts, &self.placements, at)?;
         let kept = self.links - links_at(&self.placements, at);
-        set_aside(
-            &mut self.effective,
-            &mut self.one,
-            &self.base,
-            &mut self.counts,
-            &self.placements,
-            at,
-        );
+        self.held.set_aside(&self.base, &self.placements, at);
         let room = MOST_ROUTES_LINKS - kept;
-        match offer_counted(
+        let answer = match offer_counted(
             alloc,
-            &self.effective,
-            &mut self.counts,
+            &self.held.effective,
+            &mut self.held.counts,
+            &mut self.ids,
             request,
             hold,
             room,
+            self.version + 1,
         ) {
             Ok((outcome, offered)) => match offered {
                 Some(placement) => {
                     take_out(&mut self.placements, at);
+                    self.ids.replace(at, self.version + 1, bits_of(&placement));
                     self.links = kept + placement.route.links().len();
-                    put_in(
-                        &mut self.effective,
-                        &mut self.one,
-                        &self.base,
-                        &mut self.counts,
-                        &mut self.placements,
-                        placement,
-                    );
+                    self.held
+                        .put_in(&self.base, &mut self.placements, placement);
                     self.version += 1;
-                    Ok(outcome)
+                    return Ok(outcome);
                 }
-                None => {
-                    set_back(
-                        &mut self.effective,
-                        &mut self.one,
-                        &self.base,
-                        &mut self.counts,
-                        &self.placements,
-                        at,
-                    );
-                    Ok(outcome)
-                }
+                None => Ok(outcome),
             },
-            Err(why) => {
-                set_back(
-                    &mut self.effective,
-                    &mut self.one,
-                    &self.base,
-                    &mut self.counts,
-                    &self.placements,
-                    at,
-                );
-                Err(why)
-            }
-        }
+            Err(why) => Err(why),
+        };
+        self.held.set_back(&self.base, &self.placements, at);
+        answer
     }
 
-    /// Releases the placement with this id. If no placement has the id, nothing changes. It takes
-    /// no memory.
+    /// Releases the placement with this id. If no placement has the id, nothing changes. No memory
+    /// is taken.
     pub fn release(&mut self, id: u64) -> Result<(), Absent>
         requires { self.old.version < MOST_VERSIONS }
         ensures ok { OnOk result (IsTrue (has_id id self.old.placements)) }
@@ -269,21 +255,15 @@ impl Book {
         ensures absent { OnErr result (¬ IsTrue (has_id id self.old.placements)) }
         ensures same { OnErr result (self.new ≡ self.old) }
     {
-        let at = index_of(&self.placements, id);
+        let at = self.ids.index_of(id);
         if at == self.placements.len() {
             return Err(Absent);
         }
-        set_aside(
-            &mut self.effective,
-            &mut self.one,
-            &self.base,
-            &mut self.counts,
-            &self.placements,
-            at,
-        );
-        forget_at(&mut self.counts, &self.placements, at);
+        self.held.set_aside(&self.base, &self.placements, at);
+        forget_at(&mut self.held.counts, &self.placements, at);
         self.links -= links_at(&self.placements, at);
         take_out(&mut self.placements, at);
+        self.ids.forget(id, at);
         self.version += 1;
         Ok(())
     }

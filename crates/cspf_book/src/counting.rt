@@ -1,4 +1,4 @@
-//! A test of links by their keys.
+//! A test whether one of several links has a given key.
 
 ghost use Rattle.std.specs.Prelude.{◌≡◌};
 ghost use Rattle.cspf_book.specs.Placements.{has_key};

@@ -1,4 +1,4 @@
-//! How much bandwidth the placements count on each link. The sums are kept by the links' keys.
+//! How much bandwidth the placements count on each link. The sums are stored by the links' keys.
 
 ghost use Rattle.std.specs.Prelude.{◌≡◌, ◌+◌, ◌^◌, ◌<◌, ◌≤◌, ℕ, cond, [], is_some, nat_le, slice_index, IsSome, OnOk};
 ghost use Rattle.std.specs.BTreeMap.{get};
@@ -19,7 +19,7 @@ pub(crate) struct Counts {
     sums: BTreeMap<(u32, u32), [u128; 8]>,
 }
 
-/// The sums after the bandwidth is added at each priority from `hold` to 7.
+/// The sums of a link, after a bandwidth is added at each priority from `hold` to 7.
 fn raised(mut sums: [u128; 8], hold: u8, bandwidth: u64) -> [u128; 8]
     requires { (p : ℕ) → p < 8 → slice_index sums p < 2 ^ 127 }
     ensures { (p : ℕ) → p < 8
@@ -31,7 +31,7 @@ fn raised(mut sums: [u128; 8], hold: u8, bandwidth: u64) -> [u128; 8]
     sums
 }
 
-/// The sums after the bandwidth is subtracted at each priority from `hold` to 7.
+/// The sums of a link, after a bandwidth is subtracted at each priority from `hold` to 7.
 fn lowered(mut sums: [u128; 8], hold: u8, bandwidth: u64) -> [u128; 8]
     requires { (p : ℕ) → p < 8 → cond (nat_le hold p) bandwidth 0 ≤ slice_index sums p }
     ensures { (p : ℕ) → p < 8
@@ -44,7 +44,7 @@ fn lowered(mut sums: [u128; 8], hold: u8, bandwidth: u64) -> [u128; 8]
 }
 
 impl Counts {
-    /// Has no sums yet, so nothing is counted. It takes no memory.
+    /// Returns counts without any sums: nothing is counted on any link. No memory is taken.
     pub(crate) fn new(alloc: Global) -> Counts
         ensures { IsCountOf result [] }
     {
@@ -72,14 +72,15 @@ impl Counts {
         sums[usize::from(priority)]
     }
 
-    /// Whether there are sums at this key.
+    /// Whether there is an entry of sums at this key.
     fn has(&self, from: Addr, local: Addr) -> bool
         ensures { result ≡ is_some (get key_cmp self.now.sums (from, local)) }
     {
         self.sums.contains_key(&(from.number(), local.number()))
     }
 
-    /// Replaces the sums at this key, which has some. It takes no memory.
+    /// Replaces the sums (of counted bandwidth) at this key. There have to be sums at the key
+    /// already. No memory is taken.
     fn put(&mut self, from: Addr, local: Addr, sums: [u128; 8])
         requires { IsSome (get key_cmp self.old.sums (from, local)) }
         ensures { HasSumsAt self.old self.new (from, local) sums }
@@ -87,8 +88,8 @@ impl Counts {
         let _ = self.sums.insert((from.number(), local.number()), sums);
     }
 
-    /// Makes an entry for the key of each of these links. A new entry has the sums 0. After an
-    /// error some of the new entries may be there.
+    /// For each of these links, makes an entry of sums for the link's key if there is none. In a
+    /// new entry all sums are 0. After an error some of the new entries may have been made.
     pub(crate) fn enter(&mut self, links: &[Link]) -> Result<(), AllocError>
         ensures sums { HasSameSums self.old self.new }
         ensures kept { KeepsKeys self.old self.new }
@@ -100,7 +101,7 @@ impl Counts {
         Ok(())
     }
 
-    /// Makes an entry for this key if there is none. A new entry has the sums 0.
+    /// Makes an entry of sums for this key if there is none. In a new entry all sums are 0.
     fn enter_one(&mut self, from: Addr, local: Addr) -> Result<(), AllocError>
         ensures sums { HasSameSums self.old self.new }
         ensures kept { KeepsKeys self.old self.new }
@@ -112,7 +113,8 @@ impl Counts {
         Ok(())
     }
 
-    /// Drops the entries of these links at which nothing is counted at any priority.
+    /// For each of these links, removes the entry at the link's key if all its sums are 0: no
+    /// bandwidth is counted on the link at any priority.
     pub(crate) fn forget(&mut self, links: &[Link])
         ensures { HasSameSums self.old self.new }
     {
@@ -121,7 +123,8 @@ impl Counts {
         }
     }
 
-    /// Drops the entry of this key if nothing is counted there at any priority.
+    /// Removes the entry at this key if all its sums are 0: no bandwidth is counted at any priority
+    /// on the link with this key.
     fn forget_one(&mut self, from: Addr, local: Addr)
         ensures { HasSameSums self.old self.new }
     {
@@ -131,8 +134,8 @@ impl Counts {
         }
     }
 
-    /// Adds a bandwidth to what is counted on the link with this key, at each priority from `hold`
-    /// to 7. It takes no memory.
+    /// Adds a bandwidth to the bandwidth that is counted on the link with this key, at each
+    /// priority from `hold` to 7. No memory is taken.
     fn raise(&mut self, from: Addr, local: Addr, hold: u8, bandwidth: u64)
         requires there { IsSome (get key_cmp self.old.sums (from, local)) }
         requires small { (p : ℕ) → p < 8 → sum_at self.old (from, local) p < 2 ^ 127 }
@@ -143,8 +146,8 @@ impl Counts {
         self.put(from, local, raised(sums, hold, bandwidth));
     }
 
-    /// Subtracts a bandwidth from what is counted on the link with this key, at each priority from
-    /// `hold` to 7.
+    /// Subtracts a bandwidth from the bandwidth that is counted on the link with this key, at each
+    /// priority from `hold` to 7.
     fn lower(&mut self, from: Addr, local: Addr, hold: u8, bandwidth: u64)
         requires { (p : ℕ) → p < 8
             → cond (nat_le hold p) bandwidth 0 ≤ sum_at self.old (from, local) p }
@@ -157,7 +160,7 @@ impl Counts {
         }
     }
 
-    /// Counts a placement: adds its bandwidth once on each link of its route. It takes no memory.
+    /// Counts a placement: adds its bandwidth once on each link of its route. No memory is taken.
     pub(crate) fn add(&mut self, placement: &Placement)
         requires keys { HasKeys self.old placement.now.route }
         requires small { AreSmall self.old }
@@ -175,8 +178,8 @@ impl Counts {
         }
     }
 
-    /// Undoes `add`: subtracts the placement's bandwidth on each link of its route. It takes no
-    /// memory.
+    /// Undoes `add`: subtracts the placement's bandwidth once on each link of its route. No memory
+    /// is taken.
     pub(crate) fn take(&mut self, placement: &Placement)
         requires { IsWithinSums self.old placement.now }
         ensures sums { HasMoreAlong self.new self.old placement.now.route placement.now.hold

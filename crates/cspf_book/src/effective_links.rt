@@ -1,4 +1,5 @@
-//! The effective links and their table, which is updated link by link.
+//! The links with their effective bandwidths (what the placements leave), and the table of these
+//! links, which is updated link by link.
 
 ghost use Rattle.std.specs.Prelude.{◌≡◌, ◌-◌, ◌<◌, min, List, length, slice_index};
 ghost use Rattle.std.specs.Option.{option_map};
@@ -17,8 +18,8 @@ use cspf_addr::Addr;
 use cspf_db::Table;
 use cspf_model::{Batch, Change, Link};
 
-/// The bandwidth that is left on a link at a priority. `sums` is what is counted on the link at
-/// each priority.
+/// The bandwidth that is left on a link at a priority. `sums` is the bandwidth that is counted on
+/// the link at each priority.
 fn left(link: &Link, sums: [u128; 8], priority: u8) -> u64
     requires { priority < 8 }
     ensures { result ≡ slice_index link.now.free priority - slice_index sums priority }
@@ -28,8 +29,8 @@ fn left(link: &Link, sums: [u128; 8], priority: u8) -> u64
     u128::from(free).saturating_sub(held) as u64
 }
 
-/// The figure at a priority: what is left at it, but at most `least`, the figure at the priority
-/// before.
+/// The effective bandwidth at a priority: the bandwidth that is left at this priority, but at most
+/// `least`. `least` is the effective bandwidth at the next more important priority.
 fn lesser(link: &Link, sums: [u128; 8], priority: u8, least: u64) -> u64
     requires { priority < 8 }
     ensures { result ≡ min least (slice_index link.now.free priority - slice_index sums priority) }
@@ -38,7 +39,8 @@ fn lesser(link: &Link, sums: [u128; 8], priority: u8, least: u64) -> u64
     if figure < least { figure } else { least }
 }
 
-/// The effective link: the link with the bandwidths that the counted placements leave.
+/// The link with its effective bandwidths, which are computed from the bandwidth that is counted on
+/// the link in `counts`.
 fn effective_link(counts: &Counts, link: &Link) -> Link
     ensures effective { (placements : List Placed) → IsCountOf counts.now placements
         → result ≡ effective_link placements link.now }
@@ -74,7 +76,8 @@ fn with_free(link: &Link, free: [u64; 8]) -> Link
     }
 }
 
-/// The limits that hold of each table's database: how many links, routers and marks it has.
+/// Law: the database of each table is within the limits on links, routers and marks. A mark says
+/// that a router carries no transit.
 pub(crate) fn within_limits(table: &Table)
     ensures { IsWithinLimits table.now }
 {
@@ -82,7 +85,8 @@ pub(crate) fn within_limits(table: &Table)
     let _ = table.marks();
 }
 
-/// Replaces the link with the same key, which runs to the same router. It takes no memory.
+/// Replaces the table's link with the same key by this link. Both run to the same router. No memory
+/// is taken.
 fn put_over(table: &mut Table, one: &mut Batch, link: Link)
     requires one { length one.old.changes ≡ 1 }
     requires there { option_map ends_of_link (link_at table.old (key_of link)) ≡ Some (ends_of_link link) }
@@ -94,7 +98,8 @@ fn put_over(table: &mut Table, one: &mut Batch, link: Link)
     table.absorb(one);
 }
 
-/// Updates the effective link with this key.
+/// If the base has a link with this key, sets it in the table, with its effective bandwidths (what
+/// the placements leave).
 fn refresh(
     table: &mut Table,
     one: &mut Batch,
@@ -116,8 +121,9 @@ fn refresh(
     }
 }
 
-/// Updates the effective links at the keys of these links. If all other links were up to date, the
-/// whole table is then up to date.
+/// Puts into the table, for each of these links, the base's link with the same key and with its
+/// effective bandwidths (what the placements leave). If the table already had such links at all other keys, it is then
+/// the effective database.
 pub(crate) fn refresh_links(
     table: &mut Table,
     one: &mut Batch,
@@ -137,8 +143,9 @@ pub(crate) fn refresh_links(
     }
 }
 
-/// Updates the effective links at the keys that the changes put. If all other links were up to
-/// date, the whole table is then up to date.
+/// Puts into the table, for each link that a change puts (`Put`), the base's link with the same key
+/// and with its effective bandwidths (what the placements leave). If the table already had such links at
+/// all other keys, it is then the effective database.
 pub(crate) fn refresh_puts(
     table: &mut Table,
     one: &mut Batch,

@@ -10,6 +10,7 @@
 
 mod after;
 mod book;
+mod changed;
 mod counting;
 mod counts;
 mod effective_links;
@@ -18,9 +19,12 @@ mod laws;
 mod limits;
 mod lost;
 mod moves;
+mod moving;
 mod offer;
 mod over;
 mod placement;
+mod router_bits;
+mod versions;
 
 pub use book::Book;
 pub use error::{Absent, PlaceError};

@@ -1,12 +1,17 @@
-//! Which placements lose their routes when the base changes.
+//! Which placements lose their routes when the base changes: the base admits the route before the
+//! changes, and doesn't after them.
 
-ghost use Rattle.std.specs.Prelude.{◌≡◌, ◌↔◌, map, IsTrue, IfOk};
-ghost use Rattle.std.specs.List.{list_any};
+ghost use Rattle.std.specs.Prelude.{◌≡◌, ◌↔◌, [], map, IsTrue, IfOk};
 ghost use Rattle.cspf_model.specs.Changes.{after_changes};
 ghost use Rattle.cspf_book.specs.LostRoutes.{without_bandwidth, AdmitsRoute, IsLost, AreLost};
-ghost use Rattle.cspf_book.specs.Following.{changes_router, touches, HasItsLink, MayGoOn, HaveOtherIds, AreRanksOfLost};
+ghost use Rattle.cspf_book.specs.Following.{HasItsLink, MayGoOn, HaveOtherIds, AreRanksOfLost};
+ghost use Rattle.cspf_book.specs.RouterBits.{bits_of};
+ghost use Rattle.cspf_book.specs.MovedEnds.{moving_changes};
 
 use crate::after::{find_after, has_reverse_after, has_transit_after};
+use crate::changed::Changed;
+use crate::effective_links::within_limits;
+use crate::moving::{has_no_affinities, list_moving};
 use crate::placement::Placement;
 use cspf_addr::Addr;
 use cspf_db::Table;
@@ -14,9 +19,9 @@ use cspf_graph::accepts;
 use cspf_model::{Change, Link, Request};
 use std::alloc::{AllocError, Global};
 
-/// Whether the base has an admissible link after the changes with the key of this link, which runs
-/// to the same router.
-fn has_its_link(base: &Table, changes: &[Change], request: &Request, link: &Link) -> bool
+/// Whether the base, after the changes, has an admissible link with the same key as this link, and
+/// both links run to the same router.
+fn has_its_link(base: &Table, changes: &Changed, request: &Request, link: &Link) -> bool
     ensures { IsTrue result
         ↔ HasItsLink (after_changes base.now changes.now) request.now link.now }
 {
@@ -30,11 +35,11 @@ fn has_its_link(base: &Table, changes: &[Change], request: &Request, link: &Link
     }
 }
 
-/// Whether a walk may continue along the link's key, once it has reached the router over this many
-/// links.
+/// Whether a walk that has reached `router` over `links` links may continue along the link that the
+/// base, after the changes, has at the key of `link`.
 fn may_go_on(
     base: &Table,
-    changes: &[Change],
+    changes: &Changed,
     request: &Request,
     links: usize,
     router: Addr,
@@ -58,7 +63,7 @@ fn without_bandwidth(request: &Request) -> Request
 }
 
 /// Whether the base admits the placement's route after the changes.
-fn admits(base: &Table, changes: &[Change], placement: &Placement) -> bool
+fn admits(base: &Table, changes: &Changed, placement: &Placement) -> bool
     ensures { IsTrue result ↔ AdmitsRoute (after_changes base.now changes.now) placement.now }
 {
     let request = without_bandwidth(&placement.request);
@@ -72,76 +77,149 @@ fn admits(base: &Table, changes: &[Change], placement: &Placement) -> bool
     true
 }
 
-/// Whether one of the changes affects the router: a link from it, or its mark.
-fn changes_router(changes: &[Change], router: Addr) -> bool
-    ensures { result ≡ changes_router changes.now router }
+/// Whether the base admits the placement's route after the changes, too, if the base admits the
+/// route now. A link is looked up only if the changes affect a router at one of its ends.
+fn still_admits(base: &Table, changes: &Changed, placement: &Placement) -> bool
+    ensures { AdmitsRoute base.now placement.now
+        → IsTrue result ↔ AdmitsRoute (after_changes base.now changes.now) placement.now }
 {
-    changes.iter().any(|change| change.key().0 == router)
-}
-
-/// Whether one of the changes affects a router to which one of the links runs.
-fn changes_end(changes: &[Change], links: &[Link]) -> bool
-    ensures { result ≡ list_any (λ l. changes_router changes.now l.to) links.now }
-{
-    links.iter().any(|link| changes_router(changes, link.to))
-}
-
-/// Whether one of the changes affects a router on the placement's route. If not, the base still
-/// admits a route that it admits now.
-fn touches(changes: &[Change], placement: &Placement) -> bool
-    ensures { result ≡ touches changes.now placement.now }
-{
-    changes_router(changes, placement.request.from) || changes_end(changes, placement.route.links())
+    let request = without_bandwidth(&placement.request);
+    let mut router = placement.request.from;
+    let mut near = changes.has_router(router);
+    for (i, link) in placement.route.links().iter().enumerate() {
+        let far = changes.has_router(link.to);
+        if (near || far) && !may_go_on(base, changes, &request, i, router, link) {
+            return false;
+        }
+        router = link.to;
+        near = far;
+    }
+    true
 }
 
 /// Whether the base admits the placement's route now, but not after the changes.
-fn is_lost(base: &Table, changes: &[Change], placement: &Placement) -> bool
+fn is_lost(base: &Table, none: &Changed, changes: &Changed, placement: &Placement) -> bool
+    requires { none.now ≡ [] }
     ensures { IsTrue result
         ↔ IsLost base.now (after_changes base.now changes.now) placement.now }
 {
-    touches(changes, placement) && !admits(base, changes, placement) && admits(base, &[], placement)
+    !still_admits(base, changes, placement) && admits(base, none, placement)
 }
 
-/// Lists a rank for each placement that loses its route: 7 minus the holding priority, and the id.
+/// Whether the base admits the placement's route now, but not after the changes. `bits` are the bits
+/// of the routers on the route. The route is read only if the changes may affect such a router.
+fn is_lost_by_bits(
+    base: &Table,
+    none: &Changed,
+    changes: &Changed,
+    placement: &Placement,
+    bits: u128,
+) -> bool
+    requires none { none.now ≡ [] }
+    requires bits { bits ≡ bits_of placement.now }
+    ensures { IsTrue result
+        ↔ IsLost base.now (after_changes base.now changes.now) placement.now }
+{
+    changes.may_affect(bits) && is_lost(base, none, changes, placement)
+}
+
+/// Does the same as `is_lost_by_bits`. `moving` are the changes that move a link's far end or change
+/// a mark. For a request without affinities only these are looked at.
+fn is_lost_by_moving(
+    base: &Table,
+    none: &Changed,
+    changes: &Changed,
+    moving: &Changed,
+    placement: &Placement,
+    bits: u128,
+) -> bool
+    requires none { none.now ≡ [] }
+    requires moving { moving.now ≡ moving_changes base.now changes.now }
+    requires bits { bits ≡ bits_of placement.now }
+    ensures { IsTrue result
+        ↔ IsLost base.now (after_changes base.now changes.now) placement.now }
+{
+    within_limits(base);
+    if has_no_affinities(&placement.request) {
+        is_lost_by_bits(base, none, moving, placement, bits)
+    } else {
+        is_lost_by_bits(base, none, changes, placement, bits)
+    }
+}
+
+/// Does the same as `is_lost_by_moving`. If the changes can affect no router of the placement, the
+/// placement isn't read.
+fn is_lost_at(
+    base: &Table,
+    none: &Changed,
+    changes: &Changed,
+    moving: &Changed,
+    placement: &Placement,
+    bits: u128,
+) -> bool
+    requires none { none.now ≡ [] }
+    requires moving { moving.now ≡ moving_changes base.now changes.now }
+    requires bits { bits ≡ bits_of placement.now }
+    ensures { IsTrue result
+        ↔ IsLost base.now (after_changes base.now changes.now) placement.now }
+{
+    changes.may_affect(bits) && is_lost_by_moving(base, none, changes, moving, placement, bits)
+}
+
+/// Lists the rank of each placement that loses its route. A rank is a pair: 7 minus the placement's
+/// holding priority, and the placement's id.
 fn list_ranks(
     alloc: Global,
     base: &Table,
     placements: &[Placement],
-    changes: &[Change],
+    bits: &[u128],
+    none: &Changed,
+    changes: &Changed,
+    moving: &Changed,
 ) -> Result<Vec<(u8, u64)>, AllocError>
-    requires { HaveOtherIds placements.now }
+    requires ids { HaveOtherIds placements.now }
+    requires bits { bits.now ≡ map bits_of placements.now }
+    requires none { none.now ≡ [] }
+    requires moving { moving.now ≡ moving_changes base.now changes.now }
     ensures { IfOk result (λ ranks. AreRanksOfLost base.now (after_changes base.now changes.now)
         placements.now ranks.items) }
 {
     let mut ranks = Vec::new(alloc);
-    for placement in placements {
-        if is_lost(base, changes, placement) {
+    for (i, placement) in placements.iter().enumerate() {
+        if is_lost_at(base, none, changes, moving, placement, bits[i]) {
             ranks.push((7 - placement.hold, placement.request.id))?;
         }
     }
     Ok(ranks)
 }
 
-/// The ids in the ranks.
+/// The ids in these ranks, in the same order. A rank is a pair: 7 minus a placement's holding
+/// priority, and the placement's id.
 fn ids_of(alloc: Global, ranks: &[(u8, u64)]) -> Result<Vec<u64>, AllocError>
     ensures { IfOk result (λ ids. ids.items ≡ map (λ rank. rank.1) ranks.now) }
 {
     ranks.iter().map(|rank| rank.1).collect(alloc)
 }
 
-/// The ids of the placements that lose their routes by the changes. The least important comes
-/// first.
+/// The ids of the placements that lose their routes by the changes (afterwards the base no longer
+/// admits the route). The least important comes first.
 pub(crate) fn lost(
     alloc: Global,
     base: &Table,
     placements: &[Placement],
+    bits: &[u128],
     changes: &[Change],
 ) -> Result<Vec<u64>, AllocError>
-    requires { HaveOtherIds placements.now }
+    requires ids { HaveOtherIds placements.now }
+    requires bits { bits.now ≡ map bits_of placements.now }
     ensures { IfOk result (λ ids. AreLost base.now (after_changes base.now changes.now)
         placements.now ids.items) }
 {
-    let mut ranks = list_ranks(alloc, base, placements, changes)?;
+    let none = Changed::none(alloc);
+    let changed = Changed::new(alloc, changes)?;
+    let list = list_moving(alloc, base, &changed, changes)?;
+    let moving = Changed::new(alloc, &list)?;
+    let mut ranks = list_ranks(alloc, base, placements, bits, &none, &changed, &moving)?;
     ranks.sort_unstable();
     ids_of(alloc, &ranks)
 }

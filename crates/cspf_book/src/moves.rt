@@ -1,9 +1,8 @@
-//! How placements are added to a book and taken out of it. The sums and the effective table are
-//! updated with each.
+//! How placements are added to a book and taken out of it. Each time the sums of counted bandwidth
+//! and the effective table (the base's links with what the placements leave) are updated.
 
 ghost use Rattle.std.specs.Prelude.{◌≡◌, ◌+◌, ◌^◌, ◌<◌, [], ◌∷◌, ◌++◌, length, vec_len, remove, OnOk};
 ghost use Rattle.std.specs.Vec.{vec_capacity};
-ghost use Rattle.cspf_book.specs.Placements.{index_of_id};
 ghost use Rattle.cspf_book.specs.Effective.{effective};
 ghost use Rattle.cspf_book.specs.BookState.{links_placed};
 ghost use Rattle.cspf_book.specs.Kept.{IsCountOf, AreSmall, HasKeys, HasKeysAt, KeepsKeys, HasSameSums};
@@ -14,18 +13,6 @@ use crate::placement::Placement;
 use cspf_db::Table;
 use cspf_model::Batch;
 use std::alloc::AllocError;
-
-/// The index of the first placement with this id. If no placement has the id, the result is the
-/// number of placements.
-pub(crate) fn index_of(placements: &[Placement], id: u64) -> usize
-    ensures { result ≡ index_of_id id placements.now }
-{
-    let mut at = 0;
-    while at < placements.len() && placements[at].request.id != id {
-        at += 1;
-    }
-    at
-}
 
 /// How many links the route of the placement at an index has. It is 0 for an index past the last
 /// placement.
@@ -55,60 +42,8 @@ pub(crate) fn enter_at(
     Ok(())
 }
 
-/// Takes the placement at an index, if there is one, out of the sums and the effective table. The
-/// list of placements stays.
-pub(crate) fn set_aside(
-    table: &mut Table,
-    one: &mut Batch,
-    base: &Table,
-    counts: &mut Counts,
-    placements: &[Placement],
-    at: usize,
-)
-    requires one { length one.old.changes ≡ 1 }
-    requires counted { IsCountOf counts.old placements.now }
-    requires current { table.old ≡ effective base.now placements.now }
-    ensures one { length one.new.changes ≡ 1 }
-    ensures counted { IsCountOf counts.new (remove placements.now at) }
-    ensures kept { KeepsKeys counts.old counts.new }
-    ensures current { table.new ≡ effective base.now (remove placements.now at) }
-{
-    within_limits(base);
-    if at < placements.len() {
-        let placement = &placements[at];
-        counts.take(placement);
-        refresh_links(table, one, base, counts, placement.route.links());
-    }
-}
-
-/// Undoes `set_aside`: counts the placement at an index again in the sums and the effective table.
-pub(crate) fn set_back(
-    table: &mut Table,
-    one: &mut Batch,
-    base: &Table,
-    counts: &mut Counts,
-    placements: &[Placement],
-    at: usize,
-)
-    requires one { length one.old.changes ≡ 1 }
-    requires keys { HasKeysAt counts.old placements.now at }
-    requires small { AreSmall counts.old }
-    requires counted { IsCountOf counts.old (remove placements.now at) }
-    requires current { table.old ≡ effective base.now (remove placements.now at) }
-    ensures one { length one.new.changes ≡ 1 }
-    ensures counted { IsCountOf counts.new placements.now }
-    ensures current { table.new ≡ effective base.now placements.now }
-{
-    within_limits(base);
-    if at < placements.len() {
-        let placement = &placements[at];
-        counts.add(placement);
-        refresh_links(table, one, base, counts, placement.route.links());
-    }
-}
-
 /// Drops the entries of `counts` for the links of the placement at an index, if there is one. An
-/// entry at which something is still counted stays.
+/// entry stays if bandwidth is still counted on its link.
 pub(crate) fn forget_at(counts: &mut Counts, placements: &[Placement], at: usize)
     ensures { HasSameSums counts.old counts.new }
 {
@@ -117,7 +52,7 @@ pub(crate) fn forget_at(counts: &mut Counts, placements: &[Placement], at: usize
     }
 }
 
-/// Takes the placement at an index, if there is one, out of the list.
+/// Removes the placement at an index, if there is one, from the list of placements.
 pub(crate) fn take_out(placements: &mut Vec<Placement>, at: usize)
     ensures items { placements.new.items ≡ remove placements.old.items at }
     ensures room { vec_capacity placements.new ≡ vec_capacity placements.old }
@@ -127,29 +62,99 @@ pub(crate) fn take_out(placements: &mut Vec<Placement>, at: usize)
     }
 }
 
-/// Adds a placement after the others. It takes no memory.
-pub(crate) fn put_in(
-    table: &mut Table,
-    one: &mut Batch,
-    base: &Table,
-    counts: &mut Counts,
-    placements: &mut Vec<Placement>,
-    placement: Placement,
-)
-    requires one { length one.old.changes ≡ 1 }
-    requires room { vec_len placements.old < vec_capacity placements.old }
-    requires keys { HasKeys counts.old placement.route }
-    requires small { AreSmall counts.old }
-    requires counted { IsCountOf counts.old placements.old.items }
-    requires current { table.old ≡ effective base.now placements.old.items }
-    ensures one { length one.new.changes ≡ 1 }
-    ensures items { placements.new.items ≡ placements.old.items ++ placement ∷ [] }
-    ensures counted { IsCountOf counts.new placements.new.items }
-    ensures narrow { placement.request.bandwidth < 2 ^ 64 }
-    ensures current { table.new ≡ effective base.now placements.new.items }
-{
-    within_limits(base);
-    counts.add(&placement);
-    refresh_links(table, one, base, counts, placement.route.links());
-    placements.push_reserved(placement);
+/// The bandwidth that the placements of a book hold.
+#[derive(Drop)]
+pub(crate) struct Held {
+    /// The effective database: the base's links, each with the bandwidth that the placements leave.
+    pub(crate) effective: Table,
+    /// How much bandwidth is counted on each link.
+    pub(crate) counts: Counts,
+    /// A batch that always has one change. With it the effective database is updated, one link at a
+    /// time.
+    pub(crate) one: Batch,
+}
+
+impl Held {
+    /// Subtracts the placement at an index, if there is one, from the sums of counted bandwidth.
+    /// Its bandwidth is free again in the effective database. The list of placements stays the
+    /// same.
+    pub(crate) fn set_aside(&mut self, base: &Table, placements: &[Placement], at: usize)
+        requires one { length self.old.one.changes ≡ 1 }
+        requires counted { IsCountOf self.old.counts placements.now }
+        requires current { self.old.effective ≡ effective base.now placements.now }
+        ensures one { length self.new.one.changes ≡ 1 }
+        ensures counted { IsCountOf self.new.counts (remove placements.now at) }
+        ensures kept { KeepsKeys self.old.counts self.new.counts }
+        ensures current { self.new.effective ≡ effective base.now (remove placements.now at) }
+    {
+        within_limits(base);
+        if at < placements.len() {
+            let placement = &placements[at];
+            self.counts.take(placement);
+            refresh_links(
+                &mut self.effective,
+                &mut self.one,
+                base,
+                &self.counts,
+                placement.route.links(),
+            );
+        }
+    }
+
+    /// Undoes `set_aside`: counts the bandwidth of the placement at an index again, in the sums and
+    /// in the effective database.
+    pub(crate) fn set_back(&mut self, base: &Table, placements: &[Placement], at: usize)
+        requires one { length self.old.one.changes ≡ 1 }
+        requires keys { HasKeysAt self.old.counts placements.now at }
+        requires small { AreSmall self.old.counts }
+        requires counted { IsCountOf self.old.counts (remove placements.now at) }
+        requires current { self.old.effective ≡ effective base.now (remove placements.now at) }
+        ensures one { length self.new.one.changes ≡ 1 }
+        ensures counted { IsCountOf self.new.counts placements.now }
+        ensures current { self.new.effective ≡ effective base.now placements.now }
+    {
+        within_limits(base);
+        if at < placements.len() {
+            let placement = &placements[at];
+            self.counts.add(placement);
+            refresh_links(
+                &mut self.effective,
+                &mut self.one,
+                base,
+                &self.counts,
+                placement.route.links(),
+            );
+        }
+    }
+
+    /// Adds a placement at the end of the list, and counts its bandwidth. The call takes no memory.
+    pub(crate) fn put_in(
+        &mut self,
+        base: &Table,
+        placements: &mut Vec<Placement>,
+        placement: Placement,
+    )
+        requires one { length self.old.one.changes ≡ 1 }
+        requires room { vec_len placements.old < vec_capacity placements.old }
+        requires keys { HasKeys self.old.counts placement.route }
+        requires small { AreSmall self.old.counts }
+        requires counted { IsCountOf self.old.counts placements.old.items }
+        requires current { self.old.effective ≡ effective base.now placements.old.items }
+        ensures one { length self.new.one.changes ≡ 1 }
+        ensures items { placements.new.items ≡ placements.old.items ++ placement ∷ [] }
+        ensures counted { IsCountOf self.new.counts placements.new.items }
+        ensures narrow { placement.request.bandwidth < 2 ^ 64 }
+        ensures current { self.new.effective ≡ effective base.now placements.new.items }
+    {
+        within_limits(base);
+        self.counts.add(&placement);
+        refresh_links(
+            &mut self.effective,
+            &mut self.one,
+            base,
+            &self.counts,
+            placement.route.links(),
+        );
+        placements.push_reserved(placement);
+    }
 }

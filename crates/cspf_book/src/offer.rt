@@ -1,18 +1,20 @@
 //! The answer to a request that is to be placed, with the placement if the answer is a route that
 //! may be placed.
 
-ghost use Rattle.std.specs.Prelude.{◌≡◌, ◌↔◌, ◌<◌, ◌≤◌, IfOk, IfErr, IfSome, IsTrue, length};
+ghost use Rattle.std.specs.Prelude.{◌≡◌, ◌↔◌, ◌<◌, ◌≤◌, IfOk, IfErr, IfSome, IfNone, OnErr, IsTrue, length};
 ghost use Rattle.cspf_model.specs.Best.{IsBestAnswer, route};
 ghost use Rattle.cspf_model.specs.Database.{HaveOwnKeys};
 ghost use Rattle.cspf_model.specs.Outcome.{answer_of};
 ghost use Rattle.cspf_book.specs.BookState.{IsPlacementOf};
 ghost use Rattle.cspf_book.specs.Offers.{IsOffered, IsAnswerRefused, IsWalkRefused, IsOfferRefused};
 ghost use Rattle.cspf_book.specs.Kept.{HasSameSums, KeepsKeys, HasKeys};
+ghost use Rattle.cspf_book.specs.ById.{HasSameIds, HasEntered};
 
 use crate::counting::has_key;
 use crate::counts::Counts;
 use crate::error::PlaceError;
 use crate::placement::Placement;
+use crate::versions::Ids;
 use cspf_db::Table;
 use cspf_model::{Link, Outcome, Request, Route};
 use cspf_search::best;
@@ -38,7 +40,7 @@ fn copy_of(alloc: Global, route: &Route) -> Result<Route, AllocError>
     Ok(Route::new(links, route.cost()))
 }
 
-/// The placement of a request along a route. Its route may have at most `room` links.
+/// The placement of a request along a route, which may have at most `room` links.
 fn placement_on(
     alloc: Global,
     route: &Route,
@@ -65,8 +67,8 @@ fn placement_on(
     })
 }
 
-/// An answer to a request, with its placement if the answer is a route that may be placed. Its
-/// route may have at most `room` links.
+/// Returns the answer of the search, with a placement if the answer is a route that may be placed.
+/// Such a route has at most `room` links.
 fn offer_of(
     alloc: Global,
     outcome: Outcome,
@@ -78,8 +80,8 @@ fn offer_of(
     ensures same { IfOk result (λ offered. offered.0 ≡ outcome) }
     ensures placement { IfOk result (λ offered.
         IsOffered request.now hold room (answer_of outcome) offered.1) }
-    // Each error keeps its cause. Memory is refused only for a route that would otherwise be
-    // placed.
+    // Each error says why the route isn't placed. Memory is refused only for a route that would
+    // otherwise be placed.
     ensures refused { IfErr result (IsAnswerRefused room (answer_of outcome)) }
 {
     match outcome {
@@ -91,8 +93,8 @@ fn offer_of(
     }
 }
 
-/// The best answer to a request in the table's database, with its placement if the answer is a
-/// route that may be placed. Its route may have at most `room` links.
+/// The best answer to a request in the table's database, with a placement if the answer is a route
+/// that may be placed. Such a route has at most `room` links.
 fn offer(
     alloc: Global,
     table: &Table,
@@ -110,15 +112,18 @@ fn offer(
     offer_of(alloc, outcome, request, hold, room)
 }
 
-/// Does the same as `offer`, and makes entries of `counts` for the links of the offered placement.
-/// No sum changes.
+/// Does the same as `offer`. It makes entries of `counts` for the links of the offered placement,
+/// and no sum changes. It enters the version for the placement's id. After an error, or if no
+/// placement is offered, it has entered no version.
 pub(crate) fn offer_counted(
     alloc: Global,
     table: &Table,
     counts: &mut Counts,
+    ids: &mut Ids,
     request: &Request,
     hold: u8,
     room: usize,
+    version: u32,
 ) -> Result<(Outcome, Option<Placement>), PlaceError>
     requires { hold < 8 }
     ensures best { IfOk result (λ offered. IsBestAnswer table.now request.now (answer_of offered.0)) }
@@ -128,11 +133,18 @@ pub(crate) fn offer_counted(
     ensures sums { HasSameSums counts.old counts.new }
     ensures kept { KeepsKeys counts.old counts.new }
     ensures keys { IfOk result (λ offered. IfSome offered.1 (λ p. HasKeys counts.new p.route)) }
+    ensures versions { ids.new.versions ≡ ids.old.versions }
+    ensures bits { ids.new.bits ≡ ids.old.bits }
+    ensures entered { IfOk result (λ offered. IfSome offered.1 (λ p.
+        HasEntered ids.old ids.new request.now.id version)) }
+    ensures none { IfOk result (λ offered. IfNone offered.1 (HasSameIds ids.old ids.new)) }
+    ensures err { OnErr result (HasSameIds ids.old ids.new) }
 {
     let (outcome, offered) = offer(alloc, table, request, hold, room)?;
     match offered {
         Some(placement) => {
             counts.enter(placement.route.links())?;
+            ids.enter(request.id, version)?;
             Ok((outcome, Some(placement)))
         }
         None => Ok((outcome, None)),

@@ -1,4 +1,4 @@
-//! Which links have less bandwidth after changes of the base than placements hold on them.
+//! Which links, after changes of the base, have less bandwidth than the placements hold on them.
 
 ghost use Rattle.std.specs.Prelude.{◌≡◌, ◌++◌, List, IfOk, OnOk};
 ghost use Rattle.cspf_book.specs.OverLinks.{over_on, over};
@@ -40,7 +40,8 @@ fn list_over(list: &mut Vec<Over>, counts: &Counts, link: &Link) -> Result<(), A
     Ok(())
 }
 
-/// Lists these priorities for each link that the changes put.
+/// For each link that the changes set (`Put`), lists the priorities at which the link has less
+/// unreserved bandwidth than the placements count on its key.
 pub(crate) fn find_over(
     alloc: Global,
     counts: &Counts,

@@ -9,8 +9,8 @@ pub struct Placement {
     pub request: Request,
     /// The holding priority, 0 (the highest) to 7 (RFC 3209 4.7.1).
     pub hold: u8,
-    /// The route. Each of its links has the unreserved bandwidth that the effective database had
-    /// when the request was placed.
+    /// The route. Each of its links has the unreserved bandwidth that the effective database (with
+    /// what earlier placements left) had when the request was placed.
     pub route: Route,
     ghost priority: { hold < 8 },
 }

@@ -1,4 +1,6 @@
--- Links stay covered until the next base batch, and afterwards, too, unless their `over` line was written.
+-- Links stay covered from any state on, unless their `over` line (it reports too little bandwidth)
+-- is written. A link is covered at a priority if the placements count at most its unreserved
+-- bandwidth there.
 use Rattle.std.proofs.Common.{◌≡◌, ◌⊎◌, ℕ, zero, suc, ◌+◌, ◌<◌, ◌≤◌, List, [], ◌∷◌, ◌++◌, Result, Ok, Err, IfOk, inl, inr, sym, ap, subst, ◌∙◌, append_assoc, arith}
 use Rattle.std.specs.List.{Contains, flat_map}
 use Rattle.cspf_model.specs.Best.{Answer, unknown_from, unknown_to, no_route, route, IsBestAnswer}
@@ -23,21 +25,23 @@ use Rattle.cspf_book_run.specs.declared.book_row.BookRow.TheVariants as book_row
 use Rattle.cspf_book_run.specs.BookRows.{book_row_of}
 use Rattle.cspf_book_run.specs.BookLines.{over_line, lost_line, base_line}
 use Rattle.cspf_book_run.specs.BookScript.{BookRunState, book_start, book_answers, after_base_batch, AreBaseLines, IsBookStepAnswered, IsBookRowAnswered}
-use Rattle.cspf_book_run.specs.BookScriptLaws.{IsBookCovered, IsSaidOver, RowsKeepCovered, RowsCoverOrSay}
+use Rattle.cspf_book_run.specs.BookScriptLaws.{IsBookCovered, IsSaidOver, RowsCoverSince}
 use Rattle.cspf_book_run.specs.BookStates.{IsReadable}
 use Rattle.cspf_book_run.proofs.BookRowLemmas.{readable_row}
 
--- the laws of covered links on which these proofs rest
+-- the laws of covered links on which these proofs rest; a covered link has enough bandwidth for the
+-- placements
 pub record KeepCovered : Type 0 where
   pub placing : PlacingKeepsCovered
   pub releasing : ReleasingKeepsCovered
   pub absorbing : AbsorbingKeepsCovered
 
--- At the start nothing is counted, so each link is covered.
+-- At the start there are no placements, so they count at most the bandwidth of each link.
 pub covered_at_first : IsBookCovered book_start.book
 covered_at_first l priority there below = omega arith
 
--- If the base has the link, then the link is covered or X holds.
+-- If the base has the link, then the placements count at most the link's bandwidth at the priority,
+-- or X holds.
 abbrev CoveredOr : Type 0 → BookState → Link → ℕ → Type 0
 CoveredOr X b l priority = IsLinkOf b.base l → IsCovered b.placements l priority ⊎ X
 
@@ -47,7 +51,7 @@ CoveredOr X b l priority = IsLinkOf b.base l → IsCovered b.placements l priori
 later_part : (first before m after : List ℕ) → first ++ (before ++ m ++ after) ≡ first ++ before ++ m ++ after
 later_part first before m after = sym (append_assoc first (before ++ m) after) ∙ ap (λ (z : List ℕ). z ++ after) (sym (append_assoc first before m))
 
-said_among : (xs : List Over) (x : Over) → Contains xs x
+pub said_among : (xs : List Over) (x : Over) → Contains xs x
     → (before : List ℕ) × (after : List ℕ) × (flat_map over_line xs ≡ before ++ over_line x ++ after)
 said_among [] x (k, within, is) = absurd (omega arith)
 said_among (y ∷ ys) x (zero, within, is) = ([], flat_map over_line ys, ap (λ (z : Over). over_line z ++ flat_map over_line ys) is)
@@ -59,32 +63,35 @@ module _ (l : Link) (priority : ℕ) where
   abbrev text : List ℕ
   text = over_line (over_at l priority)
 
-  -- A line among the first lines is among all lines.
-  said_first : (lines first second : List ℕ) → lines ≡ first ++ second → IsSaidOver first l priority → IsSaidOver lines l priority
+  -- If all lines are the lines `first` and then the lines `second`, an `over` line (it reports too
+  -- little bandwidth) among `first` is among all lines.
+  pub said_first : (lines first second : List ℕ) → lines ≡ first ++ second → IsSaidOver first l priority → IsSaidOver lines l priority
   said_first lines first second split (before, after, is) = (
     before,
     after ++ second,
     split ∙ ap (λ (z : List ℕ). z ++ second) is ∙ append_assoc (before ++ text) after second,
   )
 
-  -- A line among the second lines is among all lines.
-  said_second : (lines first second : List ℕ) → lines ≡ first ++ second → IsSaidOver second l priority → IsSaidOver lines l priority
+  -- If all lines are the lines `first` and then the lines `second`, an `over` line (it reports too
+  -- little bandwidth) among `second` is among all lines.
+  pub said_second : (lines first second : List ℕ) → lines ≡ first ++ second → IsSaidOver second l priority → IsSaidOver lines l priority
   said_second lines first second split (before, after, is) = (
     first ++ before,
     after,
     split ∙ ap (λ (z : List ℕ). first ++ z) is ∙ later_part first before text after,
   )
 
-  -- ---- how rows change what is counted on the link
+  -- ---- how rows change the bandwidth that is counted on the link
 
-  -- If the link isn't covered after the rows, it wasn't before, or the rows accept a base batch and have its
-  -- `over` line.
+  -- Suppose that the link isn't covered after the rows. Then it wasn't covered before them, or the
+  -- rows accept a base batch and have the link's `over` line (it reports too little bandwidth).
   pub record KeepsCover (s t : BookRunState) (lines : List ℕ) : Type 1 where
     pub batches : s.batches ≤ t.batches
     pub cover : (X : Type 0) → CoveredOr X s.book l priority
         → CoveredOr (X ⊎ ((s.batches < t.batches) × IsSaidOver lines l priority)) t.book l priority
 
-  -- No base batch is accepted.
+  -- A covered link has enough bandwidth for the placements. If the rows accept no base batch, and
+  -- the link stays covered if it was covered before them, `KeepsCover` holds of the rows.
   kept : (s t : BookRunState) (lines : List ℕ) → t.batches ≡ s.batches
       → ((X : Type 0) → CoveredOr X s.book l priority → CoveredOr X t.book l priority) → KeepsCover s t lines
   kept s t lines batches keeps = record {
@@ -92,12 +99,14 @@ module _ (l : Link) (priority : ℕ) where
     cover = λ X covered there. elim (keeps X covered there) [ inl c ↦ inl c | inr x ↦ inr (inl x) ];
   }
 
-  -- The book stays.
+  -- If the rows change neither the book nor the number of accepted base batches, `KeepsCover` holds
+  -- of the rows.
   stays : (s t : BookRunState) (lines : List ℕ) → t.batches ≡ s.batches → t.book ≡ s.book → KeepsCover s t lines
   stays s t lines batches book = kept s t lines batches (λ X covered. subst (λ (b : BookState). CoveredOr X b l priority) (sym book) covered)
 
   module _ (laws : KeepCovered) (below : priority < 8) where
-    -- A placement keeps each covered link covered.
+    -- If the placements count at most the link's bandwidth at the priority, or X holds, this also
+    -- holds after a request is placed.
     placing_covers : (old new : BookState) (q : Request) (hold : ℕ) (answer : Answer) → q.setup ≡ 7
         → IsBestAnswer (effective_beside old q.id) q answer → IsAnswerPlaced old q hold answer new
         → (X : Type 0) → CoveredOr X old l priority → CoveredOr X new l priority
@@ -120,7 +129,9 @@ module _ (l : Link) (priority : ℕ) where
           | inr x ↦ inr x
         ]
 
-    -- Changes of the base keep the link covered, or its `over` line is among the lines.
+    -- After an accepted base batch the placements still count at most the link's bandwidth, or X
+    -- holds. Otherwise the link's `over` line (it reports too little bandwidth) is among the lines
+    -- of the batch.
     absorbing_covers : (s t : BookRunState) (number : ℕ) (line : List ℕ) → AreBaseLines s number line → t ≡ after_base_batch s → KeepsCover s t line
     absorbing_covers s t number line (ids, lost, is) after = rw after (record {
       batches = omega arith;
@@ -181,16 +192,9 @@ module _ (l : Link) (priority : ℕ) where
           ];
         }
 
-pub rows_keep_covered : KeepCovered → RowsKeepCovered
-rows_keep_covered laws place s t rows lines a same covered = λ l priority there below.
-    elim ((rows_cover l priority laws below place s t rows lines a).cover ⊥ (λ was. inl (covered l priority was below)) there) [
-      | inl c ↦ c
-      | inr other ↦ elim other [ inl none ↦ absurd none | inr said ↦ absurd (omega (arith, said.0, same)) ]
-    ]
-
-pub rows_cover_or_say : KeepCovered → RowsCoverOrSay
-rows_cover_or_say laws place s t rows lines a covered l priority there below =
-    elim ((rows_cover l priority laws below place s t rows lines a).cover ⊥ (λ was. inl (covered l priority was below)) there) [
+pub rows_cover_since : KeepCovered → RowsCoverSince
+rows_cover_since laws place s t rows lines a l priority there below covered =
+    elim ((rows_cover l priority laws below place s t rows lines a).cover ⊥ (λ was. inl (covered was)) there) [
       | inl c ↦ inl c
-      | inr other ↦ elim other [ inl none ↦ absurd none | inr said ↦ inr said.1 ]
+      | inr other ↦ elim other [ inl none ↦ absurd none | inr said ↦ inr said ]
     ]

@@ -76,7 +76,7 @@ ask_once best reply s q l m t u a b =
 
 -- ---- `place` rows
 
--- the placement with these parts
+-- the placement of this request along this walk, with this holding priority
 abbrev made : (q : Request) (hold : ℕ) (walk : List Link) → hold < 8 → Placement
 made q hold walk below = record { request = q; hold = hold; route = walk; priority = below }
 
@@ -107,7 +107,7 @@ place_reply_once reply id version answer l m (rest, is, line) (rest2, is2, line2
     let rests : rest ≡ rest2 = ap (drop 3) same in
     line ∙ rw rests (sym line2)
 
--- A request that is answered isn't refused.
+-- A `place` row that is answered isn't refused.
 module _ (best : OneBestAnswer) (s : BookRunState) (q : Request) (hold : ℕ) where
   -- If the best answer is a route, this route is placed.
   other_answer : (l : List ℕ) (book : BookState) (a : IsPlaceAnswered s q hold l book) (walk : List Link) → IsBestAnswer (effective_beside s.book q.id) q (route walk) → IsPlacedAlong s.book q hold walk book

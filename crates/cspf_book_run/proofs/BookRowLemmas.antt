@@ -1,4 +1,4 @@
--- The `place` rows.
+-- How `place` rows are read.
 use Rattle.std.proofs.Common.{◌≡◌, ◌==◌, ℕ, Bool, true, false, cond, List, length, codes, refl, sym, ◌∙◌, Result, Ok, Err, IfOk}
 use Rattle.std.specs.Result.{result_map_both}
 use Rattle.cspf_model.specs.Fields.{AreFieldsOfRequests, HasRequestFields, request_fields}
@@ -15,7 +15,7 @@ use Rattle.cspf_book_run.specs.declared.book_row.BookRow.TheVariants as book_row
 use Rattle.cspf_book_run.specs.BookRows.{at_lowest_setup, placed_as_asked, place_row_of, release_row_of, book_row_of}
 use Rattle.cspf_book_run.specs.BookStates.{IsReadable}
 
--- A request with the same fields at setup priority 7 is `at_lowest_setup` of the other request.
+-- A request that has the same fields as `q`, but setup priority 7, is `at_lowest_setup q`.
 pub lowest_setup : AreFieldsOfRequests → (q r : Request)
     → HasRequestFields r (request_fields q.id q.from q.to 7 q.bandwidth q.exclude_any q.include_any q.include_all q.hops) → r ≡ at_lowest_setup q
 lowest_setup requests q r h =
@@ -50,7 +50,7 @@ readable_release : (r : Result ℕ RowError) → IfOk (result_map_both book_row.
 readable_release (Ok id) = tt
 readable_release (Err e) = tt
 
--- A row that is read is readable: a request to place has setup priority 7, and its holding priority is at most 7.
+-- A request to place that is read from a record has setup priority 7, and its holding priority is at most 7.
 pub readable_row : (fields : List (List ℕ)) → IfOk (book_row_of fields) IsReadable
 unfolding book_row_of
 readable_row fields =

@@ -1,14 +1,17 @@
--- A run of a book: from the answers of the code to the lines and the summary, and how a run stops.
+-- How the answers of the code make up the lines and the summary of a run of a book, and how such a
+-- run stops.
 use Rattle.std.proofs.Common.{◌≡◌, ◌≢◌, ℕ, suc, ◌+◌, ◌<◌, ◌≤◌, Bool, true, false, List, [], ◌∷◌, ◌++◌, take, length, length-append, Option, Some, None, IfSome, Result, Ok, Err, IfOk, IfErr, OnOk, inl, inr, refl, sym, ap, subst, ◌∙◌, append-nil, arith}
 use Rattle.std.proofs.KnownBytes.{Appends-nil, Appends-trans, Appends-kept}
 use Rattle.std.proofs.lemmas.Bool.{false≢true}
 use Rattle.std.proofs.lemmas.List.{length-take-le}
 use Rattle.std.specs.Io.KnownBytes.{Appends}
 use Rattle.cspf_rows.specs.Records.{rows_of}
-use Rattle.cspf_stream.specs.FirstRows.{AreFirstRowsAnswered, HasMoreRows, StopsAfterRows, StopsInRowAfter, HasStoppedAfter}
+use Rattle.cspf_stream.specs.FirstRows.{AreFirstRowsAnswered, HasMoreRows, StopsAfterRows, StopsInRowAfter, IsStoppedAfter}
 use Rattle.cspf_stream.specs.RowAnswers.{AreAnswered}
-use Rattle.cspf_stream.specs.declared.error.StreamError.{StreamError}
+use Rattle.cspf_stream.specs.StreamStops.{NeverFails}
 use Rattle.cspf_stream.specs.declared.error.StreamError.TheVariants as stream_error
+use Rattle.cspf_stream.specs.declared.error.StreamStop.{StreamStop}
+use Rattle.cspf_stream.specs.declared.error.StreamStop.TheVariants as stop
 use Rattle.cspf_solve.specs.SolverStates.{IsPast, IsEndCut}
 use Rattle.cspf_solve.specs.Script.{last_line}
 use Rattle.cspf_solve.specs.declared.summary.Summary.{Summary}
@@ -24,12 +27,12 @@ use Rattle.cspf_book_run.specs.BookOutput.{IsBookBegun, IsNextBookText}
 use Rattle.cspf_book_run.specs.BookStates.{KeepsBook, IsBookBefore, AreBookCounts}
 use Rattle.cspf_book_run.specs.BookRowsEnds.{Written, HasRunBook, IsBookHalted, IsBookRowsEnd, IsBookEndCut, book_end}
 use Rattle.cspf_book_run.specs.Kept.{kept_answers, kept_of, AreBookRowsKept, IsKeptText}
-use Rattle.cspf_book_run.specs.KeptStates.{IsRowKept, IsRowUnkept, IsRowNotKept}
+use Rattle.cspf_book_run.specs.KeptStates.{IsRowKept, IsRowNotKept}
 
 abbrev Rows : Type 0
 Rows = List (List (List ℕ))
 
--- The code answers these rows one after the other, and goes from the state before to the state after.
+-- The code answers these rows one after the other, which takes it from the state `k` to the state `k'`.
 pub record IsCarried {K : Type 0} (contents : K → Option (List ℕ)) (place : ℕ) (k k' : KeptRows K) (s : BookRunState) (rows : List (List (List ℕ))) (lines : List ℕ) : Type 0 where
   pub after : BookRunState
   pub kept : KeepsBook k'.rows after
@@ -37,31 +40,29 @@ pub record IsCarried {K : Type 0} (contents : K → Option (List ℕ)) (place : 
   pub text : List ℕ
   pub texts : AreAnswered kept_answers place s rows text after
   pub written : Appends (contents k.keep) (contents k'.keep) text
-  pub going : k'.fault ≡ None
   pub read : k'.rows.read ≡ k.rows.read + length rows
   pub answers : k'.rows.answers ≤ k.rows.answers + length rows
   pub refused : k'.rows.refused ≤ k.rows.refused + length rows
 
 carried : {K : Type 0} (contents : K → Option (List ℕ)) (place : ℕ) (k k' : KeptRows K) (s : BookRunState) (rows : Rows) (lines : List ℕ)
-    → KeepsBook k.rows s → k.fault ≡ None → AreAnswered (IsRowKept contents) place k rows lines k' → IsCarried contents place k k' s rows lines
+    → KeepsBook k.rows s → AreAnswered (IsRowKept contents) place k rows lines k' → IsCarried contents place k k' s rows lines
 unfolding AreAnswered
-carried {K} contents place k k' s [] lines kept going a = record {
+carried {K} contents place k k' s [] lines kept a = record {
   after = s;
   kept = subst (λ (x : KeptRows K). KeepsBook x.rows s) (sym a.1) kept;
   answered = (a.0, refl);
   text = [];
   texts = (refl, refl);
   written = subst (λ (x : KeptRows K). Appends (contents k.keep) (contents x.keep) []) (sym a.1) (Appends-nil (contents k.keep));
-  going = ap (λ (x : KeptRows K). x.fault) a.1 ∙ going;
   read = ap (λ (x : KeptRows K). x.rows.read) a.1 ∙ omega arith;
   answers = omega (arith, ap (λ (x : KeptRows K). x.rows.answers) a.1);
   refused = omega (arith, ap (λ (x : KeptRows K). x.rows.refused) a.1);
 }
-carried contents place k k' s (fields ∷ rows) lines kept going a =
+carried contents place k k' s (fields ∷ rows) lines kept a =
     let row = a.3 in
     let step = row.answered.lead s kept in
     let counts = row.answered.counts in
-    let rest = carried contents (suc place) a.1 k' step.0 rows a.2 step.1 row.going a.5 in
+    let rest = carried contents (suc place) a.1 k' step.0 rows a.2 step.1 a.5 in
     record {
       after = rest.after;
       kept = rest.kept;
@@ -69,7 +70,6 @@ carried contents place k k' s (fields ∷ rows) lines kept going a =
       text = row.text ++ rest.text;
       texts = (row.text, step.0, rest.text, (a.0, step.2, step.3), refl, rest.texts);
       written = Appends-trans (contents k.keep) (contents a.1.keep) (contents k'.keep) row.text rest.text row.written rest.written;
-      going = rest.going;
       read = omega (arith, counts.rows, rest.read);
       answers = omega (arith, counts.answers, rest.answers);
       refused = omega (arith, counts.refused, rest.refused);
@@ -89,7 +89,7 @@ whole_split : (all : Option Rows) (done : Rows) → IfSome all (λ rows. rows �
 whole_split None done is = tt
 whole_split (Some all) done is = is ∙ sym (append-nil done)
 
-module _ {K : Type 0} (contents : K → Option (List ℕ)) (all left : Option (List (List (List ℕ)))) (old new : Option (List ℕ)) (k k' : KeptRows K) (bytes : ℕ) (fresh : KeepsBook k.rows book_start) (first : IsBookBefore 1 k.rows) (going : k.fault ≡ None) where
+module _ {K : Type 0} (contents : K → Option (List ℕ)) (all left : Option (List (List (List ℕ)))) (old new : Option (List ℕ)) (k k' : KeptRows K) (bytes : ℕ) (fresh : KeepsBook k.rows book_start) (first : IsBookBefore 1 k.rows) where
   abbrev both : Written
   both = record { before = old; after = new; keep_before = contents k.keep; keep_after = contents k'.keep }
 
@@ -102,7 +102,7 @@ module _ {K : Type 0} (contents : K → Option (List ℕ)) (all left : Option (L
 
   has_run : AreFirstRowsAnswered (IsRowKept contents) 1000000 bytes all k k' old new → HasRunBook all both k'.rows bytes false
   has_run a =
-      let c = carried contents 1 k k' book_start a.whole.done a.whole.lines fresh going a.whole.answered in
+      let c = carried contents 1 k k' book_start a.whole.done a.whole.lines fresh a.whole.answered in
       record {
         done = a.whole.done;
         rest = [];
@@ -124,7 +124,7 @@ module _ {K : Type 0} (contents : K → Option (List ℕ)) (all left : Option (L
   has_more : HasMoreRows (IsRowKept contents) 1000000 bytes all k k' old new → HasRunBook all both k'.rows bytes true
   has_more a =
       let m = a.more in
-      let c = carried contents 1 k k' book_start m.done m.lines fresh going m.answered in
+      let c = carried contents 1 k k' book_start m.done m.lines fresh m.answered in
       record {
         done = m.done;
         rest = m.fields ∷ m.rest;
@@ -143,15 +143,15 @@ module _ {K : Type 0} (contents : K → Option (List ℕ)) (all left : Option (L
         past = (omega arith, m.count);
       }
 
--- the lines and the summary of all rows
+-- The lines of a run over all rows were written, and `summary` is the summary of this run.
 abbrev pub IsBookWritten : Option (List (List (List ℕ))) → Option (List ℕ) → Option (List ℕ) → Summary → Type 0
 IsBookWritten all old new summary = IfSome all (λ rows. (lines : List ℕ) × IsBookRun rows lines summary × Appends old new lines)
 
--- the text that is kept of all rows
+-- The text that goes to the accepted rows' writer `keep` for all rows was written.
 abbrev pub IsBookKept : Option (List (List (List ℕ))) → Option (List ℕ) → Option (List ℕ) → Type 0
 IsBookKept all old new = IfSome all (λ rows. (text : List ℕ) × IsKeptText rows text × Appends old new text)
 
--- The last line was written.
+-- The last line was written, and `summary` is the summary of the run.
 abbrev pub IsBookEnded : BookRows → Bool → Option (List ℕ) → Option (List ℕ) → Summary → Type 0
 IsBookEnded k too_many old new summary =
     (s : BookRunState) → KeepsBook k s → Appends old new (last_line too_many s.changes) × (summary ≡ book_summary_of k.read s too_many)
@@ -182,7 +182,8 @@ keeps (Some all) w k bytes too_many run =
 
 -- ---- how the run stops
 
--- A prefix of the rows is answered with these lines, and this text is kept of them.
+-- The rows in `done` are a prefix of all rows. They are answered with the lines `out`, and `kept`
+-- is what goes to the accepted rows' writer `keep` for them.
 record IsBegun (all : Option (List (List (List ℕ)))) (w : Written) (done rest : List (List (List ℕ))) (s : BookRunState) (out kept : List ℕ) : Type 0 where
   split : IfSome all (λ rows. rows ≡ done ++ rest)
   few : length done ≤ 1000000
@@ -208,7 +209,9 @@ cut_text : (out line : List ℕ) (size written n : ℕ) → length out ≡ writt
 cut_text out line size written n is_out part is_n =
     length-append out (take size line) ∙ rw (length-take-le size line (omega (arith, part)), is_out, is_n) refl
 
--- The writer of the lines stops within a text. `more` is the text that was kept before.
+-- `text` is what is written next: the lines of the next row, or the last line of the run. If
+-- writing stops within `text`, the run stops with the error `Write`. `more` is what goes to the
+-- accepted rows' writer `keep` for the next row.
 cut_off : (all : Option Rows) (w : Written) (new keep_new : Option (List ℕ)) (done rest : Rows) (s : BookRunState) (out kept text more : List ℕ) (size written n : ℕ)
     → IsBegun all w done rest s out kept → IsNextBookText done s rest text more → size < length text
     → Appends w.after new (take size text) → Appends w.keep_after keep_new more → length out ≡ written → n ≡ written + size
@@ -245,7 +248,8 @@ in_row_split : (all left : Option Rows) (done rest : Rows) (fields : List (List 
 in_row_split None left done rest fields is = tt
 in_row_split (Some all) left done rest fields is = is.0
 
--- The writer of the kept texts stops within the text of a row.
+-- If writing to the accepted rows' writer `keep` stops within the text of a row, the run stops with
+-- the error `Keep`.
 keep_off : (all : Option Rows) (w : Written) (keep_new : Option (List ℕ)) (done rest : Rows) (fields : List (List ℕ)) (s next : BookRunState) (out kept line text : List ℕ) (written : ℕ)
     → IsBegun all w done (fields ∷ rest) s out kept → length done < 1000000 → book_answers (suc (length done)) s fields line next → text ≡ kept_of s fields next
     → written < length text → Appends w.keep_after keep_new (take written text)
@@ -273,48 +277,43 @@ keep_off (Some all) w keep_new done rest fields s next out kept line text writte
   Appends-trans w.keep_before w.keep_after keep_new kept (take written text) b.keep here,
 )
 
-module _ {K : Type 0} (contents : K → Option (List ℕ)) (all left : Option (List (List (List ℕ)))) (old new : Option (List ℕ)) (k k' : KeptRows K) (bytes : ℕ) (fresh : KeepsBook k.rows book_start) (first : IsBookBefore 1 k.rows) (going : k.fault ≡ None) where
+module _ {K : Type 0} (contents : K → Option (List ℕ)) (all left : Option (List (List (List ℕ)))) (old new : Option (List ℕ)) (k k' : KeptRows K) (bytes : ℕ) (fresh : KeepsBook k.rows book_start) (first : IsBookBefore 1 k.rows) where
   abbrev ends_with : Bool → Result Bool BookError → Type 0
   ends_with failed r = IsBookRowsEnd all (record { before = old; after = new; keep_before = contents k.keep; keep_after = contents k'.keep }) k'.rows bytes failed r
 
-  -- the rows that were answered before the stop
+  -- The rows `done`, which were answered before the run stopped, are a prefix of all rows. The text
+  -- `lines` answers them, and `c.text` is what goes to the accepted rows' writer `keep` for them.
   before_stop : (mid : KeptRows K) (done rest : Rows) (lines : List ℕ) (at : Option (List ℕ)) → IfSome all (λ rows. rows ≡ done ++ rest) → length done ≤ 1000000
       → Appends old at lines → (c : IsCarried contents 1 k mid book_start done lines)
       → IsBegun all (record { before = old; after = at; keep_before = contents k.keep; keep_after = contents mid.keep }) done rest c.after lines c.text
   before_stop mid done rest lines at split few text c = record { split = split; few = few; answered = c.answered; keeps = c.texts; text = text; keep = c.written }
 
-  -- No write of a kept text failed.
-  at_none : (failed : Bool) (ended : Result (Unit {0}) StreamError) (fault : Option ℕ) → k'.fault ≡ fault → k'.fault ≡ None → ends_with failed (book_end bytes ended None)
-      → ends_with failed (book_end bytes ended fault)
-  at_none failed ended fault is none h = subst (λ (f : Option ℕ). ends_with failed (book_end bytes ended f)) (sym none ∙ is) h
-
   between : StopsAfterRows (IsRowKept contents) 1000000 bytes all k k' old new
-      → IsHaltedByRows all (record { before = old; after = new; keep_before = contents k.keep; keep_after = contents k'.keep }) × (k'.fault ≡ None)
+      → IsHaltedByRows all (record { before = old; after = new; keep_before = contents k.keep; keep_after = contents k'.keep })
   between a =
       let b = a.between in
-      let c = carried contents 1 k k' book_start b.done b.lines fresh going b.answered in
-      (by_rows all _ b.done b.rest c.after b.lines c.text (before_stop k' b.done b.rest b.lines new b.split a.few b.written c), c.going)
+      let c = carried contents 1 k k' book_start b.done b.lines fresh b.answered in
+      by_rows all _ b.done b.rest c.after b.lines c.text (before_stop k' b.done b.rest b.lines new b.split a.few b.written c)
 
-  in_memory : (failed : Bool) (fault : Option ℕ) → StopsInRowAfter (IsRowKept contents) (IsRowNotKept contents) 1000000 false bytes stream_error.Memory all left k k' old new
-      → k'.fault ≡ fault → ends_with failed (book_end bytes (Err stream_error.Memory) fault)
-  in_memory failed None a is =
-      let c = carried contents 1 k a.before book_start a.done a.lines fresh going a.answered in
-      let unkept : IsRowUnkept None (suc (length a.done)) a.before.rows a.fields (contents a.before.keep) (contents k'.keep) =
-      subst (λ (f : Option ℕ). IsRowUnkept f (suc (length a.done)) a.before.rows a.fields (contents a.before.keep) (contents k'.keep)) is a.stops.1.0.0 in (
+  in_answer : (failed : Bool) (fault : BookError) → StopsInRowAfter (IsRowKept contents) (IsRowNotKept contents fault) 1000000 false bytes stream_error.Memory all left k k' old new
+      → ends_with failed (Err fault)
+  in_answer failed (book_error.Run run_error.Memory) a =
+      let c = carried contents 1 k a.before book_start a.done a.lines fresh a.answered in (
         by_rows all _ a.done (a.fields ∷ a.rest) c.after a.lines c.text (record {
           split = in_row_split all left a.done a.rest a.fields a.split;
           few = omega (arith, a.stops.0);
           answered = c.answered;
           keeps = c.texts;
           text = Appends-kept old a.mid new a.lines a.written a.stops.1.1;
-          keep = Appends-kept (contents k.keep) (contents a.before.keep) (contents k'.keep) c.text c.written unkept;
+          keep = Appends-kept (contents k.keep) (contents a.before.keep) (contents k'.keep) c.text c.written a.stops.1.0.0;
         }),
         λ e. absurd (cc e),
       )
-  in_memory failed (Some written) a is =
-      let c = carried contents 1 k a.before book_start a.done a.lines fresh going a.answered in
-      let unkept : IsRowUnkept (Some written) (suc (length a.done)) a.before.rows a.fields (contents a.before.keep) (contents k'.keep) =
-      subst (λ (f : Option ℕ). IsRowUnkept f (suc (length a.done)) a.before.rows a.fields (contents a.before.keep) (contents k'.keep)) is a.stops.1.0.0 in
+  in_answer failed (book_error.Run run_error.Read) a = absurd a.stops.1.0
+  in_answer failed (book_error.Run (run_error.Write n)) a = absurd a.stops.1.0
+  in_answer failed (book_error.Keep written) a =
+      let c = carried contents 1 k a.before book_start a.done a.lines fresh a.answered in
+      let unkept = a.stops.1.0 in
       let step = unkept.3.lead c.after c.kept in
       let text = Appends-kept old a.mid new a.lines a.written a.stops.1.1 in (
         keep_off all (record { before = old; after = new; keep_before = contents k.keep; keep_after = contents a.before.keep }) (contents k'.keep) a.done a.rest a.fields c.after step.0 a.lines c.text unkept.0 unkept.1 written
@@ -323,52 +322,42 @@ module _ {K : Type 0} (contents : K → Option (List ℕ)) (all left : Option (L
         λ e. absurd (cc e),
       )
 
-  at_write : (failed : Bool) → StopsInRowAfter (IsRowKept contents) (IsRowNotKept contents) 1000000 false bytes stream_error.Write all left k k' old new
-      → ends_with failed (book_end bytes (Err stream_error.Write) None) × (k'.fault ≡ None)
+  at_write : (failed : Bool) → StopsInRowAfter (IsRowKept contents) NeverFails 1000000 false bytes stream_error.Write all left k k' old new
+      → ends_with failed (Err (book_error.Run (run_error.Write bytes)))
   at_write failed a =
-      let c = carried contents 1 k a.before book_start a.done a.lines fresh going a.answered in
-      let stop = a.stops.1 in
-      let row = stop.2 in
+      let c = carried contents 1 k a.before book_start a.done a.lines fresh a.answered in
+      let cut = a.stops.1 in
+      let row = cut.2 in
       let step = row.answered.lead c.after c.kept in (
-        (
-          cut_off all (record { before = old; after = a.mid; keep_before = contents k.keep; keep_after = contents a.before.keep }) new (contents k'.keep) a.done (a.fields ∷ a.rest) c.after a.lines c.text stop.0 row.text stop.1 (length a.lines) bytes
-              (before_stop a.before a.done (a.fields ∷ a.rest) a.lines a.mid (in_row_split all left a.done a.rest a.fields a.split) (omega (arith, a.stops.0)) a.written c)
-              (inl (a.stops.0, step.0, step.2, step.3)) stop.3 stop.4 row.written refl stop.5,
-          λ e. absurd (cc e),
-        ),
-        row.going,
+        cut_off all (record { before = old; after = a.mid; keep_before = contents k.keep; keep_after = contents a.before.keep }) new (contents k'.keep) a.done (a.fields ∷ a.rest) c.after a.lines c.text cut.0 row.text cut.1 (length a.lines) bytes
+            (before_stop a.before a.done (a.fields ∷ a.rest) a.lines a.mid (in_row_split all left a.done a.rest a.fields a.split) (omega (arith, a.stops.0)) a.written c)
+            (inl (a.stops.0, step.0, step.2, step.3)) cut.3 cut.4 row.written refl cut.5,
+        λ e. absurd (cc e),
       )
 
   -- A run doesn't flush, so no flush fails.
-  no_flush : StopsInRowAfter (IsRowKept contents) (IsRowNotKept contents) 1000000 false bytes stream_error.Flush all left k k' old new → ⊥
+  no_flush : StopsInRowAfter (IsRowKept contents) NeverFails 1000000 false bytes stream_error.Flush all left k k' old new → ⊥
   no_flush a = false≢true a.stops.1.2
 
-  rows_end : (failed : Bool) (ended : Result (Unit {0}) StreamError) (fault : Option ℕ) → k'.fault ≡ fault
-      → OnOk ended (AreFirstRowsAnswered (IsRowKept contents) 1000000 bytes all k k' old new)
-      → IfErr ended (λ e. HasStoppedAfter (IsRowKept contents) (IsRowNotKept contents) 1000000 false bytes e all left failed k k' old new)
-      → ends_with failed (book_end bytes ended fault)
-  rows_end failed (Ok x) fault is whole stopped =
-      at_none failed (Ok x) fault is (carried contents 1 k k' book_start whole.whole.done whole.whole.lines fresh going whole.whole.answered).going
-      (has_run contents all left old new k k' bytes fresh first going whole)
-  rows_end failed (Err stream_error.TooManyRows) fault is whole stopped =
-      at_none failed (Err stream_error.TooManyRows) fault is (carried contents 1 k k' book_start stopped.more.done stopped.more.lines fresh going stopped.more.answered).going
-      (has_more contents all left old new k k' bytes fresh first going stopped)
-  rows_end failed (Err stream_error.Memory) fault is whole (inl a) =
-      let b = between a.1 in at_none failed (Err stream_error.Memory) fault is b.1 (b.0, λ e. absurd (cc e))
-  rows_end failed (Err stream_error.Memory) fault is whole (inr a) = in_memory failed fault a is
-  rows_end failed (Err stream_error.Read) fault is whole stopped =
-      let b = between stopped.1 in at_none failed (Err stream_error.Read) fault is b.1 (b.0, λ e. stopped.0)
-  rows_end failed (Err stream_error.Write) fault is whole stopped =
-      let b = at_write failed stopped in at_none failed (Err stream_error.Write) fault is b.1 b.0
-  rows_end failed (Err stream_error.Flush) fault is whole stopped = absurd (no_flush stopped)
+  rows_end : (failed : Bool) (ended : Result (Unit {0}) (StreamStop BookError)) → OnOk ended (AreFirstRowsAnswered (IsRowKept contents) 1000000 bytes all k k' old new)
+      → IfErr ended (λ e. IsStoppedAfter (IsRowKept contents) (IsRowNotKept contents) 1000000 false bytes e all left failed k k' old new)
+      → ends_with failed (book_end bytes ended)
+  rows_end failed (Ok x) whole stopped = has_run contents all left old new k k' bytes fresh first whole
+  rows_end failed (Err (stop.Answer fault)) whole stopped = in_answer failed fault stopped
+  rows_end failed (Err (stop.Stream stream_error.TooManyRows)) whole stopped = has_more contents all left old new k k' bytes fresh first stopped
+  rows_end failed (Err (stop.Stream stream_error.Memory)) whole (inl a) = (between a.1, λ e. absurd (cc e))
+  rows_end failed (Err (stop.Stream stream_error.Memory)) whole (inr a) = absurd a.stops.1.0
+  rows_end failed (Err (stop.Stream stream_error.Read)) whole stopped = (between stopped.1, λ e. stopped.0)
+  rows_end failed (Err (stop.Stream stream_error.Write)) whole stopped = at_write failed stopped
+  rows_end failed (Err (stop.Stream stream_error.Flush)) whole stopped = absurd (no_flush stopped)
 
-  pub rows_end_at : (failed : Bool) (limit : ℕ) (ended : Result (Unit {0}) StreamError) (fault : Option ℕ) (r : Result Bool BookError) → limit ≡ 1000000 → k'.fault ≡ fault
+  pub rows_end_at : (failed : Bool) (limit : ℕ) (ended : Result (Unit {0}) (StreamStop BookError)) (r : Result Bool BookError) → limit ≡ 1000000
       → OnOk ended (AreFirstRowsAnswered (IsRowKept contents) limit bytes all k k' old new)
-      → IfErr ended (λ e. HasStoppedAfter (IsRowKept contents) (IsRowNotKept contents) limit false bytes e all left failed k k' old new)
-      → book_end bytes ended fault ≡ r
+      → IfErr ended (λ e. IsStoppedAfter (IsRowKept contents) (IsRowNotKept contents) limit false bytes e all left failed k k' old new)
+      → book_end bytes ended ≡ r
       → IsBookRowsEnd all (record { before = old; after = new; keep_before = contents k.keep; keep_after = contents k'.keep }) k'.rows bytes failed r
-  rows_end_at failed limit ended fault r most is_fault whole stopped is =
-      subst (ends_with failed) is (rows_end failed ended fault is_fault (rw most at whole) (rw most at stopped))
+  rows_end_at failed limit ended r most whole stopped is =
+      subst (ends_with failed) is (rows_end failed ended (rw most at whole) (rw most at stopped))
 
 end_next : (done rest : Rows) (s : BookRunState) (too_many : Bool) → IsPast too_many (length done) rest → IsNextBookText done s rest (last_line too_many s.changes) []
 end_next done [] s false past = (refl, refl)
@@ -384,7 +373,8 @@ most_done done rest true past = omega (arith, past.1)
 abbrev pub at_end : Written → Option (List ℕ) → Written
 at_end w new = record { before = w.before; after = new; keep_before = w.keep_before; keep_after = w.keep_after }
 
--- All rows are answered, and the writer has the bytes of their lines.
+-- The rows `run.done`, which the run answered, are a prefix of all rows. The text `run.out` answers
+-- them, and `run.keeps` is what goes to the accepted rows' writer `keep` for them.
 all_begun : (all : Option Rows) (w : Written) (at : Option (List ℕ)) (k : BookRows) (bytes : ℕ) (too_many : Bool) (run : HasRunBook all w k bytes too_many) → Appends w.before at run.out
     → IsBegun all (at_end w at) run.done run.rest run.state run.out run.keeps
 all_begun all w at k bytes too_many run text = record {
@@ -396,7 +386,7 @@ all_begun all w at k bytes too_many run text = record {
   keep = run.keep;
 }
 
--- Writing the last line stops.
+-- If writing the last line stops with an error, the run stops with this error.
 stops_at_end : (all : Option Rows) (w : Written) (new : Option (List ℕ)) (k : BookRows) (bytes : ℕ) (too_many : Bool) (error : BookError)
     → HasRunBook all w k bytes too_many → ((s : BookRunState) → KeepsBook k s → IsBookEndCut (last_line too_many s.changes) w.after new bytes error) → IsBookHalted all (at_end w new) error
 stops_at_end all w new k bytes too_many (book_error.Keep written) run cut = absurd (cut run.state run.kept)
@@ -409,14 +399,15 @@ stops_at_end all w new k bytes too_many (book_error.Run (run_error.Write n)) run
     cut_off all w new w.keep_after run.done run.rest run.state run.out run.keeps (last_line too_many run.state.changes) [] c.0 bytes n
     (all_begun all w w.after k bytes too_many run run.text) (end_next run.done run.rest run.state too_many run.past) c.1 c.2 (Appends-nil w.keep_after) run.size c.3
 
--- An error of the last line isn't `Read`.
+-- If writing the last line stops with an error, the error isn't `Read`.
 end_not_read : (line : List ℕ) (old new : Option (List ℕ)) (written : ℕ) (error : BookError) → IsBookEndCut line old new written error → error ≢ book_error.Run run_error.Read
 end_not_read line old new written (book_error.Keep n) cut = absurd cut
 end_not_read line old new written (book_error.Run run_error.Memory) cut = λ e. cc e
 end_not_read line old new written (book_error.Run run_error.Read) cut = absurd cut
 end_not_read line old new written (book_error.Run (run_error.Write n)) cut = λ e. cc e
 
--- The last line was written, or writing it stops.
+-- How the run ends if all rows that it read are answered: the last line is written, or writing it stops with an
+-- error.
 module _ (all : Option (List (List (List ℕ)))) (w : Written) (new : Option (List ℕ)) (k : BookRows) (bytes : ℕ) (too_many : Bool) (run : HasRunBook all w k bytes too_many) where
   pub run_ends : (r : Result Summary BookError) → IfOk r (λ summary. IsBookEnded k too_many w.after new summary) → IfOk r (λ summary. IsBookWritten all w.before new summary)
   run_ends (Err error) ended = tt
@@ -436,7 +427,8 @@ module _ (all : Option (List (List (List ℕ)))) (w : Written) (new : Option (Li
   not_read (Ok summary) P cut = tt
   not_read (Err error) P cut = λ e. absurd (end_not_read (last_line too_many run.state.changes) w.after new bytes error (cut run.state run.kept) e)
 
--- No row was read yet.
+-- A run that stops before its first row has written no lines, and nothing to the accepted rows'
+-- writer `keep`.
 pub halted_at_start : (bytes old keep : Option (List ℕ))
     → IfSome bytes (λ text. (out : List ℕ) × (kept : List ℕ) × IsBookBegun (rows_of text) out kept × Appends old old out × Appends keep keep kept)
 halted_at_start None old keep = tt

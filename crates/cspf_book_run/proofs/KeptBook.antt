@@ -1,4 +1,4 @@
--- The kept text of rows restores their book.
+-- A run over the texts of accepted rows makes the same book as the run over all rows.
 use Rattle.std.proofs.Common.{◌≡◌, ◌==◌, ℕ, zero, suc, ◌+◌, ◌≤◌, ◌<◌, ◌^◌, ◌⊎◌, Bool, true, false, cond, List, [], ◌∷◌, ◌++◌, map, length, codes, slice_index, Result, Ok, Err, inl, inr, refl, sym, ap, subst, ◌∙◌, append_assoc, append-nil, eq-eqb, arith}
 use Rattle.std.proofs.lemmas.Bool.{cases_Bool, eqb-true}
 use Rattle.std.proofs.lemmas.Grind.{flat_map-append}
@@ -52,8 +52,9 @@ pub record ReadsRows : Type 0 where
 
 -- ---- the ranges of the numbers in a row
 
--- The numbers of a step are in the ranges of their types.
-abbrev IsStepInRange : Step → Type 0
+-- The numbers of a change or of an end row are in the ranges of their types. Nothing is required of
+-- a request.
+abbrev pub IsStepInRange : Step → Type 0
 IsStepInRange (step.Change c) = IsChangeInRange c
 IsStepInRange (step.End number count) = (number < 2 ^ 32) × (count < 2 ^ 32)
 IsStepInRange (step.Ask q) = Unit {0}
@@ -72,7 +73,7 @@ free_in_range fields link s (suc (suc (suc (suc (suc (suc (suc (suc p)))))))) be
 mask_small : (text : List ℕ) (n : ℕ) → SpellsMask text n → n < 2 ^ 32
 mask_small text n s = rw s.value (short_value s.digits s.most s.hexadecimal)
 
-row_in_range : (fields : List (List ℕ)) (r : Row) → Says fields r → IsStepInRange (step_of r)
+pub row_in_range : (fields : List (List ℕ)) (r : Row) → Says fields r → IsStepInRange (step_of r)
 row_in_range fields (row.Put link) s = (
   record {
     from = s.from.small;
@@ -92,12 +93,12 @@ row_in_range fields (row.Ask q) s = tt
 -- ---- the kinds of rows
 
 -- The first field of a record decides how the book reads it.
-abbrev IsOfKind : List (List ℕ) → Type 0
+abbrev pub IsOfKind : List (List ℕ) → Type 0
 IsOfKind fields =
     ((field fields 1 ≡ codes "place") × (book_row_of fields ≡ place_row_of fields))
     ⊎ (((field fields 1 ≡ codes "release") × (book_row_of fields ≡ release_row_of fields)) ⊎ (book_row_of fields ≡ result_map_both book_row.Base (λ e. e) (row_of fields)))
 
-kinds : (fields : List (List ℕ)) → IsOfKind fields
+pub kinds : (fields : List (List ℕ)) → IsOfKind fields
 unfolding book_row_of
 kinds fields = elim (cases_Bool (bytes_eq (field fields 1) (codes "place"))) [
   | inl place ↦ inl ((bytes_eq-Decides (field fields 1) (codes "place")).0 place, rw place refl)
@@ -134,7 +135,8 @@ of_base : (x : Result Row RowError) (r : BookRow) → result_map_both book_row.B
 of_base (Ok b) r is = (b, sym (ok_same (book_row.Base b) r is), refl)
 of_base (Err e) r is = absurd (cc)
 
--- the records from which a `place` row, a `release` row and a row of the base are read
+-- The fields of a `place` row are read as a request and a holding priority, and there are 10 fields. The fields of
+-- a `release` row are read as an id, and there are 2 fields.
 from_place : (fields : List (List ℕ)) (r : BookRow) → place_row_of fields ≡ Ok r → (q : Request) × (hold : ℕ) × (r ≡ book_row.Place q hold) × (length fields ≡ 10)
 from_place fields r is =
     let n = counted (length fields == 10) (placed_as_asked (ask_row_of fields)) r is in
@@ -147,8 +149,8 @@ from_release fields r is =
     let made = of_id (number_at fields 2) r n.1 in
     (made.0, made.1, eqb-true (length fields) 2 n.0)
 
--- A row of the base is the row of a database that the record spells.
-base_of : (fields : List (List ℕ)) (b : Row) → IsOfKind fields → book_row_of fields ≡ Ok (book_row.Base b) → row_of fields ≡ Ok b
+-- If a record is read as a row of the base, then `row_of` reads the record as the same row.
+pub base_of : (fields : List (List ℕ)) (b : Row) → IsOfKind fields → book_row_of fields ≡ Ok (book_row.Base b) → row_of fields ≡ Ok b
 base_of fields b (inl place) is =
     let made = from_place fields (book_row.Base b) (sym place.1 ∙ is) in absurd (let e : book_row.Base b ≡ book_row.Place made.0 made.1 = made.2 in cc)
 base_of fields b (inr (inl release)) is =
@@ -159,7 +161,7 @@ base_of fields b (inr (inr base)) is =
     let one : b ≡ made.0 = cc in
     made.2 ∙ ap Ok (sym one)
 
--- A record with at least two fields whose first field is this word.
+-- A record with at least two fields consists of its first field, a second field and the others.
 word_first : (fields : List (List ℕ)) (word : List ℕ) → 2 ≤ length fields → field fields 1 ≡ word → (second : List ℕ) × (others : List (List ℕ)) × (fields ≡ word ∷ second ∷ others)
 unfolding field_at
 word_first [] word two is = absurd (omega arith)
@@ -204,7 +206,7 @@ none_answered : (p : ℕ) (s t : BookRunState) → t ≡ s → AreAnswered book_
 unfolding AreAnswered
 none_answered p s t same = (refl, same)
 
--- the state with these open changes
+-- the state with these open changes (those since the last end row)
 abbrev opened : BookRunState → List Change → BookRunState
 opened s cs = record s { changes = cs }
 
@@ -212,7 +214,7 @@ module _ (laws : ReadsRows) where
   spelled : (bits : ℕ) → bits < 2 ^ 32 → SpellsMask (mask_text bits) bits
   spelled bits small = (laws.masks (mask_text bits) bits).0 (laws.back bits small)
 
-  -- The record of a change adds it to the open changes.
+  -- The record of a change is answered without a line, and adds the change to the open changes.
   change_taken : (p : ℕ) (s : BookRunState) (c : Change) → IsChangeInRange c → book_answers p s (change_fields c) [] (after_open_change s c)
   unfolding book_row_of field_at
   change_taken p s (change.Put link) range = rw (laws.puts link (mask_text link.group) range.0 (spelled link.group range.1)) (refl, refl)
@@ -232,7 +234,8 @@ module _ (laws : ReadsRows) where
         (changes_taken cs (suc p) (after_open_change s c) range.1),
   )
 
-  -- The end row of an accepted batch is answered.
+  -- The end row of an accepted batch gets the same lines in a run over the texts of accepted rows
+  -- as in the run that wrote these texts.
   end_taken : (p : ℕ) (s : BookRunState) (number count : ℕ) (line : List ℕ) → number < 2 ^ 32 → length s.changes < 2 ^ 32 → IsBaseAccepted s number count → AreBaseLines s number line
       → (answers : ℕ) → let from : BookRunState = record { book = s.book; batches = s.batches; changes = s.changes; answers = answers; refused = 0 } in
       book_answers p from (end_fields number (length s.changes)) line (after_base_batch from)
@@ -246,14 +249,16 @@ module _ (laws : ReadsRows) where
   records_plain [] number count range small few = (end_plain number count small few, tt)
   records_plain (c ∷ cs) number count range small few = (change_plain c spelled range.0, records_plain cs number count range.1 small few)
 
--- ---- the kept texts of rows
+-- ---- the texts of accepted rows
 
--- the state of a run over the kept texts, after the text of one row and before the next
+-- the state of a run over the texts of accepted rows, after the text of one row and before the next
 abbrev bare : BookState → ℕ → ℕ → BookRunState
 bare book batches answers = record { book = book; batches = batches; changes = []; answers = answers; refused = 0 }
 
--- The text that is kept of n rows is a list of records, and a run over these records ends with the same book. The
--- records and the open changes are together at most as many as the rows.
+-- `text` is what goes to the accepted rows' writer `keep` for n rows, which lead from the state `s`
+-- to the state `t`. It is the text of records, and a run over these records leads from the book of
+-- `s` to the book of `t`. The records and the open changes of `t` (since the last end row) are
+-- together at most as many as the open changes of `s` and the n rows.
 record Remakes (n : ℕ) (s t : BookRunState) (text : List ℕ) : Type 0 where
   records : List (List (List ℕ))
   is : text ≡ flat_map (row_text default_writer) records
@@ -277,7 +282,9 @@ nothing_kept s t text book batches few = record {
 another_version : (old new : ℕ) → new ≡ old + 1 → (new == old) ≡ false
 another_version old new rises = elim (cases_Bool (new == old)) [ inl same ↦ absurd (omega (arith, eqb-true new old same, rises)) | inr other ↦ other ]
 
--- The row itself is kept.
+-- Take a row that makes a new version of the book, and whose text for the accepted rows' writer
+-- `keep` is the row itself. A run over the record of this row alone leads to the same book as the
+-- row does.
 row_kept : (s t : BookRunState) (fields : List (List ℕ)) (line : List ℕ) (more : ℕ → ℕ) → t.book.version ≡ s.book.version + 1 → length t.changes ≤ length s.changes → StartsPlain fields
     → ((p a : ℕ) → book_answers p (bare s.book s.batches a) fields line (bare t.book t.batches (more a)))
     → Remakes 1 s t (cond (t.book.version == s.book.version) [] (row_text default_writer fields))
@@ -289,11 +296,11 @@ row_kept s t fields line more rises few starts answered = record {
   runs = λ a. (more a, line, λ p. one_answered p (bare s.book s.batches a) (bare t.book t.batches (more a)) fields line (answered p a));
 }
 
--- The numbers of the open changes are in range.
+-- The numbers of the open changes (those since the last end row) are in the ranges of their types.
 abbrev AreOpenInRange : BookRunState → Type 0
 AreOpenInRange s = AllByRecursion IsChangeInRange s.changes
 
-one_more_in_range : (cs : List Change) (c : Change) → AllByRecursion IsChangeInRange cs → IsChangeInRange c → AllByRecursion IsChangeInRange (cs ++ c ∷ [])
+pub one_more_in_range : (cs : List Change) (c : Change) → AllByRecursion IsChangeInRange cs → IsChangeInRange c → AllByRecursion IsChangeInRange (cs ++ c ∷ [])
 one_more_in_range [] c range here = (here, tt)
 one_more_in_range (x ∷ cs) c range here = (range.0, one_more_in_range cs c range.1 here)
 
@@ -348,7 +355,8 @@ module _ (laws : ReadsRows) where
         subst (AllByRecursion IsChangeInRange) (sym opens) tt,
       )
 
-  -- A `place` row and its answer.
+  -- Take a `place` row that is answered. A run over the text that goes to the accepted rows' writer
+  -- `keep` for this row leads to the same book as the row.
   placed_remakes : (s t : BookRunState) (fields : List (List ℕ)) (q : Request) (hold : ℕ) (line : List ℕ) (x : IsPlaceAnswered s q hold line t.book) (answer : Answer) → IsAnswerPlaced s.book q hold answer t.book
       → t ≡ after_answer s t.book → book_row_of fields ≡ Ok (book_row.Place q hold) → Remakes 1 s t (cond (t.book.version == s.book.version) [] (row_text default_writer fields))
   placed_remakes s t fields q hold line x unknown_from placed after is =

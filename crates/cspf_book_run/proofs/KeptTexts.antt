@@ -1,4 +1,5 @@
--- A kept text is read as the records that were kept.
+-- If records are written as text for the accepted rows' writer `keep`, this text is read as the
+-- same records.
 use Rattle.std.proofs.Common.{◌≡◌, ℕ, zero, suc, ◌≤◌, ◌<◌, ◌^◌, Bool, true, false, List, [], ◌∷◌, ◌++◌, length, refl, sym, ap, subst, ◌∙◌, append_assoc, arith}
 use Rattle.std.proofs.lemmas.List.{length-append}
 use Rattle.std.specs.Fmt.{decimal}
@@ -32,7 +33,7 @@ pub record StartsPlain (fields : List (List ℕ)) : Type 0 where
   pub no_mark : is_bom a b c ≡ false
   pub plain : field_text default_writer (a ∷ b ∷ c ∷ word) ≡ a ∷ b ∷ c ∷ word
 
--- No bytes have no records.
+-- An empty text has no records.
 none_left : (n : ℕ) → records_from default_config n st.StartRecord [] ≡ []
 unfolding records_from next_record
 none_left zero = refl
@@ -62,7 +63,8 @@ enough_bytes : (rs : List (List (List ℕ))) → length rs ≤ length (flat_map 
 enough_bytes [] = omega arith
 enough_bytes (r ∷ rs) = omega (arith, some_bytes r (flat_map (row_text default_writer) rs), enough_bytes rs)
 
--- The text doesn't begin with a byte order mark.
+-- If the first three letters of a row are no byte order mark, a text that begins with the row doesn't begin with a
+-- byte order mark.
 no_mark_text : (a b c : ℕ) (word second : List ℕ) (others : List (List ℕ)) (tail : List ℕ) → is_bom a b c ≡ false
     → field_text default_writer (a ∷ b ∷ c ∷ word) ≡ a ∷ b ∷ c ∷ word
     → strip_bom (row_text default_writer ((a ∷ b ∷ c ∷ word) ∷ second ∷ others) ++ tail) ≡ row_text default_writer ((a ∷ b ∷ c ∷ word) ∷ second ∷ others) ++ tail
@@ -79,7 +81,7 @@ unfolding strip_bom
 no_mark_rows [] h = refl
 no_mark_rows (r ∷ rs) h = no_mark_row r (flat_map (row_text default_writer) rs) h.0
 
--- The kept texts are read as their records.
+-- If `StartsPlain` holds of each record, the text of the records is read as these records.
 pub kept_cut : (rs : List (List (List ℕ))) → AllByRecursion StartsPlain rs → rows_of (flat_map (row_text default_writer) rs) ≡ rs
 unfolding rows_of
 kept_cut rs h = rw (no_mark_rows rs h) (cut_rows _ rs (omega (arith, enough_bytes rs)) h)
@@ -91,14 +93,14 @@ unfolding fields_text
 fields_text-unquoted [] h = refl
 fields_text-unquoted (x ∷ xs) h = rw h.0 (ap (λ rest. 44 ∷ (x ++ rest)) (fields_text-unquoted xs h.1))
 
--- The line of a record is what `csv` writes for its fields.
+-- If no field of a record needs quotes, the record's line is what `csv` writes for its fields.
 line_row : (x y : List ℕ) (ys : List (List ℕ)) → AreUnquoted (x ∷ y ∷ ys) → record_line (x ∷ y ∷ ys) ≡ row_text default_writer (x ∷ y ∷ ys)
 unfolding is_blank
 line_row x y ys h =
     line_text-cons x (y ∷ ys)
     ∙ rw (h.0, fields_text-unquoted (y ∷ ys) h.1) (sym (append_assoc x (fields_after (y ∷ ys)) (10 ∷ [])))
 
--- A record whose line is what `csv` writes for it.
+-- `StartsPlain` holds of the record, and the record's line is what `csv` writes for its fields
 pub record IsPlainRecord (fields : List (List ℕ)) : Type 0 where
   pub starts : StartsPlain fields
   pub line : record_line fields ≡ row_text default_writer fields

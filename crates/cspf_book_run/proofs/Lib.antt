@@ -10,3 +10,8 @@ pub mod BookOneReply
 pub mod BookCovered
 pub mod KeptTexts
 pub mod KeptBook
+pub mod OverTexts
+pub mod OverExact
+pub mod OverOnly
+pub mod BookRanges
+pub mod WrongRunProofs

@@ -19,7 +19,8 @@ use Rattle.cspf_book_run.specs.BookStates.{BookLeads, CountsAnswer, IsAnsweredBy
 use Rattle.cspf_book_run.specs.PlaceErrors.{place_refusal_of}
 use Rattle.cspf_book_run.specs.declared.refusals.PlaceRefusal.TheVariants as unplaced
 
--- If an error of the book has a refusal, this is why the request isn't placed.
+-- If the book doesn't place a request because of the error `why`, the refusal for this error says
+-- why the request isn't placed.
 pub refused_by : (s : BookRunState) (q : Request) (why : PlaceError) (refusal : PlaceRefusal) → place_refusal_of why ≡ Some refusal
     → s.book.version < 1000000 → IsPlaceError s.book q why → IsPlaceRefusal s q refusal
 refused_by s q Memory refusal is room error = absurd (cc is)
@@ -35,7 +36,8 @@ placed_version old new q hold no_route is = omega (arith, ap (λ (b : BookState)
 placed_version old new q hold (route walk) is = omega (arith, is.version)
 
 module _ (k k' : BookRows) where
-  -- A request is answered at this version.
+  -- If the code answers a request with its best answer at the book's version, the `ask` row is
+  -- answered as `IsAskAnswered` says.
   pub ask_answered : (q : Request) (answer : Answer) (version : ℕ) (line : List ℕ)
       → IsBestAnswer (effective k.book.base k.book.placements) q answer → version ≡ k.book.version → IsReply q.id version answer line
       → k'.book ≡ k.book → k'.batches ≡ k.batches → k'.changes ≡ k.changes → k'.answers ≡ k.answers + 1 → k'.refused ≡ k.refused
@@ -57,7 +59,8 @@ module _ (k k' : BookRows) where
     ),
   )
 
-  -- A `place` row is answered.
+  -- If the code finds the best answer to a request and places it, the `place` row is answered as
+  -- `IsPlaceTaken` says.
   pub place_answered : (q : Request) (hold : ℕ) (answer : Answer) (version : ℕ) (line : List ℕ)
       → k.book.version < 1000000 → HasRoomFor k.book q.id → IsBestAnswer (effective_beside k.book q.id) q answer → IsAnswerPlaced k.book q hold answer k'.book
       → version ≡ k'.book.version → IsPlaceReply q.id version answer line
@@ -85,7 +88,8 @@ module _ (k k' : BookRows) where
     ),
   )
 
-  -- A placement is released.
+  -- If the code releases the placement with this id, the `release` row is answered as
+  -- `IsReleaseTaken` says.
   pub release_done : (id : ℕ) (line : List ℕ) → k.book.version < 1000000 → IsTrue (has_id id k.book.placements)
       → line ≡ released_line id (k.book.version + 1)
       → k'.book ≡ record { base = k.book.base; version = k.book.version + 1; placements = others id k.book.placements }
@@ -108,7 +112,8 @@ module _ (k k' : BookRows) where
     ),
   )
 
-  -- A row is refused and counted.
+  -- If the code counts a refusal and changes nothing else, the state of the run becomes the state
+  -- after a refusal.
   pub refusal_counted : (line text : List ℕ) → line ≡ text
       → k'.book ≡ k.book → k'.batches ≡ k.batches → k'.changes ≡ k.changes → k'.answers ≡ k.answers → k'.refused ≡ k.refused + 1
       → BookLeads k k' (λ s t. (line ≡ text) × (t ≡ after_refusal s))
@@ -124,7 +129,8 @@ module _ (k k' : BookRows) where
     (line_is, refl),
   )
 
-  -- A `place` row is refused, and the book stays.
+  -- If the code refuses a `place` row for the reason `why`, the row is answered as `IsPlaceTaken`
+  -- says, and the book stays the same.
   pub place_refused : (mid : BookRows) (q : Request) (hold : ℕ) (why : PlaceRefusal) (line : List ℕ)
       → ((s : BookRunState) → k.book ≡ s.book → IsPlaceRefusal s q why)
       → mid.book ≡ k.book → mid.batches ≡ k.batches → mid.changes ≡ k.changes → mid.answers ≡ k.answers → mid.refused ≡ k.refused
@@ -140,7 +146,8 @@ module _ (k k' : BookRows) where
       }) in
       (l.0, l.1, inr (why, is s kept.book, l.2.0, l.2.1))
 
-  -- A `release` row is refused, and the book stays.
+  -- If the code refuses a `release` row for the reason `why`, the row is answered as
+  -- `IsReleaseTaken` says, and the book stays the same.
   pub release_refused : (mid : BookRows) (id : ℕ) (why : ReleaseRefusal) (line : List ℕ)
       → ((s : BookRunState) → k.book ≡ s.book → IsReleaseRefusal s id why)
       → mid.book ≡ k.book → mid.batches ≡ k.batches → mid.changes ≡ k.changes → mid.answers ≡ k.answers → mid.refused ≡ k.refused
@@ -156,7 +163,7 @@ module _ (k k' : BookRows) where
       }) in
       (l.0, l.1, inr (why, is s kept.book, l.2.0, l.2.1))
 
--- An answered row is counted.
+-- If the code answers a row and counts it as read, the row is answered as `IsAnsweredByBook` says.
 pub row_counted : (place : ℕ) (old mid new : BookRows) (row r : Result BookRow RowError) (line : List ℕ) → r ≡ row
     → BookLeads old mid (λ s t. IsBookRowAnswered place s r line t) → CountsAnswer old mid
     → new.book ≡ mid.book → new.batches ≡ mid.batches → new.changes ≡ mid.changes → new.answers ≡ mid.answers → new.refused ≡ mid.refused → new.read ≡ mid.read + 1

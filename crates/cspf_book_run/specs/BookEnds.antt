@@ -9,8 +9,8 @@ use Rattle.cspf_stream.specs.declared.batch_refusal.BatchRefusal.TheVariants as 
 use Rattle.cspf_stream.specs.Lines.{refused_batch_line}
 use Rattle.cspf_book_run.specs.BookScript.{BookRunState, open_base_batch, AreBaseLines, after_base_batch, after_refused_base_batch}
 
--- The end row is right: the version is below 1,000,000, the number is that of the next base batch, and the count
--- is the number of open changes.
+-- The end row is right: the version is below 1,000,000, the number is that of the next base batch,
+-- and the count is the number of open changes (those since the last end row).
 pub record IsRightBookEnd (version batches number count changes : ℕ) : Type 0 where
   pub room : version < MOST_VERSIONS
   pub next : number ≡ batches + 1
@@ -28,7 +28,8 @@ IsWrongBookEnd version batches number count changes (refusal.Unfit why) = ⊥
 IsWrongBookEnd version batches number count changes refusal.Memory = ⊥
 IsWrongBookEnd version batches number count changes (refusal.Journal written) = ⊥
 
--- The open changes are applied to the base as the batch with this number, or they don't fit and are dropped.
+-- The open changes (those since the last end row) are applied to the base as the batch with this
+-- number, or they don't fit and are dropped.
 abbrev pub IsBatchApplied : BookRunState → ℕ → List ℕ → BookRunState → Type 0
 IsBatchApplied s number line after =
     (Fits s.book.base (open_base_batch s number) × AreBaseLines s number line × (after ≡ after_base_batch s))

@@ -1,4 +1,4 @@
--- The lines of a book that other streams of rows don't have. Each ends with one line feed.
+-- The lines that only a run of a book writes. Each line ends with one line feed.
 use Rattle.std.specs.Prelude.{◌≡◌, ℕ, List, ◌++◌, codes}
 use Rattle.std.specs.Fmt.{decimal}
 use Rattle.cspf_addr.specs.AddressText.{address_text}
@@ -10,11 +10,11 @@ use Rattle.cspf_book_run.specs.declared.refusals.PlaceRefusal.TheVariants as pla
 use Rattle.cspf_book_run.specs.declared.refusals.ReleaseRefusal.{ReleaseRefusal}
 use Rattle.cspf_book_run.specs.declared.refusals.ReleaseRefusal.TheVariants as release
 
--- the line of a link and a priority at which more is counted than the link has
+-- the line that says that the placements count more bandwidth on this link at this priority than the link has
 abbrev pub over_line : Over → List ℕ
 over_line o = codes "over " ++ address_text o.from ++ codes "," ++ address_text o.local ++ codes " " ++ decimal o.priority ++ codes "\n"
 
--- the line of a placement whose route the base no longer admits
+-- the line of the placement with this id, whose route the base no longer admits
 abbrev pub lost_line : ℕ → List ℕ
 lost_line id = codes "lost " ++ decimal id ++ codes "\n"
 
@@ -30,22 +30,22 @@ IsPlaceReply id version answer line = (rest : List ℕ) × IsReply id version an
 abbrev pub released_line : ℕ → ℕ → List ℕ
 released_line id version = codes "released " ++ decimal id ++ codes " v" ++ decimal version ++ codes "\n"
 
--- the words for why a request isn't placed
+-- the word that says why a request isn't placed
 abbrev pub place_words : PlaceRefusal → List ℕ
 place_words place.Exhausted = codes "exhausted"
 place_words place.Full = codes "full"
 place_words place.Links = codes "links"
 place_words place.Twice = codes "twice"
 
--- the line of a request with this id that isn't placed
+-- the line that says why the request with this id isn't placed
 abbrev pub refused_place_line : ℕ → PlaceRefusal → List ℕ
 refused_place_line id why = codes "place " ++ decimal id ++ codes " refused: " ++ place_words why ++ codes "\n"
 
--- the words for why no placement is released
+-- the word that says why no placement is released
 abbrev pub release_words : ReleaseRefusal → List ℕ
 release_words release.Exhausted = codes "exhausted"
 release_words release.Absent = codes "absent"
 
--- the line of a `release` row for this id that is refused
+-- the line that says why no placement with this id is released
 abbrev pub refused_release_line : ℕ → ReleaseRefusal → List ℕ
 refused_release_line id why = codes "release " ++ decimal id ++ codes " refused: " ++ release_words why ++ codes "\n"

@@ -1,4 +1,4 @@
--- The row that a record asks of a book, or the first refusal.
+-- How a book reads a record as a row, or the first reason why it refuses the record.
 use Rattle.std.specs.Prelude.{◌==◌, if◌then◌else◌, ℕ, List, length, codes, Result, Ok, Err}
 use Rattle.std.specs.Result.{result_map_both}
 use Rattle.std.proofs.Common.{lit<}
@@ -17,21 +17,23 @@ use Rattle.cspf_book_run.specs.declared.book_row.BookRow.TheVariants as book_row
 abbrev pub at_lowest_setup : Request → Request
 at_lowest_setup q = request_with (request_fields q.id q.from q.to 7 q.bandwidth q.exclude_any q.include_any q.include_all q.hops) (lit< tt) q.two_ends
 
--- The `place` row for an `ask` row. The setup priority of the `ask` row is the holding priority.
+-- The `place` row whose fields after its kind were read as an `ask` row. The setup priority that was read becomes
+-- the holding priority, and the setup priority becomes 7.
 abbrev pub placed_as_asked : Result Row RowError → Result BookRow RowError
 placed_as_asked (Err e) = Err e
 placed_as_asked (Ok (row.Ask q)) = Ok (book_row.Place (at_lowest_setup q) q.setup)
 placed_as_asked (Ok other) = Err error.Kind
 
--- The `place` row. After its kind it has the fields of an `ask` row.
+-- How a record is read as a `place` row, or why it is refused. After its kind the record has the
+-- fields of an `ask` row.
 abbrev pub place_row_of : List (List ℕ) → Result BookRow RowError
 place_row_of fields = if length fields == 10 then placed_as_asked (ask_row_of fields) else Err error.Fields
 
--- The `release` row, which has 2 fields.
+-- How a record is read as a `release` row, or why it is refused. The record has 2 fields.
 abbrev pub release_row_of : List (List ℕ) → Result BookRow RowError
 release_row_of fields = if length fields == 2 then result_map_both book_row.Release (λ e. e) (number_at fields 2) else Err error.Fields
 
--- the row that a record spells, or the first refusal
+-- how a book reads a record as a row, or the first reason why it refuses the record
 unfoldable pub book_row_of : List (List ℕ) → Result BookRow RowError
 book_row_of fields =
     if is_kind fields (codes "place")

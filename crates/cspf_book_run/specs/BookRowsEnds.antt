@@ -1,8 +1,9 @@
 -- Private: how the rows of a run of a book end.
-use Rattle.std.specs.Prelude.{◌≡◌, ℕ, Bool, true, false, List, ◌++◌, length, Option, Some, None, IfSome, Result, Ok, Err, MatchResult}
+use Rattle.std.specs.Prelude.{◌≡◌, ℕ, Bool, true, false, List, ◌++◌, length, Option, IfSome, Result, Ok, Err, MatchResult}
 use Rattle.std.specs.Io.KnownBytes.{Appends}
-use Rattle.cspf_stream.specs.declared.error.StreamError.{StreamError}
 use Rattle.cspf_stream.specs.declared.error.StreamError.TheVariants as stream_error
+use Rattle.cspf_stream.specs.declared.error.StreamStop.{StreamStop}
+use Rattle.cspf_stream.specs.declared.error.StreamStop.TheVariants as stop
 use Rattle.cspf_solve.specs.SolverStates.{IsPast, IsEndCut}
 use Rattle.cspf_solve.specs.declared.error.SolveError.TheVariants as run_error
 use Rattle.cspf_book_run.specs.declared.book_rows.BookRows.{BookRows}
@@ -13,8 +14,8 @@ use Rattle.cspf_book_run.specs.BookOutput.{IsBookOutputAtError}
 use Rattle.cspf_book_run.specs.BookStates.{KeepsBook, AreBookCounts}
 use Rattle.cspf_book_run.specs.Kept.{AreBookRowsKept}
 
--- The bytes of the two writers, if known, before and after the rows. One writer gets the lines, the other the kept
--- texts.
+-- The bytes of the two writers, if known, before and after the rows. One writer gets the lines. The
+-- other, `keep`, gets the texts of accepted rows.
 pub record Written : Type 0 where
   pub before : Option (List ℕ)
   pub after : Option (List ℕ)
@@ -39,7 +40,8 @@ pub record HasRunBook (all : Option (List (List (List ℕ)))) (w : Written) (k :
   pub split : IfSome all (λ rows. rows ≡ done ++ rest)
   pub past : IsPast too_many (length done) rest
 
--- the output and the kept text when an error stops the run
+-- An error stops the run. `IsBookOutputAtError` says which lines and which texts of accepted rows
+-- have then been written.
 abbrev pub IsBookHalted : Option (List (List (List ℕ))) → Written → BookError → Type 0
 IsBookHalted all w error =
     IfSome all (λ rows. (out : List ℕ) × (kept : List ℕ) × IsBookOutputAtError error rows out kept
@@ -51,18 +53,19 @@ abbrev pub IsBookRowsEnd : Option (List (List (List ℕ))) → Written → BookR
 IsBookRowsEnd all w k bytes failed ended =
     MatchResult ended (HasRunBook all w k bytes) (λ e. IsBookHalted all w e × (e ≡ error.Run run_error.Read → failed ≡ true))
 
--- How the rows end, after these bytes: whether more rows follow, or the error that stops the run. A failed write
--- of a kept text is reported before anything else.
-abbrev pub book_end : ℕ → Result (Unit {0}) StreamError → Option ℕ → Result Bool BookError
-book_end bytes ended (Some written) = Err (error.Keep written)
-book_end bytes (Ok done) None = Ok false
-book_end bytes (Err stream_error.TooManyRows) None = Ok true
-book_end bytes (Err stream_error.Memory) None = Err (error.Run run_error.Memory)
-book_end bytes (Err stream_error.Read) None = Err (error.Run run_error.Read)
-book_end bytes (Err stream_error.Write) None = Err (error.Run (run_error.Write bytes))
-book_end bytes (Err stream_error.Flush) None = Err (error.Run (run_error.Write bytes))
+-- How the rows end after this many bytes of lines were written: whether more rows follow, or which
+-- error stops the run.
+abbrev pub book_end : ℕ → Result (Unit {0}) (StreamStop BookError) → Result Bool BookError
+book_end bytes (Ok done) = Ok false
+book_end bytes (Err (stop.Answer fault)) = Err fault
+book_end bytes (Err (stop.Stream stream_error.TooManyRows)) = Ok true
+book_end bytes (Err (stop.Stream stream_error.Memory)) = Err (error.Run run_error.Memory)
+book_end bytes (Err (stop.Stream stream_error.Read)) = Err (error.Run run_error.Read)
+book_end bytes (Err (stop.Stream stream_error.Write)) = Err (error.Run (run_error.Write bytes))
+book_end bytes (Err (stop.Stream stream_error.Flush)) = Err (error.Run (run_error.Write bytes))
 
--- How writing the last line stops. `before` bytes of lines and all kept texts were written earlier.
+-- Writing the last line of the run stops with this error, after `before` bytes of lines. The error
+-- isn't `Keep`, because the texts of accepted rows were written earlier.
 abbrev pub IsBookEndCut : List ℕ → Option (List ℕ) → Option (List ℕ) → ℕ → BookError → Type 0
 IsBookEndCut line old new before (error.Run e) = IsEndCut line old new before e
 IsBookEndCut line old new before (error.Keep written) = ⊥

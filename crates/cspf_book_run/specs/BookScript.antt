@@ -1,4 +1,5 @@
--- The lines of a book for a stream of rows, from bytes to bytes, and the summary of its run.
+-- Which lines a run of a book writes for a stream of rows, both given as bytes, and the summary of
+-- the run.
 use Rattle.std.specs.Prelude.{◌≡◌, ◌≢◌, ℕ, ◌+◌, ◌<◌, ◌≤◌, ◌⊎◌, Bool, IsTrue, List, [], ◌∷◌, ◌++◌, take, length, Result, Ok, Err}
 use Rattle.std.specs.List.{flat_map}
 use Rattle.cspf_model.specs.declared.batch.Change.{Change}
@@ -37,20 +38,21 @@ use Rattle.cspf_book_run.specs.declared.refusals.PlaceRefusal.TheVariants as unp
 use Rattle.cspf_book_run.specs.declared.refusals.ReleaseRefusal.{ReleaseRefusal}
 use Rattle.cspf_book_run.specs.declared.refusals.ReleaseRefusal.TheVariants as unreleased
 
--- the state between two rows
+-- the state of a run between two rows
 pub record BookRunState : Type 0 where
-  -- the base, its version and its placements
+  -- the book: the base, the version of the book, and the placements
   pub book : BookState
   -- how many base batches were accepted
   pub batches : ℕ
-  -- the open changes: those after the last end row
+  -- the open changes: the changes after the last end row
   pub changes : List Change
   -- how many requests were answered, from `ask` and `place` rows together
   pub answers : ℕ
-  -- how many rows, batches, `place` rows and `release` rows were refused
+  -- how many refusals there were: of rows that couldn't be read, of batches, and of `place` and `release` rows
   pub refused : ℕ
 
 -- the state before the first row: version 0, the empty base, no placements and no open changes
+-- (without an end row)
 abbrev pub book_start : BookRunState
 book_start = record {
   book = record { base = no_links; version = 0; placements = [] };
@@ -60,20 +62,22 @@ book_start = record {
   refused = 0;
 }
 
--- the open changes as the base batch with this number
+-- the base batch that has this number and the open changes (those since the last end row)
 abbrev pub open_base_batch : BookRunState → ℕ → NumberedChanges
 open_base_batch s number = record { number = number; changes = s.changes }
 
--- after a refusal: the book and the open changes stay
+-- the state after the refusal of a row: the book and the open changes (those since the last end
+-- row) stay the same
 abbrev pub after_refusal : BookRunState → BookRunState
 after_refusal s = record s { refused = s.refused + 1 }
 
--- after a change: it is the last of the open changes
+-- the state after a change: the change is the last of the open changes (those since the last end
+-- row)
 abbrev pub after_open_change : BookRunState → Change → BookRunState
 after_open_change s c = record s { changes = s.changes ++ c ∷ [] }
 
--- after an accepted base batch: the open changes are applied to the base, no changes are open, and the placements
--- stay
+-- the state after an accepted base batch: the open changes (those since the last end row) are
+-- applied to the base, no changes are open, and the placements stay the same
 abbrev pub after_base_batch : BookRunState → BookRunState
 after_base_batch s = record s {
   book = record {
@@ -85,15 +89,16 @@ after_base_batch s = record s {
   changes = [];
 }
 
--- after a refused base batch: the open changes are dropped, and the book stays
+-- the state after a refused base batch: the open changes (those since the last end row) are
+-- dropped, and the book stays the same
 abbrev pub after_refused_base_batch : BookRunState → BookRunState
 after_refused_base_batch s = record s { changes = []; refused = s.refused + 1 }
 
--- after the answer to a request
+-- the state after a request is answered: one more answer is counted, and the book becomes this book
 abbrev pub after_answer : BookRunState → BookState → BookRunState
 after_answer s book = record s { book = book; answers = s.answers + 1 }
 
--- after the release of a placement
+-- the state after the release of the placement with this id
 abbrev pub after_release : BookRunState → ℕ → BookRunState
 after_release s id = record s {
   book = record {
@@ -103,16 +108,18 @@ after_release s id = record s {
   };
 }
 
--- The open changes are accepted as the base batch with this number and count. This requires that the version is
--- below 1,000,000, the number is that of the next base batch, the count is right, and the batch fits the base.
+-- The open changes (those since the last end row) are accepted as the base batch with this number
+-- and count. The version is below 1,000,000, and the number is that of the next base batch. The
+-- count is the number of open changes, and the batch fits the base.
 pub record IsBaseAccepted (s : BookRunState) (number count : ℕ) : Type 0 where
   pub room : s.book.version < MOST_VERSIONS
   pub next : number ≡ s.batches + 1
   pub counted : count ≡ length s.changes
   pub fits : Fits s.book.base (open_base_batch s number)
 
--- Why the open changes are refused as the base batch with this number and count: the first of these reasons that
--- applies. `Stopped` never applies, as a run has no journal and ends if memory is refused.
+-- Why the open changes (those since the last end row) are refused as the base batch with this
+-- number and count: the first of these reasons that applies. `Stopped`, `Memory` and `Journal`
+-- never apply, because a run has no journal, and ends if memory is refused.
 abbrev pub IsBaseRefusal : BookRunState → ℕ → ℕ → BatchRefusal → Type 0
 IsBaseRefusal s number count refusal.Stopped = ⊥
 IsBaseRefusal s number count refusal.Exhausted = MOST_VERSIONS ≤ s.book.version
@@ -126,9 +133,9 @@ IsBaseRefusal s number count (refusal.Unfit why) =
 IsBaseRefusal s number count refusal.Memory = ⊥
 IsBaseRefusal s number count (refusal.Journal written) = ⊥
 
--- The lines of an accepted base batch. First comes an `over` line for each link and priority at which more is
--- counted than the link has. Then comes a `lost` line for each placement that loses its route, and last the line
--- of the batch.
+-- The lines of an accepted base batch. First comes an `over` line for each link and priority at which the
+-- placements count more bandwidth than the link has. Then comes a `lost` line for each placement that loses its
+-- route, and last the line of the batch.
 abbrev pub AreBaseLines : BookRunState → ℕ → List ℕ → Type 0
 AreBaseLines s number lines =
     (ids : List ℕ) × AreLost s.book.base (after_changes s.book.base s.changes) s.book.placements ids
@@ -141,7 +148,8 @@ IsBaseEndAnswered s number count line after =
     ⊎ ((why : BatchRefusal) × (¬ IsBaseAccepted s number count) × IsBaseRefusal s number count why
     × (line ≡ refused_batch_line number why) × (after ≡ after_refused_base_batch s))
 
--- The answer to an `ask` row: the best answer in the effective database.
+-- An `ask` row is answered with the best answer in the effective database (the base's links with
+-- what the placements leave).
 abbrev pub IsAskAnswered : BookRunState → Request → List ℕ → BookRunState → Type 0
 IsAskAnswered s q line after =
     (answer : Answer) × IsBestAnswer (effective s.book.base s.book.placements) q answer
@@ -154,9 +162,10 @@ IsPlaceRefusal s q unplaced.Full = (s.book.version < MOST_VERSIONS) × IsPlaceEr
 IsPlaceRefusal s q unplaced.Links = (s.book.version < MOST_VERSIONS) × IsPlaceError s.book q TooManyLinks
 IsPlaceRefusal s q unplaced.Twice = (s.book.version < MOST_VERSIONS) × IsPlaceError s.book q Twice
 
--- The answer to a `place` row. It is the best answer in the effective database without the request's earlier
--- placement, and a route is placed. The line has the version of the book afterwards. Before the row the book has
--- room for one more placement and one more version.
+-- A `place` row is answered with the best answer in the effective database (the base's links with
+-- what the placements leave) without the request's earlier placement. If the answer is a route, it
+-- is placed. The line has the version of the book after the row. Before the row the book has room
+-- for one more placement and one more version.
 pub record IsPlaceAnswered (s : BookRunState) (q : Request) (hold : ℕ) (line : List ℕ) (book : BookState) : Type 0 where
   pub room : s.book.version < MOST_VERSIONS
   pub few : HasRoomFor s.book q.id
@@ -165,7 +174,7 @@ pub record IsPlaceAnswered (s : BookRunState) (q : Request) (hold : ℕ) (line :
   pub placed : IsAnswerPlaced s.book q hold answer book
   pub reply : IsPlaceReply q.id book.version answer line
 
--- A `place` row is answered, or it is refused and the book stays.
+-- A `place` row is answered, or it is refused and the book stays the same.
 abbrev pub IsPlaceTaken : BookRunState → Request → ℕ → List ℕ → BookRunState → Type 0
 IsPlaceTaken s q hold line after =
     (IsPlaceAnswered s q hold line after.book × (after ≡ after_answer s after.book))
@@ -176,20 +185,21 @@ abbrev pub IsReleaseRefusal : BookRunState → ℕ → ReleaseRefusal → Type 0
 IsReleaseRefusal s id unreleased.Exhausted = MOST_VERSIONS ≤ s.book.version
 IsReleaseRefusal s id unreleased.Absent = (s.book.version < MOST_VERSIONS) × (¬ IsTrue (has_id id s.book.placements))
 
--- A `release` row releases a placement, or it is refused and the book stays.
+-- A `release` row releases a placement, or it is refused and the book stays the same.
 abbrev pub IsReleaseTaken : BookRunState → ℕ → List ℕ → BookRunState → Type 0
 IsReleaseTaken s id line after =
     ((s.book.version < MOST_VERSIONS) × IsTrue (has_id id s.book.placements)
     × (line ≡ released_line id (s.book.version + 1)) × (after ≡ after_release s id))
     ⊎ ((why : ReleaseRefusal) × IsReleaseRefusal s id why × (line ≡ refused_release_line id why) × (after ≡ after_refusal s))
 
--- The answer to a row of the base: a change, an end row or a request.
+-- A row of the base (a change, an end row or a request) is answered with this line. `after` is the
+-- state afterwards.
 abbrev pub IsBookStepAnswered : BookRunState → Step → List ℕ → BookRunState → Type 0
 IsBookStepAnswered s (step.Change c) line after = (line ≡ []) × (after ≡ after_open_change s c)
 IsBookStepAnswered s (step.End number count) line after = IsBaseEndAnswered s number count line after
 IsBookStepAnswered s (step.Ask q) line after = IsAskAnswered s q line after
 
--- The answer to a row whose fields could be read.
+-- A row whose fields could be read is answered with this line. `after` is the state afterwards.
 abbrev pub IsBookRowTaken : BookRunState → BookRow → List ℕ → BookRunState → Type 0
 IsBookRowTaken s (book_row.Base row) line after = IsBookStepAnswered s (step_of row) line after
 IsBookRowTaken s (book_row.Place q hold) line after = IsPlaceTaken s q hold line after
@@ -200,7 +210,7 @@ abbrev pub IsBookRowAnswered : ℕ → BookRunState → Result BookRow RowError 
 IsBookRowAnswered place s (Err error) line after = (line ≡ refused_row_line place error) × (after ≡ after_refusal s)
 IsBookRowAnswered place s (Ok row) line after = IsBookRowTaken s row line after
 
--- how each row is answered, by its fields
+-- how a row with these fields is answered
 abbrev pub book_answers : AnswersOf BookRunState
 book_answers place s fields line after = IsBookRowAnswered place s (book_row_of fields) line after
 
@@ -208,7 +218,7 @@ book_answers place s fields line after = IsBookRowAnswered place s (book_row_of 
 abbrev pub AreBookRowsAnswered : List (List (List ℕ)) → List ℕ → BookRunState → Type 0
 AreBookRowsAnswered rows lines after = AreAnswered book_answers 1 book_start rows lines after
 
--- the summary of a run over this many rows that ends in a state
+-- the summary of a run that has read this many rows and ends in this state
 abbrev pub book_summary_of : ℕ → BookRunState → Bool → Summary
 book_summary_of rows s too_many = record {
   rows = rows;

@@ -15,7 +15,7 @@ IsReadable (book_row.Base row) = Unit {0}
 IsReadable (book_row.Place q hold) = (q.setup ≡ 7) × (hold < 8)
 IsReadable (book_row.Release id) = Unit {0}
 
--- `k` is the state of the code for the state `s` of the run.
+-- `k` is how the code stores the state `s` of the run.
 pub record KeepsBook (k : BookRows) (s : BookRunState) : Type 0 where
   pub book : k.book ≡ s.book
   pub batches : k.batches ≡ s.batches
@@ -23,11 +23,12 @@ pub record KeepsBook (k : BookRows) (s : BookRunState) : Type 0 where
   pub answers : k.answers ≡ s.answers
   pub refused : k.refused ≡ s.refused
 
--- From a state before, the code goes to a state after, and the relation `Step` holds between these two.
+-- If `old` stores a state of the run, then `new` stores a state of the run, too, and the relation `Step` holds
+-- between the first state and the second.
 abbrev pub BookLeads : BookRows → BookRows → (BookRunState → BookRunState → Type 0) → Type 0
 BookLeads old new Step = (s : BookRunState) → KeepsBook old s → (t : BookRunState) × KeepsBook new t × Step s t
 
--- each count has room for one more
+-- Each count of the run can grow by one without overflow.
 pub record CanCountBookRow (k : BookRows) : Type 0 where
   pub rows : k.read + 1 < 2 ^ 64
   pub count : k.changes.count + 1 < 2 ^ 64
@@ -41,21 +42,21 @@ pub record CountsBookRow (old new : BookRows) : Type 0 where
   pub answers : new.answers ≤ old.answers + 1
   pub refused : new.refused ≤ old.refused + 1
 
--- The count of rows stays, and each other count grows by at most one.
+-- The count of rows stays the same, and each other count grows by at most one.
 pub record CountsAnswer (old new : BookRows) : Type 0 where
   pub rows : new.read ≡ old.read
   pub count : new.changes.count ≤ old.changes.count + 1
   pub answers : new.answers ≤ old.answers + 1
   pub refused : new.refused ≤ old.refused + 1
 
--- All rows before this row number were read, and each count is below the number.
+-- All rows before the row with this number, counted from 1, were read, and each count is below this number.
 pub record IsBookBefore (place : ℕ) (k : BookRows) : Type 0 where
   pub rows : k.read + 1 ≡ place
   pub count : k.changes.count < place
   pub answers : k.answers < place
   pub refused : k.refused < place
 
--- The row is answered and counted, and the code goes from the state before to the state after.
+-- The row is answered with this line and counted, which takes the code from the state `old` to the state `new`.
 pub record IsAnsweredByBook (place : ℕ) (old : BookRows) (row : Result BookRow RowError) (line : List ℕ) (new : BookRows) : Type 0 where
   pub lead : BookLeads old new (λ s t. IsBookRowAnswered place s row line t)
   pub counts : CountsBookRow old new

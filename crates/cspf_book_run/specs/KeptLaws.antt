@@ -1,11 +1,12 @@
--- The kept text of rows restores their book.
+-- A run over the texts of accepted rows makes the same book as the run over all rows.
 use Rattle.std.specs.Prelude.{◌≡◌, ◌≤◌, ℕ, List, [], length}
 use Rattle.cspf_rows.specs.Records.{rows_of}
 use Rattle.cspf_book_run.specs.BookScript.{BookRunState, AreBookRowsAnswered}
 use Rattle.cspf_book_run.specs.Kept.{AreBookRowsKept}
 
--- The rows of a text, at most `most`, restore the book of the state `t`: its base, version and placements. Nothing
--- is refused, and no changes are open afterwards.
+-- The text has at most `most` rows. A run over these rows ends with the book of the state `t`: its
+-- base, version and placements. The run refuses nothing, and no changes are open (without an end
+-- row) at its end.
 pub record RemakesBook (text : List ℕ) (most : ℕ) (t : BookRunState) : Type 0 where
   pub few : length (rows_of text) ≤ most
   pub lines : List ℕ
@@ -16,7 +17,8 @@ pub record RemakesBook (text : List ℕ) (most : ℕ) (t : BookRunState) : Type 
   pub changes : after.changes ≡ []
   pub refused : after.refused ≡ 0
 
--- The kept text of rows restores their book, and has at most as many rows.
+-- A run over the text that goes to the accepted rows' writer `keep` for some rows ends with the
+-- same book as the run over these rows. The text has at most as many rows as were answered.
 abbrev pub KeptIsTheBook : Type 0
 KeptIsTheBook =
     (rows : List (List (List ℕ))) (text : List ℕ) (t : BookRunState) → AreBookRowsKept rows text t → RemakesBook text (length rows) t

@@ -7,6 +7,7 @@ pub mod BookScript
 pub mod Kept
 pub mod BookOutput
 pub mod BookScriptLaws
+pub mod WrongRuns
 pub mod KeptLaws
 pub mod BookStates
 pub mod BookRowsEnds

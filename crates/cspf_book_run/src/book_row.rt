@@ -12,7 +12,7 @@ use csv::ByteRecord;
 /// What a record asks of a book.
 #[derive(Clone, Copy, Debug, PartialEq, Eq)]
 pub enum BookRow {
-    /// A row of the base: a change, an end row, or a request that is only asked.
+    /// A row of the base: a change, an end row, or a request that is answered but not placed.
     Base(Row),
     /// A request to place.
     Place {
@@ -23,7 +23,7 @@ pub enum BookRow {
     },
     /// The placement with this id is to be released.
     Release {
-        /// The id of its request.
+        /// The id of the placement's request.
         id: u64,
     },
 }
@@ -31,9 +31,9 @@ pub enum BookRow {
 impl BookRow {
     ghost use Rattle.cspf_book_run.specs.BookRows.{book_row_of, place_row_of, release_row_of};
 
-    /// The row that a record spells, or the first refusal. The kind is checked first. The fields
-    /// are checked as in `Row::read`. A `place` row has the same fields after its kind as an `ask`
-    /// row.
+    /// Reads a record as a row of a book, or returns the first reason to refuse the record. The
+    /// kind of the row is checked first, and then its fields as in `Row::read`. After its kind, a
+    /// `place` row has the same fields as an `ask` row.
     #[tactic(auto, unfolding(crate::specs::BookRows::book_row_of))]
     pub fn read(fields: &ByteRecord) -> Result<BookRow, RowError>
         ensures { result ≡ book_row_of (fields_of fields.now) }
@@ -48,7 +48,7 @@ impl BookRow {
         }
     }
 
-    /// The `place` row, which has 10 fields.
+    /// Reads a `place` row, which has 10 fields.
     fn place(fields: &ByteRecord) -> Result<BookRow, RowError>
         ensures { result ≡ place_row_of (fields_of fields.now) }
     {
@@ -62,12 +62,12 @@ impl BookRow {
                 request: at_lowest_setup(&request),
                 hold: request.setup,
             }),
-            // An `ask` row spells a request, and no other row.
+            // `Row::ask` returns no other row than a request.
             _ => Err(RowError::Kind),
         }
     }
 
-    /// The `release` row, which has 2 fields.
+    /// Reads a `release` row, which has 2 fields.
     #[tactic(auto, unfolding(cspf_rows::specs::FieldValues::number_at))]
     fn release(fields: &ByteRecord) -> Result<BookRow, RowError>
         ensures { result ≡ release_row_of (fields_of fields.now) }
@@ -80,8 +80,8 @@ impl BookRow {
     }
 }
 
-/// The bytes of the field with this number. The first field is 1. Past the last field the bytes are
-/// empty.
+/// The bytes of the field with this number. The first field has the number 1. If the record has no
+/// such field, the result is empty.
 fn text(fields: &ByteRecord, place: usize) -> &[u8]
     requires { 1 ≤ place }
     ensures { result.now ≡ field (fields_of fields.now) place }

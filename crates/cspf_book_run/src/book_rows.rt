@@ -1,5 +1,5 @@
-//! The state of a run of a book. It answers each row from the book, and has the open changes and
-//! the counts of the run.
+//! The state of a run of a book: the book, the open changes (those since the last end row), and the
+//! counts of the run. Each row is answered from this state.
 
 ghost use Rattle.std.specs.Prelude.{◌≡◌, ◌+◌, ◌<◌, ◌≤◌, [], length, IfOk, OnOk};
 ghost use Rattle.csv.specs.Records.{fields_of};
@@ -18,7 +18,7 @@ use cspf_stream::{BatchRefusal, OpenChanges, Step, StreamLine, refused_row};
 use csv::ByteRecord;
 use std::alloc::{AllocError, Global};
 
-/// The state between two rows. Only the book takes more memory as rows are read.
+/// The state of a run between two rows. As more rows are read, only the book takes more memory.
 #[derive(Drop)]
 pub struct BookRows {
     book: Book,
@@ -29,17 +29,19 @@ pub struct BookRows {
     read: u64,
     /// How many requests were answered, from `ask` and `place` rows together.
     answers: u64,
-    /// How many rows, batches, `place` rows and `release` rows were refused.
+    /// How many refusals there were: of rows that couldn't be read, of batches, and of `place` and
+    /// `release` rows.
     refused: u64,
     ghost fewer: { batches ≤ book.version },
 }
 
-/// The lines that answer a row, and the text that is kept of the row.
+/// The lines that answer a row, and the text that goes to the accepted rows' writer `keep` for the
+/// row.
 #[derive(Drop)]
 pub(crate) struct KeptLine {
-    /// The lines. A change has no lines.
+    /// The lines that answer the row. They are empty if the row is a change.
     pub line: Vec<u8>,
-    /// The kept text. It is empty if the row isn't accepted.
+    /// The text that goes to the writer `keep` for the row. It is empty if the row isn't accepted.
     pub text: Vec<u8>,
 }
 
@@ -54,8 +56,8 @@ impl BookRows {
     ghost use Rattle.cspf_book_run.specs.BookStates.{IsReadable, KeepsBook, BookLeads, IsBookBefore, CanCountBookRow, CountsAnswer, AreBookCounts};
     ghost use Rattle.cspf_book_run.specs.KeptStates.{IsTextOfRow, IsTextOfStep, IsRenumbered, IsAnsweredAndKept};
 
-    /// The state before the first row: version 0, the empty base, no placements and no open
-    /// changes.
+    /// The state before the first row: version 0, the empty base, no placements and no open changes
+    /// (without an end row).
     pub(crate) fn new(alloc: Global) -> Result<BookRows, AllocError>
         ensures start { IfOk result (λ rows. KeepsBook rows book_start) }
         ensures none { IfOk result (λ rows. rows.read ≡ 0) }
@@ -70,8 +72,8 @@ impl BookRows {
         })
     }
 
-    /// Answers the row with this number, counted from 1, from its fields. Also returns the text
-    /// that is kept of the row.
+    /// Answers the row with these fields. `place` is the row's number, counted from 1. Returns the
+    /// lines of the answer, and the text that goes to the accepted rows' writer `keep` for the row.
     pub(crate) fn answer(
         &mut self,
         alloc: Global,
@@ -92,7 +94,8 @@ impl BookRows {
         Ok(KeptLine { line, text })
     }
 
-    /// The text of a row. It is kept only if the row is accepted.
+    /// The text that goes to the writer `keep` for a row, if the row is accepted. It is empty for a
+    /// row that couldn't be read.
     fn text_of(
         &mut self,
         alloc: Global,
@@ -109,7 +112,8 @@ impl BookRows {
         }
     }
 
-    /// The text of a row whose fields could be read. It is kept only if the row is accepted.
+    /// The text that goes to the writer `keep` for a row whose fields could be read, if the row is
+    /// accepted.
     fn text_of_read(
         &mut self,
         alloc: Global,
@@ -127,7 +131,7 @@ impl BookRows {
         }
     }
 
-    /// The text of a row of the base. It is kept only if the row is accepted.
+    /// The text that goes to the writer `keep` for a row of the base, if the row is accepted.
     fn text_of_step(&mut self, alloc: Global, step: Step) -> Result<Vec<u8>, AllocError>
         ensures text { IfOk result (λ text. (s : BookRunState) → KeepsBook self.old s
             → IsTextOfStep s step text.items) }
@@ -140,8 +144,9 @@ impl BookRows {
         }
     }
 
-    /// The text of the open changes as the batch with this number. It has only those open changes
-    /// that are kept.
+    /// The text of the batch that has this number and the open changes (those since the last end
+    /// row). Of the open changes the text has only those that `changes` stores, which are at most
+    /// the first 4097.
     fn text_of_batch(&mut self, alloc: Global, number: u32) -> Result<Vec<u8>, AllocError>
         ensures text { IfOk result (λ text. (s : BookRunState) → KeepsBook self.old s
             → length s.changes ≤ MOST_CHANGES → text.items ≡ batch_text (open_base_batch s number)) }
@@ -151,8 +156,8 @@ impl BookRows {
         batch_text(alloc, &self.changes.batch)
     }
 
-    /// Answers the row with this number, counted from 1, and returns its lines. A change has no
-    /// lines.
+    /// Answers the row with this number, counted from 1. Returns the lines of the answer. A change
+    /// is answered with no lines.
     fn line_of(
         &mut self,
         alloc: Global,
@@ -175,7 +180,7 @@ impl BookRows {
         }
     }
 
-    /// Answers a row whose fields could be read, and returns its lines.
+    /// Answers a row whose fields could be read, and returns the lines of the answer.
     fn take_row(&mut self, alloc: Global, row: &BookRow) -> Result<Vec<u8>, AllocError>
         requires few { CanCountBookRow self.old }
         requires row { IsReadable row.now }
@@ -204,7 +209,7 @@ impl BookRows {
         }
     }
 
-    /// Adds a change to the open changes.
+    /// Adds a change to the open changes, which wait for the next end row.
     fn change(&mut self, alloc: Global, change: Change) -> Result<Vec<u8>, AllocError>
         requires few { CanCountBookRow self.old }
         ensures answered { IfOk result (λ line. BookLeads self.old self.new
@@ -215,7 +220,8 @@ impl BookRows {
         Ok(Vec::new(alloc))
     }
 
-    /// Answers a request in the effective database.
+    /// Answers a request in the effective database (the base's links with what the placements
+    /// leave).
     fn ask(&mut self, alloc: Global, request: &Request) -> Result<Vec<u8>, AllocError>
         requires few { CanCountBookRow self.old }
         ensures answered { IfOk result (λ line. BookLeads self.old self.new
@@ -228,8 +234,9 @@ impl BookRows {
         Ok(line)
     }
 
-    /// Applies the open changes to the base as the batch with this number and count, or refuses the
-    /// batch. Afterwards no changes are open.
+    /// Applies the open changes to the base as the batch with this number, or refuses the batch.
+    /// `count` is how many changes the batch has, as its end row says. Afterwards no changes are
+    /// open (without an end row).
     fn end(&mut self, alloc: Global, number: u32, count: u32) -> Result<Vec<u8>, AllocError>
         requires few { CanCountBookRow self.old }
         ensures answered { IfOk result (λ line. BookLeads self.old self.new
@@ -245,8 +252,9 @@ impl BookRows {
         self.apply(alloc, number)
     }
 
-    /// Applies the open changes to the base as the batch with this number, if they fit, or refuses
-    /// the batch. The lines are made before the batch is applied.
+    /// Applies the open changes (those since the last end row) to the base as the batch with this
+    /// number, if they fit, or refuses the batch. The lines that answer the end row are made before
+    /// the batch is applied.
     fn apply(&mut self, alloc: Global, number: u32) -> Result<Vec<u8>, AllocError>
         requires few { CanCountBookRow self.old }
         requires room { self.old.book.version < MOST_VERSIONS }
@@ -269,7 +277,8 @@ impl BookRows {
         }
     }
 
-    /// Drops the open changes and refuses them as the batch with this number.
+    /// Drops the open changes (those since the last end row) and refuses them as the batch with
+    /// this number.
     fn refuse_batch(
         &mut self,
         alloc: Global,
@@ -349,7 +358,7 @@ impl BookRows {
         }
     }
 
-    /// Refuses the `release` row of this id.
+    /// Refuses the `release` row for this id.
     fn refuse_release(
         &mut self,
         alloc: Global,
@@ -366,7 +375,8 @@ impl BookRows {
         Ok(line)
     }
 
-    /// The last line. If there are too many rows, it says so, and not that changes are still open.
+    /// The last line of the run. If there are too many rows, the line says this, and doesn't say
+    /// whether changes are still open (without an end row).
     pub(crate) fn last_line(&self, alloc: Global, too_many: bool) -> Result<Vec<u8>, AllocError>
         ensures { IfOk result (λ line. (s : BookRunState) → KeepsBook self.now s
             → line.items ≡ last_line too_many s.changes) }
@@ -378,7 +388,7 @@ impl BookRows {
         }
     }
 
-    /// The summary of the run, if it ends here.
+    /// The summary of the run, if the run ends after the rows that were read so far.
     pub(crate) fn summary(&self, too_many: bool) -> Summary
         requires { AreBookCounts self.now }
         ensures { (s : BookRunState) → KeepsBook self.now s

@@ -4,9 +4,10 @@ ghost use Rattle.cspf_book_run.specs.BookEnds.{IsRightBookEnd, IsWrongBookEnd};
 use cspf_model::MOST_VERSIONS;
 use cspf_stream::BatchRefusal;
 
-/// Why an end row is refused before it is checked whether its batch fits. `None` if it isn't.
-/// `version` is the book's version, `batches` how many base batches were accepted, and `changes`
-/// how many changes are open.
+/// Why an end row is refused even before it is checked whether its batch fits. `None` if there is
+/// no such reason. `version` is the book's version, and `batches` is how many base batches were
+/// accepted. `number` and `count` are what the end row says: the number of its batch, and how many
+/// changes the batch has. `changes` is how many changes are open.
 pub(crate) fn wrong_end(
     version: u32,
     batches: u32,

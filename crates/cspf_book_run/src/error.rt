@@ -5,13 +5,13 @@ use thiserror::Error;
 /// Why a run of a book stops before the end of its rows.
 #[derive(Clone, Copy, Debug, PartialEq, Eq, Error)]
 pub enum BookError {
-    /// Memory was refused, or a read or a write of the rows or lines failed.
+    /// Memory was refused, a read of rows failed, or a write of lines failed.
     #[error("{0}")]
     Run(SolveError),
-    /// The kept text of an accepted row wasn't written whole.
+    /// The text of an accepted row wasn't written whole to the writer `keep`.
     #[error("a write of an accepted row failed after {written} bytes")]
     Keep {
-        /// How many bytes of the row's kept text were written.
+        /// How many bytes of the row's text were written to `keep`.
         written: usize,
     },
 }

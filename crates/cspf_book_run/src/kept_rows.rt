@@ -1,23 +1,23 @@
-//! The rows of a book, with a writer for the kept texts. The text of a row is written before its
-//! line is returned.
+//! A run of a book with a writer `keep` for the texts of accepted rows. The text of a row is
+//! written before the lines that answer the row are returned.
 
 use crate::book_rows::{BookRows, KeptLine};
+use crate::error::BookError;
 use cspf_rows::put_all;
 use cspf_stream::Answering;
 use csv::ByteRecord;
-use std::alloc::{AllocError, Global};
+use std::alloc::Global;
 use std::io::Write;
 
-/// The state between two rows, and the writer of the kept texts.
+/// The state of a run between two rows, and `keep`, the writer for the texts of accepted rows.
 pub struct KeptRows<K> {
     rows: BookRows,
     keep: K,
-    /// The failed write, if there was one: how many bytes of the row's text were written.
-    fault: Option<usize>,
 }
 
 impl<K: Write> Answering<()> for KeptRows<K> {
-    ghost use Rattle.std.specs.Prelude.{◌≡◌, None};
+    type Fault = BookError;
+
     ghost use Rattle.cspf_book_run.specs.BookStates.{IsBookBefore};
     ghost use Rattle.cspf_book_run.specs.KeptStates.{IsRowKept, IsRowNotKept};
 
@@ -25,8 +25,8 @@ impl<K: Write> Answering<()> for KeptRows<K> {
 
     ghost fails = { IsRowNotKept K.contents };
 
-    // Each row adds at most one to a count. After a failed write no row is answered.
-    ghost may_stand = { λ place k. IsBookBefore place k.rows × (k.fault ≡ None) };
+    // Each row adds at most one to each count of the run.
+    ghost may_stand = { λ place k. IsBookBefore place k.rows };
 
     fn answer(
         &mut self,
@@ -34,55 +34,37 @@ impl<K: Write> Answering<()> for KeptRows<K> {
         alloc: Global,
         place: u64,
         fields: &ByteRecord,
-    ) -> Result<Vec<u8>, AllocError> {
+    ) -> Result<Vec<u8>, BookError> {
         let KeptLine { line, text } = self.rows.answer(alloc, place, fields)?;
         match put_all(&mut self.keep, text.as_slice()) {
             Ok(()) => Ok(line),
-            Err(written) => {
-                self.fault = Some(written);
-                Err(AllocError)
-            }
+            Err(written) => Err(BookError::Keep { written }),
         }
     }
 }
 
 impl<K> KeptRows<K> {
-    ghost use Rattle.std.specs.Prelude.{◌≡◌, None};
+    ghost use Rattle.std.specs.Prelude.{◌≡◌};
 
     /// The state before the first row.
     pub(crate) fn new(rows: BookRows, keep: K) -> KeptRows<K>
-        ensures { result ≡ record { rows = rows; keep = keep; fault = None } }
+        ensures { result ≡ record { rows = rows; keep = keep } }
     {
-        KeptRows {
-            rows,
-            keep,
-            fault: None,
-        }
+        KeptRows { rows, keep }
     }
 
-    /// The state of the run without the writer.
+    /// The state of the run without the accepted rows' writer `keep`.
     pub(crate) fn rows(&self) -> &BookRows
         ensures { result.now ≡ self.now.rows }
     {
         &self.rows
     }
 
-    /// The failed write, if there was one: how many bytes of the row's text were written.
-    pub(crate) fn fault(&self) -> Option<usize>
-        ensures { result ≡ self.now.fault }
-    {
-        self.fault
-    }
-
-    /// The writer, in the state after its last call.
+    /// The accepted rows' writer `keep`, in the state after its last call.
     pub(crate) fn into_keep(self) -> K
         ensures { result ≡ self.keep }
     {
-        let KeptRows {
-            rows: _rows,
-            keep,
-            fault: _,
-        } = self;
+        let KeptRows { rows: _rows, keep } = self;
         keep
     }
 }

@@ -1,10 +1,10 @@
-//! The run of a book: a stream of rows is read, and the lines of each row are written, by one
-//! thread.
+//! The run of a book: one thread reads a stream of rows, and writes the lines that answer each row.
 //!
-//! `specs/BookRows.antt` defines which row a record spells. `specs/BookScript.antt` defines the
+//! `specs/BookRows.antt` defines how a record is read as a row. `specs/BookScript.antt` defines the
 //! lines of a run and its summary, from the bytes of the stream. `specs/Kept.antt` defines the text
-//! that is kept of accepted rows. `specs/BookOutput.antt` defines the output of a run that ends by
-//! an error. `specs/BookScriptLaws.antt` and `specs/KeptLaws.antt` say what holds of every run.
+//! of accepted rows, which goes to the writer `keep`. `specs/BookOutput.antt` defines the output of
+//! a run that ends by an error. `specs/BookScriptLaws.antt` and `specs/KeptLaws.antt` say what
+//! holds of every run, and `specs/WrongRuns.antt` has wrong runs that these laws refuse.
 #![tactic(auto)]
 
 mod book_row;
@@ -21,6 +21,8 @@ mod run;
 pub use book_row::BookRow;
 pub use cspf_solve::{SolveError, Summary};
 pub use error::BookError;
-pub use laws::{covered_books, kept_is_the_book, one_reply_of_books};
+pub use laws::{
+    covered_books, kept_is_the_book, one_reply_of_books, sums_stay_small, worked_covers,
+};
 pub use refusals::{PlaceRefusal, ReleaseRefusal};
 pub use run::run_book;

@@ -1,4 +1,4 @@
-//! The lines of a book. Each ends with a line feed.
+//! The lines that a run of a book writes. Each ends with a line feed.
 
 ghost use Rattle.std.specs.Prelude.{◌≡◌, ◌≤◌, ◌++◌, drop, length, IfOk, OnOk};
 ghost use Rattle.std.specs.List.{flat_map};
@@ -12,8 +12,8 @@ use cspf_model::Outcome;
 use std::alloc::{AllocError, Global};
 
 /// The lines of an accepted base batch. First comes an `over` line for each link and priority at
-/// which the link has less bandwidth than is counted on it. Then comes a `lost` line for each
-/// placement that loses its route, and last the line of the batch.
+/// which the link has less bandwidth than the placements count on it. Then comes a `lost` line for
+/// each placement that loses its route, and last the line of the batch.
 pub(crate) fn base_lines(
     alloc: Global,
     over: &[Over],
@@ -32,8 +32,8 @@ pub(crate) fn base_lines(
     Ok(lines)
 }
 
-/// Writes an `over` line for each link and priority at which the link has less bandwidth than is
-/// counted on it.
+/// Writes an `over` line for each link and priority at which the link has less bandwidth than the
+/// placements count on it.
 fn write_over(alloc: Global, lines: &mut Vec<u8>, over: &[Over]) -> Result<(), AllocError>
     ensures { OnOk result (lines.new.items ≡ lines.old.items ++ flat_map over_line over.now) }
 {
@@ -44,7 +44,7 @@ fn write_over(alloc: Global, lines: &mut Vec<u8>, over: &[Over]) -> Result<(), A
     Ok(())
 }
 
-/// The `over` line of a link and a priority.
+/// The `over` line (it reports too little bandwidth) of a link and a priority.
 fn line_of_over(alloc: Global, over: &Over) -> Result<Vec<u8>, AllocError>
     ensures { IfOk result (λ line. line.items ≡ over_line over.now) }
 {
@@ -52,7 +52,7 @@ fn line_of_over(alloc: Global, over: &Over) -> Result<Vec<u8>, AllocError>
     Ok(format!(in alloc; "over {from},{local} {priority}\n")?.into_bytes())
 }
 
-/// Writes a `lost` line for each placement that loses its route.
+/// Writes a `lost` line for each placement that loses its route (the base no longer admits it).
 fn write_lost(alloc: Global, lines: &mut Vec<u8>, lost: &[u64]) -> Result<(), AllocError>
     ensures { OnOk result (lines.new.items ≡ lines.old.items ++ flat_map lost_line lost.now) }
 {
@@ -63,14 +63,15 @@ fn write_lost(alloc: Global, lines: &mut Vec<u8>, lost: &[u64]) -> Result<(), Al
     Ok(())
 }
 
-/// The `lost` line of a placement that loses its route.
+/// The `lost` line of a placement that loses its route (the base no longer admits it).
 fn line_of_lost(alloc: Global, id: u64) -> Result<Vec<u8>, AllocError>
     ensures { IfOk result (λ line. line.items ≡ lost_line id) }
 {
     Ok(format!(in alloc; "lost {id}\n")?.into_bytes())
 }
 
-/// The line that answers a `place` row, with the version of the answer.
+/// The line that answers the `place` row of the request with this id. `version` is the book's
+/// version after the row.
 pub(crate) fn place_line(
     alloc: Global,
     id: u64,
@@ -93,7 +94,7 @@ fn after_word(line: &[u8]) -> &[u8]
     &line[3..]
 }
 
-/// The line of a `place` row that is refused.
+/// The line that says why the request with this id isn't placed.
 pub(crate) fn refused_place(
     alloc: Global,
     id: u64,
@@ -104,14 +105,15 @@ pub(crate) fn refused_place(
     Ok(format!(in alloc; "place {id} refused: {why}\n")?.into_bytes())
 }
 
-/// The line of a released placement, with the version that the release makes.
+/// The line that says that the placement with this id is released. `version` is the version that
+/// the release makes.
 pub(crate) fn released(alloc: Global, id: u64, version: u32) -> Result<Vec<u8>, AllocError>
     ensures { IfOk result (λ line. line.items ≡ released_line id version) }
 {
     Ok(format!(in alloc; "released {id} v{version}\n")?.into_bytes())
 }
 
-/// The line of a `release` row that is refused.
+/// The line that says why no placement with this id is released.
 pub(crate) fn refused_release(
     alloc: Global,
     id: u64,

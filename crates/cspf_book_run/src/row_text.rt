@@ -1,4 +1,4 @@
-//! The text that is kept of a row.
+//! The text of an accepted row, which goes to the writer `keep`.
 
 ghost use Rattle.std.specs.Prelude.{◌≡◌, ◌==◌, ◌++◌, [], if◌then◌else◌, IfOk};
 ghost use Rattle.csv.specs.Records.{fields_of};
@@ -19,7 +19,7 @@ pub(crate) fn row_text(alloc: Global, fields: &ByteRecord) -> Result<Vec<u8>, Al
     }
 }
 
-/// All bytes that were written, including the bytes in the buffer.
+/// All bytes that were written to `rows`, including the bytes in its buffer.
 fn written(rows: Writer<Vec<u8>>) -> Result<Vec<u8>, AllocError>
     ensures { IfOk result (λ text. text.items ≡ (writer_under rows).items ++ writer_pending rows) }
 {
@@ -29,7 +29,8 @@ fn written(rows: Writer<Vec<u8>>) -> Result<Vec<u8>, AllocError>
     }
 }
 
-/// The text if the version has changed, and otherwise the empty text.
+/// Returns the row's text if the row changed the book's version, and otherwise the empty text.
+/// `before` and `after` are the versions before and after the row.
 pub(crate) fn text_if_new(mut text: Vec<u8>, before: u32, after: u32) -> Vec<u8>
     ensures { result.items ≡ (if after == before then [] else text.items) }
 {

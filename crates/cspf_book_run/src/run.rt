@@ -1,7 +1,7 @@
-//! The run of `book`: it reads a stream of rows, writes the lines of each row, and keeps the text
-//! of accepted rows.
+//! The run of `book`: it reads a stream of rows, writes the lines of each row, and writes the text
+//! of accepted rows to a second writer, `keep`.
 
-ghost use Rattle.std.specs.Prelude.{◌≡◌, ℕ, ◌+◌, ◌*◌, ◌^◌, ◌≤◌, List, true, None, IfOk, IfErr, IfSome};
+ghost use Rattle.std.specs.Prelude.{◌≡◌, ℕ, ◌+◌, ◌*◌, ◌^◌, ◌≤◌, List, true, IfOk, IfErr, IfSome};
 ghost use Rattle.std.specs.Io.KnownBytes.{Appends};
 ghost use Rattle.csv.specs.Reading.{has_failed};
 ghost use Rattle.cspf_rows.specs.Records.{rows_of, rows_left, IsPlain};
@@ -19,20 +19,23 @@ use crate::error::BookError;
 use crate::kept_rows::KeptRows;
 use cspf_rows::{MOST_ROWS, open_records, put_all};
 use cspf_solve::{SolveError, Summary};
-use cspf_stream::{StreamError, answer_first_rows};
+use cspf_stream::{StreamError, StreamStop, answer_first_rows};
 use csv::Reader;
 use std::alloc::Global;
 use std::io::{Read, Write};
 
-/// Reads a stream of rows for a book. Writes the lines of each row as soon as they are known, in
-/// one write if the writer takes them whole. `IsBookScript` defines the lines, and when something
-/// is refused. At most 1,000,000 rows are read. The text of an accepted row goes to `keep` before
-/// the row's lines are written. `IsKeptText` defines this text. Returns `keep`, too.
+/// Reads a stream of rows for a book. Writes the lines that answer each row as soon as they are
+/// known, in one write if the writer takes all their bytes at once. `IsBookScript` defines the
+/// lines, and when something is refused. At most 1,000,000 rows are read. The text of an accepted
+/// row goes to `keep` before the row's lines are written. `IsKeptText` defines this text. The
+/// function also returns `keep`.
 ///
-/// After an error the lines of a prefix of the rows are written. After a failed write a part of the
-/// next text may be written, too, but not all of it. `Read` means that a read failed. `Write` means
-/// that a write failed or took no bytes. `Keep` means the same of a write to `keep`, which may then
-/// have a part of the text of the next row. That row has no line. Nothing is flushed.
+/// After an error the lines that answer a prefix of the rows are written. After a failed write of
+/// lines, the first bytes of the next text may follow, but never the whole of it. The next text is
+/// the lines of the next row, or the run's last line. `Read` means that a read failed. `Write`
+/// means that a write of lines failed or took no bytes. `Keep` means that a write to `keep` failed
+/// or took no bytes. After `Keep`, the writer `keep` may have a part of the next row's text, and
+/// the next row isn't answered. Nothing is flushed.
 pub fn run_book<R: Read + Drop, W: Write, K: Write>(
     alloc: Global,
     reader: R,
@@ -71,7 +74,6 @@ fn answer_all<R: Read, W: Write, K: Write>(
     requires plain { IsPlain rows.old }
     requires fresh { KeepsBook book.old.rows book_start }
     requires first { IsBookBefore 1 book.old.rows }
-    requires going { book.old.fault ≡ None }
     ensures whole { IfOk result (λ summary. IfSome (rows_left R.remaining rows.old) (λ all.
         (lines : List ℕ) × IsBookRun all lines summary
         × Appends (W.contents writer.old) (W.contents writer.new) lines)) }
@@ -89,8 +91,8 @@ fn answer_all<R: Read, W: Write, K: Write>(
     finish(alloc, book.rows(), writer, written, ended?)
 }
 
-/// Answers the next 1,000,000 rows of the reader at most. Returns how many bytes of lines were
-/// written, and whether more rows follow or which error stopped the run.
+/// Answers at most 1,000,000 rows of the reader. Returns how many bytes of lines were written. Also
+/// returns whether more rows follow, or which error stopped the run.
 fn answer_most<R: Read, W: Write, K: Write>(
     alloc: Global,
     rows: &mut Reader<R>,
@@ -100,7 +102,6 @@ fn answer_most<R: Read, W: Write, K: Write>(
     requires plain { IsPlain rows.old }
     requires fresh { KeepsBook book.old.rows book_start }
     requires first { IsBookBefore 1 book.old.rows }
-    requires going { book.old.fault ≡ None }
     ensures ends { IsBookRowsEnd (rows_left R.remaining rows.old) (record {
       before = W.contents writer.old;
       after = W.contents writer.new;
@@ -111,27 +112,24 @@ fn answer_most<R: Read, W: Write, K: Write>(
 {
     let limit = u64::from(MOST_ROWS);
     let (written, ended) = answer_first_rows(&(), alloc, limit, false, rows, writer, book);
-    (written, end_after_rows(written, ended, book.fault()))
+    (written, end_after_rows(written, ended))
 }
 
-/// How the rows end, after `written` bytes of lines: whether more rows follow, or which error
-/// stopped the run. `fault` is the failed write to `keep`, if there was one.
+/// Returns whether more rows follow, or which error stopped the run. `written` is how many bytes of
+/// lines were written.
 fn end_after_rows(
     written: u128,
-    ended: Result<(), StreamError>,
-    fault: Option<usize>,
+    ended: Result<(), StreamStop<BookError>>,
 ) -> Result<bool, BookError>
-    ensures { result ≡ book_end written ended fault }
+    ensures { result ≡ book_end written ended }
 {
-    if let Some(kept) = fault {
-        return Err(BookError::Keep { written: kept });
-    }
     match ended {
         Ok(()) => Ok(false),
-        Err(StreamError::TooManyRows) => Ok(true),
-        Err(StreamError::Memory) => Err(BookError::Run(SolveError::Memory)),
-        Err(StreamError::Read) => Err(BookError::Run(SolveError::Read)),
-        Err(StreamError::Write | StreamError::Flush) => {
+        Err(StreamStop::Answer(fault)) => Err(fault),
+        Err(StreamStop::Stream(StreamError::TooManyRows)) => Ok(true),
+        Err(StreamStop::Stream(StreamError::Memory)) => Err(BookError::Run(SolveError::Memory)),
+        Err(StreamStop::Stream(StreamError::Read)) => Err(BookError::Run(SolveError::Read)),
+        Err(StreamStop::Stream(StreamError::Write | StreamError::Flush)) => {
             Err(BookError::Run(SolveError::Write { written }))
         }
     }

@@ -9,39 +9,45 @@ use Rattle.cspf_c.specs.History.{HasAnswered}
 use Rattle.cspf_c.specs.declared.codes.TheConstants.{ANSWERED, MEMORY, CLOSED}
 use Rattle.cspf_c.specs.declared.opened.Opened.{Opened}
 
--- a session is opened that was given no row and holds no lines, or memory was refused
+-- either a new session is open, which was given no row and holds no lines, or memory was refused
+-- and no session is open
 abbrev pub IsOpened : ℕ → Option Opened → Type 0
 IsOpened code (Some new) = (code ≡ ANSWERED) × (HasAnswered new.session.taken [] [] × (new.lines.items ≡ []))
 IsOpened code None = code ≡ MEMORY
 
--- the rows of these bytes are given to a session, and it then holds their lines, which have this many bytes
+-- the session is given the rows of these bytes, and afterwards it holds the lines that answer these
+-- rows; these lines have `size` bytes
 abbrev pub AreGiven : List ℕ → ℕ → Opened → Opened → Type 0
 AreGiven bytes size old new =
     (size ≡ length new.lines.items)
     × ((rows : List (List (List ℕ))) (lines : List ℕ) → HasAnswered old.session.taken rows lines
     → HasAnswered new.session.taken (rows ++ rows_of bytes) (lines ++ new.lines.items))
 
--- the session holds the last line of a run over the rows that it was given, which has this many bytes
+-- afterwards the session holds the last line of a run over the rows that it was given, and this
+-- line has `size` bytes
 abbrev pub IsEnded : ℕ → Opened → Opened → Type 0
 IsEnded size old new =
     (size ≡ length new.lines.items) × (new.session.taken ≡ old.session.taken)
     × ((rows : List (List (List ℕ))) (lines : List ℕ) → HasAnswered old.session.taken rows lines
     → (summary : Summary) × IsSolveRun rows (lines ++ new.lines.items) summary)
 
--- A call returns this code and does this to the session of its handle. If memory is refused, the session is
--- closed.
+-- A call returns the code `code`. The relation `does` holds between the session of its handle
+-- before the call and the session after the call. If no session was open, none is open afterwards.
+-- If memory is refused, the session is closed.
 abbrev pub IsCalled : (Opened → Opened → Type 0) → ℕ → Option Opened → Option Opened → Type 0
 IsCalled does code None new = (code ≡ CLOSED) × (new ≡ None)
 IsCalled does code (Some old) None = code ≡ MEMORY
 IsCalled does code (Some old) (Some new) = (code ≡ ANSWERED) × does old new
 
--- the lines that the session holds are copied to the start of a buffer, as many bytes as fit
+-- The lines that the session holds are copied to the start of a buffer, as many bytes as fit.
+-- `size` is how many bytes are copied. If no session is open, no byte is copied.
 abbrev pub AreCopied : Option Opened → List ℕ → List ℕ → ℕ → Type 0
 AreCopied None old new size = (size ≡ 0) × (new ≡ old)
 AreCopied (Some opened) old new size =
     (size ≡ min (length opened.lines.items) (length old)) × (new ≡ take size opened.lines.items ++ drop size old)
 
--- Private: the handle holds the session that was made. Or memory was refused, and it holds no session.
+-- Private: either the handle holds the session that was made, or memory was refused and the handle
+-- holds no session.
 abbrev pub IsHeld : ℕ → Result Opened AllocError → Option Opened → Type 0
 IsHeld code made None = code ≡ MEMORY
 IsHeld code made (Some new) = (code ≡ ANSWERED) × (made ≡ Ok new)

@@ -1,11 +1,12 @@
--- The rows that a session was given, and its answers.
+-- The rows that a session was given, and the lines that answer these rows.
 use Rattle.std.specs.Prelude.{◌≡◌, ℕ, ◌≤◌, List, [], ◌∷◌, ◌++◌, length}
 use Rattle.cspf_rows.specs.declared.limits.TheConstants.{MOST_ROWS}
 use Rattle.cspf_solve.specs.Script.{RunState, start, AreRowsAnswered}
 use Rattle.cspf_solve.specs.SolverStates.{KeepsRun, IsPast}
 use Rattle.cspf_c.specs.declared.session.TakenRows.{TakenRows}
 
--- The session was given these rows, one after the other, and these lines answer the first 1,000,000 of them.
+-- The session was given these rows, one after the other, and these lines answer the first 1,000,000
+-- of them.
 pub record HasAnswered (taken : TakenRows) (rows : List (List (List ℕ))) (lines : List ℕ) : Type 0 where
   pub done : List (List (List ℕ))
   pub rest : List (List (List ℕ))
@@ -16,7 +17,8 @@ pub record HasAnswered (taken : TakenRows) (rows : List (List (List ℕ))) (line
   pub count : length done ≡ taken.answered
   pub past : IsPast taken.too_many taken.answered rest
 
--- Private: the solver keeps a state in which no count is above the number of answered rows.
+-- Private: the solver is in a state of a run (`KeepsRun`), and no count of this state is above the
+-- number of answered rows.
 pub record IsCounted (taken : TakenRows) : Type 0 where
   pub state : RunState
   pub kept : KeepsRun taken.solver state
@@ -26,7 +28,8 @@ pub record IsCounted (taken : TakenRows) : Type 0 where
   pub refused : state.refused ≤ taken.answered
   pub most : taken.answered ≤ MOST_ROWS
 
--- Private: the session was given one more row, and answered it with this line.
+-- Private: the session was given one more row, with these fields, and answered this row with this
+-- line.
 pub record IsOneMore (place : ℕ) (old : TakenRows) (fields : List (List ℕ)) (line : List ℕ) (new : TakenRows) : Type 0 where
   pub counted : ∥ IsCounted old ∥₁ → ∥ IsCounted new ∥₁
   pub answered : (rows : List (List (List ℕ))) (lines : List ℕ) → HasAnswered old rows lines

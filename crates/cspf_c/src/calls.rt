@@ -1,4 +1,5 @@
-//! The functions that C calls. Each takes the session out of its handle, uses it once, and puts it back.
+//! The functions that C calls. Each takes the session out of its handle. If the session stays open,
+//! the function then puts it back into the handle.
 
 ghost use Rattle.std.specs.Prelude.{◌≡◌, ◌≢◌, MatchOption};
 ghost use Rattle.std.specs.declared.option.Option.TheVariants.{None, Some};
@@ -19,15 +20,15 @@ fn take_session(alloc: Global, handle: &mut Handle) -> Option<Box<Opened>>
     replace(handle, Handle::none()).into_session(alloc)
 }
 
-/// Puts a session into the handle, and closes the session that it held, if any.
+/// Puts a session into the handle, and closes the session that the handle held, if any.
 fn hold_session(alloc: Global, handle: &mut Handle, session: Box<Opened>)
     ensures { handle.new.value ≡ Some session.value }
 {
     drop(replace(handle, Handle::of(session)).into_session(alloc));
 }
 
-/// Puts the session into the handle if it was made and there is memory for its box. Returns the code of the
-/// call. The session that the handle held is closed.
+/// Closes the session that the handle held. Puts the new session into the handle if this session
+/// was made and there is memory for its box. Returns the code of the call.
 fn keep_session(alloc: Global, handle: &mut Handle, made: Result<Opened, AllocError>) -> u32
     ensures { IsHeld result made handle.new.value }
 {
@@ -52,9 +53,9 @@ fn lines_size(made: &Result<Opened, AllocError>) -> usize
     }
 }
 
-/// Opens a session with the empty database and no open changes. The new session is made before the old one
-/// of the handle is closed, so for a moment both take memory. If memory is refused, the old session is closed
-/// as well. Returns `ANSWERED` or `MEMORY`.
+/// Opens a session with the empty database and no open changes. The new session is made before the
+/// old session of the handle is closed, so for a moment both sessions take memory. If memory is
+/// refused, the old session is closed as well. Returns `ANSWERED` or `MEMORY`.
 #[unsafe(no_mangle)]
 pub extern "C" fn routed_open(alloc: Global, handle: &mut Handle) -> u32
     ensures { IsOpened result handle.new.value }
@@ -62,8 +63,8 @@ pub extern "C" fn routed_open(alloc: Global, handle: &mut Handle) -> u32
     keep_session(alloc, handle, Opened::new(alloc))
 }
 
-/// Gives rows to the session, which then holds their lines. Sets `size` to the number of bytes of the lines.
-/// `size` is unchanged if the call doesn't return `ANSWERED`.
+/// Gives rows to the session, which then holds the lines that answer them. Sets `size` to the
+/// number of bytes of these lines. `size` is unchanged if the call doesn't return `ANSWERED`.
 #[unsafe(no_mangle)]
 pub extern "C" fn routed_rows(
     alloc: Global,
@@ -86,8 +87,9 @@ pub extern "C" fn routed_rows(
     code
 }
 
-/// Has the session hold the last line of a run over all rows that it was given. Sets `size` to the number of
-/// bytes of this line. `size` is unchanged if the call doesn't return `ANSWERED`.
+/// Replaces the lines that the session holds by the last line of a run over all rows that the
+/// session was given. Sets `size` to the number of bytes of this line. `size` is unchanged if the
+/// call doesn't return `ANSWERED`.
 #[unsafe(no_mangle)]
 pub extern "C" fn routed_end(alloc: Global, handle: &mut Handle, size: &mut usize) -> u32
     ensures called { IsCalled (IsEnded size.new) result handle.old.value handle.new.value }
@@ -105,8 +107,8 @@ pub extern "C" fn routed_end(alloc: Global, handle: &mut Handle, size: &mut usiz
     code
 }
 
-/// Copies the lines that the session holds to the start of the buffer, as many bytes as fit. Returns how
-/// many bytes it copied, 0 if no session is open.
+/// Copies the lines that the session holds to the start of the buffer, as many bytes as fit.
+/// Returns how many bytes it copied, or 0 if no session is open.
 #[unsafe(no_mangle)]
 pub extern "C" fn routed_lines(alloc: Global, handle: &mut Handle, buffer: &mut [u8]) -> usize
     ensures same { handle.new.value ≡ handle.old.value }

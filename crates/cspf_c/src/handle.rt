@@ -10,8 +10,8 @@ use std::alloc::Global;
 use std::marker::Model;
 use std::ptr::null_mut;
 
-/// A pointer that C keeps: null, or the pointer of a session's box. Its type is that of a pointer to bytes,
-/// since an exported function may not take a type that contains a `Vec`.
+/// A pointer that C keeps: null, or the pointer of a session's box. It has the type of a pointer to
+/// bytes, because an exported function may not take a type that contains a `Vec`.
 #[repr(C)]
 pub struct Handle {
     at: *mut u8,

@@ -13,7 +13,7 @@ pub struct Opened {
 }
 
 impl Opened {
-    /// A session that was given no row, without lines.
+    /// A session that was given no row and that holds no lines.
     pub(crate) fn new(alloc: Global) -> Result<Opened, AllocError>
         ensures { IfOk result (λ opened. HasAnswered opened.session.taken [] [] × (opened.lines.items ≡ [])) }
     {
@@ -23,7 +23,8 @@ impl Opened {
         })
     }
 
-    /// Gives the rows of these bytes to the session. The result holds their lines.
+    /// Gives the rows of these bytes to the session. The result holds the session and the lines
+    /// that answer these rows.
     pub(crate) fn answer(self, alloc: Global, bytes: &[u8]) -> Result<Opened, AllocError>
         ensures { IfOk result (λ opened. AreGiven bytes.now (length opened.lines.items) self opened) }
     {
@@ -32,7 +33,8 @@ impl Opened {
         Ok(Opened { session, lines })
     }
 
-    /// The session with the last line of a run over its rows. It may be given more rows.
+    /// The session, which now holds the last line of a run over the rows that the session was
+    /// given. The session may be given more rows afterwards.
     pub(crate) fn end(self, alloc: Global) -> Result<Opened, AllocError>
         ensures { IfOk result (λ opened. IsEnded (length opened.lines.items) self opened) }
     {

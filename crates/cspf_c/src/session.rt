@@ -1,4 +1,5 @@
-//! The session that a handle holds, as a value: a solver, and how many rows it was given.
+//! The session that a handle holds, as a value: a solver, and how many rows the solver has
+//! answered.
 
 ghost use Rattle.std.specs.Prelude.{◌≡◌, ◌++◌, ℕ, List, [], IfOk};
 ghost use Rattle.cspf_rows.specs.Records.{rows_of};
@@ -12,7 +13,7 @@ use cspf_stream::{Answering, answer_rows};
 use csv::ByteRecord;
 use std::alloc::{AllocError, Global};
 
-/// What a session keeps of the rows that it was given.
+/// What a session keeps about the rows that it was given.
 #[derive(Drop)]
 pub struct TakenRows {
     /// The solver, which answers the first 1,000,000 rows.
@@ -23,11 +24,13 @@ pub struct TakenRows {
     too_many: bool,
 }
 
-/// The context of a row isn't used.
+/// The argument `_context` isn't used.
 impl<C> Answering<C> for TakenRows {
+    type Fault = AllocError;
+
     ghost answers = { IsOneMore };
 
-    ghost fails = { λ place old fields new. Unit {0} };
+    ghost fails = { λ fault place old fields new. Unit {0} };
 
     ghost may_stand = { λ place taken. ∥ IsCounted taken ∥₁ };
 
@@ -38,7 +41,8 @@ impl<C> Answering<C> for TakenRows {
         _place: u64,
         fields: &ByteRecord,
     ) -> Result<Vec<u8>, AllocError> {
-        // Law: a run goes on with one more row, and each row adds at most one to each count.
+        // Laws: if rows and then one more row are answered, the list of all these rows is answered.
+        // The answer to a row adds at most one to each count of a run.
         runs_go_on_row_by_row();
         if self.answered >= MOST_ROWS {
             self.too_many = true;
@@ -50,7 +54,8 @@ impl<C> Answering<C> for TakenRows {
     }
 }
 
-/// A solver with its database and open changes, after the rows that it was given.
+/// A session: the solver, with its database and open changes, after the rows that the session was
+/// given.
 #[derive(Drop)]
 pub struct SolveSession {
     taken: TakenRows,
@@ -70,8 +75,8 @@ impl SolveSession {
         Ok(SolveSession { taken })
     }
 
-    /// Reads the bytes as a stream of rows and answers them. Returns the session and the lines. If memory is
-    /// refused, the session is lost.
+    /// Reads the bytes as a stream of rows and answers them. Returns the session and the lines that
+    /// answer the rows. If memory is refused, the session is dropped.
     pub(crate) fn answer(
         self,
         alloc: Global,
@@ -86,12 +91,13 @@ impl SolveSession {
         let mut rows = open_records(alloc, bytes);
         match answer_rows(&(), alloc, &mut rows, &mut lines, &mut taken) {
             Ok(()) => Ok((SolveSession { taken }, lines)),
-            // Reading a slice can't fail, and no slice has 2^64 rows.
+            // Reading a slice can't fail, and no slice has 2^64 rows, so the error is that memory
+            // was refused.
             Err(_) => Err(AllocError),
         }
     }
 
-    /// The last line of a run over the rows that were given.
+    /// The last line of a run over the rows that the session was given.
     pub(crate) fn last_line(&self, alloc: Global) -> Result<Vec<u8>, AllocError>
         ensures { IfOk result (λ line. (rows : List (List (List ℕ))) (lines : List ℕ)
             → HasAnswered self.now.taken rows lines

@@ -2,21 +2,25 @@
 use Rattle.std.proofs.Common.{◌≡◌, ℕ, suc, Bool, List, [], ◌∷◌, length, Option, Result, Ok, Err, OnOk, IfErr, inl, inr, sym, ap, subst}
 use Rattle.cspf_publish.specs.JournalSteps.{KnownSteps}
 use Rattle.cspf_publish.specs.KnownBatches.{KnownBatches, AreFirstOf}
+use Rattle.cspf_publish.specs.declared.errors.AskError.{AskError}
 use Rattle.cspf_rows.specs.Rows.{row_of}
 use Rattle.cspf_rows.specs.declared.row.Row.{Row}
 use Rattle.cspf_rows.specs.declared.row.Row.TheVariants as row
 use Rattle.cspf_rows.specs.declared.row_error.RowError.{RowError}
 use Rattle.cspf_rows.specs.declared.row_error.RowError.TheVariants as row_error
 use Rattle.cspf_stream.specs.RowAnswers.{AreAnswered, AreAllAnswered}
-use Rattle.cspf_stream.specs.StreamStops.{StopsBetween, StopsInRow, IsRowStopped, HasStopped}
+use Rattle.cspf_stream.specs.StreamStops.{FailsOf, NeverFails, StopsBetween, StopsInRow, IsRowStopped, IsStreamStopped}
 use Rattle.cspf_stream.specs.declared.error.StreamError.{StreamError}
 use Rattle.cspf_stream.specs.declared.error.StreamError.TheVariants as stream_error
+use Rattle.cspf_stream.specs.declared.error.StreamStop.{StreamStop}
+use Rattle.cspf_stream.specs.declared.error.StreamStop.TheVariants as stop
 use Rattle.cspf_client.specs.ClientRows.{IsRefusedRow, IsClientRowAnswered, IsClientRowUnanswered, IsClientAnswered, IsClientUnanswered}
-use Rattle.cspf_client.specs.ClientRuns.{ClientsGoForward, IsStreamStopped}
+use Rattle.cspf_client.specs.ClientRuns.{ClientsGoForward, IsClientStopped}
+use Rattle.cspf_client.specs.declared.error.ClientError.{ClientError}
 use Rattle.cspf_client.specs.SessionStates.{SessionState, AreFirstSteps, HasGoneForward}
 use Rattle.cspf_client.proofs.Prefixes.{HasGoneForward-self, HasGoneForward-trans, HasGoneForward-count}
 
--- if batches and steps stay the same, the client has gone forward
+-- a client that knows the same batches and has seen the same steps knows no less than before
 forward_same : (s t : SessionState) → t.known ≡ s.known → t.steps ≡ s.steps → HasGoneForward s t
 forward_same s t known steps =
     let self = HasGoneForward-self s in record {
@@ -39,13 +43,13 @@ forward_row place s t (Ok (row.Node router transit)) line a = forward_refused pl
 forward_row place s t (Ok (row.End number count)) line a = forward_refused place row_error.Kind s t line a
 forward_row place s t (Ok (row.Ask q)) line a = HasGoneForward-count place s t a.reads
 
-pub forward_unanswered : (place : ℕ) (s t : SessionState) (r : Result Row RowError) → IsClientRowUnanswered place s r t → HasGoneForward s t
-forward_unanswered place s t (Err why) a = forward_equal s t a
-forward_unanswered place s t (Ok (row.Put link)) a = forward_equal s t a
-forward_unanswered place s t (Ok (row.Remove from local)) a = forward_equal s t a
-forward_unanswered place s t (Ok (row.Node router transit)) a = forward_equal s t a
-forward_unanswered place s t (Ok (row.End number count)) a = forward_equal s t a
-forward_unanswered place s t (Ok (row.Ask q)) a = HasGoneForward-count place s t a.1.reads
+forward_unanswered : (fault : AskError) (place : ℕ) (s t : SessionState) (r : Result Row RowError) → IsClientRowUnanswered fault place s r t → HasGoneForward s t
+forward_unanswered fault place s t (Err why) a = forward_equal s t a.1
+forward_unanswered fault place s t (Ok (row.Put link)) a = forward_equal s t a.1
+forward_unanswered fault place s t (Ok (row.Remove from local)) a = forward_equal s t a.1
+forward_unanswered fault place s t (Ok (row.Node router transit)) a = forward_equal s t a.1
+forward_unanswered fault place s t (Ok (row.End number count)) a = forward_equal s t a.1
+forward_unanswered fault place s t (Ok (row.Ask q)) a = HasGoneForward-count place s t a.reads
 
 pub forward : ClientsGoForward
 unfolding AreAnswered
@@ -56,34 +60,46 @@ forward place s t (fields ∷ rows) lines a =
 abbrev Rows : Type 0
 Rows = List (List (List ℕ))
 
--- at a row that stops the stream the client has gone forward
-pub forward_row_stopped : (why : StreamError) (place : ℕ) (fields : List (List ℕ)) (s t : SessionState) (old new : Option (List ℕ))
-    → IsRowStopped IsClientAnswered IsClientUnanswered why place fields s t old new → HasGoneForward s t
-forward_row_stopped stream_error.Memory place fields s t old new a = forward_unanswered place s t (row_of fields) a.0
-forward_row_stopped stream_error.Read place fields s t old new a = absurd a
-forward_row_stopped stream_error.Write place fields s t old new a = forward_row place s t (row_of fields) a.0 a.1
-forward_row_stopped stream_error.Flush place fields s t old new a = forward_row place s t (row_of fields) a.0 a.1
-forward_row_stopped stream_error.TooManyRows place fields s t old new a = absurd a
+-- No client knows less after an answer that fails in this way.
+abbrev pub FailsForward : FailsOf SessionState → Type 0
+FailsForward fails = (place : ℕ) (s t : SessionState) (fields : List (List ℕ)) → fails place s fields t → HasGoneForward s t
+
+pub never_forward : FailsForward NeverFails
+never_forward place s t fields a = absurd a
+
+pub unanswered_forward : (fault : AskError) → FailsForward (IsClientUnanswered fault)
+unanswered_forward fault place s t fields a = forward_unanswered fault place s t (row_of fields) a
+
+-- after a row that stops its stream, a client knows no less than before this row
+pub forward_row_stopped : (fails : FailsOf SessionState) → FailsForward fails → (why : StreamError) (place : ℕ) (fields : List (List ℕ)) (s t : SessionState) (old new : Option (List ℕ))
+    → IsRowStopped IsClientAnswered fails why place fields s t old new → HasGoneForward s t
+forward_row_stopped fails known stream_error.Memory place fields s t old new a = known place s t fields a.0
+forward_row_stopped fails known stream_error.Read place fields s t old new a = absurd a
+forward_row_stopped fails known stream_error.Write place fields s t old new a = forward_row place s t (row_of fields) a.0 a.1
+forward_row_stopped fails known stream_error.Flush place fields s t old new a = forward_row place s t (row_of fields) a.0 a.1
+forward_row_stopped fails known stream_error.TooManyRows place fields s t old new a = absurd a
 
 module _ (all left : Option Rows) (failed : Bool) (s t : SessionState) (old new : Option (List ℕ)) where
   between : StopsBetween IsClientAnswered all s t old new → HasGoneForward s t
   between a = forward 1 s t a.done a.lines a.answered
 
-  in_row : (why : StreamError) → StopsInRow IsClientAnswered IsClientUnanswered why all left s t old new → HasGoneForward s t
-  in_row why a =
+  in_row : (fails : FailsOf SessionState) → FailsForward fails → (why : StreamError) → StopsInRow IsClientAnswered fails why all left s t old new → HasGoneForward s t
+  in_row fails known why a =
       HasGoneForward-trans s a.before t (forward 1 s a.before a.done a.lines a.answered)
-      (forward_row_stopped why (suc (length a.done)) a.fields a.before t a.mid new a.stops)
+      (forward_row_stopped fails known why (suc (length a.done)) a.fields a.before t a.mid new a.stops)
 
-  pub forward_stopped : (why : StreamError) → HasStopped IsClientAnswered IsClientUnanswered why all left failed s t old new → HasGoneForward s t
-  forward_stopped stream_error.Memory (inl a) = between a.1
-  forward_stopped stream_error.Memory (inr a) = in_row stream_error.Memory a
-  forward_stopped stream_error.Read a = between a.1
-  forward_stopped stream_error.Write a = in_row stream_error.Write a
-  forward_stopped stream_error.Flush a = in_row stream_error.Flush a
-  forward_stopped stream_error.TooManyRows a = forward 1 s t a.done a.lines a.answered
+  forward_stopped : (why : StreamStop AskError) → IsStreamStopped IsClientAnswered IsClientUnanswered why all left failed s t old new → HasGoneForward s t
+  forward_stopped (stop.Stream stream_error.Memory) (inl a) = between a.1
+  forward_stopped (stop.Stream stream_error.Memory) (inr a) = absurd a.stops.0
+  forward_stopped (stop.Stream stream_error.Read) a = between a.1
+  forward_stopped (stop.Stream stream_error.Write) a = in_row NeverFails never_forward stream_error.Write a
+  forward_stopped (stop.Stream stream_error.Flush) a = in_row NeverFails never_forward stream_error.Flush a
+  forward_stopped (stop.Stream stream_error.TooManyRows) a = forward 1 s t a.done a.lines a.answered
+  forward_stopped (stop.Answer fault) a = in_row (IsClientUnanswered fault) (unanswered_forward fault) stream_error.Memory a
 
--- a client that has run over its stream has gone forward, whether the stream ended or stopped
-pub forward_stream : (all : Option Rows) (s t : SessionState) (old new : Option (List ℕ)) (ended : Result (Unit {0}) StreamError)
-    → OnOk ended (AreAllAnswered IsClientAnswered all s t old new) → IfErr ended (λ why. IsStreamStopped why all s t old new) → HasGoneForward s t
+-- a client that has run over its stream knows no less than before the run, whether the stream ended
+-- or stopped
+pub forward_stream : (all : Option Rows) (s t : SessionState) (old new : Option (List ℕ)) (ended : Result (Unit {0}) ClientError)
+    → OnOk ended (AreAllAnswered IsClientAnswered all s t old new) → IfErr ended (λ why. IsClientStopped why all s t old new) → HasGoneForward s t
 forward_stream all s t old new (Ok done) whole stopped = forward 1 s t whole.done whole.lines whole.answered
-forward_stream all s t old new (Err why) whole stopped = forward_stopped all stopped.0 stopped.1 s t old new why stopped.2
+forward_stream all s t old new (Err why) whole stopped = forward_stopped all stopped.left stopped.failed s t old new stopped.stop stopped.stopped

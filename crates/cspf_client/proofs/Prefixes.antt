@@ -1,4 +1,5 @@
--- Going forward: the batches that a client knows, and the steps that it has seen, are prefixes of those later on.
+-- The batches that a client knew are a prefix of the batches that it knows later. The journal's
+-- steps that the client had seen are a prefix of the steps that it has seen later.
 use Rattle.std.proofs.Common.{◌≡◌, ℕ, List, [], ◌∷◌, ◌++◌, refl, sym, ap, ◌∙◌, append_assoc}
 use Rattle.std.proofs.lemmas.List.{append-nil}
 use mathlib.Core.List.{IsPrefix}
@@ -26,7 +27,7 @@ pub IsPrefix-trans : {A : Type 0} (a b c : List A) → IsPrefix a b → IsPrefix
 IsPrefix-trans {A} a b c p q =
     (p.0 ++ q.0, sym (append_assoc a p.0 q.0) ∙ (ap (λ (x : List A). x ++ q.0) p.1 ∙ q.1))
 
--- a list with other items and one more after it is a prefix of the whole
+-- if the list `all` is `first`, then other items, and then one last item, `first` is a prefix of `all`
 IsPrefix-last : {A : Type 0} (first others all : List A) (last : A) → all ≡ (first ++ others) ++ last ∷ [] → IsPrefix first all
 IsPrefix-last first others all last is = (others ++ last ∷ [], sym (append_assoc first others (last ∷ [])) ∙ sym is)
 
@@ -48,7 +49,7 @@ HasGoneForward-trans s t u p q = record {
   steps = AreFirstSteps-trans s.steps t.steps u.steps p.steps q.steps;
 }
 
--- a client that reads the count of published batches goes forward
+-- a client that has read the count of published batches knows no less than before
 pub HasGoneForward-count : (place : ℕ) (s t : SessionState) → ReadsCount place s t → HasGoneForward s t
 HasGoneForward-count place s t reads =
     let up = reads.caught_up in record {

@@ -8,18 +8,21 @@ use Rattle.cspf_publish.specs.JournalSteps.{count_of}
 use Rattle.cspf_publish.specs.KnownBatches.{KnownBatches, AreFirstOf}
 use Rattle.cspf_publish.specs.Readings.{CatchesUp}
 use Rattle.cspf_publish.specs.declared.errors.AskError.{AskError}
+use Rattle.cspf_publish.specs.declared.errors.AskError.TheVariants as ask_error
 use Rattle.cspf_rows.specs.Rows.{row_of}
 use Rattle.cspf_rows.specs.declared.row.Row.{Row}
 use Rattle.cspf_rows.specs.declared.row.Row.TheVariants as row
 use Rattle.cspf_rows.specs.declared.row_error.RowError.{RowError}
 use Rattle.cspf_rows.specs.declared.row_error.RowError.TheVariants as error
 use Rattle.cspf_stream.specs.RefusedRows.{refused_row_line}
-use Rattle.cspf_client.specs.ErrorNames.{entry_noted}
+use Rattle.cspf_stream.specs.StreamStops.{FailsOf}
 use Rattle.cspf_client.specs.SessionStates.{SessionState}
 
--- For the row at this place the client reads the count of published batches. The journal records this as a
--- step that names the client and the place, after all steps that the client has seen. The asker then knows
--- at least that many batches. After it has entered the published replica it may know more.
+-- Before the client answers the row at this place, it reads the count of published batches. This
+-- reading is a step of the journal, and comes after all steps that the client has seen. The step
+-- names the client and the place of the row. The client's asker, which computes its replies, then
+-- knows at least as many batches as the count says. It may know more batches after it has entered
+-- the published replica (a copy of the table).
 pub record ReadsCount (place : ℕ) (s t : SessionState) : Type 0 where
   pub mid : KnownBatches
   pub count : ℕ
@@ -28,29 +31,31 @@ pub record ReadsCount (place : ℕ) (s t : SessionState) : Type 0 where
   pub client : t.client ≡ s.client
   pub refused : t.refused ≡ s.refused
 
--- The row is refused with the words of `why`, and only the count of refused rows changes.
+-- The row is refused with the words of `why`. Of the client's state only the count of refused rows
+-- changes.
 pub record IsRefusedRow (place : ℕ) (why : RowError) (s : SessionState) (line : List ℕ) (t : SessionState) : Type 0 where
   pub written : line ≡ refused_row_line place why
   pub after : t ≡ record s { refused = s.refused + 1 }
 
--- The request at this place is answered with the best answer in the database of the batches that the asker then
--- knows. Their count is the reply's version. Among these batches are all that the asker knew before, and all that
--- were published when it read the count for this row.
+-- The request in the row at this place is answered with the best answer in the database of the
+-- batches that the client then knows. The number of these batches is the reply's version. They
+-- include all batches that the client knew before. They also include all batches that were counted
+-- as published when the client read the count of published batches before this answer.
 pub record IsRequestAnswered (place : ℕ) (q : Request) (s : SessionState) (line : List ℕ) (t : SessionState) : Type 0 where
   pub reads : ReadsCount place s t
-  pub entry : t.no_entry ≡ s.no_entry
   pub answer : Answer
   pub best : IsBestAnswer (database_after t.known.batches) q answer
   pub reply : IsReply q.id (length t.known.batches) answer line
 
--- The version of a reply is at least the count that its client read for it. That count is at least the count of
--- the published batches in the steps that the client had seen before.
+-- The version of a reply is at least the count of published batches that the client read before it
+-- answered the request. The client had already seen some of the journal's steps, and the count is
+-- at least the count that these steps give.
 abbrev pub RepliesAreFresh : Type 0
 RepliesAreFresh =
     (place : ℕ) (q : Request) (s t : SessionState) (line : List ℕ) (a : IsRequestAnswered place q s line t)
     → (count_of s.steps.steps ≤ a.reads.count) × (a.reads.count ≤ length t.known.batches)
 
--- the line that answers the row at this place (counted from 1), and the states before and after
+-- the line that answers the row at this place (counted from 1), and the states before and after this row
 abbrev pub IsClientRowAnswered : ℕ → SessionState → Result Row RowError → List ℕ → SessionState → Type 0
 IsClientRowAnswered place s (Err why) line t = IsRefusedRow place why s line t
 IsClientRowAnswered place s (Ok (row.Put link)) line t = IsRefusedRow place error.Kind s line t
@@ -59,25 +64,29 @@ IsClientRowAnswered place s (Ok (row.Node router transit)) line t = IsRefusedRow
 IsClientRowAnswered place s (Ok (row.End number count)) line t = IsRefusedRow place error.Kind s line t
 IsClientRowAnswered place s (Ok (row.Ask q)) line t = IsRequestAnswered place q s line t
 
--- the line that answers the record with these fields
+-- the line that answers the row with these fields, and the states before and after this row
 abbrev pub IsClientAnswered : ℕ → SessionState → List (List ℕ) → List ℕ → SessionState → Type 0
 IsClientAnswered place s fields line t = IsClientRowAnswered place s (row_of fields) line t
 
--- The request at this place isn't answered, because of this error. The state notes whether the client couldn't
--- enter the published replica.
-pub record IsRequestUnanswered (place : ℕ) (why : AskError) (s t : SessionState) : Type 0 where
+-- The line that refuses a row can't be made, because memory is refused. The state stays as it was.
+abbrev pub IsRefusalMissing : AskError → SessionState → SessionState → Type 0
+IsRefusalMissing fault s t = (fault ≡ ask_error.Memory) × (t ≡ s)
+
+-- The request at this place isn't answered, because of this fault. If the client couldn't enter the
+-- published replica (a copy of the table), it learnt of no batch after it read the count.
+pub record IsRequestUnanswered (place : ℕ) (fault : AskError) (s t : SessionState) : Type 0 where
   pub reads : ReadsCount place s t
-  pub entry : t.no_entry ≡ entry_noted s.no_entry why
+  pub entry : fault ≡ ask_error.NoEntry → t.known ≡ reads.mid
 
--- the state after the row at this place isn't answered: only a request changes it
-abbrev pub IsClientRowUnanswered : ℕ → SessionState → Result Row RowError → SessionState → Type 0
-IsClientRowUnanswered place s (Err why) t = t ≡ s
-IsClientRowUnanswered place s (Ok (row.Put link)) t = t ≡ s
-IsClientRowUnanswered place s (Ok (row.Remove from local)) t = t ≡ s
-IsClientRowUnanswered place s (Ok (row.Node router transit)) t = t ≡ s
-IsClientRowUnanswered place s (Ok (row.End number count)) t = t ≡ s
-IsClientRowUnanswered place s (Ok (row.Ask q)) t = (why : AskError) × IsRequestUnanswered place why s t
+-- the state after a row that isn't answered, because of this fault
+abbrev pub IsClientRowUnanswered : AskError → ℕ → SessionState → Result Row RowError → SessionState → Type 0
+IsClientRowUnanswered fault place s (Err why) t = IsRefusalMissing fault s t
+IsClientRowUnanswered fault place s (Ok (row.Put link)) t = IsRefusalMissing fault s t
+IsClientRowUnanswered fault place s (Ok (row.Remove from local)) t = IsRefusalMissing fault s t
+IsClientRowUnanswered fault place s (Ok (row.Node router transit)) t = IsRefusalMissing fault s t
+IsClientRowUnanswered fault place s (Ok (row.End number count)) t = IsRefusalMissing fault s t
+IsClientRowUnanswered fault place s (Ok (row.Ask q)) t = IsRequestUnanswered place fault s t
 
--- the state after the record with these fields isn't answered
-abbrev pub IsClientUnanswered : ℕ → SessionState → List (List ℕ) → SessionState → Type 0
-IsClientUnanswered place s fields t = IsClientRowUnanswered place s (row_of fields) t
+-- the state after a row that has these fields and isn't answered, because of this fault
+abbrev pub IsClientUnanswered : AskError → FailsOf SessionState
+IsClientUnanswered fault place s fields t = IsClientRowUnanswered fault place s (row_of fields) t

@@ -6,8 +6,7 @@ ghost use Rattle.cspf_publish.specs.KnownBatches.{AreFirstOf};
 ghost use Rattle.cspf_rows.specs.Records.{IsPlain, rows_left};
 ghost use Rattle.cspf_stream.specs.RowAnswers.{AreAllAnswered};
 ghost use Rattle.cspf_client.specs.ClientRows.{IsClientAnswered};
-ghost use Rattle.cspf_client.specs.ClientRuns.{IsClientRun, IsStreamStopped};
-ghost use Rattle.cspf_client.specs.ErrorNames.{client_end_of};
+ghost use Rattle.cspf_client.specs.ClientRuns.{IsClientRun, IsClientStopped};
 ghost use Rattle.cspf_client.specs.SessionStates.{HasGoneForward};
 ghost use Rattle.cspf_client.specs.ServingStates.{IsReady, HasMet};
 
@@ -15,7 +14,7 @@ use crate::session::Session;
 use crate::{ClientError, EndOfRequests, Replies};
 use cspf_publish::{Asker, Known, SeenSteps, Told};
 use cspf_rows::open_records;
-use cspf_stream::{StreamError, answer_rows};
+use cspf_stream::answer_rows;
 use csv::Reader;
 use std::alloc::Global;
 use std::io::Read;
@@ -24,19 +23,20 @@ use std::marker::Model;
 /// The streams of a client.
 #[derive(Drop)]
 pub struct Client<Q, V> {
-    /// Yields the rows of requests.
+    /// The stream from which the rows of requests are read.
     pub requests: Q,
-    /// Takes the line of each row.
+    /// The writer that gets the line for each row.
     pub replies: V,
 }
 
-/// A client with the asker that answers it. One thread runs it.
+/// A client, with the asker that computes the replies to the client's requests. One thread runs the
+/// client.
 #[derive(Drop)]
 pub struct ServingClient<Q, V> {
     session: Session,
-    /// The stream of requests. It isn't opened as rows before the client runs, since the reader's buffer would be
-    /// moved with each client. It is dropped once the stream has ended, so that the program that writes the
-    /// requests doesn't wait for a reader.
+    /// The stream of requests. Its reader of rows is made only when the client runs, since
+    /// otherwise the reader's buffer would be moved with each client. The stream is dropped once it
+    /// has ended, so that the program that writes the requests isn't left waiting for a reader.
     requests: Option<Q>,
     replies: V,
     end: Result<(), ClientError>,
@@ -62,9 +62,10 @@ pub struct ServedClient<V> {
     pub replies: V,
     /// How the client's stream ended.
     pub end: Result<(), ClientError>,
-    /// How many rows were refused.
+    /// How many rows of the client were refused.
     pub refused: u64,
-    /// The steps of the journal that the client has seen, up to its last reading of the count.
+    /// The steps of the journal that the client has seen, up to its last reading of the count of published
+    /// batches.
     pub steps: SeenSteps,
     /// The batches that the client knew after its last row.
     pub known: Known,
@@ -76,24 +77,17 @@ fn answer_all<Q: Read + Drop, V: Replies>(
     requests: &mut Reader<Q>,
     replies: &mut V,
     session: &mut Session,
-) -> Result<(), StreamError>
+) -> Result<(), ClientError>
     requires plain { IsPlain requests.old }
     requires state { session.old.refused < 1 }
     ensures whole { OnOk result (AreAllAnswered IsClientAnswered (rows_left Q.remaining requests.old)
         session.old session.new (V.contents replies.old) (V.contents replies.new)) }
-    ensures stopped { IfErr result (λ why. IsStreamStopped why (rows_left Q.remaining requests.old)
+    ensures stopped { IfErr result (λ why. IsClientStopped why (rows_left Q.remaining requests.old)
         session.old session.new (V.contents replies.old) (V.contents replies.new)) }
 {
-    answer_rows(&(), alloc, requests, replies, session)
-}
-
-/// The result of a client, from that of its stream and whether the client couldn't enter the published replica.
-fn end_of(ended: Result<(), StreamError>, no_entry: bool) -> Result<(), ClientError>
-    ensures { result ≡ client_end_of no_entry ended }
-{
-    match ended {
+    match answer_rows(&(), alloc, requests, replies, session) {
         Ok(()) => Ok(()),
-        Err(why) => Err(ClientError::of(why, no_entry)),
+        Err(stop) => Err(ClientError::of(stop)),
     }
 }
 
@@ -125,20 +119,21 @@ impl<Q: Read + Drop, V: Replies> ServingClient<Q, V> {
         ensures run { IsClientRun Q.remaining V.contents self.old self.new }
         ensures forward { HasGoneForward self.old.state self.new.state }
         ensures closed { self.new.requests ≡ None }
-        // `end` is called after the last line.
+        // `end` of the replies' writer is called after the last line is written.
         ensures ended { V.has_ended self.new.replies }
     {
         let Some(requests) = self.requests.take() else {
-            // Never: the requests weren't taken yet.
+            // This doesn't happen: the client hasn't run yet, so its stream of requests is still
+            // there.
             return;
         };
         let mut rows = open_records(alloc, requests);
-        let ended = answer_all(alloc, &mut rows, &mut self.replies, &mut self.session);
-        self.end = end_of(ended, self.session.has_no_entry());
+        self.end = answer_all(alloc, &mut rows, &mut self.replies, &mut self.session);
         self.replies.end(EndOfRequests::drop_reader(rows));
     }
 
-    /// The steps of the journal that the client has seen, up to its last reading of the count.
+    /// The steps of the journal that the client has seen, up to its last reading of the count of published
+    /// batches.
     pub fn steps(&self) -> &SeenSteps
         ensures { result.now ≡ self.now.state.steps }
     {
@@ -152,8 +147,8 @@ impl<Q: Read + Drop, V: Replies> ServingClient<Q, V> {
         self.session.known()
     }
 
-    /// Learns the last token, which has all published batches. A client that knows more batches ends with the
-    /// error `Ahead`.
+    /// Learns of all published batches from `told`, after the last row. A client that knows more
+    /// batches than these ends with the error `Ahead`.
     pub fn meet(&mut self, told: Told)
         requires { told.source ≡ self.old.state.known.source }
         ensures others { self.new ≡ record self.old {

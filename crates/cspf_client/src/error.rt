@@ -1,7 +1,8 @@
 ghost use Rattle.std.specs.Prelude.{◌≡◌};
 ghost use Rattle.cspf_client.specs.ErrorNames.{client_error_of};
 
-use cspf_stream::StreamError;
+use cspf_publish::AskError;
+use cspf_stream::{StreamError, StreamStop};
 use thiserror::Error;
 
 /// Why not all requests of a client are answered.
@@ -10,31 +11,24 @@ pub enum ClientError {
     /// The client's stream stopped.
     #[error("{0}")]
     Stream(StreamError),
-    /// The client's asker couldn't enter the published replica. No run has shown this.
+    /// The client couldn't enter the published replica (a copy of the table of links). This error
+    /// was seen in no run.
     #[error("no entry")]
     NoEntry,
-    /// The client knows more batches than are published. No run has shown this.
+    /// The client knows more batches than are published. This error was seen in no run.
     #[error("ahead of what is published")]
     Ahead,
 }
 
 impl ClientError {
-    /// The error of a client whose stream stopped. `no_entry`: the client couldn't enter the published replica.
-    pub(crate) fn of(why: StreamError, no_entry: bool) -> ClientError
-        ensures { result ≡ client_error_of no_entry why }
+    /// The error of a client whose stream stops in this way.
+    pub(crate) fn of(stop: StreamStop<AskError>) -> ClientError
+        ensures { result ≡ client_error_of stop }
     {
-        match why {
-            StreamError::Memory => {
-                if no_entry {
-                    ClientError::NoEntry
-                } else {
-                    ClientError::Stream(StreamError::Memory)
-                }
-            }
-            StreamError::Read => ClientError::Stream(StreamError::Read),
-            StreamError::Write => ClientError::Stream(StreamError::Write),
-            StreamError::Flush => ClientError::Stream(StreamError::Flush),
-            StreamError::TooManyRows => ClientError::Stream(StreamError::TooManyRows),
+        match stop {
+            StreamStop::Stream(why) => ClientError::Stream(why),
+            StreamStop::Answer(AskError::Memory) => ClientError::Stream(StreamError::Memory),
+            StreamStop::Answer(AskError::NoEntry) => ClientError::NoEntry,
         }
     }
 }

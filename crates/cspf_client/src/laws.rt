@@ -7,8 +7,9 @@ pub fn clients_go_forward()
     ensures { ClientsGoForward }
 {}
 
-/// Law: replies are fresh. The version of a reply is at least the count of published batches that its
-/// client read for it. That count is at least any count that the client had seen before.
+/// Law: replies are fresh. The version of a reply is at least the count of published batches that
+/// the client read before it answered the request. This count is at least any count that the client
+/// had seen before.
 pub fn replies_are_fresh()
     ensures { RepliesAreFresh }
 {}

@@ -2,10 +2,10 @@
 //! client's thread, without waiting for other clients.
 //!
 //! Before it asks, a client reads how many batches are published, which is a step of the journal. So the
-//! version of its reply isn't older. `specs/ClientRows.antt` defines how the row of a client is answered,
-//! at which version, and which batches the client then knows. `specs/ClientRuns.antt` defines the answers to
-//! a client whose stream has ended or stopped, and `specs/ErrorNames.antt` its errors. `cspf_stream` reads
-//! rows and writes lines.
+//! version of the reply isn't below that number. `specs/ClientRows.antt` defines how the row of a client is
+//! answered, at which version, and which batches the client then knows. `specs/ClientRuns.antt` defines the
+//! answers to a client whose stream has ended or stopped, and `specs/ErrorNames.antt` its errors. The crate
+//! `cspf_stream` reads rows and writes lines.
 #![tactic(auto)]
 
 mod client;

@@ -1,12 +1,11 @@
-//! How a client's asker answers one row.
+//! How a client's asker, which computes its replies, answers one row.
 
-ghost use Rattle.std.specs.Prelude.{◌≡◌, ◌+◌, ◌<◌, ◌≤◌, Ok, IfOk, IfErr, OnOk, OnErr, IsTrue, IsFalse, length};
+ghost use Rattle.std.specs.Prelude.{◌≡◌, ◌+◌, ◌<◌, ◌≤◌, Ok, IfOk, IfErr, IsTrue, IsFalse, length};
 ghost use Rattle.cspf_ero.specs.ReplyLine.{IsReply};
 ghost use Rattle.cspf_model.specs.Outcome.{answer_of};
 ghost use Rattle.cspf_publish.specs.AskerStates.{known_of};
 ghost use Rattle.cspf_publish.specs.KnownBatches.{AreFirstOf};
-ghost use Rattle.cspf_client.specs.ErrorNames.{entry_noted};
-ghost use Rattle.cspf_client.specs.ClientRows.{IsClientRowAnswered, IsClientRowUnanswered, IsRefusedRow, IsRequestAnswered, IsRequestUnanswered};
+ghost use Rattle.cspf_client.specs.ClientRows.{IsClientRowAnswered, IsClientRowUnanswered, IsRefusedRow, IsRefusalMissing, IsRequestAnswered, IsRequestUnanswered};
 
 use cspf_ero::reply_line;
 use cspf_model::Request;
@@ -14,21 +13,19 @@ use cspf_publish::{Answer, AskError, Asker, Known, RowOfReader, SeenSteps, Told}
 use cspf_rows::{Row, RowError};
 use cspf_stream::{Answering, refused_row};
 use csv::ByteRecord;
-use std::alloc::{AllocError, Global};
+use std::alloc::Global;
 use std::marker::Model;
 
-/// The state of a client between two rows.
+/// The state of a client between two rows of its requests.
 #[derive(Drop)]
 pub struct Session {
     /// The number of the client.
     client: u64,
     asker: Asker,
-    /// The steps of the journal up to the client's last reading of the count.
+    /// The steps of the journal up to the client's last reading of the count of published batches.
     steps: SeenSteps,
-    /// How many rows were refused.
+    /// How many rows of the client were refused.
     refused: u64,
-    /// Whether the client couldn't enter the published replica.
-    no_entry: bool,
 }
 
 impl Model for Session {
@@ -44,7 +41,6 @@ impl Model for Session {
       known = known_of s.asker;
       steps = s.steps;
       refused = s.refused;
-      no_entry = s.no_entry;
     } };
 
     ghost invariant = { λ s. s.steps.source ≡ s.asker.source };
@@ -60,8 +56,6 @@ fn line_of(alloc: Global, answer: Answer) -> Result<Vec<u8>, AskError>
 }
 
 impl Session {
-    ghost use Rattle.std.specs.Prelude.{false};
-
     /// The state of the client with this number before its first row.
     pub(crate) fn new(asker: Asker, client: u64) -> Session
         ensures state { result ≡ record {
@@ -69,7 +63,6 @@ impl Session {
           known = known_of asker;
           steps = result.steps;
           refused = 0;
-          no_entry = false;
         } }
         ensures steps { result.steps.source ≡ asker.source }
     {
@@ -79,11 +72,11 @@ impl Session {
             asker,
             steps,
             refused: 0,
-            no_entry: false,
         }
     }
 
-    /// The steps of the journal that the client has seen.
+    /// The steps of the journal that the client has seen: batches recorded or counted as published,
+    /// and readings of that count.
     pub(crate) fn steps(&self) -> &SeenSteps
         ensures { result.now ≡ self.now.steps }
     {
@@ -97,21 +90,15 @@ impl Session {
         self.asker.known()
     }
 
-    /// How many rows were refused.
+    /// How many rows of the client were refused.
     pub(crate) fn refused(&self) -> u64
         ensures { result ≡ self.now.refused }
     {
         self.refused
     }
 
-    /// Whether the client couldn't enter the published replica.
-    pub(crate) fn has_no_entry(&self) -> bool
-        ensures { result ≡ self.now.no_entry }
-    {
-        self.no_entry
-    }
-
-    /// Learns the batches of the token, and returns whether the client knew no others.
+    /// Learns of the published batches from `told`. Returns whether the client then knows only
+    /// these batches. The result is false if the client had known more.
     pub(crate) fn meet(&mut self, told: Told) -> bool
         requires { told.source ≡ self.old.known.source }
         ensures others { self.new ≡ record self.old { known = self.new.known } }
@@ -124,7 +111,8 @@ impl Session {
         self.asker.meet(told) == published
     }
 
-    /// Reads the count of published batches for the row at this place, and returns the reply to the request.
+    /// Reads the count of published batches, in a step of the journal that names the row at this
+    /// place. Then asks the request, and returns the line of the reply.
     fn ask(&mut self, alloc: Global, place: u64, request: &Request) -> Result<Vec<u8>, AskError>
         ensures answered { IfOk result (λ line.
             IsRequestAnswered place request.now self.old line.items self.new) }
@@ -136,31 +124,19 @@ impl Session {
             place,
         };
         let _count = self.asker.catch_up(&mut self.steps, row);
-        match self.asker.ask(alloc, request) {
-            Ok(answer) => line_of(alloc, answer),
-            Err(why) => {
-                self.note(why);
-                Err(why)
-            }
-        }
-    }
-
-    /// Notes whether the request isn't answered because the client couldn't enter the published replica.
-    fn note(&mut self, why: AskError)
-        ensures { self.new ≡ record self.old { no_entry = entry_noted self.old.no_entry why } }
-    {
-        match why {
-            AskError::NoEntry => self.no_entry = true,
-            AskError::Memory => {}
-        }
+        let answer = match self.asker.ask(alloc, request) {
+            Ok(answer) => answer,
+            Err(why) => return Err(why),
+        };
+        line_of(alloc, answer)
     }
 
     /// Refuses the row at this place, and returns the line of the refusal.
-    fn refuse(&mut self, alloc: Global, place: u64, why: RowError) -> Result<Vec<u8>, AllocError>
+    fn refuse(&mut self, alloc: Global, place: u64, why: RowError) -> Result<Vec<u8>, AskError>
         requires { self.old.refused < place }
         ensures answered { IfOk result (λ line.
             IsRefusedRow place why self.old line.items self.new) }
-        ensures failed { OnErr result (self.new ≡ self.old) }
+        ensures failed { IfErr result (λ fault. IsRefusalMissing fault self.old self.new) }
         ensures refused { self.new.refused ≤ self.old.refused + 1 }
     {
         let line = refused_row(alloc, place, why)?;
@@ -169,15 +145,16 @@ impl Session {
     }
 
     /// Answers the row at this place, whose fields were read as `row`.
-    fn answer_read(&mut self, alloc: Global, place: u64, row: &Row) -> Result<Vec<u8>, AllocError>
+    fn answer_read(&mut self, alloc: Global, place: u64, row: &Row) -> Result<Vec<u8>, AskError>
         requires { self.old.refused < place }
         ensures answered { IfOk result (λ line.
             IsClientRowAnswered place self.old (Ok row.now) line.items self.new) }
-        ensures failed { OnErr result (IsClientRowUnanswered place self.old (Ok row.now) self.new) }
+        ensures failed { IfErr result (λ fault.
+            IsClientRowUnanswered fault place self.old (Ok row.now) self.new) }
         ensures refused { self.new.refused ≤ self.old.refused + 1 }
     {
         match row {
-            Row::Ask(request) => self.ask(alloc, place, request).map_err(|_noted| AllocError),
+            Row::Ask(request) => self.ask(alloc, place, request),
             Row::Put(_) => self.refuse(alloc, place, RowError::Kind),
             Row::Remove { .. } => self.refuse(alloc, place, RowError::Kind),
             Row::Node { .. } => self.refuse(alloc, place, RowError::Kind),
@@ -187,6 +164,8 @@ impl Session {
 }
 
 impl Answering<()> for Session {
+    type Fault = AskError;
+
     ghost use Rattle.std.specs.Prelude.{◌<◌};
     ghost use Rattle.cspf_client.specs.ClientRows.{IsClientAnswered, IsClientUnanswered};
 
@@ -202,7 +181,7 @@ impl Answering<()> for Session {
         alloc: Global,
         place: u64,
         fields: &ByteRecord,
-    ) -> Result<Vec<u8>, AllocError> {
+    ) -> Result<Vec<u8>, AskError> {
         match Row::read(fields) {
             Ok(row) => self.answer_read(alloc, place, &row),
             Err(why) => self.refuse(alloc, place, why),

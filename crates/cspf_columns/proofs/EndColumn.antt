@@ -1,4 +1,5 @@
--- The column of ends, before and after one row changes.
+-- The column of ends has for each row (a link) the index of the router that the row runs to. Lemmas
+-- on changing this column together with one row.
 use Rattle.std.proofs.Common.{◌≡◌, ℕ, suc, ◌-◌, ◌<◌, List, [], ◌∷◌, ◌++◌, All, Contains, length, map, take, drop, slice_index, slice_set, sym, ap, ◌∙◌}
 use Rattle.std.specs.List.{between, insert, remove as without}
 use Rattle.std.proofs.lemmas.List.{length-map, map-append, map-set, take-map, drop-map}
@@ -6,7 +7,8 @@ use Rattle.std.proofs.lemmas.List.Elements.{All-append, All-nil, All-cons, All-t
 use Rattle.cspf_model.specs.declared.link.Link.{Link}
 use Rattle.cspf_columns.specs.Rows.{AreEndsOf, IsEndColumn, IsPlaceOf}
 
--- there are as many ends as rows
+-- The column of ends has as many items as there are rows (links). A column of ends has for each row
+-- the index of the router that the row runs to.
 pub length-ends : (rows : List Link) (routers ends : List ℕ) → AreEndsOf rows routers ends → length ends ≡ length rows
 length-ends rows routers ends are =
     sym (length-map ends (λ e. slice_index routers e)) ∙ ap length are.each ∙ length-map rows (λ (l : Link). l.to)
@@ -21,19 +23,25 @@ map-without : {A B : Type 0} (f : A → B) (xs : List A) (i : ℕ) → map f (wi
 map-without f xs i =
     map-append f (take i xs) (drop (suc i) xs) ∙ (λ t. sym (take-map f i xs) t ++ sym (drop-map f (suc i) xs) t)
 
--- what holds of all items, and of one more, holds of all after this one is inserted
+-- if something holds of all items of a list and of one more item, it holds of all items of the list
+-- after this item is inserted
 all_insert : {A : Type 0} (P : A → Type 0) (xs : List A) (i : ℕ) (x : A) → P x → All P xs → All P (insert xs i x)
 all_insert P xs i x p all = All-append P (take i xs) (x ∷ drop i xs) (All-take P i xs all) (All-cons P x (drop i xs) p (All-drop P i xs all))
 
--- what holds of all items holds after one is removed
+-- if something holds of all items of a list, it holds of all items that are left when one item is
+-- removed
 all_without : {A : Type 0} (P : A → Type 0) (xs : List A) (i : ℕ) → All P xs → All P (without xs i)
 all_without P xs i all = All-append P (take i xs) (drop (suc i) xs) (All-take P i xs all) (All-drop P (suc i) xs all)
 
--- rows whose column of ends changes along with them
+-- Lemmas on rows (links) and their column of ends. A column of ends has for each row the index of
+-- the router that the row runs to.
 module _ (rows : List Link) (routers ends : List ℕ) (are : IsEndColumn rows routers ends) where
-  -- a link, and the index `end` of the router that it runs to
+  -- lemmas on replacing a row (a link) by the link `l` or inserting this link, where `end` is the
+  -- index of the router that `l` runs to
   module _ (l : Link) (end : ℕ) (from : Contains routers l.from) (within : end < length routers) (found : slice_index routers end ≡ l.to) where
-    -- the row is put over another
+    -- If `l` replaces the row at `at`, and `end` replaces this row's item in the column of ends,
+    -- the result is the column of ends of the new rows. A row is a link of the table. A column of
+    -- ends has for each row the index of the router that the row runs to.
     pub put_over : (at : ℕ) → IsEndColumn (slice_set rows at l) routers (slice_set ends at end)
     put_over at = record {
       froms = All-set (λ (m : Link). Contains routers m.from) rows at l from are.froms;
@@ -44,7 +52,9 @@ module _ (rows : List Link) (routers ends : List ℕ) (are : IsEndColumn rows ro
       };
     }
 
-    -- the row is put between others
+    -- If `l` is inserted in the rows at `at`, and `end` in the column of ends at `at`, the result
+    -- is the column of ends of the new rows. A row is a link of the table. A column of ends has for
+    -- each row the index of the router that the row runs to.
     pub put_between : (at : ℕ) → IsEndColumn (insert rows at l) routers (insert ends at end)
     put_between at = record {
       froms = all_insert (λ (m : Link). Contains routers m.from) rows at l from are.froms;
@@ -55,7 +65,9 @@ module _ (rows : List Link) (routers ends : List ℕ) (are : IsEndColumn rows ro
       };
     }
 
-  -- a row is removed
+  -- If the row at `at` is removed, and its item is removed from the column of ends, the result is
+  -- the column of ends of the new rows. A row is a link of the table. A column of ends has for each
+  -- row the index of the router that the row runs to.
   pub taken_out : (at : ℕ) → IsEndColumn (without rows at) routers (without ends at)
   taken_out at = record {
     froms = all_without (λ (m : Link). Contains routers m.from) rows at are.froms;
@@ -66,7 +78,8 @@ module _ (rows : List Link) (routers ends : List ℕ) (are : IsEndColumn rows ro
     };
   }
 
--- if two lists of rows are joined, so are their columns of ends
+-- If two lists of rows (links) are joined, their joined columns of ends are the column of ends of
+-- all rows. A column of ends has for each row the index of the router that the row runs to.
 pub ends_joined : (rows more : List Link) (routers ends more_ends : List ℕ) → AreEndsOf rows routers ends → AreEndsOf more routers more_ends → AreEndsOf (rows ++ more) routers (ends ++ more_ends)
 ends_joined rows more routers ends more_ends are also = record {
   within = All-append (λ e. e < length routers) ends more_ends are.within also.within;
@@ -74,14 +87,18 @@ ends_joined rows more routers ends more_ends are also = record {
       map-append (λ e. slice_index routers e) ends more_ends ∙ (λ t. are.each t ++ also.each t) ∙ sym (map-append (λ (l : Link). l.to) rows more);
 }
 
--- the rows from an index on have the column of ends from this index on
+-- Without its first `at` items, the column of ends is the column of ends of the rows (links)
+-- without the first `at` rows. A column of ends has for each row the index of the router that the
+-- row runs to.
 pub ends_behind : (rows : List Link) (routers ends : List ℕ) (at : ℕ) → AreEndsOf rows routers ends → AreEndsOf (drop at rows) routers (drop at ends)
 ends_behind rows routers ends at are = record {
   within = All-drop (λ e. e < length routers) at ends are.within;
   each = sym (drop-map (λ e. slice_index routers e) at ends) ∙ ap (drop at) are.each ∙ drop-map (λ (l : Link). l.to) at rows;
 }
 
--- the rows between two indices have the column of ends between these indices
+-- The part of the column of ends between two indexes is the column of ends of the rows (links)
+-- between these indexes. A column of ends has for each row the index of the router that the row
+-- runs to.
 pub ends_between : (rows : List Link) (routers ends : List ℕ) (at next : ℕ) → AreEndsOf rows routers ends → AreEndsOf (between at next rows) routers (between at next ends)
 ends_between rows routers ends at next are =
     let behind = ends_behind rows routers ends at are in
@@ -91,7 +108,8 @@ ends_between rows routers ends at next are =
           sym (take-map (λ e. slice_index routers e) (next - at) (drop at ends)) ∙ ap (take (next - at)) behind.each ∙ take-map (λ (l : Link). l.to) (next - at) (drop at rows);
     }
 
--- if one more row is appended, the index of the router that it runs to is appended to the column
+-- Append a row (a link), and append to the column of ends the index of the router that this row
+-- runs to. The result is the column of ends of all rows.
 pub ends_pushed : (rows : List Link) (routers ends : List ℕ) (l : Link) (end : ℕ) → AreEndsOf rows routers ends → IsPlaceOf routers l.to end → AreEndsOf (rows ++ l ∷ []) routers (ends ++ end ∷ [])
 ends_pushed rows routers ends l end are place =
     ends_joined rows (l ∷ []) routers ends (end ∷ []) are (record {

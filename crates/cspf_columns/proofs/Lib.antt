@@ -1,4 +1,4 @@
--- Lemmas about rows, routers, ends, reverses and spans, for this crate and the crates that use it.
+-- Lemmas on the links of a table and on its columns, for this crate and the crates that use it.
 pub mod SortedEntries
 pub mod RowOrder
 pub mod SortedChanges

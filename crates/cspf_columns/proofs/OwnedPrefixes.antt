@@ -1,4 +1,4 @@
--- Whether a router owns a prefix, decided by the rows from the router.
+-- Whether a router owns a prefix is decided by the rows (links) from the router.
 use Rattle.std.proofs.Common.{◌≡◌, ℕ, zero, suc, ◌<◌, ◌↔◌, Bool, true, false, cond, IsTrue, List, [], ◌∷◌, All, Contains, length, nat_eq, slice_index_or, refl, sym, ap, subst, ◌∙◌, inl, inr, arith}
 use Rattle.std.specs.List.{HoldsAt, filter}
 use Rattle.std.proofs.lemmas.Bool.Decides.{nat_tests}
@@ -9,7 +9,7 @@ use Rattle.cspf_model.specs.declared.link.Link.{Link}
 use Rattle.cspf_model.specs.Database.{Database, AreLinksOf, IsLinkOf, IsRouterOf}
 use Rattle.cspf_model.specs.Targets.{BeginsWithin, Owns}
 
--- an item that passes the test is kept by the filter
+-- if an item of a list passes the test, the filter keeps it
 pub Contains-filter : {A : Type 0} (p : A → Bool) (xs : List A) (x : A) → Contains xs x → p x ≡ true → Contains (filter p xs) x
 Contains-filter p [] x has on = absurd (omega (arith, has.1))
 Contains-filter p (y ∷ xs) x (zero, h, is) on = subst (λ b. Contains (cond b (y ∷ filter p xs) (filter p xs)) x) (sym (ap p is ∙ on)) (0, omega arith, is)
@@ -23,8 +23,8 @@ same_number m n tie = grind (arith, nat_tests)
 ties : (m n : ℕ) → m ≡ n → nat_eq m n ≡ true
 ties m n is = grind (arith, nat_tests)
 
--- a row from the router has its local address in the prefix exactly if a link of the database from
--- this router has
+-- Some row from the router has its local address in the prefix exactly if some link of the database
+-- from this router has its local address in it. A row is a link of the table.
 pub tells_link : (prefix : PrefixParts) (router : ℕ) (d : Database) (rows : List Link) (b : Bool)
     → AreLinksOf d rows
     → (b ≡ true → (at : ℕ) × (at < length (filter (λ l. nat_eq l.from router) rows)) × HoldsAt (λ l. Covers prefix l.local) (filter (λ l. nat_eq l.from router) rows) at)
@@ -43,14 +43,14 @@ tells_link prefix router d rows false listed hit miss = (
   λ (l, is, begins). absurd (All-contains (λ m. ¬ Covers prefix m.local) (filter (λ m. nat_eq m.from router) rows) l (miss refl) (Contains-filter (λ m. nat_eq m.from router) rows l (listed.whole l is) (ties l.from router begins.from)) begins.local),
 )
 
--- a router of the database whose ID is in the prefix owns the prefix
+-- if a router of the database has its ID in the prefix, it owns the prefix
 pub owned_itself : (d : Database) (prefix : PrefixParts) (router : ℕ) (b : Bool) → b ≡ true
     → IsRouterOf d router → Covers prefix router → IsTrue b ↔ Owns d prefix router
 owned_itself d prefix router b on known covered =
     ((λ _. record { known = known; covered = inl covered }), λ _. on)
 
--- a router whose ID isn't in the prefix owns it exactly if the prefix covers the address of one of
--- its interfaces
+-- if a router doesn't have its ID in the prefix, it owns the prefix exactly if the prefix covers
+-- the address of one of its interfaces
 pub owned_by_link : (d : Database) (prefix : PrefixParts) (router : ℕ) (b : Bool)
     → IsRouterOf d router → ¬ Covers prefix router
     → IsTrue b ↔ ((l : Link) × IsLinkOf d l × BeginsWithin prefix router l)

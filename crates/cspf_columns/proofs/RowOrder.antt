@@ -1,4 +1,4 @@
--- Rows in order of the key, and the database that they make.
+-- Lemmas on rows (links) in order of their keys, and on the database that they make.
 use mathlib.Core.Bool.{true≢false}
 use Rattle.std.proofs.Common.{◌≡◌, ◌≢◌, ℕ, All, ◌<◌, ◌≤◌, ◌⊎◌, inl, inr, nat_lt, Bool, true, false, T, List, [], ◌∷◌, filter, length, map, get_or, slice_set, Result, Ok, Err, IfOk, IfErr, refl, sym, ap, subst, ◌∙◌, arith}
 use Rattle.std.specs.Ordering.{nat_cmp, eq_by_cmp, is_eq, ordering_then}
@@ -21,11 +21,11 @@ use Rattle.cspf_model.specs.Lemmas.LinkRows.{entry_of, database_of, AreByKey}
 use Rattle.cspf_model.proofs.Databases.Keys.{key_itself, keys_total, keys_antisymmetric}
 use Rattle.cspf_columns.proofs.SortedEntries.{test_from_true, true_from_test, put-gap, put-hit, sorted_without, sorted_filter, rises, searchable, distinct, gap_from, entries-from_entries, from_entries-entries}
 
--- rows in order have distinct keys
+-- if rows (links) are in order of their keys, no two of them have the same key
 pub own_keys : (rows : List Link) → AreByKey rows → HaveOwnKeys rows
 own_keys rows by_key = distinct keys_total entry_of rows (test_from_true _ by_key)
 
--- a key is at only one index
+-- if rows (links) are in order of their keys, two rows at different indexes have different keys
 apart_below : (rows : List Link) → AreByKey rows → (i j : ℕ) (d e : Link) → i < j → j < length rows → key_of (get_or rows i d) ≡ key_of (get_or rows j e) → ⊥
 apart_below rows by_key i j d e less within same =
     let k : Key = key_of d in
@@ -40,20 +40,23 @@ pub one_index : (rows : List Link) → AreByKey rows → (i j : ℕ) (d e : Link
 one_index rows by_key i j d e within also same =
     elim (cases_lt i j) [ inl less ↦ absurd (apart_below rows by_key i j d e less also same) | inr upto ↦ elim (cases_lt j i) [ inl less ↦ absurd (apart_below rows by_key j i e d less within (sym same)) | inr also ↦ omega (arith, upto, also) ] ]
 
--- rows in order are the entries of their database
+-- if rows (links) are in order of their keys, the entries that are made of the rows are the entries
+-- of the database that the rows make
 pub entries-database_of : (rows : List Link) → AreByKey rows → entries (database_of rows).links ≡ map entry_of rows
 entries-database_of rows by_key = entries-from_entries keys_total (map entry_of rows) (test_from_true _ by_key)
 
--- the links without their keys are the rows
+-- the links of the entries that are made of rows (links) are these rows
 links_with_keys : (rows : List Link) → map (λ (e : Key × Link). e.1) (map entry_of rows) ≡ rows
 links_with_keys [] = refl
 links_with_keys (l ∷ rows) = ap (λ ls. l ∷ ls) (links_with_keys rows)
 
--- rows in order of the key are the links of their database
+-- if rows (links) are in order of their keys, the database that they make has exactly these rows as
+-- its links, in this order
 pub links_of-database_of : (rows : List Link) → AreByKey rows → links_of (database_of rows) ≡ rows
 links_of-database_of rows by_key = ap (map (λ (e : Key × Link). e.1)) (entries-database_of rows by_key) ∙ links_with_keys rows
 
--- rows that are the entries of a map are in order of the key
+-- if rows (links) have the same keys and links as the entries of a map, in the same order, the rows
+-- are in order of their keys
 pub by_key-entries : (links : FinMap key_cmp Link) (rows : List Link) → entries links ≡ map entry_of rows → AreByKey rows
 by_key-entries links rows e = true_from_test _ (subst (λ es. T (is_sorted key_cmp es)) e (entries_sorted links))
 
@@ -62,38 +65,41 @@ database_of-entries d rows none e =
     let links : from_entries (map entry_of rows) ≡ d.links = from_entries-entries keys_total d.links (map entry_of rows) e in
     λ i. record { links = links i; marks = none i }
 
--- the entries after a link replaces the row with its key
+-- if a link replaces the row (a link) with its key, the entries of the new rows are those of the
+-- changed database
 pub entries-hit : (rows : List Link) (at : ℕ) (l : Link) → AreByKey rows → at < length rows → HoldsAt (λ m. key_of m ≡ key_of l) rows at
     → entries (relinked (database_of rows) (Put l)).links ≡ map entry_of (slice_set rows at l)
 entries-hit rows at l by_key h has =
     entries-insert keys_total (database_of rows).links (key_of l) l ∙ ap (put key_cmp (key_of l) l) (entries-database_of rows by_key) ∙ put-hit keys_total entry_of rows at l l (test_from_true _ by_key) h (has l)
 
--- the entries after a link is inserted between the rows with lower and with higher keys
+-- if a link is inserted between the rows (links) with lower and with higher keys, the entries of
+-- the new rows are those of the changed database
 pub entries-gap : (rows : List Link) (at : ℕ) (l : Link) → AreByKey rows → at ≤ length rows
     → IsPartitionPoint (λ m. key_cmp (key_of m) (key_of l) ≡ Less) (λ m. key_cmp (key_of m) (key_of l) ≡ Greater) rows at
     → entries (relinked (database_of rows) (Put l)).links ≡ map entry_of (insert rows at l)
 entries-gap rows at l by_key h gap =
     entries-insert keys_total (database_of rows).links (key_of l) l ∙ ap (put key_cmp (key_of l) l) (entries-database_of rows by_key) ∙ put-gap keys_total entry_of rows at l h gap.0 gap.1
 
--- rows in order are still in order after one is removed
+-- if rows (links) are in order of their keys, they are still in order after one is removed
 pub by_key-without : (rows : List Link) (at : ℕ) → AreByKey rows → AreByKey (without rows at)
 by_key-without rows at by_key = true_from_test _ (sorted_without keys_total entry_of rows at (test_from_true _ by_key))
 
--- rows in order are still in order after a filter
+-- if rows (links) are in order of their keys, the rows that a filter keeps are in order
 pub by_key-filter : (p : Link → Bool) (rows : List Link) → AreByKey rows → AreByKey (filter p rows)
 by_key-filter p rows by_key = true_from_test _ (sorted_filter keys_total entry_of p rows (test_from_true _ by_key))
 
--- the row that a search for a key finds has that key
+-- if a search for a key finds a row (a link), the row has this key
 pub found_key : (rows : List Link) (k : Key) (r : Result ℕ ℕ) → IsBinarySearchResult (λ l. key_cmp (key_of l) k) rows r → IfOk r (HoldsAt (λ l. key_of l ≡ k) rows)
 found_key rows k (Ok at) found = λ d. keys_antisymmetric _ _ (found d)
 found_key rows k (Err at) found = tt
 
--- a search that finds no row returns the index at which it would be inserted
+-- if a search for a key finds no row (a link), it returns the index at which such a row would be
+-- inserted
 pub key_gap : (rows : List Link) (k : Key) (r : Result ℕ ℕ) → AreByKey rows → IsBinarySearchResult (λ l. key_cmp (key_of l) k) rows r
     → IfErr r (IsPartitionPoint (λ l. key_cmp (key_of l) k ≡ Less) (λ l. key_cmp (key_of l) k ≡ Greater) rows)
 key_gap rows k r by_key found = gap_from (λ l. key_cmp (key_of l) k) rows r found (searchable keys_total entry_of rows k (test_from_true _ by_key))
 
--- of two keys, the lower one's router isn't higher
+-- if one key is lower than another, the router of the lower key isn't above the router of the other
 from_le : (j k : Key) → key_cmp j k ≡ Less → j.0 ≤ k.0
 from_le j k is =
     elim (nat_cmp j.0 k.0) as (λ r. r ≡ nat_cmp j.0 k.0 → ordering_then r (nat_cmp j.1 k.1) ≡ Less → j.0 ≤ k.0) [
@@ -102,7 +108,8 @@ from_le j k is =
       | Greater ↦ λ _ off. absurd (cc)
     ] refl is
 
--- in rows in order, each row's router is at least that of the row before
+-- if rows (links) are in order of their keys, the router of each row isn't below the router of any
+-- row before it
 pub from_rises : (rows : List Link) → AreByKey rows → IsNonDecreasingBy (λ l. l.from) rows
 from_rises rows by_key i j d le h =
     elim (i_or i j le) [
@@ -113,12 +120,12 @@ from_rises rows by_key i j d le h =
     i_or : (i j : ℕ) → i ≤ j → (i < j) ⊎ (i ≡ j)
     i_or i j le = elim (nat_lt i j) as (λ b. nat_lt i j ≡ b → (i < j) ⊎ (i ≡ j)) [ true ↦ λ e. inl (grind (arith, nat_tests)) | false ↦ λ e. inr (grind (arith, nat_tests)) ] refl
 
--- keys that don't compare as equal are different
+-- if two keys don't compare as equal, they are different
 pub untied : (j k : Key) → eq_by_cmp key_cmp j k ≡ false → j ≢ k
 untied j k apart same =
     let tie : eq_by_cmp key_cmp j k ≡ true = subst (λ q. eq_by_cmp key_cmp j q ≡ true) same (key_itself j) in
     true≢false (sym tie ∙ apart)
 
--- if a search for a key finds no row, no row has the key
+-- if a search for a key finds no row (a link), no row has the key
 pub unmet_at_gap : (rows : List Link) (k : Key) (at : ℕ) → IsPartitionPoint (λ l. key_cmp (key_of l) k ≡ Less) (λ l. key_cmp (key_of l) k ≡ Greater) rows at → All (λ l. key_of l ≢ k) rows
 unmet_at_gap rows k at gap i d h = elim (cases_lt i at) [ inl below ↦ untied _ k (ap is_eq (gap.0 i d (omega arith) below)) | inr from ↦ untied _ k (ap is_eq (gap.1 i d from h)) ]

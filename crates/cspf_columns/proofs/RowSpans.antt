@@ -1,4 +1,4 @@
--- The range of the rows from a router.
+-- Lemmas on the range of the rows (links) from a router.
 use Rattle.std.proofs.Common.{◌≡◌, inl, inr, ℕ, ◌+◌, ◌-◌, ◌<◌, ◌≤◌, Bool, true, false, cond, List, [], ◌∷◌, ◌++◌, All, length, take, drop, get_or, ltb, leb, nat_eq, slice_range, refl, sym, ap, ◌∙◌, arith}
 use Rattle.std.specs.List.{filter, between}
 use Rattle.std.specs.List.Sorted.{IsPartitionPoint, IsNonDecreasingBy}
@@ -14,7 +14,7 @@ pub none_kept : (p : Link → Bool) (rows : List Link) → All (λ l. p l ≡ fa
 none_kept p [] all = refl
 none_kept p (l ∷ rows) all = ap (λ b. cond b (l ∷ filter p rows) (filter p rows)) (All-head (λ m. p m ≡ false) l rows all) ∙ none_kept p rows (All-tail (λ m. p m ≡ false) l rows all)
 
--- if all items pass the test, the filter keeps all
+-- if all items pass the test, the filter keeps all items
 pub all_kept : (p : Link → Bool) (rows : List Link) → All (λ l. p l ≡ true) rows → filter p rows ≡ rows
 all_kept p [] all = refl
 all_kept p (l ∷ rows) all = ap (λ b. cond b (l ∷ filter p rows) (filter p rows)) (All-head (λ m. p m ≡ true) l rows all) ∙ ap (λ ls. l ∷ ls) (all_kept p rows (All-tail (λ m. p m ≡ true) l rows all))
@@ -34,7 +34,7 @@ crossed m r low high = absurd (grind (arith, nat_tests))
 module _ (rows : List Link) (router first end : ℕ) (in_first : first ≤ length rows) (in_end : end ≤ length rows)
     (low : IsPartitionPoint (λ l. ltb l.from router ≡ true) (λ l. ltb l.from router ≡ false) rows first)
     (high : IsPartitionPoint (λ l. leb l.from router ≡ true) (λ l. leb l.from router ≡ false) rows end) where
-  -- the start of the range isn't after its end
+  -- the index at which the range begins isn't above the index at which it ends
   pub span_in_order : first ≤ end
   span_in_order = elim (leb first end) as (λ b. leb first end ≡ b → first ≤ end) [ true ↦ λ e. grind (arith, nat_tests) | false ↦ λ e. at_end rows refl (grind (arith, nat_tests)) ] refl
     where
@@ -42,7 +42,7 @@ module _ (rows : List Link) (router first end : ℕ) (in_first : first ≤ lengt
       at_end [] e off = absurd (omega (arith, ap length e))
       at_end (l ∷ ls) e off = crossed (get_or rows end l).from router (low.0 end l (omega arith) off) (high.1 end l (omega arith) (omega arith))
 
-  -- the rows from the router are those in the range
+  -- the rows (links) from the router are those in the range
   pub filter-span : slice_range rows first end ≡ filter (λ l. nat_eq l.from router) rows
   filter-span =
       let p : Link → Bool = λ l. nat_eq l.from router in
@@ -77,8 +77,8 @@ upto m r h = grind (arith, nat_tests)
 not_upto : (m r : ℕ) → r < m → leb m r ≡ false
 not_upto m r h = grind (arith, nat_tests)
 
--- A range of rows from a router has all rows from it, if a lower router's row comes before it and a
--- higher router's row after it.
+-- Lemmas on a range of rows (links) that are all from one router. The range has all rows from this
+-- router, if the row before it is from a lower router, and the row after it from a higher router.
 module _ (rows : List Link) (router first end : ℕ) (rises : IsNonDecreasingBy (λ l. l.from) rows) (order : first ≤ end) (bound : end ≤ length rows)
     (run : (k : ℕ) (d : Link) → first ≤ k → k < end → (get_or rows k d).from ≡ router) (low : 0 < first → (d : Link) → (get_or rows (first - 1) d).from < router)
     (high : end < length rows → (d : Link) → router < (get_or rows end d).from) where
@@ -106,7 +106,8 @@ module _ (rows : List Link) (router first end : ℕ) (rises : IsNonDecreasingBy 
         λ k d past h. not_upto (get_or rows k d).from router (behind k d past h),
       )
 
--- if the first and the last row of a range are from one router, all rows of the range are from it
+-- if the first and the last of a range of rows (links) are from one router, all rows of the range
+-- are from this router
 pub run_between : (rows : List Link) (router first end : ℕ) (l m : Link) → IsNonDecreasingBy (λ l. l.from) rows → first < end → end ≤ length rows → l ≡ get_or rows first l → m ≡ get_or rows (end - 1) m → l.from ≡ router → m.from ≡ router
     → (k : ℕ) (d : Link) → first ≤ k → k < end → (get_or rows k d).from ≡ router
 run_between rows router first end l m rises some bound reads also from to k d past h =

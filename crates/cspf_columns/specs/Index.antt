@@ -10,7 +10,7 @@ use Rattle.cspf_model.specs.Database.{Database, HasReverse, IsReverse, ends_of}
 abbrev pub links_of : Database → List Link
 links_of d = finite.values d.links
 
--- an entry that has nothing but a number
+-- an entry of a map with the number as its key, and without a value
 abbrev pub with_nothing : ℕ → ℕ × Unit {0}
 with_nothing n = (n, tt)
 
@@ -18,7 +18,7 @@ with_nothing n = (n, tt)
 abbrev pub numbers_in : List ℕ → finite.FinMap nat_cmp (Unit {0})
 numbers_in ns = finite.from_entries {R = nat_cmp} (map with_nothing ns)
 
--- the routers of a database in rising order: each end of a link, listed once
+-- the routers of a database in rising order: each router at an end of a link, listed once
 unfoldable pub router_list : Database → List ℕ
 router_list d = finite.keys (numbers_in (ends_of (links_of d)))
 
@@ -26,7 +26,7 @@ router_list d = finite.keys (numbers_in (ends_of (links_of d)))
 abbrev pub links_from : Database → ℕ → List Link
 links_from d router = filter (λ l. nat_eq l.from router) (links_of d)
 
--- the links from the router at an index of the list of routers
+-- the links from the router at the index `at` of the list of routers
 abbrev pub links_from_index : Database → ℕ → List Link
 links_from_index d at = links_from d (slice_index (router_list d) at)
 

@@ -1,11 +1,13 @@
--- Private: the column of reverses, which has an item for each row.
+-- Private: the column of reverses, which has for each row (a link) the index of the row that is its
+-- reverse.
 use Rattle.std.specs.Prelude.{◌≡◌, ◌≢◌, ◌<◌, ◌+◌, ◌-◌, ◌⊎◌, ℕ, cond, nat_eq, nat_le, List, length, slice_index_or}
 use Rattle.cspf_model.specs.declared.link.Link.{Link}
 use Rattle.cspf_columns.specs.declared.limits.TheConstants.{NO_LINK}
 use Rattle.cspf_model.specs.Database.{Key, key_of, IsReverse}
 
--- The number `n` is the index of the row that is the reverse of the link `l`, or `NO_LINK`. A link
--- whose key is left out has no reverse, and is no link's reverse.
+-- The number `n` is the index of the row (a link) that is the reverse of the link `l`, or
+-- `NO_LINK`. A link whose key satisfies `left_out` counts as having no reverse, and as being the
+-- reverse of no link.
 pub record IsIndexOfReverse (left_out : Key → Type 0) (rows : List Link) (l : Link) (n : ℕ) : Type 0 where
   pub within : n ≢ NO_LINK → n < length rows
   pub found : n ≢ NO_LINK → IsReverse l (slice_index_or rows n l)
@@ -13,25 +15,27 @@ pub record IsIndexOfReverse (left_out : Key → Type 0) (rows : List Link) (l : 
   pub none : n ≡ NO_LINK → (at : ℕ) → at < length rows → IsReverse l (slice_index_or rows at l)
       → left_out (key_of l) ⊎ left_out (key_of (slice_index_or rows at l))
 
--- each item of the column is the index of the row's reverse, or `NO_LINK`
+-- `column` has an item for each row (a link): the index of the row's reverse, or `NO_LINK`. A row
+-- whose key satisfies `left_out` counts as having no reverse, and as being the reverse of no row.
 pub record AreReversesBut (left_out : Key → Type 0) (rows : List Link) (column : List ℕ) : Type 0 where
   pub many : length column ≡ length rows
   pub each : (at : ℕ) (d : Link) → at < length rows
       → IsIndexOfReverse left_out rows (slice_index_or rows at d) (slice_index_or column at 0)
 
--- no key is left out
+-- the predicate on keys that holds of no key
 abbrev pub no_key : Key → Type 0
 no_key k = ⊥
 
--- only the key `key` is left out
+-- the predicate on keys that holds of the key `key` alone
 abbrev pub same_key : Key → Key → Type 0
 same_key key k = k ≡ key
 
--- the new index of a row, after another row was inserted at the index `at`; `NO_LINK` stays as it
--- is
+-- What the index `n` of a row (a link) becomes when another row is inserted at the index `at`. An
+-- index of at least `at` grows by 1, and `NO_LINK` stays as it is.
 abbrev pub index_behind : ℕ → ℕ → ℕ
 index_behind at n = cond (nat_eq n NO_LINK) n (cond (nat_le at n) (n + 1) n)
 
--- the new index of a row, after the row before the index `at` was removed; `NO_LINK` stays as it is
+-- What the index `n` of a row (a link) becomes when the row at the index `at` is removed. An index
+-- of at least `at` falls by 1, and `NO_LINK` stays as it is.
 abbrev pub index_before : ℕ → ℕ → ℕ
 index_before at n = cond (nat_eq n NO_LINK) n (cond (nat_le at n) (n - 1) n)

@@ -1,4 +1,5 @@
--- Private: rows of links, their routers and columns, and the database that the rows make.
+-- Private: the rows of a table, each of which is a link. Also the routers, the columns beside the
+-- rows, and the database that the rows make.
 use Rattle.std.specs.Prelude.{◌≡◌, ◌+◌, ◌<◌, ◌≤◌, ℕ, IsTrue, List, All, Contains, filter, length, map, nat_eq, slice_index, slice_index_or, slice_range, Vec}
 use Rattle.std.specs.Vec.{vec_capacity}
 use Rattle.std.specs.declared.alloc.Global.{Global}
@@ -17,7 +18,7 @@ use Rattle.cspf_model.specs.declared.limits.TheConstants.{MOST_LINKS, MOST_ROUTE
 use Rattle.cspf_columns.specs.declared.limits.TheConstants.{ROOM_FOR_LINKS, ROOM_FOR_ROUTERS}
 use Rattle.cspf_columns.specs.Reverses.{AreReversesBut, no_key}
 
--- both links run between the same interfaces
+-- both links join the same two interfaces, in the same direction
 pub record HasSameEnds (l m : Link) : Type 0 where
   pub from : l.from ≡ m.from
   pub local : l.local ≡ m.local
@@ -28,30 +29,31 @@ pub record HasSameEnds (l m : Link) : Type 0 where
 abbrev pub AreRising : List ℕ → Type 0
 AreRising routers = IsTrue (is_sorted nat_cmp (map with_nothing routers))
 
--- for each row, the index of the router that it runs to
+-- `ends` has for each row (a link) the index in `routers` of the router that the row runs to
 pub record AreEndsOf (rows : List Link) (routers : List ℕ) (ends : List ℕ) : Type 0 where
   pub within : All (λ end. end < length routers) ends
   pub each : map (λ end. slice_index routers end) ends ≡ map (λ l. l.to) rows
 
--- the router is at this index of the list
+-- the router is at the index `place` of the list
 pub record IsPlaceOf (routers : List ℕ) (router place : ℕ) : Type 0 where
   pub within : place < length routers
   pub found : slice_index routers place ≡ router
 
--- the index of each router in another list, if that list has the router
+-- for each router that the list `others` also has, `places` has its index in `others`
 abbrev pub ArePlacesIn : List ℕ → List ℕ → List ℕ → Type 0
 ArePlacesIn others routers places =
     (at : ℕ) → at < length routers → Contains others (slice_index routers at)
     → IsPlaceOf others (slice_index routers at) (slice_index places at)
 
--- The indices are the column of ends of the rows. The router that each row runs from is in the list
--- too.
+-- `indices` is the column of ends of the rows (links): for each row, the index of the router that
+-- it runs to. The list `routers` also has each router that a row runs from.
 pub record IsEndColumn (links : List Link) (routers : List ℕ) (indices : List ℕ) : Type 0 where
   pub froms : All (λ l. Contains routers l.from) links
   pub ends : AreEndsOf links routers indices
 
--- The routers of a list that are ends of rows are kept, in the same order. For each router of the
--- list, its place among the kept routers is listed. Both vectors keep their capacity.
+-- `new` has those routers of the list `routers` at which rows (links) begin or end, in the same
+-- order. `new_places` has for each of these routers its index in `new`. Both vectors keep their
+-- capacity.
 pub record AreKeptEnds (rows : List Link) (routers : List ℕ) (old old_places new new_places : Vec ℕ Global) : Type 0 where
   pub kept : new.items ≡ filter (is_end_of rows) routers
   pub placed : ArePlacesIn new.items routers new_places.items
@@ -59,8 +61,8 @@ pub record AreKeptEnds (rows : List Link) (routers : List ℕ) (old old_places n
   pub capacity : vec_capacity old ≤ vec_capacity new
   pub capacity_of_places : vec_capacity old_places ≤ vec_capacity new_places
 
--- the span of the rows from the router: where they begin and end, and the lowest and highest
--- address of their interfaces
+-- the span of the router: where the rows (links) from the router begin and end, and the lowest and
+-- the highest address of their interfaces
 pub record IsSpanOf (rows : List Link) (router : ℕ) (span : Span) : Type 0 where
   pub order : span.first ≤ span.end
   pub bound : span.end ≤ length rows
@@ -68,20 +70,23 @@ pub record IsSpanOf (rows : List Link) (router : ℕ) (span : Span) : Type 0 whe
   pub lowest : All (λ l. span.lowest ≤ l.local) (slice_range rows span.first span.end)
   pub highest : All (λ l. l.local ≤ span.highest) (slice_range rows span.first span.end)
 
--- the spans of all routers in the list
+-- `spans` has, for each router of the list, the range of the rows (links) from it, and the lowest
+-- and the highest address of their interfaces
 pub record AreSpansOf (rows : List Link) (routers : List ℕ) (spans : List Span) : Type 0 where
   pub many : length spans ≡ length routers
   pub each : (at : ℕ) (d : Span) → at < length routers
       → IsSpanOf rows (slice_index routers at) (slice_index_or spans at d)
 
--- for each row, the span of the rows from the router that it runs to
+-- For each row (a link), `spans` has the span of the router that the row runs to, at the index that
+-- `ends` has for this row. A router's span is the range of the rows from it, with the lowest and
+-- the highest of their local addresses.
 abbrev pub AreSpansAtEnds : List Link → List ℕ → List Span → Type 0
 AreSpansAtEnds rows ends spans =
     (at : ℕ) (d : Link) → at < length rows
     → (slice_index_or ends at 0 < length spans)
     × ((e : Span) → IsSpanOf rows (slice_index_or rows at d).to (slice_index_or spans (slice_index_or ends at 0) e))
 
--- there is capacity for a full table and for what one batch adds
+-- each column has capacity for a full table, and for what one batch adds to it
 pub record HaveRoom (c : Columns) : Type 0 where
   pub rows : ROOM_FOR_LINKS ≤ vec_capacity c.rows
   pub routers : ROOM_FOR_ROUTERS ≤ vec_capacity c.routers
@@ -89,8 +94,9 @@ pub record HaveRoom (c : Columns) : Type 0 where
   pub reverses : ROOM_FOR_LINKS ≤ vec_capacity c.reverses
   pub spans : MOST_ROUTERS ≤ vec_capacity c.spans
 
--- Columns while changes are made: the rows are in order of the key, and the list of routers has all
--- their ends. It may also have routers that are no row's ends.
+-- Columns while changes are made to them. The rows (links) are in order of their keys, and the list
+-- of routers has both ends of each row. The list may also have routers at which no row begins or
+-- ends.
 pub record AreTiedColumns (c : Columns) : Type 0 where
   pub room : HaveRoom c
   pub by_key : AreByKey c.rows.items
@@ -98,20 +104,25 @@ pub record AreTiedColumns (c : Columns) : Type 0 where
   pub few : length c.routers.items ≤ ROOM_FOR_ROUTERS
   pub column : IsEndColumn c.rows.items c.routers.items c.ends.items
 
--- tied columns, whose column of reverses is right too
+-- the columns are as in `AreTiedColumns`, and the column of reverses has for each row (a link) the
+-- index of its reverse, or `NO_LINK`
 pub record ArePaired (c : Columns) : Type 0 where
   pub tied : AreTiedColumns c
   pub reverses : AreReversesBut no_key c.rows.items c.reverses.items
 
--- One change was made to columns that have the right reverses.
+-- One change turns the columns `old` into the columns `new`. It changes the rows (links), adding at
+-- most one row, and leaves the list of routers as it is. The column of reverses is that of the new
+-- rows. A column of reverses has for each row the index of its reverse, or `NO_LINK`.
 pub record IsOneChange (old new : Columns) (change : Change) : Type 0 where
   pub changed : database_of new.rows.items ≡ relinked (database_of old.rows.items) change
   pub paired : ArePaired new
   pub longer : length new.rows.items ≤ length old.rows.items + 1
   pub routers : new.routers.items ≡ old.routers.items
 
--- The rows, their routers and their ends are right, and there are no more of them than a table may
--- have.
+-- The rows (links) are in order of their keys. The list of routers has exactly the routers at the
+-- ends of the rows, and the column of ends is that of the rows. There are at most as many rows and
+-- routers as a table may have. A column of ends has for each row the index of the router that the
+-- row runs to.
 pub record AreRowParts (c : Columns) : Type 0 where
   pub room : HaveRoom c
   pub by_key : AreByKey c.rows.items
@@ -120,7 +131,11 @@ pub record AreRowParts (c : Columns) : Type 0 where
   pub all : c.routers.items ≡ router_list (database_of c.rows.items)
   pub ends : AreEndsOf c.rows.items c.routers.items c.ends.items
 
--- all columns are right: the row parts, the reverses and the spans
+-- All columns belong to the rows (links): the routers and the column of ends as in `AreRowParts`,
+-- the column of reverses, and the span of each router. A column of ends has for each row the index
+-- of the router that the row runs to. A column of reverses has for each row the index of its
+-- reverse, or `NO_LINK`. A router's span is the range of the rows from it, with the lowest and the
+-- highest of their local addresses.
 pub record AreColumns (c : Columns) : Type 0 where
   pub parts : AreRowParts c
   pub reverses : AreReversesBut no_key c.rows.items c.reverses.items

@@ -1,4 +1,5 @@
-//! The rows of a table, and the columns: lists that have an item for each row or for each router.
+//! The rows (links) of a table, and its columns: lists that have one item for each row or for each
+//! router.
 ghost use Rattle.std.specs.Prelude.{◌≡◌, [], IfOk};
 ghost use Rattle.cspf_columns.specs.Rows.{AreColumns};
 

@@ -1,7 +1,7 @@
 //! The links of a database in order of their keys, with columns for the links and for the routers,
-//! and how changes are made to all of these. `Table` of `cspf_db` keeps its database in them. The
-//! definitions of these contracts are private to the two crates: a table's contracts speak only of
-//! its database.
+//! and how changes are made to all of these. `Table` of `cspf_db` keeps its database in such
+//! columns. The definitions that the contracts of this crate cite are private to `cspf_columns` and
+//! `cspf_db`. The table's own contracts speak only of its database.
 #![tactic(auto)]
 
 mod columns;

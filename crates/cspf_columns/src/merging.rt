@@ -1,4 +1,5 @@
-//! Merges rows and changes, both in order of the key, into other vectors.
+//! Merges rows (links) and changes into other vectors. The rows and the changes are both in order
+//! of their keys.
 ghost use Rattle.std.specs.Prelude.{◌≡◌, ◌+◌, ◌-◌, ◌<◌, ◌≤◌, List, true, false, [], ◌∷◌, ◌++◌, All, length, map, slice_index_or, vec_len};
 ghost use Rattle.std.specs.Vec.{vec_capacity};
 ghost use Rattle.std.specs.List.Sorted.{IsPermutation};
@@ -26,7 +27,8 @@ use cspf_addr::Addr;
 use cspf_model::{Change, Link, MOST_CHANGES};
 use std::cmp::Ordering;
 
-/// The index of the first row, from `at` on, whose key isn't below this key.
+/// The index of the first row (a link), from the index `at` on, whose key isn't below the key
+/// (`from`, `local`). If there is none, the result is the number of rows.
 fn step(rows: &[Link], at: usize, from: Addr, local: Addr) -> usize
     requires { at ≤ length rows.now }
     ensures order { at ≤ result }
@@ -43,7 +45,8 @@ fn step(rows: &[Link], at: usize, from: Addr, local: Addr) -> usize
     next
 }
 
-/// Whether the row at `next` has this key. The row's key isn't below this key.
+/// Whether the row (a link) at the index `next` has the key (`from`, `local`). It is known before
+/// the call that this row's key isn't lower.
 fn is_at(rows: &[Link], next: usize, from: Addr, local: Addr) -> bool
     requires by_key { AreByKey rows.now }
     requires stop { next < length rows.now → (d : Linked)
@@ -79,8 +82,9 @@ fn put_behind(merged: &mut Vec<Link>, merged_ends: &mut Vec<u16>, routers: &[Add
     }
 }
 
-/// Merges one change: copies the rows below its key, and then adds the link that the change puts,
-/// if it puts one. The ends are copied and added along with the rows.
+/// Merges one change: copies the rows (links) with keys below the change's key, and then adds the
+/// link that the change puts, if it puts one. For each row that is added, the index of the router
+/// that it runs to is added to the column of ends.
 fn merge_one(
     merged: &mut Vec<Link>,
     merged_ends: &mut Vec<u16>,
@@ -112,7 +116,8 @@ fn merge_one(
     next + usize::from(is_at(&columns.rows, next, from, local))
 }
 
-/// Merges changes, in order of the key, into the rows and the column of ends.
+/// Merges changes into the rows (links) and into the column of ends. The changes are in order of
+/// their keys. A column of ends has for each row the index of the router that the row runs to.
 pub(crate) fn merge(
     merged: &mut Vec<Link>,
     merged_ends: &mut Vec<u16>,
@@ -143,8 +148,8 @@ pub(crate) fn merge(
     extend_within(merged_ends, &columns.ends[at..]);
 }
 
-/// Lists the key of each change with the change's index. The vector has the capacity, so this takes
-/// no memory.
+/// Lists the key of each change together with the change's index. The vector `order` has capacity
+/// for all these pairs, so this takes no memory.
 fn list_order(order: &mut Vec<((Addr, Option<Addr>), u16)>, changes: &[Change])
     requires short { length changes.now ≤ MOST_CHANGES }
     requires room { length changes.now ≤ vec_capacity order.old }
@@ -160,7 +165,7 @@ fn list_order(order: &mut Vec<((Addr, Option<Addr>), u16)>, changes: &[Change])
     }
 }
 
-/// Copies the changes in the order of the listed indices.
+/// Copies the changes in the order of the indexes in `order`.
 fn copy_changes(sorted: &mut Vec<Change>, order: &[((Addr, Option<Addr>), u16)], changes: &[Change])
     requires places { All (IsPlaceOfChange changes.now) order.now }
     requires room { length order.now ≤ vec_capacity sorted.old }
@@ -174,8 +179,8 @@ fn copy_changes(sorted: &mut Vec<Change>, order: &[((Addr, Option<Addr>), u16)],
     }
 }
 
-/// Copies changes that have distinct keys, in order of the key. Only their keys and indices are
-/// sorted, so each change is copied once. It takes no memory.
+/// Copies changes with distinct keys, in order of their keys. Only the keys and indexes are sorted,
+/// so each change is copied once. The call takes no memory.
 pub(crate) fn sort_changes(
     order: &mut Vec<((Addr, Option<Addr>), u16)>,
     sorted: &mut Vec<Change>,

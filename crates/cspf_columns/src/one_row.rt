@@ -1,4 +1,5 @@
-//! Replaces, inserts or removes one row, along with the columns of ends and reverses.
+//! Replaces, inserts or removes one row (a link), along with the columns of ends and reverses. A
+//! column of ends has for each row the index of the router that the row runs to.
 ghost use Rattle.std.specs.Prelude.{◌≡◌, ℕ, ◌<◌, ◌≤◌, length};
 ghost use Rattle.std.specs.List.{HoldsAt};
 ghost use Rattle.std.specs.List.Sorted.{IsPartitionPoint};
@@ -15,7 +16,7 @@ use crate::rows::is_alike;
 use cspf_model::{Change, Link};
 use std::cmp::Ordering;
 
-/// Puts the link in place of the row at an index, which has the same key.
+/// Puts the link in place of the row (a link) at the index `at`, which has the same key.
 pub(crate) fn replace_at(columns: &mut Columns, at: usize, link: &Link)
     requires paired { ArePaired columns.old }
     requires room { length columns.old.rows.items ≤ ROOM_FOR_LINKS }
@@ -34,7 +35,8 @@ pub(crate) fn replace_at(columns: &mut Columns, at: usize, link: &Link)
     pair(columns, at);
 }
 
-/// Inserts the link at an index, between the rows with lower keys and those with higher keys.
+/// Inserts the link at the index `at`, between the rows (links) with lower keys and the rows with
+/// higher keys.
 pub(crate) fn insert_at(columns: &mut Columns, at: usize, link: &Link)
     requires paired { ArePaired columns.old }
     requires room { length columns.old.rows.items < ROOM_FOR_LINKS }
@@ -53,7 +55,7 @@ pub(crate) fn insert_at(columns: &mut Columns, at: usize, link: &Link)
     pair(columns, at);
 }
 
-/// Removes the row at an index.
+/// Removes the row (a link) at the index `at`.
 pub(crate) fn remove_at(columns: &mut Columns, at: usize)
     requires paired { ArePaired columns.old }
     requires room { length columns.old.rows.items ≤ ROOM_FOR_LINKS }

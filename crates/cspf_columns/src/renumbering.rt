@@ -1,4 +1,4 @@
-//! The indices of routers in another list, after routers were added to the list or dropped from it.
+//! How the indexes of routers change after routers were added to their list or dropped from it.
 ghost use Rattle.std.specs.Prelude.{◌≡◌, ℕ, ◌+◌, ◌<◌, ◌≤◌, true, false, [], ◌∷◌, ◌++◌, cond, All, Contains, length, slice_index, slice_index_or, vec_len, nat_eq};
 ghost use Rattle.std.specs.Vec.{vec_capacity};
 ghost use Rattle.std.specs.List.{list_any};
@@ -12,8 +12,8 @@ use crate::rows::begins;
 use cspf_addr::Addr;
 use cspf_model::Link;
 
-/// Lists the index of each router in a list that has them all. If both lists are sorted, few
-/// routers need a binary search.
+/// Lists for each router of `routers` its index in the list `others`, which has all of these
+/// routers. If both lists are sorted, few routers need a binary search.
 pub(crate) fn list_places(places: &mut Vec<u16>, routers: &[Addr], others: &[Addr])
     requires rising { AreRising others.now }
     requires few { length others.now ≤ ROOM_FOR_ROUTERS }
@@ -32,7 +32,8 @@ pub(crate) fn list_places(places: &mut Vec<u16>, routers: &[Addr], others: &[Add
     }
 }
 
-/// Marks each index that is in the column of ends.
+/// Marks each router that a row (a link) runs to. The column of ends `ends` has the indexes of
+/// these routers.
 fn mark_ends(marked: &mut [bool], ends: &[u16])
     requires within { All (λ end. end < length marked.old) ends.now }
     requires none { All (λ mark. mark ≡ false) marked.old }
@@ -44,7 +45,8 @@ fn mark_ends(marked: &mut [bool], ends: &[u16])
     }
 }
 
-/// Whether the router is an end of a row. `arrives` says whether a row runs to it.
+/// Whether a row (a link) begins or ends at the router. `arrives` says whether a row runs to the
+/// router.
 fn is_end(rows: &[Link], router: Addr, arrives: bool) -> bool
     requires by_key { AreByKey rows.now }
     requires known { arrives ≡ any_to rows.now router }
@@ -53,7 +55,8 @@ fn is_end(rows: &[Link], router: Addr, arrives: bool) -> bool
     arrives || begins(rows, router)
 }
 
-/// Lists the router's place among the kept routers, and keeps the router if it stays.
+/// Appends to `places` the number of routers that `kept` has. If `stays` is true, then appends the
+/// router to `kept`: this number is the router's index in `kept`.
 fn keep_one(kept: &mut Vec<Addr>, places: &mut Vec<u16>, router: Addr, stays: bool)
     requires few { vec_len kept.old < ROOM_FOR_ROUTERS }
     requires room { vec_len kept.old < vec_capacity kept.old }
@@ -71,7 +74,8 @@ fn keep_one(kept: &mut Vec<Addr>, places: &mut Vec<u16>, router: Addr, stays: bo
     }
 }
 
-/// Keeps the routers that are ends of rows, and lists each router's place among these.
+/// Keeps the routers at which rows (links) begin or end, and lists for each router its index among
+/// the kept routers.
 pub(crate) fn keep_ends(
     kept: &mut Vec<Addr>,
     places: &mut Vec<u16>,

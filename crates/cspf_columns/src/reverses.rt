@@ -1,5 +1,5 @@
-//! The column of reverses: for each row, the index of the row that is its reverse. It changes along
-//! with the rows.
+//! The column of reverses: for each row (a link), the index of the row that is its reverse. The
+//! column changes whenever the rows change.
 ghost use Rattle.std.specs.Prelude.{◌≡◌, ◌<◌, ◌≤◌, length, map, slice_index_or, vec_len};
 ghost use Rattle.std.specs.Vec.{vec_capacity};
 ghost use Rattle.std.specs.List.{HoldsAt, insert, remove as without};
@@ -17,8 +17,8 @@ use crate::rows::index_of;
 use crate::spans::Span;
 use cspf_model::Link;
 
-/// The index `at`, if the row there is the reverse of the link, and `NO_LINK` otherwise. The row
-/// has the key of the reverse.
+/// The index `at` if the row (a link) at this index is the reverse of the link, and `NO_LINK`
+/// otherwise. The row at this index has the key of the link's reverse.
 fn index_back(rows: &[Link], at: usize, link: &Link) -> u16
     requires by_key { AreByKey rows.now }
     requires most { length rows.now ≤ ROOM_FOR_LINKS }
@@ -33,7 +33,7 @@ fn index_back(rows: &[Link], at: usize, link: &Link) -> u16
     at as u16
 }
 
-/// The index of the row that is the reverse of the link, or `NO_LINK`.
+/// The index of the row (a link) that is the reverse of the link, or `NO_LINK`.
 pub fn reverse_index(rows: &[Link], link: &Link) -> u16
     requires by_key { AreByKey rows.now }
     requires most { length rows.now ≤ ROOM_FOR_LINKS }
@@ -45,8 +45,8 @@ pub fn reverse_index(rows: &[Link], link: &Link) -> u16
     index_back(rows, at, link)
 }
 
-/// The index of the link's reverse, or `NO_LINK`. The span is that of the router that the link runs
-/// to.
+/// The index of the link's reverse, or `NO_LINK`. `span` gives the range of the rows (links) from
+/// the router that the link runs to.
 fn reverse_within(rows: &[Link], span: &Span, link: &Link) -> u16
     requires by_key { AreByKey rows.now }
     requires most { length rows.now ≤ ROOM_FOR_LINKS }
@@ -60,7 +60,7 @@ fn reverse_within(rows: &[Link], span: &Span, link: &Link) -> u16
     index_back(rows, first + at, link)
 }
 
-/// Lists the index of each row's reverse.
+/// Lists for each row (a link) the index of its reverse, or `NO_LINK`.
 pub(crate) fn list_reverses(reverses: &mut Vec<u16>, rows: &[Link], ends: &[u16], spans: &[Span])
     requires by_key { AreByKey rows.now }
     requires most { length rows.now ≤ ROOM_FOR_LINKS }
@@ -77,8 +77,8 @@ pub(crate) fn list_reverses(reverses: &mut Vec<u16>, rows: &[Link], ends: &[u16]
     }
 }
 
-/// Separates the row at an index from its reverse, if it has one: the column then has no reverse
-/// for either.
+/// Separates the row (a link) at the index `at` from its reverse, if it has one: for both rows, the
+/// column of reverses then has `NO_LINK`.
 pub(crate) fn unpair(columns: &mut Columns, at: usize)
     requires paired { ArePaired columns.old }
     requires within { at < length columns.old.rows.items }
@@ -96,8 +96,9 @@ pub(crate) fn unpair(columns: &mut Columns, at: usize)
     columns.reverses[at] = NO_LINK;
 }
 
-/// Pairs the row at an index with its reverse, if there is one. Before, the column has no reverse
-/// for the row.
+/// Pairs the row at the index `at` with its reverse, if there is one: in the column of reverses,
+/// each of the two rows gets the other's index. Before the call, this column has no reverse for the
+/// row. A row is a link of the table.
 pub(crate) fn pair(columns: &mut Columns, at: usize)
     requires tied { AreTiedColumns columns.old }
     requires most { length columns.old.rows.items ≤ ROOM_FOR_LINKS }
@@ -117,7 +118,8 @@ pub(crate) fn pair(columns: &mut Columns, at: usize)
     columns.reverses[at] = other;
 }
 
-/// The new index of a row, after another row was inserted at `at`. `NO_LINK` stays as it is.
+/// What the index `reverse` of a row (a link) becomes when another row is inserted at the index
+/// `at`. An index of at least `at` grows by 1, and `NO_LINK` stays as it is.
 fn behind(reverse: u16, at: usize) -> u16
     ensures { result ≡ index_behind at reverse }
 {
@@ -128,7 +130,8 @@ fn behind(reverse: u16, at: usize) -> u16
     }
 }
 
-/// The new index of a row, after the row before `at` was removed. `NO_LINK` stays as it is.
+/// What the index `reverse` of a row (a link) becomes when the row at the index `at` is removed. An
+/// index of at least `at` falls by 1, and `NO_LINK` stays as it is.
 fn before(reverse: u16, at: usize) -> u16
     ensures { result ≡ index_before at reverse }
 {
@@ -139,7 +142,8 @@ fn before(reverse: u16, at: usize) -> u16
     }
 }
 
-/// Adds 1 to each index from `at` on, since a row is inserted at `at`.
+/// Adds 1 to each item that is at least `at`, because a row (a link) is inserted at the index `at`.
+/// `NO_LINK` stays as it is.
 fn move_behind(reverses: &mut [u16], at: usize)
     ensures { reverses.new ≡ map (index_behind at) reverses.old }
 {
@@ -148,7 +152,8 @@ fn move_behind(reverses: &mut [u16], at: usize)
     }
 }
 
-/// Subtracts 1 from each index from `at` on, since the row before `at` is removed.
+/// Subtracts 1 from each item that is at least `at`, because the row (a link) at the index `at` was
+/// removed. `NO_LINK` stays as it is.
 fn move_before(reverses: &mut [u16], at: usize)
     ensures { reverses.new ≡ map (index_before at) reverses.old }
 {
@@ -157,8 +162,9 @@ fn move_before(reverses: &mut [u16], at: usize)
     }
 }
 
-/// Inserts an item without a reverse, for a row that is inserted at `at`. The vector has the
-/// capacity, so this takes no memory and can't fail.
+/// Inserts `NO_LINK` at the index `at`, for a row (a link) that is inserted there, and adapts the
+/// other items to the rows' new indexes. The vector has capacity for one more item, so this takes
+/// no memory and can't fail.
 pub(crate) fn open_gap(reverses: &mut Vec<u16>, at: usize)
     requires few { vec_len reverses.old ≤ ROOM_FOR_LINKS }
     requires upto { at ≤ vec_len reverses.old }
@@ -170,7 +176,8 @@ pub(crate) fn open_gap(reverses: &mut Vec<u16>, at: usize)
     insert_within(reverses, at, NO_LINK);
 }
 
-/// Removes the item of the row that is removed at `at`.
+/// Removes the item of the row (a link) that is removed at `at`, and adapts the other items to the
+/// rows' new indexes.
 pub(crate) fn close_gap(reverses: &mut Vec<u16>, at: usize)
     requires { at < vec_len reverses.old }
     ensures closed { reverses.new.items ≡ map (index_before at) (without reverses.old.items at) }

@@ -13,7 +13,8 @@ use cspf_addr::Addr;
 use cspf_model::Change;
 use std::cmp::Ordering;
 
-/// The index of the router, or else the index at which it would be inserted.
+/// The index of the router in the list. If the list doesn't have it, the result is the index at
+/// which it would be inserted.
 pub fn search(routers: &[Addr], router: Addr) -> Result<usize, usize>
     requires { AreRising routers.now }
     ensures within { IfOk result (λ at. at < length routers.now) }
@@ -35,7 +36,7 @@ pub fn is_among(routers: &[Addr], router: Addr) -> bool
     search(routers, router).is_ok()
 }
 
-/// Adds the router to the list, unless it is there.
+/// Adds the router to the list, unless the list already has it.
 fn add(routers: &mut Vec<Addr>, router: Addr)
     requires rising { AreRising routers.old.items }
     requires room { vec_len routers.old < vec_capacity routers.old }
@@ -50,7 +51,7 @@ fn add(routers: &mut Vec<Addr>, router: Addr)
     }
 }
 
-/// Adds both ends of the link to the list, if the change puts a link.
+/// If the change puts a link, adds both ends of this link to the list.
 fn add_ends_of(routers: &mut Vec<Addr>, change: &Change)
     requires rising { AreRising routers.old.items }
     requires room { vec_len routers.old + 1 < vec_capacity routers.old }
@@ -66,7 +67,7 @@ fn add_ends_of(routers: &mut Vec<Addr>, change: &Change)
     }
 }
 
-/// Adds both ends of each link that the changes put.
+/// Adds to the list of routers both ends of each link that the changes put.
 pub(crate) fn add_ends(routers: &mut Vec<Addr>, changes: &[Change])
     requires rising { AreRising routers.old.items }
     requires room { vec_len routers.old + 2 * length changes.now ≤ vec_capacity routers.old }
@@ -81,7 +82,7 @@ pub(crate) fn add_ends(routers: &mut Vec<Addr>, changes: &[Change])
     }
 }
 
-/// The index of a router that is in the list.
+/// The index in `routers` of a router that is in this list.
 pub(crate) fn index_among(routers: &[Addr], router: Addr) -> u16
     requires rising { AreRising routers.now }
     requires few { length routers.now ≤ ROOM_FOR_ROUTERS }
@@ -94,7 +95,8 @@ pub(crate) fn index_among(routers: &[Addr], router: Addr) -> u16
     }
 }
 
-/// The index of a router that is in the list. The index `near` is tried before a search.
+/// The index in `routers` of a router that is in this list. Before a search, the index `near` is
+/// tried.
 pub(crate) fn index_near(routers: &[Addr], near: usize, router: Addr) -> u16
     requires rising { AreRising routers.now }
     requires few { length routers.now ≤ ROOM_FOR_ROUTERS }

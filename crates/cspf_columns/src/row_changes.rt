@@ -1,4 +1,4 @@
-//! Makes changes to the rows and to all columns.
+//! Makes changes to the rows (links) and to all columns of a table.
 ghost use Rattle.std.specs.Prelude.{count_by, ◌≡◌, ◌+◌, ◌<◌, ◌≤◌, true, All, length};
 ghost use Rattle.cspf_model.specs.Lemmas.LinkChanges.{all_relinked};
 ghost use Rattle.cspf_model.specs.Lemmas.CountedEnds.{HasListedEnds};
@@ -19,7 +19,8 @@ use crate::scratch::Scratch;
 use crate::spans::list_spans;
 use cspf_model::Change;
 
-/// Makes one change to the rows, and to the columns of ends and reverses.
+/// Makes one change to the rows (links), and to the columns of ends and reverses. A column of ends
+/// has for each row the index of the router that the row runs to.
 fn change_one(columns: &mut Columns, change: &Change)
     requires paired { ArePaired columns.old }
     requires room { length columns.old.rows.items < ROOM_FOR_LINKS }
@@ -40,7 +41,8 @@ fn change_one(columns: &mut Columns, change: &Change)
     }
 }
 
-/// Makes changes one by one. They put links only between listed routers.
+/// Makes the changes one after the other. They put links only between routers that the list of
+/// routers has.
 fn change_rows(columns: &mut Columns, changes: &[Change])
     requires paired { ArePaired columns.old }
     requires room { length columns.old.rows.items + length changes.now ≤ ROOM_FOR_LINKS }
@@ -68,11 +70,12 @@ pub fn count_removed(changes: &[Change]) -> usize
     changes.iter().filter(|change| is_removal(change)).count()
 }
 
-/// The most rows that are inserted or removed one by one. Each of them moves all rows after it.
+/// At most this many rows (links) are inserted one by one, and at most this many removed. Each such
+/// row moves all rows after it.
 const FEW: usize = 16;
 
-/// Whether few rows are inserted and few are removed. `added` is the number of changes that add a
-/// link.
+/// Whether few rows (links) are inserted and few are removed by the changes. `added` is the number
+/// of changes that add a link.
 fn move_few(added: usize, changes: &[Change]) -> bool
     requires few { added ≤ MOST_CHANGES }
     requires short { length changes.now ≤ MOST_CHANGES }
@@ -81,8 +84,10 @@ fn move_few(added: usize, changes: &[Change]) -> bool
     added + count_removed(changes) <= FEW
 }
 
-/// Makes changes with distinct keys to the rows and to the column of ends, and returns whether the
-/// column of reverses is changed too. The changes put links only between listed routers.
+/// Makes changes with distinct keys to the rows (links) and to the column of ends. Returns whether
+/// the column of reverses is changed too. The changes put links only between routers that the list
+/// of routers has. A column of ends has for each row the index of the router that the row runs to.
+/// A column of reverses has for each row the index of its reverse, or `NO_LINK`.
 fn change_with_ends(
     columns: &mut Columns,
     scratch: &mut Scratch,
@@ -109,7 +114,10 @@ fn change_with_ends(
     false
 }
 
-/// Lists the spans of all routers. If `follows` is false, it also lists the reverses of all rows.
+/// Lists the span of each router: the range of its rows (links), and the lowest and the highest
+/// local address in them. `follows` says whether the column of reverses was already changed along
+/// with the rows. If it wasn't, the call also lists the reverses of all rows. A column of reverses
+/// has for each row the index of its reverse, or `NO_LINK`.
 fn list_beside(columns: &mut Columns, follows: bool)
     requires parts { AreRowParts columns.old }
     requires reverses { follows ≡ true
@@ -129,7 +137,7 @@ fn list_beside(columns: &mut Columns, follows: bool)
 }
 
 /// Makes the changes of a batch that fits. `added` is the number of changes that add a link. If
-/// `brought` is 0, the changes put links only between routers that are listed.
+/// `brought` is 0, the changes put links only between routers that the list of routers already has.
 pub fn change_columns(
     columns: &mut Columns,
     scratch: &mut Scratch,

@@ -1,4 +1,5 @@
-//! The memory in which a batch's changes are made. A table takes it once, when the table is made.
+//! The memory in which the changes of a batch are made. A table takes this memory once, when the
+//! table is made.
 
 ghost use Rattle.std.specs.Prelude.{◌≡◌, ◌≤◌, All, length};
 ghost use Rattle.std.specs.Vec.{vec_capacity};
@@ -16,8 +17,9 @@ use cspf_model::{Change, Link, MOST_CHANGES};
 use std::alloc::{AllocError, Global};
 use std::mem::swap;
 
-/// Memory for the rows, the ends and the routers after the changes, for the changes and their keys
-/// in order, and for the places of routers.
+/// Memory for the rows (links), the column of ends and the routers after the changes. It also has
+/// room for the changes sorted by their keys, and for the new indexes of routers. A column of ends
+/// has for each row the index of the router that the row runs to.
 #[derive(Debug, Drop)]
 pub struct Scratch {
     merged: Vec<Link>,
@@ -34,7 +36,8 @@ pub struct Scratch {
     ghost room_for_places: { ROOM_FOR_ROUTERS ≤ vec_capacity places },
 }
 
-/// Copies the routers. The vector has the capacity, so this takes no memory and can't fail.
+/// Copies the routers to `listed`. This vector has capacity for all of them, so this takes no
+/// memory and can't fail.
 fn copy_routers(listed: &mut Vec<Addr>, routers: &[Addr])
     requires { length routers.now ≤ vec_capacity listed.old }
     ensures items { listed.new.items ≡ routers.now }
@@ -45,7 +48,7 @@ fn copy_routers(listed: &mut Vec<Addr>, routers: &[Addr])
 }
 
 impl Scratch {
-    /// Memory for the rows of a full table and a batch.
+    /// Memory that is enough for the rows (links) of a full table and for a batch.
     pub fn new(alloc: Global) -> Result<Self, AllocError> {
         Ok(Scratch {
             merged: Vec::with_capacity(alloc, ROOM_FOR_LINKS)?,
@@ -66,8 +69,10 @@ impl Scratch {
     ghost use Rattle.cspf_columns.specs.Index.{router_list};
     ghost use Rattle.cspf_model.specs.Refusals.{AreOnceEach};
 
-    /// Makes changes with distinct keys to the rows and to the column of ends, however many rows
-    /// they move. The changes put links only between listed routers. It takes no memory.
+    /// Makes changes with distinct keys to the rows (links) and to the column of ends, however many
+    /// rows move. The changes put links only between routers that the list of routers has. The call
+    /// takes no memory. A column of ends has for each row the index of the router that the row runs
+    /// to.
     pub(crate) fn change(&mut self, columns: &mut Columns, changes: &[Change])
         requires tied { AreTiedColumns columns.old }
         requires most { length columns.old.rows.items ≤ MOST_LINKS }
@@ -86,8 +91,8 @@ impl Scratch {
         swap(&mut columns.ends, &mut self.ends);
     }
 
-    /// Adds the ends of the links that the changes put to the list of routers, unless `brought` is
-    /// 0. The column of ends then has the indices in the new list.
+    /// Unless `brought` is 0, adds to the list of routers both ends of each link that the changes
+    /// put. The column of ends then has the indexes of the routers in the new list.
     pub(crate) fn add_routers(&mut self, columns: &mut Columns, changes: &[Change], brought: usize)
         requires listed { brought ≡ 0
             → All (HasListedEnds columns.old.routers.items) changes.now }
@@ -109,8 +114,8 @@ impl Scratch {
         swap(&mut columns.routers, &mut self.listed);
     }
 
-    /// Drops the routers that aren't ends of rows. The column of ends then has the indices in the
-    /// new list.
+    /// Drops from the list of routers those at which no row (a link) begins or ends. The column of
+    /// ends then has the indexes of the routers in the new list.
     pub(crate) fn drop_routers(&mut self, columns: &mut Columns)
         requires tied { AreTiedColumns columns.old }
         ensures room { HaveRoom columns.new }

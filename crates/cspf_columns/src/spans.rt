@@ -1,5 +1,5 @@
-//! Spans: the range of the rows from each router, and the lowest and highest address of its
-//! interfaces.
+//! Spans: for each router, the range of the rows (links) from it, and the lowest and the highest
+//! address of its interfaces in these rows.
 ghost use Rattle.std.specs.Prelude.{◌≡◌, ℕ, All, ◌+◌, ◌-◌, ◌<◌, ◌≤◌, true, filter, length, nat_eq, slice_index_or, slice_range, vec_len};
 ghost use Rattle.std.specs.Vec.{vec_capacity};
 ghost use Rattle.std.specs.List.Sorted.{IsNonDecreasingBy};
@@ -12,8 +12,9 @@ use crate::rows::span;
 use cspf_addr::Addr;
 use cspf_model::Link;
 
-/// The range of the rows from a router, and the lowest and highest address of the router's
-/// interfaces in these rows. If there are no rows, the lowest is above the highest.
+/// The range of the rows (links) from a router, and the lowest and the highest address of the
+/// router's interfaces in these rows. If there are no rows, the lowest address is above the
+/// highest.
 #[derive(Clone, Copy, Debug)]
 pub struct Span {
     pub first: u16,
@@ -22,7 +23,8 @@ pub struct Span {
     pub highest: Addr,
 }
 
-/// The span of a router without rows.
+/// The span of a router without rows (links): an empty range, and a lowest address above the
+/// highest.
 fn no_span() -> Span {
     Span {
         first: 0,
@@ -32,7 +34,8 @@ fn no_span() -> Span {
     }
 }
 
-/// The index after the rows from the router that begin at `first`.
+/// The index after the last of the rows (links) from the router. The first of these rows is at the
+/// index `first`.
 fn skip(rows: &[Link], first: usize, router: Addr) -> usize
     requires { first ≤ length rows.now }
     ensures order { first ≤ result }
@@ -47,7 +50,8 @@ fn skip(rows: &[Link], first: usize, router: Addr) -> usize
     at
 }
 
-/// Whether the row before the index, if there is one, is from a lower router.
+/// Whether the row (a link) before the index `at` is from a router with a lower address than
+/// `router`. If there is no row before `at`, the result is true.
 fn is_behind(rows: &[Link], at: usize, router: Addr) -> bool
     requires { at ≤ length rows.now }
     ensures { result ≡ true → 0 < at → (d : Linked)
@@ -56,7 +60,8 @@ fn is_behind(rows: &[Link], at: usize, router: Addr) -> bool
     at == 0 || rows[at - 1].from < router
 }
 
-/// Whether the row at the index, if there is one, is from a higher router.
+/// Whether the row (a link) at the index `at` is from a router with a higher address than `router`.
+/// If there is no row at `at`, the result is true.
 fn is_before(rows: &[Link], at: usize, router: Addr) -> bool
     requires { at ≤ length rows.now }
     ensures { result ≡ true → at < length rows.now → (d : Linked)
@@ -65,7 +70,8 @@ fn is_before(rows: &[Link], at: usize, router: Addr) -> bool
     at == rows.len() || router < rows[at].from
 }
 
-/// Whether all rows of a range are from the router. Only its first and its last row are read.
+/// Whether all rows (links) of a range are from the router. Only the first and the last row of the
+/// range are read.
 fn is_run(rows: &[Link], first: usize, end: usize, router: Addr) -> bool
     requires by_key { AreByKey rows.now }
     requires order { first ≤ end }
@@ -76,7 +82,7 @@ fn is_run(rows: &[Link], first: usize, end: usize, router: Addr) -> bool
     first == end || (rows[first].from == router && rows[end - 1].from == router)
 }
 
-/// Whether this range has exactly the rows from the router.
+/// Whether the range from `first` to `end` has exactly the rows (links) from the router.
 fn is_span(rows: &[Link], first: usize, end: usize, router: Addr) -> bool
     requires by_key { AreByKey rows.now }
     requires order { first ≤ end }
@@ -90,7 +96,8 @@ fn is_span(rows: &[Link], first: usize, end: usize, router: Addr) -> bool
     is_behind(rows, first, router) && is_before(rows, end, router)
 }
 
-/// The range of the rows from the router. The index `at` is tried before a search.
+/// The range of the rows (links) from the router. Before a search, it is checked whether the range
+/// begins at the index `at`.
 fn span_from(rows: &[Link], at: usize, router: Addr) -> (usize, usize)
     requires by_key { AreByKey rows.now }
     requires bound { at ≤ length rows.now }
@@ -107,8 +114,8 @@ fn span_from(rows: &[Link], at: usize, router: Addr) -> (usize, usize)
     }
 }
 
-/// The range of the rows from the router. The index `at` and the number `count` are a guess: if
-/// they are right, only a few rows are read.
+/// The range of the rows (links) from the router. The index `at` and the number `count` are a guess
+/// of where the range begins and how long it is. If the guess is right, only a few rows are read.
 fn span_near(rows: &[Link], at: usize, count: u16, router: Addr) -> (usize, usize)
     requires by_key { AreByKey rows.now }
     requires most { length rows.now ≤ MOST_LINKS }
@@ -126,7 +133,8 @@ fn span_near(rows: &[Link], at: usize, count: u16, router: Addr) -> (usize, usiz
     }
 }
 
-/// The span of a range of rows that are in order of their local addresses.
+/// The span of a range of rows (links): the range, and the lowest and the highest local address in
+/// it. The rows are in order of these addresses.
 fn rising_between(rows: &[Link], first: usize, end: usize) -> Span
     requires most { length rows.now ≤ MOST_LINKS }
     requires order { first ≤ end }
@@ -147,8 +155,9 @@ fn rising_between(rows: &[Link], first: usize, end: usize) -> Span
     span
 }
 
-/// The span of the router. `at` is the index to try first, and `count` is a guess of the number of
-/// rows.
+/// The span of the router: the range of its rows (links), and the lowest and the highest local
+/// address in them. `at` is the index at which its rows may begin, and `count` is a guess of their
+/// number.
 fn locate(rows: &[Link], at: usize, count: u16, router: Addr) -> Span
     requires by_key { AreByKey rows.now }
     requires most { length rows.now ≤ MOST_LINKS }
@@ -159,7 +168,7 @@ fn locate(rows: &[Link], at: usize, count: u16, router: Addr) -> Span
     rising_between(rows, first, end)
 }
 
-/// Makes the list have `count` spans.
+/// Makes the list `count` items long. The values of these items don't matter.
 fn resize(spans: &mut Vec<Span>, count: usize)
     requires few { count ≤ MOST_ROUTERS }
     requires room { MOST_ROUTERS ≤ vec_capacity spans.old }
@@ -172,8 +181,10 @@ fn resize(spans: &mut Vec<Span>, count: usize)
     }
 }
 
-/// Lists the span of each router. A router costs only a few reads if it has as many rows as the old
-/// span at its index. If the routers are in rising order, the other rows are read once in all.
+/// Lists the span of each router: the range of its rows (links), and the lowest and the highest
+/// local address in them. If a router has as many rows as the old span at its index covers, only a
+/// few of its rows are read. If the routers are in rising order, all rows of the other routers are
+/// read once.
 pub(crate) fn list_spans(spans: &mut Vec<Span>, routers: &[Addr], rows: &[Link])
     requires by_key { AreByKey rows.now }
     requires most { length rows.now ≤ MOST_LINKS }

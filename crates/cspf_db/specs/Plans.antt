@@ -9,8 +9,8 @@ use Rattle.cspf_db.specs.declared.table.plan.Plan.{Plan}
 use Rattle.cspf_columns.specs.Index.{links_of, router_list}
 use Rattle.cspf_columns.specs.AlikeChanges.{IsAlike}
 
--- The plan is for this batch and this database: the batch fits, and the plan says what its changes do to the links
--- and the routers.
+-- The plan is for the batch `b` and the database `d`: the batch fits, and the plan says what its
+-- changes do to the links and the routers.
 pub record IsPlanOf (d : Database) (b : NumberedChanges) (plan : Plan) : Type 0 where
   pub fits : Fits d b
   pub added : plan.tally.added ≡ count_by (adds_link d) b.changes

@@ -1,10 +1,10 @@
--- The database after a replay that doesn't absorb all batches.
+-- The database after a replay that stops at a batch that doesn't fit.
 use Rattle.std.specs.Prelude.{◌≡◌, List, ◌∷◌, ◌++◌}
 use Rattle.cspf_model.specs.Numbered.{NumberedChanges}
 use Rattle.cspf_model.specs.Database.{Database}
 use Rattle.cspf_model.specs.Changes.{AreLawful, Fits, database_after}
 
--- `d` is the database of the batches before the first batch that doesn't fit.
+-- `d` is the database that is made by the batches before the first batch that doesn't fit.
 pub record IsStoppedReplay (batches : List NumberedChanges) (d : Database) : Type 0 where
   pub before : List NumberedChanges
   pub batch : NumberedChanges

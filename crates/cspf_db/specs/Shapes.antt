@@ -14,7 +14,7 @@ pub record Shape : Type 0 where
   pub metric : ℕ
   pub group : ℕ
 
--- the shape of a link
+-- all attributes of the link except its unreserved bandwidths
 abbrev pub shape_of : Link → Shape
 shape_of l = record {
   from = l.from;
@@ -25,12 +25,13 @@ shape_of l = record {
   group = l.group;
 }
 
--- The databases have the same marks. At each key either both have no link, or their links differ only in their
--- unreserved bandwidths.
+-- The databases have the same marks. At each key either both have no link, or their links differ
+-- only in their unreserved bandwidths. A mark says that a router has no transit.
 pub record HaveOneShape (d e : Database) : Type 0 where
   pub marks : e.marks ≡ d.marks
   pub links : (k : Key) → option_map shape_of (link_at e k) ≡ option_map shape_of (link_at d k)
 
--- Two databases with the same shape have the same list of routers.
+-- If two databases have the same marks, and their links differ only in unreserved bandwidths, their
+-- lists of routers are equal. A mark says that a router has no transit.
 abbrev pub ShapesTellRouters : Type 0
 ShapesTellRouters = (d e : Database) → HaveOneShape d e → router_list e ≡ router_list d

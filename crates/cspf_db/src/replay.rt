@@ -1,4 +1,4 @@
-//! Batches that are absorbed one after the other, as when a journal is replayed.
+//! Absorbs batches one after the other, as when a journal is replayed.
 ghost use Rattle.std.specs.Prelude.{◌≡◌, IfErr, OnOk, OnErr};
 ghost use Rattle.cspf_model.specs.Changes.{AreLawful, database_after, no_links};
 ghost use Rattle.cspf_model.specs.Refusals.{IsFirstUnfit};
@@ -7,7 +7,7 @@ ghost use Rattle.cspf_db.specs.Replays.{IsStoppedReplay};
 use crate::Table;
 use cspf_model::{Batch, Refusal, absorbing, lawful_batches};
 
-/// The first batch that doesn't fit the database of the batches before it.
+/// The first batch that doesn't fit the database that the batches before it make.
 #[derive(Clone, Copy, Debug, PartialEq, Eq)]
 pub struct UnfitBatch {
     /// The number of the batch.
@@ -16,9 +16,9 @@ pub struct UnfitBatch {
     pub refusal: Refusal,
 }
 
-/// Absorbs batches, in order, into an empty table. If a batch doesn't fit the database of the
-/// batches before it, it is refused, and the batches before it stay absorbed. The numbers of the
-/// batches aren't checked. The call takes no memory.
+/// Absorbs the batches, in order, into an empty table. If a batch doesn't fit the database that the
+/// batches before it make, it is refused, and the batches before it stay absorbed. The numbers of
+/// the batches aren't checked. The call takes no memory.
 pub fn replay_into(table: &mut Table, batches: &[Batch]) -> Result<(), UnfitBatch>
     requires empty { table.old ≡ no_links }
     ensures lawful { OnOk result (AreLawful batches.now) }
@@ -26,8 +26,9 @@ pub fn replay_into(table: &mut Table, batches: &[Batch]) -> Result<(), UnfitBatc
     ensures err { IfErr result (λ unfit. IsFirstUnfit batches.now unfit.number unfit.refusal) }
     ensures stopped { OnErr result (IsStoppedReplay batches.now table.new) }
 {
-    // Laws: absorbing one more batch makes its changes, and a list of lawful batches stays lawful
-    // if the next batch fits.
+    // Laws: the database after one more batch is what this batch's changes make of the database
+    // before. If each batch of a list fits the database before it, and the next batch does so too,
+    // the same holds of the list with this batch.
     absorbing();
     lawful_batches();
     for batch in batches {

@@ -1,5 +1,5 @@
 //! The table that keeps a traffic engineering database, with the lists that the search reads. Each
-//! module of `table/` has one list, or one step of absorbing a batch.
+//! module of `table/` contains one of these lists, or one step of absorbing a batch.
 
 ghost use Rattle.std.specs.Prelude.{◌≡◌, ◌<◌, ◌≤◌, ◌↔◌, ℕ, All, Contains, length, map, slice_index, slice_index_or, IfOk, OnOk, IfErr, OnErr, IfSome, IfNone, IsTrue};
 ghost use Rattle.std.specs.Vec.{vec_capacity};
@@ -41,8 +41,8 @@ use std::alloc::{AllocError, Global};
 use std::marker::Model;
 use transits::list_transits;
 
-/// A traffic engineering database of at most 16,384 links, 1,024 routers, and 1,024 marks of
-/// routers without transit. Only `new` takes memory.
+/// A traffic engineering database of at most 16,384 links, 1,024 routers, and 1,024 marks. A mark
+/// says of a router that it is without transit. Only `new` takes memory.
 #[derive(Debug, Drop)]
 pub struct Table {
     columns: Columns,
@@ -68,7 +68,8 @@ impl Model for Table {
 }
 
 impl Table {
-    /// An empty table with room for 16,384 links, 1,024 routers and 1,024 marks.
+    /// An empty table with room for 16,384 links, 1,024 routers and 1,024 marks. A mark says that a
+    /// router has no transit.
     pub fn new(alloc: Global) -> Result<Table, AllocError>
         ensures { IfOk result (λ table. table ≡ no_links) }
     {
@@ -80,8 +81,9 @@ impl Table {
         })
     }
 
-    /// The links, each once, in order of the router from which they run and then of their interface
-    /// address at this router. At most 1,024 routers are endpoints of these links.
+    /// The links, each of them once. They are in order of the router from which they run, and then
+    /// of their interface address at this router. At most 1,024 routers are endpoints of these
+    /// links.
     pub fn links(&self) -> &[Link]
         ensures listed { AreLinksOf self.now result.now }
         ensures most { length result.now ≤ MOST_LINKS }
@@ -93,7 +95,7 @@ impl Table {
         self.columns.rows.as_slice()
     }
 
-    /// The routers, each once, in rising order.
+    /// The routers, each of them once, in rising order.
     pub fn routers(&self) -> &[Addr]
         ensures all { result.now ≡ router_list self.now }
         ensures known { (router : ℕ) → Contains result.now router ↔ IsRouterOf self.now router }
@@ -112,7 +114,7 @@ impl Table {
         self.columns.ends.as_slice()
     }
 
-    /// The index of the router in `routers`, if the router is in it.
+    /// The index of the router in `routers`, if `routers` has it.
     pub fn place_of(&self, router: Addr) -> Option<usize>
         ensures bound { IfSome result (λ at. at < length (router_list self.now)) }
         ensures some { IfSome result (λ at. slice_index (router_list self.now) at ≡ router) }
@@ -121,14 +123,14 @@ impl Table {
         search(&self.columns.routers, router).ok()
     }
 
-    /// The links from the router, in order of their interface address at it.
+    /// The links from the router, in order of their interface address at this router.
     pub fn out(&self, router: Addr) -> &[Link]
         ensures { result.now ≡ links_from self.now router }
     {
         rows_from(&self.columns.rows, router)
     }
 
-    /// The links from the router at an index of `routers`.
+    /// The links from the router at the index `at` of `routers`.
     pub fn out_at(&self, at: usize) -> &[Link]
         requires { at < length (router_list self.now) }
         ensures { result.now ≡ links_from_index self.now at }
@@ -148,8 +150,8 @@ impl Table {
         &self.columns.ends[usize::from(span.first)..usize::from(span.end)]
     }
 
-    /// For each link of `out_at`, the index of its reverse in `links`, or `NO_LINK` if it has none.
-    /// `has_reverse` defines the reverse.
+    /// For each link of `out_at`, the index of its reverse in `links`, or `NO_LINK` if it has no
+    /// reverse. `has_reverse` says what a reverse is.
     pub fn reverses_at(&self, at: usize) -> &[u16]
         requires { at < length (router_list self.now) }
         ensures many { length result.now ≡ length (links_from_index self.now at) }
@@ -161,7 +163,7 @@ impl Table {
         &self.columns.reverses[usize::from(span.first)..usize::from(span.end)]
     }
 
-    /// The link with this key, if there is one.
+    /// The link with the key (`from`, `local`), if there is one.
     pub fn find(&self, from: Addr, local: Addr) -> Option<Link>
         ensures { result ≡ link_at self.now (from, local) }
     {
@@ -169,9 +171,9 @@ impl Table {
         Some(self.columns.rows[at])
     }
 
-    /// Whether the table has the reverse of the link, with any attributes. The reverse runs back
-    /// between the same two interfaces. RFC 2328 16.1, step 2b, only requires some link back to the
-    /// router.
+    /// Whether the table has the reverse of the link, with any attributes. The reverse joins the
+    /// same two interfaces in the other direction. RFC 2328 16.1, step 2b, requires less: only some
+    /// link back to the router.
     pub fn has_reverse(&self, link: &Link) -> bool
         ensures { IsTrue result ↔ HasReverse self.now link.now }
     {
@@ -185,8 +187,8 @@ impl Table {
         search(&self.columns.routers, router).is_ok()
     }
 
-    /// The Router IDs that are marked as without transit (RFC 6987), each once, in rising order. A
-    /// marked Router ID need not be that of a router in the table.
+    /// The Router IDs that are marked as without transit (RFC 6987), each of them once, in rising
+    /// order. A marked Router ID need not be that of a router in the table.
     pub fn marks(&self) -> &[Addr]
         ensures all { self.now.marks ≡ set.from_list result.now }
         ensures rising { IsStrictlyIncreasing result.now }
@@ -203,7 +205,7 @@ impl Table {
         !is_marked(&self.marks, router)
     }
 
-    /// Whether the router at an index of `routers` has transit, as `transit` defines it.
+    /// Whether the router at the index `at` of `routers` has transit, in the sense of `transit`.
     pub fn transit_at(&self, at: usize) -> bool
         requires { at < length (router_list self.now) }
         ensures { IsTrue result ↔ HasTransit self.now (slice_index (router_list self.now) at) }
@@ -211,9 +213,10 @@ impl Table {
         self.transits[at]
     }
 
-    /// Whether the router is an endpoint of a link, and the prefix covers the Router ID or the
-    /// address of one of its interfaces on a link from it. The link's attributes don't matter (RFC
-    /// 3209 4.3.3.2).
+    /// Whether the router owns an address of the prefix. It does so if it is an endpoint of a link,
+    /// and the prefix covers its Router ID or the address of one of its interfaces. The interfaces
+    /// are those of the links from the router. The links' attributes don't matter (RFC 3209
+    /// 4.3.3.2).
     pub fn owns(&self, router: Addr, prefix: Prefix) -> bool
         ensures { IsTrue result ↔ Owns self.now prefix router }
     {
@@ -223,8 +226,8 @@ impl Table {
         }
     }
 
-    /// Whether the router at an index of `routers` owns an address of the prefix, as `owns` defines
-    /// it. `range` is the range of the addresses that the prefix covers.
+    /// Whether the router at the index `at` of `routers` owns an address of the prefix, in the
+    /// sense of `owns`. `range` is the range of the addresses that the prefix covers.
     fn owns_within(&self, at: usize, prefix: Prefix, range: &AddressRange) -> bool
         requires bound { at < length (router_list self.now) }
         requires range { IsRangeOf prefix range.now }
@@ -241,10 +244,10 @@ impl Table {
         any_within(self.out_at(at), prefix)
     }
 
-    /// Lists the indexes in `routers` of all routers that own an address of the prefix, in rising
-    /// order. `owns` defines this. The links of a router are read only if the range of the prefix
-    /// reaches between its lowest and highest interface address. There is room for all routers, so
-    /// this takes no memory.
+    /// Lists the indexes in `routers` of all routers that own an address of the prefix, in the
+    /// sense of `owns`. The indexes are in rising order. The links of a router are read only if the
+    /// prefix covers some address from the router's lowest to its highest interface address.
+    /// `owners` has room for all routers, so this takes no memory.
     pub fn list_owners(&self, owners: &mut Vec<u16>, prefix: Prefix)
         requires { MOST_ROUTERS ≤ vec_capacity owners.old }
         ensures owners { AreOwners self.now prefix owners.new.items }
@@ -259,8 +262,8 @@ impl Table {
         }
     }
 
-    /// Checks whether the batch fits. If it doesn't, returns the first reason. The batch's number
-    /// isn't checked.
+    /// Checks whether the batch fits. If it doesn't fit, returns the first reason. The batch's
+    /// number isn't checked.
     pub fn check(&self, batch: &Batch) -> Result<(), Refusal>
         ensures ok { OnOk result (Fits self.now batch.now) }
         ensures err { IfErr result (λ refusal. IsRefusal self.now batch.now refusal) }
@@ -272,7 +275,7 @@ impl Table {
         }
     }
 
-    /// Checks whether the batch fits. If it does, returns what it does to the table, for
+    /// Checks whether the batch fits. If it fits, returns what it does to the table, for
     /// `absorb_planned`. Otherwise returns the first reason why it doesn't fit. The batch's number
     /// isn't checked.
     pub fn plan(&self, batch: &Batch) -> Result<Plan, Refusal>
@@ -314,7 +317,8 @@ impl Table {
     }
 
     /// Makes all changes of a batch that fits. `plan` is what the call `plan` returned for this
-    /// batch and this database. It isn't checked again whether the batch fits. It takes no memory.
+    /// batch and this database. The call doesn't check again whether the batch fits, and takes no
+    /// memory.
     pub fn absorb_planned(&mut self, batch: &Batch, plan: Plan)
         requires { IsPlanOf self.old batch.now plan }
         ensures { self.new ≡ after_changes self.old batch.now.changes }

@@ -1,4 +1,5 @@
--- Each step keeps the rule of draws. At the end the rule says which numbers were drawn.
+-- Each step on a counter keeps the rule of draws, an invariant. At the end the rule says which
+-- numbers were drawn.
 use Rattle.std.proofs.Common.{◌≡◌, ℕ, ◌+◌, ◌*◌, ◌-◌, ◌%◌, ◌^◌, ◌<◌, ◌≤◌, List, [], ◌∷◌, ◌++◌, length, set, get_or, refl, sym, ap, ◌∙◌, arith, sum_by, length-append, length-set}
 use Rattle.std.proofs.lemmas.Bool.Decides.{nat_tests}
 use Rattle.std.proofs.lemmas.List.Sums.{sum_by_push}
@@ -82,7 +83,9 @@ joins requests id v other w s holds at apart there = record {
   draws = ap (λ n. drawn_word s + n) (total-join (λ u. u.left) s.views id other v w (both_seats v w) spent_seat at there (omega arith)) ∙ holds.draws;
 }
 
--- a seat that has all draws of the counter, made or left, has drawn each number below the word once and no other number
+-- Suppose that one seat (a record of draws) has all draws of the counter: those that were made, and
+-- those that are left. Then the seat's list of drawn numbers has each number below the counter's
+-- value once, and no other number.
 pub all_once : (requests : ℕ) (s : State ℕ SeatDraws) (id : ℕ) (v : SeatDraws) → HoldsBetweenDraws requests s → get_elem? s.views id ≡ some v
     → length v.drawn + v.left ≡ MOST_DRAWERS * (requests + 1) → HoldsEachOnce (drawn_word s) v.drawn
 all_once requests s id v holds at all x =
@@ -95,15 +98,17 @@ all_once requests s id v holds at all x =
     let draws = holds.draws in
     omega arith
 
--- the first of the table's words is the counter's word
+-- the first number in the table of a counter is the counter's value
 pub word_at : (words : List ℕ) (word : ℕ) → get_elem? words 0 ≡ some word → get_or words 0 0 ≡ word
 word_at [] word at = absurd (some-ne-none word (sym at))
 word_at (w ∷ ws) word at = some-injective w word at
 
--- one more share has as many draws more as a share has
+-- if each worker has `share` draws, `shares + 1` workers have `share` draws more than `shares`
+-- workers
 pub shares-more : (share shares : ℕ) → share * (shares + 1) ≡ share * shares + share
 shares-more share shares = grind arith
 
--- the draws of several shares are those of one share and those of the other shares
+-- if each worker has `share` draws and there is a worker, `shares` workers have `share` draws more
+-- than `shares - 1` workers
 pub shares-one_less : (share shares : ℕ) → 0 < shares → share * shares ≡ share * (shares - 1) + share
 shares-one_less share shares more = ap (λ n. share * n) (let e : shares ≡ (shares - 1) + 1 = omega arith in e) ∙ shares-more share (shares - 1)

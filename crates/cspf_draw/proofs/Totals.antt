@@ -1,4 +1,5 @@
--- Sums over all seats: how many numbers they have drawn, and how often they may still draw.
+-- Sums over all seats of a counter. A seat records which numbers a worker has drawn, and how often
+-- it may still draw. The sums are how many numbers were drawn, and how many draws are left.
 use Rattle.std.proofs.Common.{◌≡◌, ℕ, zero, suc, ◌+◌, ◌<◌, ◌≤◌, ◌==◌, cond, List, [], ◌∷◌, ◌++◌, length, All, set, get_or, sym, ap, ◌∙◌, arith, sum_by, inl, inr, length-append, subst, flat_map, append-nil}
 use Rattle.std.specs.List.Sorted.{IsStrictlyIncreasing}
 use Rattle.std.proofs.lemmas.Bool.{cases_lt}
@@ -13,19 +14,21 @@ use Rattle.cspf_draw.specs.declared.seat_draws.SeatDraws.{SeatDraws}
 use Rattle.cspf_draw.specs.DrawnNumbers.{DrawnNumbers}
 use Rattle.cspf_draw.specs.EachOnce.{times, once_below}
 
--- the seat with this index is in the list, and reading the list there gives it
+-- if the list `views` of seats (records of draws) has `v` at the index `seat`, the index is within
+-- the list, and reading the list there gives `v`
 pub at_place : (views : List SeatDraws) (seat : ℕ) (v : SeatDraws) → get_elem? views seat ≡ some v → (seat < length views) × ((d : SeatDraws) → get_or views seat d ≡ v)
 at_place [] seat v at = absurd (some-ne-none v (sym at))
 at_place (u ∷ us) zero v at = (omega arith, λ d. some-injective u v at)
 at_place (u ∷ us) (suc seat) v at = (let rest = at_place us seat v at in (omega (arith, rest.0), rest.1))
 
--- the sum after one seat has changed
+-- if one seat (record of draws) in a list is replaced, the sum of `f` over the list loses the old
+-- seat's value and gains the new seat's value
 pub total-set : (f : SeatDraws → ℕ) (views : List SeatDraws) (seat : ℕ) (v w : SeatDraws) → get_elem? views seat ≡ some v → sum_by f (set views seat w) + f v ≡ sum_by f views + f w
 total-set f views seat v w at =
     let place = at_place views seat v at in
     ap (λ u. sum_by f (set views seat w) + f u) (sym (place.1 v)) ∙ sum_by-set f views seat w v place.0
 
--- one seat's part of a sum is at most the sum
+-- the value of `f` for one seat (record of draws) is at most the sum of `f` over all seats
 pub total_at : (f : SeatDraws → ℕ) (views : List SeatDraws) (seat : ℕ) (v : SeatDraws) → get_elem? views seat ≡ some v → f v ≤ sum_by f views
 total_at f views seat v at =
     let place = at_place views seat v at in
@@ -33,8 +36,8 @@ total_at f views seat v at =
     let least = get_or-le-sum_by f views seat v place.0 in
     omega arith
 
--- if `f` is at most `g` for each seat, then over all seats but one the sum of `f` is at most the sum of
--- `g`
+-- if `f` is at most `g` for each seat (record of draws), this also holds of the sums of `f` and of
+-- `g` over all seats but one
 pub total_others : (f g : SeatDraws → ℕ) → ((u : SeatDraws) → f u ≤ g u) → (views : List SeatDraws) (seat : ℕ) (v : SeatDraws)
     → get_elem? views seat ≡ some v → sum_by f views + g v ≤ sum_by g views + f v
 total_others f g le [] seat v at = absurd (some-ne-none v (sym at))
@@ -81,13 +84,14 @@ IsStrictlyIncreasing-push xs y rising above k less =
           omega arith
     ]
 
--- what holds of all elements of a list holds of the element `x` after the first elements
+-- what holds of all elements of a list holds of `x`, which comes after the elements `before`
 pub next_of : {X : Type 0} (P : X → Type 0) (before : List X) (x : X) (left after all : List X) → before ++ left ≡ all → left ≡ x ∷ after → All P all → P x
 next_of P before x left after all whole next holds =
     let same : all ≡ before ++ x ∷ after = sym whole ∙ ap (λ l. before ++ l) next in
     let here : All P (before ++ x ∷ after) = subst (All P) same holds in
     subst P (get_or-append_seam before x after x) (here (length before) x (omega (arith, length-append before (x ∷ after))))
 
--- one more drawer adds its numbers at the end of the numbers of all drawers
+-- if a worker is added at the end of the list of workers that draw, its numbers come after the
+-- numbers of all other workers
 pub drawn-push : (drawers : List DrawnNumbers) (d : DrawnNumbers) → flat_map (λ u. u.drawn) (drawers ++ d ∷ []) ≡ flat_map (λ u. u.drawn) drawers ++ d.drawn
 drawn-push drawers d = flat_map-append (λ (u : DrawnNumbers). u.drawn) drawers (d ∷ []) ∙ ap (λ rest. flat_map (λ (u : DrawnNumbers). u.drawn) drawers ++ rest) (append-nil d.drawn)

@@ -1,4 +1,6 @@
--- A counter, its drawers and its first and last seat, as the clauses of a caller see them.
+-- The values by which contracts describe a counter, the drawers with which workers draw from it,
+-- and its first and last seat. A seat is a record of draws. Drawers get their draws from the first
+-- seat, and the last seat has the numbers that all drawers drew.
 use Rattle.std.specs.Prelude.{ℕ, List}
 use Rattle.atomic_table.specs.Seated.{TableId}
 
@@ -7,18 +9,20 @@ pub record CounterId : Type 0 where
   pub table : TableId
   pub requests : ℕ
 
--- the numbers that a drawer has drawn, in their order, how often it may still draw, and its counter
+-- What describes a drawer, with which one worker draws: the numbers that it has drawn, in the order
+-- of the draws. Also how often it may still draw, and the counter from which it draws.
 pub record DrawnNumbers : Type 0 where
   pub drawn : List ℕ
   pub left : ℕ
   pub counter : CounterId
 
--- how many drawers can still be split off the first seat, and its counter
+-- the first seat (record of draws) of a counter: for how many more workers it has draws, and the
+-- counter
 pub record FreeShares : Type 0 where
   pub shares : ℕ
   pub counter : CounterId
 
--- the numbers that all drawers of a counter have drawn, and the counter
+-- the numbers that all workers have drawn from a counter, and the counter
 pub record AllDrawn : Type 0 where
   pub drawn : List ℕ
   pub counter : CounterId

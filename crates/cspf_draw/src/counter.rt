@@ -1,4 +1,4 @@
-//! The counter from whose word numbers are drawn.
+//! The counter: an atomic number, from which workers draw (read it and add 1 in one step).
 ghost use Rattle.std.specs.Prelude.{◌≡◌, ◌+◌, ◌<◌, ◌≤◌, [], All, IfOk, vec_len, flat_map};
 ghost use Rattle.std.specs.List.Sorted.{IsStrictlyIncreasing};
 ghost use Rattle.cspf_draw.specs.EachOnce.{HoldsEachOnce};
@@ -12,7 +12,8 @@ use atomic_table::Table;
 use std::alloc::{AllocError, Global};
 use std::marker::Model;
 
-/// A counter: one atomic number, its *word*. It is 0 at first, and each draw returns it and adds 1 to it.
+/// A counter: one atomic number, which is called its *word*. The word is 0 at first. Each draw
+/// returns the word and adds 1 to it, in one atomic step.
 #[derive(Drop)]
 pub struct Counter {
     table: Table<u64, SeatDraws, u64, DrawRule, Global>,
@@ -33,8 +34,8 @@ impl Model for Counter {
 }
 
 impl Counter {
-    /// A counter for this many requests, from which no number is drawn yet, and the first seat, which has all
-    /// draws.
+    /// Makes a counter for this many requests, and its first seat (a record of draws). No number is
+    /// drawn yet. The first seat records the draws that all drawers (one for each worker) may make.
     pub fn open(alloc: Global, requests: u64) -> Result<(Counter, FirstSeat), AllocError>
         requires { requests ≤ MOST_REQUESTS }
         ensures first { IfOk result (λ opened. (opened.1.shares ≡ MOST_DRAWERS) × (opened.1.counter ≡ opened.0)) }
@@ -49,7 +50,9 @@ impl Counter {
         Ok((Counter { table, requests }, first))
     }
 
-    /// Makes a drawer that may draw once more than there are requests. Takes no memory.
+    /// Makes a drawer, with which one worker draws numbers. Its draws are taken from the first
+    /// seat, which records the draws that no drawer has yet. The drawer may draw once more than
+    /// there are requests. The call takes no memory.
     pub fn split<'a>(&'a self, first: &mut FirstSeat) -> Drawer<'a>
         requires counter { first.old.counter ≡ self.now }
         requires some { 0 < first.old.shares }
@@ -61,7 +64,9 @@ impl Counter {
         Drawer::new(&self.table.shared, seat, self.requests + 1)
     }
 
-    /// Merges what all drawers have drawn, in the order of the drawers, into the last seat. Takes no memory.
+    /// Ends all drawers (one for each worker that draws), and merges the numbers that they have
+    /// drawn into the last seat. The last seat is the record of all draws, in the order of the
+    /// drawers. The call takes no memory.
     pub fn join(&self, first: FirstSeat, drawers: Vec<Drawer<'_>>) -> LastSeat
         requires counter { (first.counter ≡ self.now) × All (λ d. d.counter ≡ self.now) drawers.items }
         requires all { first.shares + vec_len drawers ≡ MOST_DRAWERS }
@@ -83,7 +88,8 @@ impl Counter {
         LastSeat { seat, requests }
     }
 
-    /// How many numbers were drawn. Each number below this was drawn once, and no other number was.
+    /// Returns how many numbers were drawn. Each number below the result was drawn once, and no other number
+    /// was drawn.
     pub fn close(self, last: LastSeat) -> u64
         requires { last.counter ≡ self }
         ensures { HoldsEachOnce result last.drawn }

@@ -1,14 +1,14 @@
-//! A drawer, with which one thread draws numbers.
+//! A drawer: the object with which one worker thread draws numbers from a counter.
 ghost use Rattle.std.specs.Prelude.{◌≡◌, ◌+◌, ◌<◌, ◌++◌, [], ◌∷◌, length, All};
 ghost use Rattle.std.specs.List.Sorted.{IsStrictlyIncreasing};
 
 use crate::draw_rule::{Draw, Word, WordSeat};
 use std::marker::Model;
 
-/// Draws numbers from a counter, at most one more than there are requests.
+/// Draws numbers from a counter for one worker, at most one more than there are requests.
 ///
-/// Only `Counter::split` makes drawers. A drawer may be kept in a struct or a `Vec`, and sent to another
-/// thread.
+/// Only `Counter::split` makes drawers (values of this type). A drawer may be kept in a struct or a
+/// `Vec`, and sent to another thread.
 #[derive(Drop)]
 pub struct Drawer<'a> {
     word: &'a Word,
@@ -34,7 +34,8 @@ impl<'a> Drawer<'a> {
     ghost use Rattle.std.specs.List.Sorted.{IsStrictlyIncreasing};
     ghost use Rattle.cspf_draw.specs.SeatDraws.{IsDrawer};
 
-    /// The drawer of a seat that has drawn no number yet.
+    /// A drawer, with which one worker draws numbers. In proofs its seat records the numbers that
+    /// it has drawn. It may draw `left` times more.
     pub(crate) fn new(word: &'a Word, seat: WordSeat, left: u64) -> Drawer<'a>
         requires home { (seat.table_id ≡ word.now.table_id) × (word.now.table_id.words ≡ 1) }
         requires left { (left ≡ seat.me.0.left) × (seat.me.1 ≡ []) }
@@ -44,7 +45,8 @@ impl<'a> Drawer<'a> {
         Drawer { word, seat, left }
     }
 
-    /// The drawer's seat, with the numbers that it has drawn.
+    /// Ends the drawer (with which one worker draws), and returns its seat. In proofs the seat
+    /// records the numbers that the drawer has drawn.
     pub(crate) fn into_seat(self) -> WordSeat
         ensures seat { (result.table_id ≡ self.entry.counter.table) × (result.me.1 ≡ []) }
         ensures drawn { (result.me.0.drawn ≡ self.entry.drawn) × IsDrawer self.entry.counter.requests result.me.0 }
@@ -57,7 +59,7 @@ impl<'a> Drawer<'a> {
         seat
     }
 
-    /// How often the drawer may still draw.
+    /// How many draws are left to this drawer, with which one worker draws.
     pub fn left(&self) -> u64
         ensures left { result ≡ self.now.left }
         ensures all { length self.now.drawn + self.now.left ≡ self.now.counter.requests + 1 }
@@ -66,7 +68,8 @@ impl<'a> Drawer<'a> {
         self.left
     }
 
-    /// The next number. No other draw returns it. Takes no memory and never blocks.
+    /// Draws: returns the counter's value and adds 1 to the counter in one atomic step. No other
+    /// draw returns this number. The call takes no memory and never blocks.
     pub fn draw(&mut self) -> u64
         requires { 0 < self.old.left }
         ensures drawn { self.new.drawn ≡ self.old.drawn ++ result ∷ [] }

@@ -1,15 +1,18 @@
-//! Several threads draw numbers from one counter. Each number is drawn once, and none is left out.
+//! Several threads draw numbers from one counter: a draw reads the counter and adds 1 to it in one
+//! step. Each number is drawn once, and none is left out.
 //!
-//! A counter has one atomic number, its word. A draw is one step on the word, a `fetch_add` of 1. Each
-//! thread has a *drawer*, and each drawer has a *seat*: its list of drawn numbers in the proof.
-//! `specs/DrawRule.antt` defines what holds between any two steps, and what a draw does. How a seat is split
-//! off, and how two seats are joined, is in `specs/SeatDraws.antt`. `specs/DrawnNumbers.antt` has a counter,
-//! its seats and its drawers as the clauses of a caller see them, and `specs/EachOnce.antt` what is known of
-//! the drawn numbers in the end.
+//! A counter has one atomic number, which is called its *word*. A draw is one step on the word, a
+//! `fetch_add` of 1. Each thread has a *drawer*, the object with which it draws, and each drawer
+//! has a *seat*. In the proof this seat records the numbers that the drawer has drawn, and how
+//! often it may still draw. `specs/DrawRule.antt` defines an invariant, the rule of draws, and what
+//! a draw does. `specs/SeatDraws.antt` defines how the seat of a new drawer is made, and how two
+//! seats are merged. `specs/DrawnNumbers.antt` has the values by which contracts describe a
+//! counter, its seats and its drawers. `specs/EachOnce.antt` says what is known of the drawn
+//! numbers in the end.
 //!
-//! `Counter::open` takes all memory. Then `split` makes drawers, `Drawer::draw` draws a number, and `join`
-//! merges the numbers of all drawers. `close` returns the word: exactly the numbers below it were drawn, each
-//! by one drawer.
+//! `Counter::open` takes all memory. Then `split` makes drawers, `Drawer::draw` draws a number, and
+//! `join` merges the numbers of all drawers. `close` returns the word: exactly the numbers below
+//! the word were drawn, each by one drawer.
 #![tactic(auto)]
 
 mod counter;

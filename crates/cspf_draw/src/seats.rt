@@ -1,10 +1,14 @@
-//! The seats of a counter that aren't drawers: the first and the last.
+//! The first and the last seat of a counter. A seat records which numbers were drawn from the
+//! counter, and how many draws are left. Each worker that draws has a seat, but these two seats
+//! belong to no worker. Workers get their draws from the first seat, and the last seat has the
+//! numbers that all workers have drawn.
 ghost use Rattle.std.specs.Prelude.{◌≡◌};
 
 use crate::draw_rule::WordSeat;
 use std::marker::Model;
 
-/// The seat that has all draws that no drawer was given.
+/// The first seat of a counter: a record of the draws that were given to no worker yet. Each new
+/// drawer, with which a worker draws, gets its draws from here.
 #[derive(Drop)]
 pub struct FirstSeat {
     pub(crate) seat: WordSeat,
@@ -25,7 +29,7 @@ impl Model for FirstSeat {
 }
 
 impl FirstSeat {
-    /// How many drawers can still be split off.
+    /// For how many more workers this first seat still has draws.
     pub fn shares(&self) -> usize
         ensures { result ≡ self.now.shares }
     {
@@ -33,7 +37,8 @@ impl FirstSeat {
     }
 }
 
-/// The seat that has the merged numbers of all drawers, and the draws that they had left.
+/// The last seat of a counter, a record that is made after all workers have drawn. It has the
+/// merged numbers of all workers, and all draws that are left.
 #[derive(Drop)]
 pub struct LastSeat {
     pub(crate) seat: WordSeat,

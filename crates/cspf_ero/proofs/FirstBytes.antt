@@ -15,7 +15,8 @@ hop_at-take at m bytes eight more =
     let same : (i : ℕ) → i < 8 → get_or (take m bytes) i 0 ≡ get_or bytes i 0 = λ i below. get_or-take m bytes i 0 (omega arith) in
     rw (whole, same 0 (omega arith), same 1 (omega arith), same 2 (omega arith), same 3 (omega arith), same 4 (omega arith), same 5 (omega arith), same 6 (omega arith)) refl
 
--- the hops of some bytes are the hop of the first subobject and the hops of the bytes after it
+-- bytes that aren't empty are read as the hop of the first subobject, followed by the hops of the
+-- bytes after it, unless a subobject is refused
 hops_at-some : (most at : ℕ) (bytes : List ℕ) → 0 < length bytes
     → subobject_hops (suc most) at bytes ≡ (hop_at at bytes >>= (λ hop. subobject_hops most (at + 8) (drop 8 bytes) >>= (λ hops. Ok (hop ∷ hops))))
 hops_at-some most at [] some = absurd (omega arith)
@@ -25,7 +26,8 @@ hops_at-none : (at : ℕ) (bytes : List ℕ) → 0 < length bytes → subobject_
 hops_at-none at [] some = absurd (omega arith)
 hops_at-none at (byte ∷ bytes) some = refl
 
--- cutting off the bytes later than after `most` subobjects doesn't change the hops
+-- if `m` is above `8 * most`, reading at most `most` hops gives the same result for the first `m`
+-- bytes as for all bytes
 hops_at-take : (most at m : ℕ) (bytes : List ℕ) → 8 * most < m → subobject_hops most at (take m bytes) ≡ subobject_hops most at bytes
 hops_at-take zero at m bytes enough =
     elim (cases_lt m (length bytes)) [

@@ -1,4 +1,4 @@
--- What a reply line begins with, read one number after the other.
+-- How the id and the version at the start of a reply line are read, one number after the other.
 use Rattle.std.proofs.Common.{◌≡◌, ◌≢◌, ℕ, ◌+◌, ◌^◌, ◌<◌, true, false, Bool, cond, ltb, eqb, ◌-◌, List, [], ◌∷◌, ◌++◌, codes, length, take, drop, get_or, Some, None, refl, sym, ap, ◌∙◌, subst, length-append, append_assoc, arith}
 use Rattle.std.proofs.Math.Numerals.{one-add}
 use Rattle.std.proofs.lemmas.Bool.{ne_eqb, eqb-true, ltb-true, lt-ltb}
@@ -24,7 +24,8 @@ digits_word (byte ∷ rest) digits = (λ same. omega (arith, same, digit_from_va
 decimal_word : (n : ℕ) → n < 2 ^ 64 → IsWord (decimal n)
 decimal_word n small = digits_word (decimal n) (decimal_is_IsNumeral n small).0.1
 
--- two equal texts of a word, a space and more: the words are equal, and so is what comes after the spaces
+-- if two texts are equal, and each is a word, a space and further bytes, their words are equal, and
+-- their further bytes are equal
 one_word : (a b c d : List ℕ) → IsWord a → IsWord b → a ++ 32 ∷ c ≡ b ++ 32 ∷ d → (a ≡ b) × (c ≡ d)
 one_word [] [] c d wa wb same = (refl, cc)
 one_word [] (y ∷ b) c d wa wb same = absurd (wb.0 (cc))
@@ -35,23 +36,25 @@ one_word (x ∷ a) (y ∷ b) c d wa wb same =
     let both = one_word a b c d wa.1 wb.1 tail in
     (rw (head, both.0) refl, both.1)
 
--- two equal texts of a number, a space and more: the numbers are equal, and so is what comes after the spaces
+-- if two texts are equal, and each is a decimal number, a space and further bytes, their numbers
+-- are equal, and their further bytes are equal
 pub one_number : (m n : ℕ) (c d : List ℕ) → m < 2 ^ 64 → n < 2 ^ 64 → decimal m ++ 32 ∷ c ≡ decimal n ++ 32 ∷ d → (m ≡ n) × (c ≡ d)
 one_number m n c d small other same =
     let both = one_word (decimal m) (decimal n) c d (decimal_word m small) (decimal_word n other) same in
     (decimal_injective m n small other both.0, both.1)
 
--- the index of the first space of a text that begins with a word
+-- if a text begins with a word and a space, the index of its first space is the length of this word
 place_of_space : (word rest : List ℕ) → IsWord word → position_or_len (λ byte. eqb byte 32) (word ++ 32 ∷ rest) ≡ length word
 place_of_space [] rest w = refl
 place_of_space (byte ∷ word) rest w = rw (ne_eqb byte 32 w.0, place_of_space word rest w.1) (one-add (length word))
 
 module _ (n : ℕ) (text rest : List ℕ) (small : n < 2 ^ 64) (whole : text ≡ decimal n ++ 32 ∷ rest) where
-  -- the first space of a text comes right after the number that the text begins with
+  -- if a text begins with a decimal number and a space, its first space comes right after this
+  -- number
   pub space_behind : position (λ byte. eqb byte 32) text ≡ Some (length (decimal n))
   space_behind = subst (λ t. position (λ byte. eqb byte 32) t ≡ Some (length (decimal n))) (sym whole) (rw (place_of_space (decimal n) rest (decimal_word n small), length-append (decimal n) (32 ∷ rest), lt-ltb (length (decimal n)) (length (decimal n) + length (32 ∷ rest)) (omega arith)) refl)
 
-  -- the bytes before that space are the number
+  -- the bytes before the first space of the text are the digits of the number `n`
   pub number_before : (at : ℕ) → position (λ byte. eqb byte 32) text ≡ Some at → take at text ≡ decimal n
   number_before at found =
       let there = space_behind in
@@ -63,7 +66,8 @@ place_some place whole at true test found =
     let same : place ≡ at = cc in (same, rw same at (ltb-true _ _ test))
 place_some place whole at false test found = absurd (cc)
 
--- a text is the bytes before its first space, that space, and the bytes after it
+-- a text that has a space consists of the bytes before its first space, this space, and the bytes
+-- after this space
 pub cut_at_space : (text : List ℕ) (at : ℕ) → position (λ byte. eqb byte 32) text ≡ Some at
     → text ≡ take at text ++ 32 ∷ take (length text - (at + 1)) (drop (at + 1) text)
 cut_at_space text at found =
@@ -73,7 +77,8 @@ cut_at_space text at found =
     let parts : text ≡ take at text ++ 32 ∷ drop (at + 1) text = rw place at (rw space at (split_at_first (λ byte. eqb byte 32) text 0 inside)) in
     parts ∙ ap (λ rest. take at text ++ 32 ∷ rest) (sym (take_rest text (at + 1)))
 
--- a text that begins with `front` is `front` and the bytes after it
+-- a text that begins with `front` is `front`, followed by the text without its first `length front`
+-- bytes
 pub starts_whole : (front text : List ℕ) → pointwise eqb (take (length front) text) front ≡ true → text ≡ front ++ drop (length front) text
 starts_whole front text same =
     let begins : take (length front) text ≡ front = (bytes_eq-Decides (take (length front) text) front).0 same in
@@ -85,13 +90,14 @@ regroup id version rest = simp append_assoc
 regrouped : (id version : ℕ) (rest : List ℕ) → codes "ask " ++ (decimal id ++ 32 ∷ (118 ∷ (decimal version ++ 32 ∷ rest))) ≡ codes "ask " ++ decimal id ++ codes " v" ++ decimal version ++ codes " " ++ rest
 regrouped id version rest = regroup (decimal id) (decimal version) rest
 
--- a line from which `ask `, a number, `v` and a number are read one after the other begins with this id and version
+-- if `ask `, a number, `v` and another number are read one after the other from a line, the line
+-- begins with these two as its id and version
 pub head_whole : (line behind more rest : List ℕ) (id version : ℕ) → line ≡ codes "ask " ++ behind → behind ≡ decimal id ++ 32 ∷ more → more ≡ codes "v" ++ (decimal version ++ 32 ∷ rest)
     → line ≡ codes "ask " ++ decimal id ++ codes " v" ++ decimal version ++ codes " " ++ rest
 head_whole line behind more rest id version front first second =
     rw (front, first, second) (regrouped id version rest)
 
--- a line begins with at most one id and version
+-- a line begins with at most one pair of an id and a version
 pub one_head : HasOneHead
 one_head line head other begins also =
     let same : codes "ask " ++ (decimal head.id ++ 32 ∷ (118 ∷ (decimal head.version ++ 32 ∷ begins.rest))) ≡ codes "ask " ++ (decimal other.id ++ 32 ∷ (118 ∷ (decimal other.version ++ 32 ∷ also.rest))) =

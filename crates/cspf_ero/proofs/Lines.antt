@@ -1,4 +1,4 @@
--- The pieces of a reply line, and how many bytes it has at most.
+-- Which pieces a reply line has, and how many bytes it has at most.
 use Rattle.std.proofs.Common.{◌≡◌, ℕ, ◌*◌, ◌^◌, ◌<◌, ◌≤◌, Bool, true, false, List, [], ◌∷◌, ◌++◌, codes, length, append_assoc, length-append, lit≤, arith}
 use Rattle.std.proofs.lemmas.Fmt.{length-decimal-le}
 use Rattle.std.specs.Fmt.{decimal}
@@ -11,18 +11,21 @@ regrouped : (a id b version c d cost e hops f again g : List ℕ)
     ≡ a ++ id ++ b ++ version ++ c ++ (d ++ cost ++ e ++ hops ++ f ++ again ++ g)
 regrouped a id b version c d cost e hops f again g = simp append_assoc
 
--- a line up to its object, as it is written and as `measures_text` has it
+-- for the part of a route's line before its object, the text that is written piece by piece is the
+-- same as the text that `measures_text` defines
 pub front_pieces : (id version cost hops again : List ℕ)
     → codes "ask " ++ (id ++ (codes " v" ++ (version ++ (codes " route cost=" ++ (cost ++ (codes " hops=" ++ (hops ++ (codes " again=" ++ (again ++ codes " ero=")))))))))
     ≡ codes "ask " ++ id ++ codes " v" ++ version ++ codes " " ++ (codes "route cost=" ++ cost ++ codes " hops=" ++ hops ++ codes " again=" ++ again ++ codes " ero=")
 front_pieces id version cost hops again =
     regrouped (codes "ask ") id (codes " v") version (codes " ") (codes "route cost=") cost (codes " hops=") hops (codes " again=") again (codes " ero=")
 
--- after the words of the answer come the digits of the object and a line feed
+-- a line is the same text whether its pieces are joined from the right, or `words` and `digits` are
+-- joined first
 pub line_pieces : (front words digits feed : List ℕ) → front ++ words ++ digits ++ feed ≡ front ++ (words ++ digits) ++ feed
 line_pieces front words digits feed = simp append_assoc
 
--- how many digits an id, a version, a cost and a count of links have at most
+-- an id has at most 20 digits; the next three lemmas bound the digits of a version, of a cost and
+-- of the number of links
 pub id_digits : (id : ℕ) → id < 2 ^ 64 → length (decimal id) ≤ 20
 id_digits id small = length-decimal-le 20 id (omega arith) (omega arith) small
 

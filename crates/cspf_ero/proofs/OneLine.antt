@@ -1,4 +1,4 @@
--- An answer has at most one line for an id and a version.
+-- For a request's id, a version of the database and an answer there is at most one reply line.
 use Rattle.std.proofs.Common.{◌≡◌, ℕ, ◌↔◌, Bool, true, false, IsTrue, List, refl, sym, ◌∙◌}
 use Rattle.cspf_model.specs.Best.{Answer, unknown_from, unknown_to, no_route, route}
 use Rattle.cspf_ero.specs.ReplyLine.{IsAnswerText, HasOneReplyLine}

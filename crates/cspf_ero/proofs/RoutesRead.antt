@@ -13,7 +13,7 @@ use Rattle.cspf_ero.proofs.Spelling.{spelled_ero}
 whole_prefix : (address : ℕ) → address < 2 ^ 32 → IsPrefix (record { address = address; length = 32 })
 whole_prefix address small = record { most = lit≤ tt; small = small; zeros = omega arith }
 
--- the subobjects of links spell their hops
+-- the subobjects of links spell, for each link, a strict hop to its remote address
 spelled_links : (links : List Link) → AllByRecursion (λ link. link.remote < 2 ^ 32) links → SpellsEach (flat_map subobject_of links) (hops_along links)
 spelled_links [] small = refl
 spelled_links (link ∷ links) (here, more) = (
@@ -24,7 +24,7 @@ spelled_links (link ∷ links) (here, more) = (
   spelled_links links more,
 )
 
--- the object of a route of 1 to 7 links spells its hops
+-- the object of a route of 1 to 7 links spells the route's hops
 pub spelled_route : (links : List Link) → 1 ≤ length links → length links ≤ 7 → AllByRecursion (λ link. link.remote < 2 ^ 32) links → Spells (object_of links) (hops_along links)
 unfolding object_of
 spelled_route links some most small = record {

@@ -1,4 +1,4 @@
--- A subobject is read as a hop exactly if it spells this hop.
+-- The first bytes of a list are read as a hop exactly if they are a subobject that spells this hop.
 use Rattle.std.proofs.Common.{◌≡◌, ℕ, zero, suc, ◌-◌, ◌*◌, ◌/◌, ◌%◌, ◌^◌, ◌<◌, ◌≤◌, Bool, true, false, cond, leb, List, [], ◌∷◌, ◌++◌, length, drop, get_or, Result, Ok, Err, append_assoc, refl, sym, ap, subst, ◌∙◌, lit<, arith}
 use Rattle.std.proofs.Math.Nat.{mul-div_cancel, div-mul-le_self}
 use Rattle.std.proofs.lemmas.Bool.{and_parts, eqb-true, leb-true, le-leb}
@@ -12,12 +12,14 @@ use Rattle.cspf_ero.specs.declared.ero_error.EroError.{EroError}
 use Rattle.cspf_ero.specs.Objects.{type_byte, subobject, SpellsHop}
 use Rattle.cspf_ero.specs.Reading.{address_in, hop_at}
 
--- there is a value only if the test `b` is true, since it is the error `e` otherwise
+-- Take `r` if the test `b` is true, and the error `e` otherwise. If this gives a value, `b` is
+-- true, and `r` has this value.
 pub passed : {A : Type 0} (b : Bool) (r : Result A EroError) (e : EroError) (x : A) → cond b r (Err e) ≡ Ok x → (b ≡ true) × (r ≡ Ok x)
 passed true r e x same = (refl, same)
 passed false r e x same = absurd (cc)
 
--- what holds of the bytes of a subobject that is read as this hop
+-- the bytes begin with a subobject of the type 1 and of 8 bytes, whose bit L, prefix length and
+-- prefix are those of the hop
 pub record IsReadHop (bytes : List ℕ) (hop : Hop) : Type 0 where
   pub kind : get_or bytes 0 0 % 128 ≡ 1
   pub whole : 8 ≤ length bytes
@@ -42,7 +44,8 @@ hop_at-read at bytes hop found =
       prefix = cc last;
     }
 
--- the eight bytes of a subobject and the bytes after it, each of the eight named
+-- a list of at least eight bytes consists of its first eight bytes, one by one, and the bytes after
+-- these
 eight_bytes : (bytes : List ℕ) → 8 ≤ length bytes
     → bytes ≡ get_or bytes 0 0 ∷ get_or bytes 1 0 ∷ get_or bytes 2 0 ∷ get_or bytes 3 0 ∷ get_or bytes 4 0 ∷ get_or bytes 5 0 ∷ get_or bytes 6 0 ∷ get_or bytes 7 0 ∷ drop 8 bytes
 eight_bytes [] whole = absurd (omega arith)
@@ -55,13 +58,15 @@ eight_bytes (a ∷ b ∷ c ∷ d ∷ e ∷ f ∷ []) whole = absurd (omega arith
 eight_bytes (a ∷ b ∷ c ∷ d ∷ e ∷ f ∷ g ∷ []) whole = absurd (omega arith)
 eight_bytes (a ∷ b ∷ c ∷ d ∷ e ∷ f ∷ g ∷ h ∷ rest) whole = refl
 
--- a subobject of these eight bytes, put together from its parts
+-- Suppose that a list begins with the type byte, the length 8, the address, the prefix length and
+-- the padding of a subobject. It is then this subobject, followed by the rest of the list.
 by_parts : (first size bits padding kind length : ℕ) (four address rest : List ℕ) → first ≡ kind → size ≡ 8 → bits ≡ length → four ≡ address
     → first ∷ size ∷ (four ++ bits ∷ padding ∷ rest) ≡ (kind ∷ 8 ∷ (address ++ length ∷ padding ∷ [])) ++ rest
 by_parts first size bits padding kind length four address rest first_is size_is bits_is four_is =
     rw (first_is, size_is, bits_is, four_is) (ap (λ (back : List ℕ). kind ∷ 8 ∷ back) (sym (append_assoc address (length ∷ padding ∷ []) rest)))
 
--- a first byte of type 1 is determined by its bit L
+-- the first byte of a subobject of the type 1 is the byte that `type_byte` gives for the
+-- subobject's bit L
 type_byte-read : (byte : ℕ) (loose : Bool) → byte < 256 → byte % 128 ≡ 1 → leb 128 byte ≡ loose → byte ≡ type_byte loose
 type_byte-read byte true small kind high = let above : 128 ≤ byte = leb-true 128 byte high in omega arith
 type_byte-read byte false small kind high = grind arith
@@ -77,12 +82,13 @@ first_bits_prefix bits address most small = record {
   zeros = ap (λ quotient. quotient * 2 ^ (32 - bits)) (first_bits_cover bits address);
 }
 
--- a prefix that covers an address is the prefix of the address's first bits
+-- if a prefix covers an address, it is the prefix of the same length with the first bits of this
+-- address
 pub covering : (prefix : PrefixParts) (address : ℕ) → IsPrefix prefix → Covers prefix address → with_first_bits prefix.length address ≡ prefix
 covering prefix address proper agrees =
     ap (λ (bits : ℕ). record { address = bits; length = prefix.length }) (ap (λ quotient. quotient * 2 ^ (32 - prefix.length)) (sym agrees) ∙ proper.zeros)
 
--- a subobject that is read as a hop spells this hop
+-- if `IsReadHop` holds of bytes and a hop, the first 8 bytes are a subobject that spells this hop
 pub read_spells : (bytes : List ℕ) (hop : Hop) → IsBytes bytes → IsReadHop bytes hop
     → (front : List ℕ) × (length front ≡ 8) × (bytes ≡ front ++ drop 8 bytes) × SpellsHop front hop
 read_spells bytes hop small read =
@@ -112,12 +118,14 @@ read_spells bytes hop small read =
     four_small ha hb hc hd (suc (suc (suc zero))) = hd
     four_small ha hb hc hd (suc (suc (suc (suc i)))) = lit< tt
 
--- a subobject with these bytes is read as the hop
+-- if `IsReadHop` holds of bytes and a hop, the subobject at the start of the bytes is read as this
+-- hop
 hop_at-has : (at : ℕ) (bytes : List ℕ) (hop : Hop) → IsReadHop bytes hop → hop_at at bytes ≡ Ok hop
 unfolding hop_at
 hop_at-has at bytes hop read = rw (read.kind, le-leb 8 (length bytes) read.whole, read.size, le-leb (get_or bytes 6 0) 32 read.most, read.prefix, read.loose) refl
 
--- the first byte of a hop's subobject has the type 1 and the hop's bit L
+-- the first byte of a hop's subobject has the type 1, and its highest bit, L, is set exactly if the
+-- hop is loose
 type_of-type_byte : (loose : Bool) → type_byte loose % 128 ≡ 1
 type_of-type_byte true = refl
 type_of-type_byte false = refl
@@ -126,7 +134,7 @@ loose_of-type_byte : (loose : Bool) → leb 128 (type_byte loose) ≡ loose
 loose_of-type_byte true = refl
 loose_of-type_byte false = refl
 
--- a subobject that spells a hop is read as this hop
+-- if bytes begin with a subobject that spells a hop, this subobject is read as this hop
 pub spelled_read : (at : ℕ) (front back : List ℕ) (hop : Hop) → SpellsHop front hop → hop_at at (front ++ back) ≡ Ok hop
 spelled_read at front back hop spelled =
     hop_at-has at (front ++ back) hop

@@ -1,4 +1,4 @@
--- The object that is written for a route.
+-- The length of the object that is written for a route.
 use Rattle.std.proofs.Common.{◌≡◌, ◌+◌, ◌*◌, ◌≤◌, List, [], ◌∷◌, length, take, refl, sym, ◌∙◌, arith, length-append}
 use Rattle.std.proofs.lemmas.Nat.{from_be_bytes-to_be_bytes_2}
 use Rattle.std.specs.Int.{w16, from_be_bytes}
@@ -7,7 +7,7 @@ use Rattle.cspf_model.specs.declared.link.Link.{Link}
 use Rattle.cspf_model.specs.declared.limits.TheConstants.{MOST_ROUTE_LINKS}
 use Rattle.cspf_ero.specs.Objects.{object_of, header, subobject_of}
 
--- each subobject has 8 bytes
+-- the subobjects of links have 8 bytes for each link
 length-subobjects : (links : List Link) → length (flat_map subobject_of links) ≡ 8 * length links
 length-subobjects [] = refl
 length-subobjects (link ∷ links) = omega (arith, length-append (subobject_of link) (flat_map subobject_of links), length-subobjects links)

@@ -1,4 +1,5 @@
--- EXPLICIT_ROUTE objects (RFC 2205 3.1.2, RFC 3209 4.3): the bytes that spell hops, and the object of a route.
+-- EXPLICIT_ROUTE objects (RFC 2205 3.1.2, RFC 3209 4.3): the bytes that spell hops, and the object
+-- of a route.
 use Rattle.std.specs.Prelude.{◌≡◌, ℕ, ◌+◌, ◌*◌, ◌^◌, ◌<◌, ◌≤◌, Bool, false, if◌then◌else◌, List, [], ◌∷◌, ◌++◌, length}
 use Rattle.std.specs.Int.{w16, w32, to_be_bytes}
 use Rattle.std.specs.List.{flat_map}
@@ -12,7 +13,8 @@ use Rattle.cspf_model.specs.declared.link.Link.{Link}
 abbrev pub header : ℕ → List ℕ
 header size = to_be_bytes w16 size ++ 20 ∷ 1 ∷ []
 
--- the first byte of a subobject: the type 1 of an IPv4 prefix, and the highest bit, L, which is set for a loose hop
+-- the first byte of a subobject: the type 1 of an IPv4 prefix, and the highest bit, L, which is set
+-- for a loose hop
 abbrev pub type_byte : Bool → ℕ
 type_byte loose = if loose then 129 else 1
 
@@ -20,8 +22,8 @@ type_byte loose = if loose then 129 else 1
 abbrev pub subobject : Bool → ℕ → ℕ → ℕ → List ℕ
 subobject loose address bits padding = type_byte loose ∷ 8 ∷ to_be_bytes w32 address ++ bits ∷ padding ∷ []
 
--- A subobject spells a hop if the first bits of its address are those of the hop's prefix, as many as the prefix
--- length says. The other bits of the address and the padding may be anything.
+-- A subobject spells a hop if it has the hop's bit L and prefix length, and an address that the
+-- hop's prefix covers. The other bits of the address and the padding may be anything.
 pub record SpellsHop (bytes : List ℕ) (hop : Hop) : Type 0 where
   pub address : ℕ
   pub padding : ℕ
@@ -30,12 +32,13 @@ pub record SpellsHop (bytes : List ℕ) (hop : Hop) : Type 0 where
   pub prefix : IsPrefix hop.prefix
   pub agrees : Covers hop.prefix address
 
--- subobjects spell hops, one after the other and in their order
+-- the bytes are subobjects that spell these hops, one subobject for each hop, in the order of the
+-- hops
 abbrev pub SpellsEach : List ℕ → List Hop → Type 0
 SpellsEach bytes [] = bytes ≡ []
 SpellsEach bytes (hop ∷ hops) = (front : List ℕ) × (back : List ℕ) × (bytes ≡ front ++ back) × SpellsHop front hop × SpellsEach back hops
 
--- an object spells 1 to 7 hops
+-- the bytes are an object that spells these hops, of which there are 1 to 7
 pub record Spells (bytes : List ℕ) (hops : List Hop) : Type 0 where
   pub some : 1 ≤ length hops
   pub most : length hops ≤ MOST_HOPS
@@ -44,7 +47,7 @@ pub record Spells (bytes : List ℕ) (hops : List Hop) : Type 0 where
   pub whole : bytes ≡ header (length bytes) ++ body
   pub each : SpellsEach body hops
 
--- the subobject of a link: a strict hop of its remote address
+-- the subobject of a link: a strict hop to the link's remote address
 abbrev pub subobject_of : Link → List ℕ
 subobject_of link = subobject false link.remote 32 0
 

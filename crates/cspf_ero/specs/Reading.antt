@@ -27,7 +27,8 @@ hop_at at bytes =
     else Err (error.Sublength at))
     else Err (error.Unsupported at (slice_index bytes 0 % 128))
 
--- the hops of the subobjects in these bytes, which begin at the offset `at`. More than `most` subobjects are refused.
+-- the hops of the subobjects in these bytes, which begin at the offset `at` of the object. More
+-- than `most` subobjects are refused.
 abbrev pub subobject_hops : ℕ → ℕ → List ℕ → Result (List Hop) EroError
 subobject_hops most at [] = Ok []
 subobject_hops zero at (byte ∷ bytes) = Err error.TooManyHops
@@ -47,6 +48,6 @@ sized_ero_of size bytes =
     else Err error.Class)
     else Err error.Length)
 
--- the hops of an object
+-- the hops of an object, or why it is refused
 abbrev pub ero_of : List ℕ → Result (List Hop) EroError
 ero_of bytes = sized_ero_of (length bytes) bytes

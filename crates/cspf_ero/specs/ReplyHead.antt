@@ -3,8 +3,8 @@ use Rattle.std.specs.Prelude.{◌≡◌, ℕ, ◌^◌, ◌<◌, List, ◌++◌, 
 use Rattle.std.specs.Fmt.{decimal}
 use Rattle.cspf_ero.specs.declared.head.Head.{Head}
 
--- The line begins with `ask`, this id below 2^64, and `v` with this version below 2^32, each followed by
--- a space. Both numbers are decimal, without leading zeros.
+-- The line begins with `ask`, this id below 2^64, and `v` with this version below 2^32, each
+-- followed by a space. Both numbers are decimal, without leading zeros.
 pub record BeginsWithHead (line : List ℕ) (head : Head) : Type 0 where
   pub id : head.id < 2 ^ 64
   pub version : head.version < 2 ^ 32
@@ -15,6 +15,6 @@ pub record BeginsWithHead (line : List ℕ) (head : Head) : Type 0 where
 abbrev pub HasNoHead : List ℕ → Type 0
 HasNoHead line = (head : Head) → ¬ BeginsWithHead line head
 
--- a line begins with at most one id and version
+-- a line begins with at most one pair of an id and a version
 abbrev pub HasOneHead : Type 0
 HasOneHead = (line : List ℕ) (head other : Head) → BeginsWithHead line head → BeginsWithHead line other → head ≡ other

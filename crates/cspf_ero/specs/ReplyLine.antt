@@ -12,29 +12,31 @@ abbrev pub yes_or_no : Bool → List ℕ
 yes_or_no true = codes "yes"
 yes_or_no false = codes "no"
 
--- a route's cost, its count of links, and whether it visits a router twice
+-- the text of a route's cost, of its number of links, and of whether it visits a router twice
 unfoldable pub measures_text : ℕ → ℕ → Bool → List ℕ
 measures_text cost hops again =
     codes "route cost=" ++ decimal cost ++ codes " hops=" ++ decimal hops ++ codes " again=" ++ yes_or_no again ++ codes " ero="
 
--- the text for a route, with its object in lower-case hexadecimal digits
+-- the part of a line that describes a route, with the route's object in lower-case hexadecimal
+-- digits
 pub record IsRouteText (links : List Link) (text : List ℕ) : Type 0 where
   pub again : Bool
   pub twice : IsTrue again ↔ VisitsTwice links
   pub words : text ≡ measures_text (cost_of links) (length links) again ++ encode_lower (object_of links)
 
--- the text for an answer
+-- the part of a line that describes an answer
 abbrev pub IsAnswerText : Answer → List ℕ → Type 0
 IsAnswerText unknown_from text = text ≡ codes "unknown-from"
 IsAnswerText unknown_to text = text ≡ codes "unknown-to"
 IsAnswerText no_route text = text ≡ codes "none"
 IsAnswerText (route links) text = IsRouteText links text
 
--- the line that answers the request with this id at this version, with its line feed
+-- `line` gives the answer `answer` to the request `id` at the version `version` of the database,
+-- and ends with a line feed
 abbrev pub IsReply : ℕ → ℕ → Answer → List ℕ → Type 0
 IsReply id version answer line =
     (text : List ℕ) × IsAnswerText answer text × (line ≡ codes "ask " ++ decimal id ++ codes " v" ++ decimal version ++ codes " " ++ text ++ codes "\n")
 
--- for an id and a version an answer has at most one line
+-- for a request's id, a version of the database and an answer there is at most one reply line
 abbrev pub HasOneReplyLine : Type 0
 HasOneReplyLine = (id version : ℕ) (answer : Answer) (line other : List ℕ) → IsReply id version answer line → IsReply id version answer other → line ≡ other

@@ -25,7 +25,7 @@ pub fn reply_head(line: &[u8]) -> Option<Head>
     Some(Head { id, version })
 }
 
-/// The decimal number before the first space of a text, and the text after that space.
+/// The decimal number that comes before the first space of a text, and the text after this space.
 fn first_number(text: &[u8]) -> Option<(u64, &[u8])>
     ensures small { IfSome result (λ found. found.0 < 2 ^ 64) }
     ensures whole { IfSome result (λ found. text.now ≡ decimal found.0 ++ 32 ∷ found.1.now) }

@@ -14,12 +14,13 @@ pub fn routes_are_read_back()
     ensures { AreRoutesReadBack }
 {}
 
-/// Law: a line begins with at most one id and version.
+/// Law: a line begins with at most one pair of an id and a version.
 pub fn one_head()
     ensures { HasOneHead }
 {}
 
-/// Law: for an id and a version an answer has at most one line.
+/// Law: for a request's id, a version of the database and an answer there is at most one reply
+/// line.
 pub fn one_reply_line()
     ensures { HasOneReplyLine }
 {}

@@ -6,21 +6,22 @@ ghost use Rattle.cspf_ero.specs.Reading.{ero_of, sized_ero_of, subobject_hops, h
 use crate::ero_error::EroError;
 use cspf_addr::{Addr, Hop, Hops, MOST_HOPS, Prefix};
 
-/// How many of an object's first bytes decide which hops it has: more than the bytes of a header and
-/// `MOST_HOPS` subobjects.
+/// The number of first bytes of an object that decide which hops it has. A header and `MOST_HOPS`
+/// subobjects have fewer bytes.
 pub const FIRST_BYTES: usize = 64;
 
-/// The hops that the bytes of an EXPLICIT_ROUTE object spell (RFC 2205 3.1.2, RFC 3209 4.3), or the first
-/// reason to refuse it. The header is checked before the subobjects, and the subobjects in their order.
+/// The hops that the bytes of an EXPLICIT_ROUTE object spell (RFC 2205 3.1.2, RFC 3209 4.3), or the
+/// first reason to refuse the object. The header is checked before the subobjects, and the
+/// subobjects in their order.
 pub fn read_ero(bytes: &[u8]) -> Result<Hops, EroError>
     ensures { result ≡ ero_of bytes.now }
 {
     read_sized(bytes, bytes.len())
 }
 
-/// The hops of an object of `size` bytes by its first `FIRST_BYTES` bytes, or by all if it has fewer. The
-/// result is that of `read_ero` on the whole object: later bytes can't change it, since more than seven
-/// hops are refused.
+/// The hops of an object of `size` bytes, read from its first `FIRST_BYTES` bytes, or from all
+/// bytes if it has fewer. `read_ero` returns the same result for the whole object. Later bytes
+/// can't change this result, because more than seven hops are refused.
 pub fn read_ero_front(front: &[u8], size: usize) -> Result<Hops, EroError>
     ensures { (bytes : List ℕ) → length bytes ≡ size → take FIRST_BYTES bytes ≡ front.now
         → result ≡ ero_of bytes }
@@ -50,7 +51,8 @@ fn read_sized(bytes: &[u8], size: usize) -> Result<Hops, EroError>
     read_hops(body)
 }
 
-/// The hops of the subobjects, which come after the header.
+/// The hops that the subobjects in `body` spell. `body` has all bytes of the object after its
+/// header.
 fn read_hops(body: &[u8]) -> Result<Hops, EroError>
     ensures { result ≡ subobject_hops MOST_HOPS 4 body.now }
 {

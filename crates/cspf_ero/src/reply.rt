@@ -1,4 +1,5 @@
-//! The line that answers a request. A route's object is written in it in hexadecimal digits.
+//! The line that answers a request. In this line, a route's object is written in hexadecimal
+//! digits.
 
 ghost use Rattle.std.specs.Prelude.{◌≡◌, ◌++◌, ◌+◌, ◌*◌, ◌≤◌, ◌<◌, ◌^◌, ◌↔◌, Bool, IsTrue, IfOk, OnOk, length, codes};
 ghost use Rattle.std.specs.Fmt.{decimal};
@@ -15,8 +16,9 @@ use crate::writer::write_ero;
 use cspf_model::{Outcome, Route};
 use std::alloc::{AllocError, Global};
 
-/// The line that answers the request with this id at this version, with its line feed. A route's object
-/// is written in lower-case hexadecimal digits. The line has at most `MOST_LINE_BYTES` bytes.
+/// The line with which the request `id` is answered at the version `version` of the database. It
+/// ends with a line feed. A route's object is written in lower-case hexadecimal digits. The line
+/// has at most `MOST_LINE_BYTES` bytes.
 pub fn reply_line(
     alloc: Global,
     id: u64,
@@ -34,7 +36,7 @@ pub fn reply_line(
     }
 }
 
-/// The line of an answer that isn't a route, with these words.
+/// The reply line whose answer isn't a route. `words` say which answer it is.
 fn short_line(alloc: Global, id: u64, version: u32, words: &str) -> Result<Vec<u8>, AllocError>
     requires { length words.now ≤ 12 }
     ensures line { IfOk result (λ line. line.items ≡
@@ -45,7 +47,7 @@ fn short_line(alloc: Global, id: u64, version: u32, words: &str) -> Result<Vec<u
     Ok(format!(in alloc; "ask {id} v{version} {words}\n")?.into_bytes())
 }
 
-/// The line of a route.
+/// The reply line whose answer is a route.
 fn route_line(alloc: Global, id: u64, version: u32, route: &Route) -> Result<Vec<u8>, AllocError>
     ensures line { IfOk result (λ line. IsReply id version (of_route route.now) line.items) }
     ensures most { IfOk result (λ line. length line.items ≤ MOST_LINE_BYTES) }
@@ -58,7 +60,7 @@ fn route_line(alloc: Global, id: u64, version: u32, route: &Route) -> Result<Vec
     Ok(line)
 }
 
-/// The line of a route up to its object.
+/// The reply line whose answer is a route, up to the route's object.
 #[tactic(auto, unfolding(crate::specs::ReplyLine::measures_text))]
 fn route_front(alloc: Global, id: u64, version: u32, route: &Route) -> Result<String, AllocError>
     ensures words { IfOk result (λ text. (again : Bool) × (IsTrue again ↔ VisitsTwice route.now)
@@ -71,7 +73,7 @@ fn route_front(alloc: Global, id: u64, version: u32, route: &Route) -> Result<St
     format!(in alloc; "ask {id} v{version} route cost={cost} hops={hops} again={again} ero=")
 }
 
-/// `yes` or `no`.
+/// The word `yes` if the test is true, and the word `no` otherwise.
 fn yes_or_no(test: bool) -> &'static str
     ensures { result.now ≡ yes_or_no test }
 {

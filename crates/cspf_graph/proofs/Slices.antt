@@ -1,4 +1,4 @@
--- The items of a vector after a slice of the whole vector was written.
+-- If all items of a vector are written as one slice, the vector has the items of this slice.
 use Rattle.std.proofs.Common.{◌≡◌, ℕ, ◌++◌, List, length, take, drop, ap, ◌∙◌, arith}
 use Rattle.std.proofs.lemmas.List.{drop_all, take_all, append-nil}
 

@@ -7,7 +7,7 @@ use Rattle.cspf_model.specs.Database.{Database}
 use Rattle.cspf_model.specs.Targets.{IsTarget, IsTargetOf, Owns}
 
 module _ (d : Database) (q : Request) (leg router : ℕ) (later : leg ≢ 0) (b : Bool) where
-  -- From leg 1 on, the targets of a leg are those of its hop.
+  -- From leg 1 on, the targets of a leg (the routers where it may end) are those of its hop.
   targets_of_hop : (leg : ℕ) (o : Option Hop) → leg ≢ 0 → slice_get q.hops (leg - 1) ≡ o → IsTargetOf d q.to o router ≡ IsTarget d q leg router
   targets_of_hop zero o later e = absurd (later refl)
   targets_of_hop (suc i) o later e =

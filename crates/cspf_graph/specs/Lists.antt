@@ -5,7 +5,7 @@ use Rattle.cspf_model.specs.declared.limits.TheConstants.{MOST_LINKS, MOST_ROUTE
 use Rattle.cspf_model.specs.Database.{Database, IsRouterOf}
 use Rattle.cspf_db.specs.Index.{router_list, links_of}
 
--- The router at an index of the list of routers.
+-- The router at the index `p` of the list of routers.
 abbrev pub router_at : Database → ℕ → ℕ
 router_at d p = slice_index (router_list d) p
 
@@ -14,7 +14,7 @@ pub record IsIndexOf (d : Database) (router : ℕ) (place : ℕ) : Type 0 where
   pub within : place < length (router_list d)
   pub is : slice_index (router_list d) place ≡ router
 
--- The list has exactly the routers of the database, in increasing order.
+-- The list of routers has exactly the routers of the database, in increasing order.
 pub record AreListed (d : Database) : Type 0 where
   pub known : (router : ℕ) → Contains (router_list d) router ↔ IsRouterOf d router
   pub rising : IsStrictlyIncreasing (router_list d)

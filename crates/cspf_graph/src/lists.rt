@@ -7,8 +7,8 @@ ghost use Rattle.cspf_graph.specs.Lists.{AreListed, IsIndexOf};
 use cspf_db::Table;
 use cspf_model::{MOST_ROUTERS, counted_routers};
 
-/// The table's lists of routers and links are those of its database. The function does nothing. Its
-/// contract states what holds of each table.
+/// Says that the table's lists of routers and links are those of its database. The function does
+/// nothing: its contract holds of each table.
 pub fn listed(table: &Table)
     ensures listed { AreListed table.now }
     ensures links { AreLinksOf table.now (links_of table.now) }

@@ -1,6 +1,7 @@
-//! What a route may do at each router in each leg: whether a link may lead the route there, and
-//! whether the route may turn to the next leg there. Both follow from the last leg and the targets
-//! of the legs.
+//! What a route may do at each router in each leg. A link may lead the route there or not, and the
+//! route may go on to the next leg there or not. This follows from what a route may do in the leg
+//! after the last hop, and from the targets of the legs. A leg's targets are the routers where it
+//! may end.
 
 ghost use Rattle.std.specs.Prelude.{◌≡◌, ◌≢◌, true, ◌+◌, ◌*◌, ◌<◌, ◌↔◌, ◌⊎◌, All, IsTrue, IfOk, length, slice_get};
 ghost use Rattle.cspf_db.specs.Index.{router_list};
@@ -19,19 +20,20 @@ use std::alloc::{AllocError, Global};
 pub struct Role {
     /// Whether a link may lead the route to the router.
     pub enter: bool,
-    /// Whether the router is a target of the leg, and a route may visit it.
+    /// Whether the router is a target of the leg (a router where it may end), and a route may visit
+    /// it.
     pub target: bool,
 }
 
-/// The role of a router to which no link may lead a route, and at which the route may not turn to
+/// The role of a router to which no link may lead a route, and at which the route may not go on to
 /// the next leg.
 const NOTHING: Role = Role {
     enter: false,
     target: false,
 };
 
-/// What a route may do at the router `place` in the leg after the last hop. That leg is loose, and
-/// its only target is the tail-end.
+/// What a route may do at the router at the index `place` in the leg after the last hop. That leg
+/// is loose, and its only target is the tail-end.
 fn last_role(table: &Table, request: &Request, place: usize) -> Role
     requires { place < length (router_list table.now) }
     ensures { IsRole table.now request.now (length request.now.hops + 1)
@@ -44,7 +46,8 @@ fn last_role(table: &Table, request: &Request, place: usize) -> Role
     }
 }
 
-/// As `last_role`, for a router that isn't the tail-end.
+/// The role that `last_role` gives a router in the leg after the last hop, if the router isn't the
+/// tail-end. A role says what a route may do at a router in a leg.
 fn passed_role(table: &Table, request: &Request, place: usize) -> Role
     requires { place < length (router_list table.now) }
     ensures { router_at table.now place ≢ request.now.to
@@ -72,8 +75,9 @@ fn set_last_roles(table: &Table, request: &Request, to: usize, roles: &mut [Role
     roles[first + to] = last_role(table, request, to);
 }
 
-/// The indexes at which the roles of two legs begin in a list of roles: of a leg to a hop, and of
-/// the leg after the last hop. Each leg has one role for each of the `count` routers.
+/// The indexes in a list of roles at which the roles of two legs begin. `first` is that of a leg to
+/// a hop, and `last` that of the leg after the last hop. Each leg has one role for each of the
+/// `count` routers. A role says what a route may do at a router in a leg.
 #[derive(Clone, Copy)]
 struct RoleRows {
     first: usize,
@@ -81,9 +85,10 @@ struct RoleRows {
     count: usize,
 }
 
-/// Sets the first roles of a leg to a hop. In a loose leg, a link may lead a route to each router
-/// that the route may leave or end at. In a strict leg, no link may lead a route to any router yet.
-/// No router is a target yet.
+/// Sets the roles that the routers get first in a leg to a hop, before any targets (routers where a
+/// leg may end) are looked at. In a loose leg, a link may lead a route to each router that the
+/// route may leave or end at. In a strict leg, no link may lead a route to a router yet. No router
+/// is a target yet.
 fn spread(roles: &mut [Role], rows: RoleRows, loose: bool)
     requires rows { AreRoleRows rows roles.old }
     ensures { IsSpread rows loose roles.old roles.new }
@@ -97,9 +102,11 @@ fn spread(roles: &mut [Role], rows: RoleRows, loose: bool)
     }
 }
 
-/// The role of a router after it was found among the targets of a leg. `stands` says whether a
-/// route may enter it in the leg after the last hop, and `begins` whether it is the head-end. The
-/// route may turn to the next leg there only if `own` says that it is a target of this leg.
+/// The role of a router after it was found among the targets of this leg (routers where it may end)
+/// or of the leg before. `stands` says whether a route may enter the router in the leg after the
+/// last hop, and `begins` whether it is the head-end. The route may go on to the next leg at the
+/// router only if `own` says that it is a target of this leg. A role says what a route may do at a
+/// router in a leg.
 fn with_more(old: Role, stands: bool, own: bool, begins: bool) -> Role
     ensures enter { IsTrue result.enter ↔ (IsTrue old.enter ⊎ IsTrue stands) }
     ensures target { IsTrue result.target
@@ -111,9 +118,11 @@ fn with_more(old: Role, stands: bool, own: bool, begins: bool) -> Role
     }
 }
 
-/// Adds to the roles of the routers `places`, which are the targets of the leg before, or of this
-/// leg if `own` holds. A link may lead a route to each of these routers. At the targets of this leg
-/// the route may also turn to the next leg. `from` is the index of the head-end.
+/// Lets a route do more at the routers at the indexes `places`. These are the targets of this leg
+/// (routers where it may end) if `own` holds, and otherwise the targets of the leg before. A link
+/// may then lead the route to each of these routers that the route may leave or end at. If `own`
+/// holds, the route may also go on to the next leg at each of these routers that it may visit.
+/// `from` is the index of the head-end.
 fn mark(roles: &mut [Role], rows: RoleRows, places: &[u16], own: bool, from: usize)
     requires rows { AreRoleRows rows roles.old }
     requires places { All (λ place. place < rows.count) places.now }
@@ -126,8 +135,8 @@ fn mark(roles: &mut [Role], rows: RoleRows, places: &[u16], own: bool, from: usi
     }
 }
 
-/// The targets of the leg to a hop, by their indexes in the list of routers. `leg_index` is the
-/// index of the hop.
+/// For the leg to a hop, the indexes of its targets (routers where the leg may end) in the list of
+/// routers. `leg_index` is the index of the hop.
 fn targets_of(
     alloc: Global,
     table: &Table,
@@ -158,15 +167,16 @@ pub fn is_loose(request: &Request, leg_index: usize) -> bool
     }
 }
 
-/// A leg to a hop, with the routers at which it begins and its targets, both by their indexes in
-/// the list of routers.
+/// A leg to a hop, with the routers at which it begins, and its targets (routers where the leg may
+/// end). Both are given by indexes in the list of routers.
 #[derive(Clone, Copy)]
 struct Leg<'a> {
     /// The index of the hop.
     index: usize,
-    /// In the first leg the head-end, and in each other leg the targets of the leg before it.
+    /// The routers at which the leg begins. In the first leg this is the head-end, and in each
+    /// other leg the targets of the leg before it (routers where that leg may end).
     starts: &'a [u16],
-    /// The targets of the leg.
+    /// The targets of the leg (routers where it may end).
     targets: &'a [u16],
 }
 
@@ -192,18 +202,21 @@ fn set_roles(table: &Table, request: &Request, leg: Leg<'_>, from: usize, roles:
     mark(roles, rows, leg.targets, true, from);
 }
 
-/// What a route may do at each router in each leg, and the routers at which the legs to hops end.
+/// What a route may do at each router in each leg, and the targets of the legs to hops (routers
+/// where these legs may end).
 #[derive(Drop)]
 pub struct Roles {
-    /// What a route may do at each router in each leg. Each leg has 1,024 roles. In its leg, a
-    /// router's role is at the router's index in `Table::routers`.
+    /// The role of each router in each leg: what a route may do there. Each leg has 1,024 roles.
+    /// Among these, a router's role is at the router's index in `Table::routers`.
     pub states: Vec<Role>,
-    /// For each hop, the targets of the leg to that hop, by their indexes in `Table::routers`.
+    /// For each hop, the targets of the leg to that hop (routers where this leg may end), by their
+    /// indexes in `Table::routers`.
     pub targets: Vec<Vec<u16>>,
 }
 
-/// What a route may do at each router in each leg, and the routers at which the legs to hops end.
-/// `from` and `to` are the indexes of the head-end and the tail-end in `Table::routers`.
+/// What a route may do at each router in each leg, and the targets of the legs to hops (routers
+/// where these legs may end). `from` and `to` are the indexes of the head-end and the tail-end in
+/// `Table::routers`.
 pub fn find_roles(
     alloc: Global,
     table: &Table,

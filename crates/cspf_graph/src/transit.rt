@@ -15,7 +15,8 @@ pub fn may_leave(table: &Table, router: Addr, links_so_far: u32) -> bool
     links_so_far == 0 || table.transit(router)
 }
 
-/// As `may_leave`, for the router at the index `place` of `Table::routers`.
+/// Whether a walk that has reached the router at the index `place` of `Table::routers` over
+/// `links_so_far` links may leave this router. The rule is that of `may_leave`.
 pub fn may_leave_at(table: &Table, place: usize, links_so_far: u32) -> bool
     requires { place < length (router_list table.now) }
     ensures { IsTrue result
@@ -24,8 +25,8 @@ pub fn may_leave_at(table: &Table, place: usize, links_so_far: u32) -> bool
     links_so_far == 0 || table.transit_at(place)
 }
 
-/// Whether some walk of the request may leave the router at the index `place` of `Table::routers`.
-/// The router has transit, or the walk begins there.
+/// Whether some walk of the request may leave the router at the index `place` of `Table::routers`:
+/// the router has transit, or it is the head-end.
 pub fn may_be_left(table: &Table, place: usize, request: &Request) -> bool
     requires { place < length (router_list table.now) }
     ensures { IsTrue result

@@ -1,4 +1,4 @@
--- One more job: what its thread ended with, and what is known of the jobs before it.
+-- What holds of all jobs of a run. The proofs add the result of one more thread at a time.
 use Rattle.std.proofs.Common.{◌≡◌, suc, ◌<◌, ◌≤◌, ◌^◌, List, [], ◌∷◌, ◌++◌, length, Result, Ok, Err, MatchResult, IsOkAnd, refl, sym, ap, subst, ◌∙◌, arith, Global}
 use Rattle.std.proofs.Math.Nat.{ℕ_set}
 use Rattle.std.specs.Global.{Vec}
@@ -34,7 +34,8 @@ zip_front R (a ∷ []) [] x y all = absurd all.1
 zip_front R (a ∷ c ∷ xs) [] x y all = absurd all.1
 zip_front R (a ∷ xs) (b ∷ ys) x y all = let rest = zip_front R xs ys x y all.1 in ((all.0, rest.0), rest.1)
 
--- One more job was done.
+-- If some jobs were done by their workers, and one more job was done by its worker, then all these
+-- jobs were done.
 done_push : {W J O : Type 0} (done : W → J → O → Type 0) (ws : List W) (js : List J) (os : List O) (w : W) (j : J) (o : O) → AreDone done ws js os → done w j o
     → AreDone done (ws ++ w ∷ []) (js ++ j ∷ []) (os ++ o ∷ [])
 done_push done [] [] [] w j o all one = (one, tt)
@@ -58,11 +59,13 @@ none_done done Ready (w ∷ ws) [] none all = absurd all
 none_done done Ready ws (j ∷ js) none all = absurd (omega (arith, none))
 
 module _ {G W J O M P : Type 0} (done : W → J → O → Type 0) (last_done : M → Unit {0} → P → Type 0) where
-  -- What a thread ended with, according to the decision.
+  -- What a thread ends with: the output of its job if the decision `said` is that the jobs begin,
+  -- and the job itself otherwise.
   abbrev Ends : Result G NoThread → W → J → Result O J → Type 0
   Ends said w j ended = MatchResult said (λ go. IsOkAnd ended (done w j)) (λ not. ended ≡ Err j)
 
-  -- The case in which no job is left.
+  -- Suppose that there are no jobs. The work of the calling thread was done if the decision is that
+  -- the jobs begin, and is as before otherwise. Then `HaveEnded` holds.
   pub gone_none : (Ready : W → J → Type 0) (workers : List W) (jobs : Vec J) (outputs : List O) (last : M) (said : Result G NoThread) (result : Result P M)
       → jobs.len ≡ 0 → outputs ≡ [] → AllZip Ready workers jobs.items
       → MatchResult said (λ go. IsOkAnd result (last_done last tt)) (λ not. result ≡ Err last)
@@ -71,7 +74,8 @@ module _ {G W J O M P : Type 0} (done : W → J → O → Type 0) (last_done : M
       (rw no_output (none_done done Ready workers jobs.items (sym jobs.ok.0 ∙ none) ready), ends)
   gone_none Ready workers jobs outputs last (Err not) result none no_output ready ends = (refl, ends)
 
-  -- The lists have room for what the thread ended with.
+  -- If the thread ended with an output, the list of outputs has room for it. If the thread ended
+  -- with its job, the list of jobs that weren't begun has room for this job.
   pub keeps : (workers : List W) (jobs left : Vec J) (outputs : Vec O) (last : M) (w : W) (j : J) (said : Result G NoThread) (result : Result P M) (ended : Result O J)
       → HaveEnded done last_done workers jobs outputs.items last left said result → Ends said w j ended
       → jobs.len < jobs.cap → jobs.len < outputs.cap
@@ -83,7 +87,9 @@ module _ {G W J O M P : Type 0} (done : W → J → O → Type 0) (last_done : M
   keeps workers jobs left outputs last w j (Err not) result ended gone ends more room =
       subst (λ r. MatchResult r (λ o. outputs.len < outputs.cap) (λ k. left.len < left.cap)) (sym ends) (subst (λ (v : Vec J). v.len < v.cap) (sym gone.0) more)
 
-  -- The case of one more job, which was done, or is back in its list.
+  -- The decision says whether the jobs begin. The earlier jobs, the calling thread's work and the
+  -- last job have ended as it says. The last job's output is appended to the outputs, or this job
+  -- itself to the jobs that weren't begun. Then `HaveEnded` holds of all jobs.
   pub gone_more : (workers front : List W) (jobs before left kept : Vec J) (outputs more : Vec O) (last : M) (w : W) (j : J) (said : Result G NoThread) (result : Result P M) (ended : Result O J)
       → HaveEnded done last_done front before outputs.items last left said result → Ends said w j ended
       → workers ≡ front ++ w ∷ [] → jobs.items ≡ before.items ++ j ∷ [] → before.ptr ≡ jobs.ptr → before.cap ≡ jobs.cap

@@ -1,4 +1,4 @@
-//! Makes the threads of a run, makes the decision whether they begin, and joins them.
+//! Makes the threads of a run, decides whether the jobs begin, and joins the threads.
 
 ghost use Rattle.std.specs.Prelude.{◌≡◌, ℕ, ◌+◌, ◌<◌, ◌≤◌, [], Err, IfOk, IfErr, IsOkAnd, MatchResult, vec_len, vec_capacity};
 ghost use Rattle.std.specs.Result.{ForOk};
@@ -14,7 +14,7 @@ use std::sync::{OnceLock, Wait};
 use std::thread;
 use std::thread::{Promise, Scope, Threads};
 
-/// A worker: does one job, in its own thread.
+/// A worker, which does one job in its own thread.
 pub trait Doer<J> {
     /// The output of a job.
     type Output;
@@ -32,7 +32,7 @@ pub trait Doer<J> {
         ensures { done self job result };
 }
 
-/// The work of the calling thread, which it does while the workers do their jobs.
+/// The calling thread's own work, which it does while the workers do their jobs.
 pub trait Meanwhile {
     /// The output of this work.
     type Output;
@@ -70,15 +70,16 @@ impl<'a, P, M: Meanwhile<Output = P>> Doer<()> for Lent<'a, M> {
     }
 }
 
-/// The result of a thread: the decision that it heard, and the job's output. If the job wasn't
-/// begun, it is returned in place of the output.
+/// The result of a thread: the decision that it has read whether the jobs begin, and the output of
+/// its job. If the job wasn't begun, the job is returned in place of the output.
 #[derive(Drop)]
 pub(crate) struct Came<'a, N: JobCount, J, O> {
     said: Said<'a, N>,
     ended: Result<O, J>,
 }
 
-/// What a thread is given: the lock in which the decision is set, the worker and the job.
+/// What a thread is given: the once-lock that gets the decision whether the jobs begin, the worker
+/// and the job.
 #[derive(Drop)]
 pub(crate) struct Given<'a, N: JobCount, W, J> {
     word: &'a StartWord<N>,
@@ -91,7 +92,8 @@ impl<'a, N: JobCount, J, O, W: Doer<J, Output = O>> Promise<Came<'a, N, J, O>>
     ghost kept_by = { λ g c. HasCome W.Doer.done g.word.now.id g.worker.value g.job.value c };
 }
 
-/// Waits for the decision. At go the worker does the job. Otherwise the job is returned.
+/// Waits until it is decided whether the jobs begin. If they begin, the worker does the job.
+/// Otherwise the job is returned.
 fn wait_and_work<'a, N: JobCount, J, O, W: Doer<J, Output = O> + Drop, R: Wait>(
     rt: &R,
     word: &'a StartWord<N>,
@@ -109,7 +111,7 @@ fn wait_and_work<'a, N: JobCount, J, O, W: Doer<J, Output = O> + Drop, R: Wait>(
     Came { said, ended }
 }
 
-/// Makes the decision. At go it does the work of the calling thread.
+/// Decides whether the jobs begin. If they begin, does the work of the calling thread.
 fn finish<'a, N: JobCount, P, M: Doer<(), Output = P> + Drop, R: Wait>(
     rt: &R,
     word: &'a StartWord<N>,
@@ -130,8 +132,9 @@ fn finish<'a, N: JobCount, P, M: Doer<(), Output = P> + Drop, R: Wait>(
     (said, ended)
 }
 
-/// Makes a thread for each job, the last job first, and counts the threads. Then it makes the
-/// decision, does the work of the calling thread at go, and joins the threads.
+/// Makes a thread for each job, the last job first, and counts the threads. Then it decides whether
+/// the jobs begin. If they begin, it does the work of the calling thread. At the end it joins the
+/// threads.
 fn call_all<
     's,
     'w: 's,
@@ -165,7 +168,7 @@ fn call_all<
     if jobs.is_empty() {
         return finish(rt, word, count, last);
     }
-    // The number of the last job, from 1.
+    // The number of the last job, counted from 1.
     let number = jobs.len();
     let job = jobs.take_last();
     let worker = workers.take_last();
@@ -188,8 +191,8 @@ fn call_all<
     (said, ended)
 }
 
-/// Puts the output of a job after the outputs of earlier jobs. A job that wasn't begun is put back
-/// after the earlier jobs.
+/// Appends the output of a job to `outputs`. If the job wasn't begun, appends the job to `jobs`
+/// instead.
 fn keep<J, O>(ended: Result<O, J>, jobs: &mut Vec<J>, outputs: &mut Vec<O>)
     requires { MatchResult ended (λ _. vec_len outputs.old < vec_capacity outputs.old) (λ _. vec_len jobs.old < vec_capacity jobs.old) }
     ensures jobs { MatchResult ended (λ _. jobs.new ≡ jobs.old) (IsPushed jobs.old jobs.new) }
@@ -201,7 +204,8 @@ fn keep<J, O>(ended: Result<O, J>, jobs: &mut Vec<J>, outputs: &mut Vec<O>)
     }
 }
 
-/// The refusal that the decision names. `count` is the number of jobs.
+/// The decision `said` names the job that was refused a thread. Returns the error with this job's
+/// number, which is from 1 to `count`, the number of jobs.
 fn refusal<'a, N: JobCount>(word: &'a StartWord<N>, said: &Said<'a, N>, count: usize) -> NoThread
     requires { (said.now.of ≡ word.now.id) × (0 < count) }
     ensures { (0 < result.job) × (result.job ≤ count) }
@@ -240,7 +244,8 @@ fn run_with<
     run_under(rt, &word, workers, jobs, room, last)
 }
 
-/// As `run_with`, but the lock in which the decision is set is given by the caller.
+/// As `run_with`, but the caller gives the once-lock `word`, which gets the decision whether the
+/// jobs begin.
 fn run_under<
     'w,
     N: JobCount + Send + Sync + Drop,
@@ -294,8 +299,8 @@ fn run_under<
 
 /// Does each job in its own thread, by the worker at the same place in `workers`. Meanwhile the
 /// calling thread does its own work. No job and no work of the calling thread begins before all
-/// jobs have a thread. Each is called with a `Go` that counts as many threads as there are jobs.
-/// The outputs are put into `room`.
+/// jobs have a thread. Each worker, and the work of the calling thread, gets a `Go`, which shows
+/// that as many threads were made as there are jobs. The outputs are put into `room`.
 ///
 /// If a thread can't be had, no job begins, and the calling thread doesn't do its own work. All
 /// threads end, and the jobs are returned.
@@ -332,7 +337,8 @@ pub fn run_all<
     }
 }
 
-/// Does nothing. For the borrow checker, this use of the reference ties it to what was lent.
+/// Does nothing. By this use of the reference, the borrow checker ties the reference to the value
+/// that was lent.
 fn take_back<M>(own: &mut M)
     ensures { own.new ≡ own.old }
 {}

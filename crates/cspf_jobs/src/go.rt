@@ -1,4 +1,5 @@
-//! `Go`, which all work needs, and the count of threads that makes it.
+//! `Go` shows how many jobs have a thread, and no work begins without it. It is made from the count
+//! of threads.
 
 ghost use Rattle.std.specs.Prelude.{◌≡◌, ◌<◌, Ok, Err, IsOk, MatchResult};
 ghost use Rattle.std.specs.Result.{ForOk, ForErr};
@@ -43,7 +44,7 @@ pub(crate) struct GoForAll<N: JobCount> {
 }
 
 impl<N: JobCount> GoForAll<N> {
-    /// The `Go` that a worker is called with.
+    /// Returns the `Go` that is passed to the workers. It shows how many jobs have a thread.
     pub(crate) fn go(&self) -> &Go
         ensures { result.now ≡ N.jobs }
     {
@@ -108,7 +109,8 @@ impl ThreadCount {
         JobThread { thread }
     }
 
-    /// The decision: go if each job has a thread, and otherwise the first refusal.
+    /// Returns the decision whether the jobs begin. They begin if each job has a thread. Otherwise
+    /// the decision is the first refusal of a thread.
     pub(crate) fn word<N: JobCount>(&self) -> Result<GoForAll<N>, NoThread>
         requires { ForOk self.now.made (λ n. n ≡ N.jobs) }
         ensures { MatchResult result (λ _. IsOk self.now.made) (λ first. self.now.made ≡ Err first) }

@@ -1,4 +1,4 @@
-//! The decision that all threads wait for.
+//! The decision whether the jobs begin. All threads wait for it.
 
 ghost use Rattle.std.specs.Prelude.{◌≡◌};
 
@@ -9,21 +9,21 @@ use std::sync::{OnceLock, OnceToken, Wait};
 #[derive(Clone, Copy, Debug, Drop, thiserror::Error)]
 #[error("no thread for job {job}")]
 pub struct NoThread {
-    /// The number of the job, from 1.
+    /// The number of the job, counted from 1.
     pub job: usize,
 }
 
 /// The decision whether the jobs begin. It is set once.
 pub(crate) type StartWord<N> = OnceLock<Result<GoForAll<N>, NoThread>>;
 
-/// A token that shows that the decision is set, and what it is.
+/// A value that shows that it is decided whether the jobs begin, and what was decided.
 pub(crate) type Said<'a, N> = OnceToken<'a, Result<GoForAll<N>, NoThread>>;
 
-/// Waits until the decision is made.
+/// Waits until it is decided whether the jobs begin.
 pub(crate) fn heard<'a, N: JobCount, R: Wait>(rt: &R, word: &'a StartWord<N>) -> Said<'a, N>
     ensures { result.of ≡ word.now.id }
 {
-    // The first turn of the loop returns.
+    // The loop returns in its first turn.
     for _ in rt.forever() {
         word.wait(rt);
         if let Some(said) = word.witness() {

@@ -32,7 +32,7 @@ shorter (x ∷ xs) (y ∷ ys) (z ∷ zs) p q le =
     let rest = shorter xs ys zs (p.0, cc (p.1)) (q.0, cc (q.1)) (omega arith) in
     (rest.0, cc (heads, rest.1))
 
--- a prefix as long as the whole is the whole
+-- a prefix that is as long as the whole list is the whole list
 pub all_of : (xs all : List NumberedChanges) → BeginsWith all xs → length xs ≡ length all → xs ≡ all
 all_of [] [] p len = refl
 all_of [] (y ∷ ys) p len = absurd (omega arith)
@@ -45,7 +45,8 @@ AreNumberedFrom-snoc : (n : ℕ) (bs : List NumberedChanges) (b : NumberedChange
 AreNumberedFrom-snoc n [] b all is = (omega (arith, is), tt)
 AreNumberedFrom-snoc n (c ∷ bs) b all is = (all.0, AreNumberedFrom-snoc (n + 1) bs b all.1 (omega (arith, is)))
 
--- a history with a batch after it that may come next is a history
+-- If `IsHistory` holds of batches (numbered from 1, each fitting those before it), it still holds
+-- when one more batch that may come next is added at their end.
 pub IsHistory-snoc : LawfulByOneMore → (bs : List NumberedChanges) (b : NumberedChanges) → IsHistory bs → MayFollow bs b → IsHistory (bs ++ b ∷ [])
 IsHistory-snoc law bs b h f = record {
   lawful = (law bs b).1 (h.lawful, f.fits);
@@ -57,7 +58,8 @@ AreNumberedFrom-prefix : (n : ℕ) (bs more : List NumberedChanges) → AreNumbe
 AreNumberedFrom-prefix n [] more all = tt
 AreNumberedFrom-prefix n (b ∷ bs) more all = (all.0, AreNumberedFrom-prefix (n + 1) bs more all.1)
 
--- a prefix of a history is a history
+-- if `IsHistory` holds of batches (numbered from 1, each fitting those before it), it holds of each
+-- prefix of their list
 pub IsHistory-prefix : FirstBatchesAreLawful → (all first : List NumberedChanges) → BeginsWith all first → IsHistory all → IsHistory first
 IsHistory-prefix law all first p h = record {
   lawful = law first p.0 (subst AreLawful p.1 h.lawful);

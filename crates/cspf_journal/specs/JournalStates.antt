@@ -1,4 +1,4 @@
--- How clauses see journals, and what holds when a batch isn't recorded.
+-- The values by which contracts describe journals, and what holds when a batch isn't recorded.
 use Rattle.std.specs.Prelude.{◌≡◌, ℕ, ◌<◌, Bool, true, List, length, take, Option}
 use Rattle.std.specs.Io.KnownBytes.{Appends}
 use Rattle.logbook.specs.Pages.{Book}
@@ -7,22 +7,24 @@ use Rattle.cspf_rows.specs.BatchText.{batch_text}
 use Rattle.cspf_journal.specs.declared.not_recorded.NotRecorded.{NotRecorded}
 use Rattle.cspf_journal.specs.declared.not_recorded.NotRecorded.TheVariants.{Lost, Writer}
 
--- A journal to which no batch was added: the source of its list, and its writer.
+-- A journal to which no batch was added: the identity of its list of batches (the list's source),
+-- and its writer.
 pub record NewJournalState (W : Type 0) : Type 0 where
   pub source : Book
   pub writer : W
 
--- The batches whose texts the writer has whole, the source of their list, whether the writer failed in
--- the text of a later batch, and the writer.
+-- A journal: the batches whose texts the writer has whole, and the identity of the list of these
+-- batches (the list's source). Also whether the writer failed in the text of a later batch, and the
+-- writer.
 pub record JournalState (W : Type 0) : Type 0 where
   pub batches : List NumberedChanges
   pub source : Book
   pub stopped : Bool
   pub writer : W
 
--- Why a batch isn't recorded. `j` is the journal before the call and `j'` after it. If the step on the
--- list is lost, nothing has changed. If the writer failed, it has a strict prefix of the batch's text,
--- and the journal is stopped for good.
+-- Why a batch isn't recorded. `j` is the journal before the call and `j'` after it. If the shared
+-- list had more batches than this journal has recorded (`Lost`), nothing has changed. If the writer
+-- failed, it has a strict prefix of the batch's text, and the journal never records again.
 abbrev pub IsNotRecorded : {W : Type 0} → (W → Option (List ℕ)) → JournalState W → JournalState W → NumberedChanges → NotRecorded → Type 0
 IsNotRecorded contents j j' b Lost = j' ≡ j
 IsNotRecorded contents j j' b (Writer written) =

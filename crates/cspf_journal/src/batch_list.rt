@@ -14,10 +14,11 @@ use cspf_model::{Batch, lawful_batches};
 use logbook::{Offer, Seen, Start, Word};
 use std::marker::Model;
 
-/// The counter that threads share: the length of the list.
+/// The counter that threads share: the length of the list of batches.
 type LengthWord = Word<LogStep, u64, History>;
 
-/// The batches of a list that its owner keeps. Batches are added only through this value.
+/// A list of batches, in the hands of the list's owner. It has the shared counter that is the
+/// list's length, and the batches that the owner knows. Batches are added only through this value.
 #[derive(Drop)]
 pub(crate) struct BatchList {
     word: LengthWord,
@@ -37,7 +38,8 @@ impl Model for BatchList {
 }
 
 impl BatchList {
-    /// A new list without batches, and the right to show its batches.
+    /// A new list without batches, and the right to show the list's batches to askers, which answer
+    /// requests.
     pub(crate) fn new() -> (BatchList, RightToShow)
         ensures list { result.0.batches ≡ [] }
         ensures right { result.1 ≡ record { batches = []; source = result.0.source } }
@@ -51,14 +53,16 @@ impl BatchList {
         (BatchList { word, kept }, RightToShow::new(right, count))
     }
 
-    /// Adds a batch in one step. Returns the longer list, which isn't kept yet. Returns `None` if the
-    /// list has more batches than are kept: then the batch isn't added.
+    /// Adds a batch to the shared list of batches in one atomic step, and returns the longer list.
+    /// This value knows the longer list only after a call of `keep`. If the shared list already has
+    /// more batches than this value knows, the batch isn't added, and the result is `None`.
     pub(crate) fn add(&self, batch: &Batch) -> Option<Known>
         requires { MayFollow self.now.batches batch.now }
         ensures { IfSome result (λ longer.
             longer ≡ known_with self.now.batches self.now.source batch.now) }
     {
-        // Law: the list stays lawful with one more batch that fits.
+        // Law: if each batch of a list fits after the batches before it, the same holds of the list
+        // with one more batch that fits.
         lawful_batches();
         let mut seen = self.kept.seen();
         let mut offer: Offer<LogStep, u64, History, NoGain> = seen.plain::<NoGain, Batch, AddBatch>(
@@ -75,7 +79,7 @@ impl BatchList {
         Some(Known::new(batch.number, seen))
     }
 
-    /// Keeps the batches of a longer list.
+    /// Makes `longer` the list of batches that this value knows.
     pub(crate) fn keep(&mut self, longer: &Known)
         requires { longer.now.source ≡ self.old.source }
         ensures { self.new ≡ longer.now }

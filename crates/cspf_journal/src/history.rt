@@ -4,8 +4,9 @@ use crate::log_step::{LogStep, RowOfReader};
 use cspf_model::Batch;
 use logbook::{Gain, Plain, Play, Rule};
 
-/// By the rule of the steps, the steps are in order, and the recorded batches are a history. One
-/// counter is the number of recorded batches, the other counter the number of published batches.
+/// The rule of a journal's steps, an invariant. The steps are in order, and the recorded batches
+/// are numbered from 1, and each fits those before it. One counter is the number of recorded
+/// batches, and the other counter is the number of published batches.
 pub struct History;
 
 impl Rule<LogStep, u64> for History {
@@ -26,7 +27,8 @@ impl Rule<LogStep, u64> for History {
     ghost moves = { λ ask before after answer. Unit {0} };
 }
 
-/// A step gives its caller only the knowledge of the steps.
+/// What a caller gains by making a step: only that it then knows the journal's steps up to this
+/// step.
 pub struct NoGain;
 
 impl Gain<LogStep, u64> for NoGain {
@@ -35,7 +37,7 @@ impl Gain<LogStep, u64> for NoGain {
     ghost after = { λ names about answer. ftrue };
 }
 
-/// The step that adds a batch.
+/// The step that adds a batch to a journal's list of batches.
 pub struct AddBatch;
 
 impl Play<LogStep, u64> for AddBatch {
@@ -44,7 +46,7 @@ impl Play<LogStep, u64> for AddBatch {
     ghost then = { Adds };
 }
 
-/// A caller gives the batch to the step.
+/// The caller gives the batch that this step adds.
 impl Plain<Batch, LogStep, u64> for AddBatch {
     ghost use Rattle.std.specs.Prelude.{None};
     ghost use Rattle.cspf_journal.specs.declared.log_step.LogStep.TheVariants.{Recorded};
@@ -54,7 +56,7 @@ impl Plain<Batch, LogStep, u64> for AddBatch {
     ghost state = { λ batch. None };
 }
 
-/// The step that counts one more batch as published.
+/// The step that counts one more batch of a journal as published.
 pub struct CountBatch;
 
 impl Play<LogStep, u64> for CountBatch {
@@ -63,7 +65,7 @@ impl Play<LogStep, u64> for CountBatch {
     ghost then = { CountsOneMore };
 }
 
-/// A caller gives the new count to the step.
+/// The caller gives the new count of published batches that this step writes.
 impl Plain<u32, LogStep, u64> for CountBatch {
     ghost use Rattle.std.specs.Prelude.{None};
     ghost use Rattle.cspf_journal.specs.declared.log_step.LogStep.TheVariants.{Published};
@@ -73,7 +75,7 @@ impl Plain<u32, LogStep, u64> for CountBatch {
     ghost state = { λ count. None };
 }
 
-/// The step that reads the count.
+/// The step that reads the count of published batches.
 pub struct ReadCount;
 
 impl Play<LogStep, u64> for ReadCount {
@@ -82,7 +84,9 @@ impl Play<LogStep, u64> for ReadCount {
     ghost then = { Reads };
 }
 
-/// A caller gives the row to the step. The 0 is replaced by the count that the step finds.
+/// The caller names the reader, and the row that the reader answers after this step has read the
+/// count of published batches. The count 0 that is written here is replaced by the count that the
+/// step finds.
 impl Plain<RowOfReader, LogStep, u64> for ReadCount {
     ghost use Rattle.std.specs.Prelude.{None};
     ghost use Rattle.cspf_journal.specs.declared.log_step.LogStep.TheVariants.{Read};

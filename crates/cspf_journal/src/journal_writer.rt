@@ -1,4 +1,4 @@
-//! A journal: the writer of the texts, and the list of the batches that are recorded.
+//! A journal: the writer of the batches' texts, and the list of the batches that are recorded.
 ghost use Rattle.std.specs.Prelude.{◌≡◌, ◌++◌, ◌∷◌, [], false, length, IfOk, OnOk, IfErr, OnErr};
 ghost use Rattle.std.specs.Io.KnownBytes.{Appends};
 ghost use Rattle.cspf_rows.specs.BatchText.{batch_text};
@@ -14,8 +14,8 @@ use cspf_rows::put_all;
 use std::io::Write;
 use std::marker::Model;
 
-/// A writer, and the list of the batches whose texts the writer has. Only `record` makes a longer list
-/// known, so a batch that isn't recorded can't be shown.
+/// A writer, and the list of the batches whose texts the writer has. Only `record` makes a longer
+/// list known. So a batch that isn't recorded can't be shown to askers, which answer requests.
 #[derive(Drop)]
 pub struct JournalWriter<W> {
     writer: W,
@@ -37,7 +37,7 @@ impl<W> Model for JournalWriter<W> {
 }
 
 impl<W> JournalWriter<W> {
-    /// The journal of a list, with this writer.
+    /// A journal with this writer. Its recorded batches are the batches of `list`.
     pub(crate) fn new(writer: W, list: BatchList) -> JournalWriter<W>
         ensures { result ≡ record {
           batches = list.batches;
@@ -74,9 +74,10 @@ impl<W> JournalWriter<W> {
 }
 
 impl<W: Write> JournalWriter<W> {
-    /// Records a batch. First the batch is added to the list. If that step is lost, nothing is written.
-    /// Otherwise the batch's text is written whole, and the batches up to this batch are returned. The
-    /// call takes no memory and always returns.
+    /// Records a batch. First the batch is added to the shared list of batches. If that list
+    /// already has more batches than this journal has recorded, the error is `Lost` and nothing is
+    /// written. Otherwise the batch's text is written whole, and the batches up to this batch are
+    /// returned. The call takes no memory and always returns.
     pub fn record(&mut self, batch: &Batch, text: &[u8]) -> Result<Known, NotRecorded>
         requires going { self.old.stopped ≡ false }
         requires next { MayFollow self.old.batches batch.now }

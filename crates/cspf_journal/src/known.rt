@@ -12,8 +12,8 @@ use cspf_model::lawful_batches;
 use logbook::Seen;
 use std::marker::Model;
 
-/// A prefix of a journal's list of batches. At run time only its length is kept. The steps that were
-/// seen may record more batches.
+/// A prefix of a journal's list of batches. At run time only the prefix's length is kept. In proofs
+/// the value also has the journal's steps that were seen. They may record more batches.
 #[derive(Drop)]
 pub struct Known {
     version: u32,
@@ -38,7 +38,7 @@ impl Model for Known {
 }
 
 impl Known {
-    /// All batches that the seen steps record. `version` is the number of these batches.
+    /// All batches that the steps `seen` record. `version` is the number of these batches.
     pub(crate) fn new(version: u32, seen: Seen<LogStep, u64, History>) -> Known
         requires version { version ≡ length (batches_of seen.log) }
         requires history { IsHistory (batches_of seen.log) }
@@ -47,7 +47,7 @@ impl Known {
         Known { version, seen }
     }
 
-    /// The seen steps, which record the known batches.
+    /// The steps of the journal that this value has seen. They record the known batches.
     pub(crate) fn seen(&self) -> Seen<LogStep, u64, History>
         ensures recorded { BeginsWith (batches_of result.log) self.now.batches }
         ensures source { result.book ≡ self.now.source }
@@ -74,7 +74,7 @@ impl Known {
     }
 
     /// Takes over the batches of `other`, if they aren't fewer than the known batches. Returns whether
-    /// it does. The shorter list is a prefix of the longer list.
+    /// it took them over. The shorter list is a prefix of the longer list.
     pub fn raise(&mut self, other: &Known) -> bool
         requires { other.now.source ≡ self.old.source }
         ensures { MatchBool result
@@ -91,8 +91,9 @@ impl Known {
         true
     }
 
-    /// Reads the count of published batches for a row. From then on at least as many batches are known.
-    /// The reading is the last of `steps` after the call.
+    /// Reads the count of published batches, before the reader named in `row` answers this row.
+    /// From then on this value has at least as many batches as the count says. The reading is a
+    /// step of the journal, and the last step of `steps` after the call.
     pub fn catch_up(
         &mut self,
         count: &PublishedCount,
@@ -103,7 +104,8 @@ impl Known {
         requires steps { steps.old.source ≡ self.old.source }
         ensures { CatchesUp self.old self.new steps.old steps.new row.reader row.place result }
     {
-        // Law: a prefix of a lawful list is lawful.
+        // Law: if each batch of a list fits after the batches before it, the same holds of each prefix
+        // of the list.
         lawful_batches();
         let mut seen = steps.seen();
         seen.learn(&self.seen);
@@ -114,7 +116,7 @@ impl Known {
         published
     }
 
-    /// Steps that record the known batches.
+    /// The steps of the journal that this value has seen. They record the known batches.
     pub fn steps(&self) -> SeenSteps
         ensures source { result.source ≡ self.now.source }
         ensures recorded { BeginsWith (batches_of result.steps) self.now.batches }

@@ -6,7 +6,8 @@ use crate::journal_writer::JournalWriter;
 use crate::rights::RightToShow;
 use std::marker::Model;
 
-/// A writer, a list without batches, and the right to show the batches of that list.
+/// A writer, a list that has no batches yet, and the right to show the batches of that list to
+/// askers (which answer requests).
 #[derive(Drop)]
 pub struct NewJournal<W> {
     writer: W,
@@ -27,7 +28,7 @@ impl<W> Model for NewJournal<W> {
 }
 
 impl<W> NewJournal<W> {
-    /// A journal with a new list.
+    /// A journal with this writer, and with a new list that has no batches.
     pub fn new(writer: W) -> NewJournal<W>
         ensures { result.writer ≡ writer }
     {
@@ -39,7 +40,8 @@ impl<W> NewJournal<W> {
         }
     }
 
-    /// The journal, and the only right to show its batches.
+    /// The journal, and the only right to show the journal's batches to askers (which answer
+    /// requests).
     pub fn start(self) -> (JournalWriter<W>, RightToShow)
         ensures journal { result.0 ≡ record {
           batches = [];

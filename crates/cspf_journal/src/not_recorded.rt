@@ -3,7 +3,8 @@ use thiserror::Error;
 /// Why a batch isn't recorded.
 #[derive(Clone, Copy, Debug, PartialEq, Eq, Error)]
 pub enum NotRecorded {
-    /// The list has more batches than its journal. Nothing was written.
+    /// The shared list of batches has batches that this journal hasn't recorded. Nothing was
+    /// written.
     #[error("the list has more batches than the journal")]
     Lost,
     /// The writer failed, and the journal is stopped for good.

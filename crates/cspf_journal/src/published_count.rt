@@ -9,9 +9,9 @@ use crate::log_step::{LogStep, RowOfReader};
 use logbook::{Offer, Seen, Word};
 use std::marker::Model;
 
-/// How many batches of a journal are published. Only the holder of the journal's `RightToCount` raises
-/// the count, by one for each batch. Clauses see the count as its journal's source, since its value is
-/// known only at steps.
+/// How many batches of a journal are published. Only the holder of the journal's `RightToCount`
+/// raises the count, by one for each batch. Contracts describe this value by its journal's identity
+/// (the source), since the count is known only when it is read or raised.
 #[derive(Drop)]
 pub struct PublishedCount {
     word: Word<LogStep, u64, History>,
@@ -32,7 +32,7 @@ impl Model for PublishedCount {
 }
 
 impl PublishedCount {
-    /// The count that this counter holds.
+    /// Makes the count of published batches from the shared counter `word`.
     pub(crate) fn new(word: Word<LogStep, u64, History>) -> PublishedCount
         requires { word ≡ count_word word.book }
         ensures { result ≡ word.book }
@@ -40,8 +40,8 @@ impl PublishedCount {
         PublishedCount { word }
     }
 
-    /// Counts one more batch as published, in one step. Returns whether it did. If it didn't, the count
-    /// before wasn't `count` less 1.
+    /// Counts one more batch as published, in one atomic step. Returns whether it did so. If not,
+    /// the count before the call wasn't `count` minus 1.
     pub(crate) fn move_to(&self, count: u32, seen: &mut Seen<LogStep, u64, History>) -> bool
         requires source { seen.old.book ≡ self.now }
         requires recorded { (0 < count) × (count ≤ length (batches_of seen.old.log)) }
@@ -68,7 +68,8 @@ impl PublishedCount {
         found == old
     }
 
-    /// Reads the count for a row, in one step.
+    /// Reads the count of published batches in one step of the journal. The step names the reader,
+    /// and the row that the reader is about to answer.
     pub(crate) fn read(&self, seen: &mut Seen<LogStep, u64, History>, row: RowOfReader) -> u32
         requires { seen.old.book ≡ self.now }
         ensures source { seen.new.book ≡ seen.old.book }

@@ -1,5 +1,5 @@
-//! The rights to show the batches of a journal, to keep the two copies of their table, and to count the
-//! batches as published.
+//! The rights of a journal: to show its batches to askers (which answer requests), to keep the two
+//! copies of the table that these batches make, and to count the batches as published.
 ghost use Rattle.std.specs.Prelude.{◌≡◌, length, MatchBool};
 ghost use Rattle.cspf_model.specs.Numbered.{NumberedChanges};
 ghost use Rattle.cspf_journal.specs.Histories.{BeginsWith};
@@ -11,8 +11,9 @@ use crate::published_count::PublishedCount;
 use crate::seen_steps::SeenSteps;
 use std::marker::Model;
 
-/// The right to count the batches of a journal as published, one by one. Each journal gives one such
-/// right, and it can't be copied. Contracts see the right as the batches that were counted.
+/// The right to count the batches of a journal as published, one by one. Each journal gives one
+/// such right, and it can't be copied. Contracts describe the right by the batches that were
+/// counted as published.
 #[derive(Drop)]
 pub struct RightToCount {
     known: Known,
@@ -35,7 +36,7 @@ impl Model for RightToCount {
 }
 
 impl RightToCount {
-    /// The right to count the batches that come after these batches.
+    /// The right to count as published the batches that come after the batches `known`.
     pub(crate) fn new(known: Known, steps: SeenSteps) -> RightToCount
         requires source { steps.source ≡ known.source }
         requires count { count_of steps.steps ≡ length known.batches }
@@ -45,15 +46,16 @@ impl RightToCount {
         RightToCount { known, steps }
     }
 
-    /// The batches that were counted.
+    /// The batches that were counted as published.
     pub(crate) fn known(&self) -> Known
         ensures { result ≡ self.now }
     {
         self.known.copy()
     }
 
-    /// Counts the last batch of `published` as published. Returns whether it did. The call doesn't
-    /// count if the counter has another count than this right, which happens in no run.
+    /// Counts the last batch of `published` as published. Returns whether it did so. It doesn't if
+    /// the counter `word` isn't at the number of batches that this right has counted. That happens
+    /// in no run.
     pub fn count(&mut self, word: &PublishedCount, published: &Known) -> bool
         requires word { word.now ≡ self.old.source }
         requires next { (b : NumberedChanges)
@@ -70,7 +72,8 @@ impl RightToCount {
         true
     }
 
-    /// The steps up to the last count. These steps record the published batches, and count as many.
+    /// The journal's steps up to the last step that counts a batch as published. These steps record the
+    /// published batches, and count all of them.
     pub fn steps(&self) -> SeenSteps
         ensures source { result.source ≡ self.now.source }
         ensures count { count_of result.steps ≡ length self.now.batches }
@@ -80,9 +83,9 @@ impl RightToCount {
     }
 }
 
-/// The right to keep one copy of the table of a journal's batches. Each journal gives two such rights,
-/// and they can't be copied. Contracts see the right as its journal's source. The right takes no
-/// memory.
+/// The right to keep one copy of the table of a journal's batches. Each journal gives two such
+/// rights, and they can't be copied. Contracts describe the right by its journal's identity (the
+/// source). The right takes no memory.
 #[derive(Drop)]
 pub struct CopyRight {
     steps: SeenSteps,
@@ -99,7 +102,8 @@ impl Model for CopyRight {
 }
 
 impl CopyRight {
-    /// The right of the source of these steps.
+    /// The right to keep a copy of the table that a journal's batches make. `steps` are steps of
+    /// this journal.
     pub(crate) fn new(steps: SeenSteps) -> CopyRight
         ensures { result ≡ steps.source }
     {
@@ -107,8 +111,8 @@ impl CopyRight {
     }
 }
 
-/// The right to show the batches of a journal. Each journal gives one such right, and it can't be
-/// copied.
+/// The right to show the batches of a journal to askers, which answer requests. Each journal gives
+/// one such right, and the right can't be copied.
 #[derive(Drop)]
 pub struct RightToShow {
     right: RightToCount,
@@ -131,8 +135,9 @@ impl Model for RightToShow {
 }
 
 impl RightToShow {
-    /// The right to show the batches. It holds the right to count them, the count that this right
-    /// raises, and two `CopyRight`s.
+    /// The right to show the journal's batches to askers (which answer requests). It holds the
+    /// right `right` to count batches as published, and the count of published batches that `right`
+    /// raises. It also holds two `CopyRight`s. Each is the right to keep a copy of the table.
     pub(crate) fn new(right: RightToCount, count: PublishedCount) -> RightToShow
         requires { count ≡ right.source }
         ensures { result ≡ right }
@@ -154,8 +159,9 @@ impl RightToShow {
         self.right.known()
     }
 
-    /// The right to count the shown batches, the count that this right raises, and the two
-    /// `CopyRight`s.
+    /// Splits this right into three parts. The first is the right to count batches as published.
+    /// The second is the count of published batches, which that right raises. The third part is the
+    /// two `CopyRight`s. Each is the right to keep a copy of the table.
     pub fn split(self) -> (RightToCount, PublishedCount, CopyRight, CopyRight)
         ensures right { result.0 ≡ self }
         ensures count { result.1 ≡ self.source }

@@ -1,4 +1,4 @@
-//! The first steps of a journal, as far as they are known.
+//! The steps of a journal, from its first step on, as far as they were seen.
 ghost use Rattle.std.specs.Prelude.{◌≡◌, ◌≤◌};
 ghost use mathlib.Core.List.{IsPrefix};
 ghost use Rattle.cspf_journal.specs.Histories.{BeginsWith};
@@ -26,7 +26,7 @@ impl Model for SeenSteps {
 }
 
 impl SeenSteps {
-    /// The steps that were seen.
+    /// The journal's steps that are in `seen`.
     pub(crate) fn new(seen: Seen<LogStep, u64, History>) -> SeenSteps
         requires { AreJournalSteps seen.log }
         ensures { result ≡ record { steps = seen.log; source = seen.book } }
@@ -34,14 +34,14 @@ impl SeenSteps {
         SeenSteps { seen }
     }
 
-    /// The seen steps, as they are given to the next step.
+    /// The steps that were seen, in the form that the next step on a shared counter takes.
     pub(crate) fn seen(&self) -> Seen<LogStep, u64, History>
         ensures { (result.log ≡ self.now.steps) × (result.book ≡ self.now.source) }
     {
         self.seen.again()
     }
 
-    /// A copy of the known steps.
+    /// A copy of the steps that were seen.
     pub fn copy(&self) -> SeenSteps
         ensures copy { result ≡ self.now }
         ensures journal { AreJournalSteps self.now.steps }
@@ -51,7 +51,8 @@ impl SeenSteps {
         }
     }
 
-    /// Adds the steps of `other` to the known steps. A later reading finds at least the count of each.
+    /// Adds the steps of `other` to the known steps. A later reading of the count of published
+    /// batches finds at least the larger of the two counts that these two lists of steps give.
     pub fn learn(&mut self, other: &SeenSteps)
         requires { other.now.source ≡ self.old.source }
         ensures source { self.new.source ≡ self.old.source }

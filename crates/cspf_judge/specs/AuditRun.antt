@@ -21,7 +21,7 @@ fault_line fault = fault_words fault ++ codes "\n"
 abbrev pub audited_line : ℕ → ℕ → List ℕ
 audited_line good faults = codes "good=" ++ decimal good ++ codes " faults=" ++ decimal faults ++ codes "\n"
 
--- the line that refuses the request row with this number, since an earlier row has the same id
+-- the line that refuses the request row with this number because an earlier row has the same id
 abbrev pub same_id_line : ℕ → List ℕ
 same_id_line row = codes "request row " ++ decimal row ++ codes " refused: same-id\n"
 
@@ -43,7 +43,7 @@ IsAuditErrorLine (error.Batch number why) line = line ≡ refused_batch_line num
 IsAuditErrorLine (error.Requests why) line = IsFaultLine why line
 IsAuditErrorLine (error.SameId row) line = line ≡ same_id_line row
 
--- The lines are those of the audit, or the line that refuses the streams.
+-- The lines are the lines of the audit, or the one line that refuses the streams.
 abbrev pub IsAuditRun : Option (List ℕ) → Option (List ℕ) → Option (List ℕ) → List ℕ → ℕ → Type 0
 IsAuditRun journal requests replies lines status =
     ((audit : Audit) × (lines ≡ audit_lines audit) × (status ≡ audit_status audit)

@@ -33,7 +33,8 @@ abbrev pub IsRefusalWritten : EarlyEnd → Option (List ℕ) → Option (List �
 IsRefusalWritten (early_end.Refused line) old new = Appends old new (judge_line_text line)
 IsRefusalWritten (early_end.Failed error) old new = ⊥
 
--- the error of the whole run: that of the early end, or any error if writing the line of a refusal failed
+-- the error of the whole run: the error of the early end, or any error if an input is refused and writing the line
+-- that says so failed
 abbrev pub IsLastError : EarlyEnd → JudgeError → Type 0
 IsLastError (early_end.Refused line) e = Unit {0}
 IsLastError (early_end.Failed error) e = e ≡ error
@@ -49,7 +50,8 @@ pub record WritesFront (old new : Option (List ℕ)) (text : List ℕ) : Type 0 
 abbrev pub HasBegun : Option (List ℕ) → Option (List ℕ) → (List ℕ → Type 0) → Type 0
 HasBegun old new Holds = Keeps old new ⊎ ((lines : List ℕ) × Holds lines × WritesFront old new lines)
 
--- a prefix of the line that refuses an input was written. After an error nothing was written.
+-- If an input is refused, a prefix of the line that says so was written. If memory was refused or a device failed,
+-- nothing was written.
 abbrev pub IsRefusalBegun : EarlyEnd → Option (List ℕ) → Option (List ℕ) → Type 0
 IsRefusalBegun (early_end.Refused line) old new = WritesFront old new (judge_line_text line)
 IsRefusalBegun (early_end.Failed error) old new = Keeps old new
@@ -68,13 +70,15 @@ IsJournalLine read_error.Memory line = ⊥
 IsJournalLine read_error.Device line = ⊥
 IsJournalLine read_error.TooManyRows line = line ≡ too_many_line
 
--- the error of a run whose journal can't be read. A fault that has a line is no error.
+-- the error of a run whose journal can't be read. A journal that is refused with a line gives no
+-- error.
 abbrev pub IsJournalError : ReadError → JudgeError → Type 0
 IsJournalError read_error.Memory e = e ≡ Memory
 IsJournalError read_error.Device e = e ≡ Device
 IsJournalError read_error.TooManyRows e = ⊥
 
--- the error of a run whose requests can't be read. A fault that has a line is no error.
+-- the error of a run whose requests can't be read. Requests that are refused with a line give no
+-- error.
 abbrev pub IsRequestsError : RequestsError → JudgeError → Type 0
 IsRequestsError requests_error.Memory e = e ≡ Memory
 IsRequestsError requests_error.Device e = e ≡ Device
@@ -82,7 +86,8 @@ IsRequestsError requests_error.TooManyRows e = ⊥
 IsRequestsError (requests_error.Bad row why) e = ⊥
 IsRequestsError (requests_error.NotAsk row) e = ⊥
 
--- the error of a run whose streams can't be audited. A fault that has a line is no error.
+-- the error of a run whose streams can't be audited. Streams that are refused with a line give no
+-- error.
 abbrev pub IsAuditFailure : AuditError → JudgeError → Type 0
 IsAuditFailure audit_error.Memory e = e ≡ Memory
 IsAuditFailure audit_error.Device e = e ≡ Device

@@ -15,7 +15,7 @@ use Rattle.cspf_rows.specs.Requests.{AreRequests, IsRequestsFault}
 use Rattle.cspf_rows.specs.Words.{words}
 use Rattle.cspf_stream.specs.Lines.{too_many_line}
 
--- the line of a journal that has this many batches and is torn
+-- the line that refuses a torn journal, in which rows follow this many whole batches
 abbrev pub torn_line : ℕ → List ℕ
 torn_line count = codes "journal torn after " ++ decimal count ++ codes "\n"
 

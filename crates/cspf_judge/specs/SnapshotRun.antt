@@ -12,8 +12,8 @@ use Rattle.cspf_judge.specs.Inputs.{AreBatchesOf, IsJournalRefused}
 use Rattle.cspf_stream.specs.Lines.{refused_batch_line}
 use Rattle.cspf_stream.specs.declared.batch_refusal.BatchRefusal.TheVariants.{Unfit}
 
--- Each batch of the journal fits the database of those before it. The batches `making` are a snapshot of the last
--- database.
+-- Each batch of the journal fits the database of the batches before it. The batches `making` are a snapshot of the
+-- last database.
 pub record IsSnapshotOf (accept_torn : Bool) (records : Records) (making : List NumberedChanges) : Type 0 where
   pub batches : List NumberedChanges
   pub read : AreBatchesOf accept_torn records batches

@@ -1,4 +1,5 @@
-//! The run of `audit`: it reads three streams, and writes a line for each fault and the count of good lines.
+//! The run of `audit`: it reads three streams, and writes a line for each fault and a line with the
+//! number of good lines.
 
 ghost use Rattle.std.specs.Prelude.{◌≡◌, ℕ, IfOk, OnOk, OnErr};
 ghost use Rattle.std.specs.Io.KnownBytes.{Appends};
@@ -12,9 +13,10 @@ use cspf_stream::{BatchRefusal, StreamLine};
 use std::alloc::Global;
 use std::io::{Read, Write};
 
-/// Audits replies by a journal and requests. Writes a line for each fault, and then how many lines are good:
-/// `IsAuditRun`. Streams that can't be audited are refused with one line. Returns the status: 0 if there is
-/// no fault and no refusal, and 2 otherwise. After an error the writer has a prefix of these lines, or none of
+/// Audits replies against a journal and requests. Writes a line for each fault, and then a line
+/// with the numbers of good lines and of faults. `IsAuditRun` defines these lines. Streams that
+/// can't be audited are refused with one line. Returns the status: 0 if there is no fault and no
+/// refusal, and 2 otherwise. After an error the writer has a prefix of these lines, or none of
 /// them. The writer isn't flushed.
 pub fn run_audit<W: Write, R: Read + Drop, Q: Read + Drop, P: Read + Drop>(
     alloc: Global,

@@ -1,4 +1,5 @@
-//! Why a run ends before its streams are judged: a line refuses an input, or there is an error.
+//! Why a run ends before its streams are judged: an input is refused with a line, or there is an
+//! error.
 
 ghost use Rattle.std.specs.Prelude.{◌≡◌};
 ghost use Rattle.cspf_judge.specs.EarlyEnds.{unfit_end};
@@ -30,7 +31,7 @@ impl From<AllocError> for JudgeError {
     }
 }
 
-/// How a run over a journal or requests ends early.
+/// How a run over a journal or requests ends before these are judged.
 #[derive(Clone, Copy)]
 pub enum EarlyEnd {
     /// An input is refused with this line.

@@ -15,8 +15,8 @@ use cspf_stream::StreamLine;
 use std::alloc::Global;
 use std::io::Read;
 
-/// The batches of a journal. Rows after the last whole batch are skipped if `accept_torn` is set. Otherwise
-/// they refuse the journal.
+/// Reads the batches of a journal. Rows after the last whole batch are skipped if `accept_torn` is
+/// set. Otherwise the journal is refused if there are such rows.
 pub fn batches_of<R: Read + Drop>(
     alloc: Global,
     journal: R,
@@ -47,7 +47,8 @@ pub fn journal_end_of(error: ReadError) -> EarlyEnd
     }
 }
 
-/// The batches of a journal that was read. If it is torn, it is refused unless `accept_torn` is set.
+/// The batches of a journal that was read. A torn journal, in which rows follow the last whole
+/// batch, is refused unless `accept_torn` is set.
 fn whole_batches(journal: Journal, accept_torn: bool) -> Result<Vec<Batch>, EarlyEnd>
     ensures ok { IfOk result (λ batches. (batches.items ≡ journal.batches.items)
         × (journal.rest ≡ IsTorn → accept_torn ≡ true)) }
@@ -72,7 +73,7 @@ pub fn accept_rest(rest: Rest, count: usize, accept_torn: bool) -> Result<(), Ea
     }
 }
 
-/// The requests of a stream.
+/// Reads the requests of a stream, or returns how the run ends without them.
 pub fn requests_of<R: Read + Drop>(alloc: Global, requests: R) -> Result<Vec<Request>, EarlyEnd>
     ensures ok { IfOk result (λ asked. IfSome (R.remaining requests) (λ bytes.
         AreRequestsOf (rows_of bytes) asked.items)) }

@@ -1,8 +1,8 @@
-//! The judge of journals, requests and replies. It works in one thread and without a publisher.
+//! The judge of journals, requests and replies. It works in one thread, and publishes no versions.
 //!
-//! `run_audit` judges replies by a journal and requests, and `specs/AuditRun.antt` defines its output.
-//! `run_snapshot` writes the batches that make a journal's last database from the empty one, and
-//! `specs/SnapshotRun.antt` defines its output.
+//! `run_audit` judges replies against a journal and requests, and `specs/AuditRun.antt` defines its
+//! output. `run_snapshot` writes the batches that make a journal's last database from the empty
+//! one, and `specs/SnapshotRun.antt` defines its output.
 //!
 //! The crate also has what all runs over a journal and requests share. `specs/Inputs.antt` defines how the
 //! two are read, and the lines that refuse them. `specs/EarlyEnds.antt` defines how a run ends early.

@@ -6,12 +6,12 @@ use cspf_stream::StreamLine;
 use std::alloc::{AllocError, Global};
 use std::fmt;
 
-/// A line of a run over a journal, requests or replies that isn't a reply line.
+/// A line, other than a reply line, of a run over a journal, requests or replies.
 #[derive(Clone, Copy)]
 pub enum JudgeLine {
-    /// A line that streams of rows can have, too.
+    /// One of the lines that a run over a stream of rows also writes.
     Stream(StreamLine),
-    /// The journal has this many batches and is torn.
+    /// The journal is torn: rows follow this many whole batches.
     Torn { count: usize },
     /// The request row with this number is refused.
     RefusedRequest { row: u32, error: RowError },
@@ -19,7 +19,8 @@ pub enum JudgeLine {
     SameId { row: u32 },
     /// The audit found this fault.
     Fault { fault: AuditFault },
-    /// The audit found this many good lines and this many faults.
+    /// The audit found this many good lines, which aren't skipped and have no fault, and this many
+    /// faults.
     Audited { good: u32, faults: usize },
 }
 

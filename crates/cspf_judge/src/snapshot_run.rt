@@ -15,10 +15,11 @@ use cspf_snapshot::snapshot;
 use std::alloc::Global;
 use std::io::{Read, Write};
 
-/// Writes the batches that make the journal's last database from the empty one: `IsSnapshotRun`. A journal
-/// is refused with one line if it is too long, if it is torn and `accept_torn` isn't set, or if a batch
-/// doesn't fit. Returns the status: 2 if the journal is refused, and 0 otherwise. After an error the writer
-/// has a prefix of these lines, or none of them. The writer isn't flushed.
+/// Writes the batches that make the journal's last database from the empty database.
+/// `IsSnapshotRun` defines the lines. A journal is refused with one line if it is too long, if it
+/// is torn and `accept_torn` isn't set, or if a batch doesn't fit. Returns the status: 2 if the
+/// journal is refused, and 0 otherwise. After an error the writer has a prefix of the lines, or
+/// nothing of them. The writer isn't flushed.
 pub fn run_snapshot<R: Read + Drop, W: Write>(
     alloc: Global,
     journal: R,
@@ -39,7 +40,7 @@ pub fn run_snapshot<R: Read + Drop, W: Write>(
     }
 }
 
-/// The batches that make the last database of the journal.
+/// The batches that make the last database of the journal from the empty database.
 fn snapshot_of<R: Read + Drop>(
     alloc: Global,
     accept_torn: bool,
@@ -57,7 +58,7 @@ fn snapshot_of<R: Read + Drop>(
     Ok(snapshot(alloc, &table)?)
 }
 
-/// Writes the texts of batches.
+/// Writes the texts of batches, one after the other.
 fn write_batches<W: Write>(
     alloc: Global,
     batches: &[Batch],

@@ -12,7 +12,7 @@ pub record IsBestRoute (d : Database) (q : Request) (walk : List Link) : Type 0 
   pub is_route : IsRoute d q walk
   pub least : (other : List Link) → IsRoute d q other → walk_cmp other walk ≢ Less
 
--- The answer to a request.
+-- An answer to a request: an end that is unknown, no route, or a route.
 pub data Answer : Type 0 where
   unknown_from : Answer
   unknown_to : Answer
@@ -24,9 +24,9 @@ pub record HasEnds (d : Database) (q : Request) : Type 0 where
   pub from : IsRouterOf d q.from
   pub to : IsRouterOf d q.to
 
--- The best answer is `unknown_from` if the head-end isn't in the database. Otherwise it is `unknown_to`
--- if the tail-end isn't in the database. Otherwise it is the best route, or `no_route` if no walk is a
--- route.
+-- The best answer is `unknown_from` if the head-end isn't in the database. Otherwise it is
+-- `unknown_to` if the tail-end isn't in the database. Otherwise it is the best route, or `no_route`
+-- if no walk is a route.
 abbrev pub IsBestAnswer : Database → Request → Answer → Type 0
 IsBestAnswer d q unknown_from = ¬ IsRouterOf d q.from
 IsBestAnswer d q unknown_to = IsRouterOf d q.from × ¬ IsRouterOf d q.to

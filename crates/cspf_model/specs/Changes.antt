@@ -13,8 +13,9 @@ use Rattle.cspf_model.specs.Numbered.{NumberedChanges}
 use Rattle.cspf_model.specs.Database.{Database, Key, key_of, link_at, link_count, router_count, mark_count}
 use Rattle.cspf_model.specs.declared.limits.TheConstants.{MOST_CHANGES, MOST_LINKS, MOST_ROUTERS, MOST_MARKS}
 
--- What a change is about: a router and the interface of one of its links, or a router alone, whose
--- transit changes.
+-- The key of a change. The key of a change to a link is the router at which the link begins, and
+-- the link's interface address there. The key of a change of a router's transit is the router
+-- alone.
 abbrev pub ChangeKey : Type 0
 ChangeKey = ℕ × Option ℕ
 
@@ -22,12 +23,13 @@ ChangeKey = ℕ × Option ℕ
 abbrev pub link_key : Key → ChangeKey
 link_key k = (k.0, Some k.1)
 
--- The key of a change to the transit of this router.
+-- The key of a change of this router's transit, that is, of whether routes may pass through the
+-- router.
 abbrev pub mark_key : ℕ → ChangeKey
 mark_key router = (router, None)
 
--- The order of these keys: by the router, then the router alone before its interfaces, then by the
--- interface.
+-- The order of the keys of changes: by the router, and then by the interface. A key without an
+-- interface comes before those with one.
 abbrev pub change_key_cmp : ChangeKey → ChangeKey → Ordering
 change_key_cmp a b = ordering_then (nat_cmp a.0 b.0) (option_cmp nat_cmp a.1 b.1)
 
@@ -37,30 +39,30 @@ key_changed (Put l) = link_key (key_of l)
 key_changed (Remove from local) = link_key (from, local)
 key_changed (Node router transit) = mark_key router
 
--- The link that a change leaves at its key, if any.
+-- The link that a change puts, or `None` if the change puts no link.
 abbrev pub link_left : Change → Option Link
 link_left (Put l) = Some l
 link_left (Remove from local) = None
 link_left (Node router transit) = None
 
--- Whether a change leaves its router marked as without transit.
+-- Whether a change takes a router's transit away, and so marks this router as without transit.
 abbrev pub mark_left : Change → Bool
 mark_left (Put l) = false
 mark_left (Remove from local) = false
 mark_left (Node router transit) = not transit
 
--- The last change of a key, if there is one.
+-- The last change in a list that has this key, if there is one.
 abbrev pub last_on : ChangeKey → List Change → Option Change
 last_on k changes = find (λ c. eq_by_cmp change_key_cmp k (key_changed c)) (reverse changes)
 
--- The link at a key after the last change of this key. `before` is the link that was there before all
--- changes.
+-- The link at a key after the last change with this key. `before` is the link that was there before
+-- all changes.
 abbrev pub link_after : Option Change → Option Link → Option Link
 link_after None before = before
 link_after (Some c) before = link_left c
 
--- Whether a router is marked after the last change of its transit. `before` says whether it was marked
--- before all changes.
+-- Whether a router is marked as without transit after the last change of its transit. `before` says
+-- whether it was marked before all changes.
 abbrev pub mark_after : Option Change → Bool → Bool
 mark_after None before = before
 mark_after (Some c) before = mark_left c
@@ -69,19 +71,20 @@ mark_after (Some c) before = mark_left c
 abbrev pub changes_of : List NumberedChanges → List Change
 changes_of batches = flat_map (λ b. b.changes) batches
 
--- The database that a list of batches makes. It has a link at a key exactly if the last change of this
--- key puts that link. A router is marked exactly if the last change of its transit takes the transit
--- away.
+-- The database that a list of batches makes. It has a link at a key exactly if the last change with
+-- this key puts that link. A router is marked as without transit exactly if the last change of its
+-- transit takes the transit away.
 pub record IsDatabaseOf (d : Database) (batches : List NumberedChanges) : Type 0 where
   pub at : (k : Key) → link_at d k ≡ link_after (last_on (link_key k) (changes_of batches)) None
   pub marked : (router : ℕ)
       → set.contains d.marks router ≡ mark_after (last_on (mark_key router) (changes_of batches)) false
 
--- The database without links and without marks.
+-- The database without links, in which no router is marked as without transit.
 abbrev pub no_links : Database
 no_links = record { links = empty; marks = set.empty }
 
--- The marks after a change of a router's transit.
+-- The routers that are marked as without transit after a change of the transit of `router`. `marks`
+-- are the routers that are marked before the change, and `transit` says whether it gives transit.
 abbrev pub marks_after : set.FinSet nat_cmp → ℕ → Bool → set.FinSet nat_cmp
 marks_after marks router transit = cond transit (set.remove marks router) (set.insert marks router)
 
@@ -107,9 +110,10 @@ IsPresent d (Put l) = Unit {0}
 IsPresent d (Remove from local) = IsSome (link_at d (from, local))
 IsPresent d (Node router transit) = Unit {0}
 
--- A batch fits a database if five rules hold. It has at most 4,096 changes. No two changes have the
--- same key. Each removal's key is in the database. The database has at most 16,384 links and 1,024
--- routers after the batch. It has at most 1,024 marks after the batch.
+-- A batch fits a database if five rules hold. The batch has at most 4,096 changes. No two changes
+-- have the same key. For each removal, the database has a link with its key. After the batch, the
+-- database has at most 16,384 links and 1,024 routers. After the batch, it has at most 1,024
+-- addresses marked as those of routers without transit.
 pub record Fits (d : Database) (batch : NumberedChanges) : Type 0 where
   pub short : length batch.changes ≤ MOST_CHANGES
   pub once : IsDistinct (eq_by_cmp change_key_cmp) (map key_changed batch.changes)
@@ -124,6 +128,6 @@ AreLawfulAfter d [] = Unit {0}
 AreLawfulAfter d (b ∷ bs) = Fits d b × AreLawfulAfter (after_changes d b.changes) bs
 
 -- The list of batches is lawful: each batch fits the database that the batches before it make. The
--- first batch changes the database without links and marks.
+-- first batch changes the database without links, in which no router is marked as without transit.
 abbrev pub AreLawful : List NumberedChanges → Type 0
 AreLawful batches = AreLawfulAfter no_links batches

@@ -1,5 +1,5 @@
--- Traffic engineering databases: links by their keys, the routers at their ends, and the routers that
--- are marked as without transit.
+-- Traffic engineering databases: links by their keys, the routers at their ends, and the routers
+-- that are marked as without transit.
 use Rattle.std.specs.Prelude.{◌≡◌, ℕ, ◌⊎◌, IsTrue, Option, Some, List, [], ◌∷◌, All, Contains, map}
 use Rattle.std.specs.Ordering.{nat_cmp, eq_by_cmp, ordering_then}
 use Rattle.std.specs.declared.cmp.Ordering.{Ordering}
@@ -21,8 +21,8 @@ key_of l = (l.from, l.local)
 abbrev pub key_cmp : Key → Key → Ordering
 key_cmp a b = ordering_then (nat_cmp a.0 b.0) (nat_cmp a.1 b.1)
 
--- A traffic engineering database: links by their keys, and marked addresses, which are those of routers
--- without transit.
+-- A traffic engineering database: links by their keys, and marked addresses, which are those of
+-- routers without transit.
 pub record Database : Type 0 where
   pub links : map.FinMap key_cmp Link
   pub marks : set.FinSet nat_cmp
@@ -31,16 +31,16 @@ pub record Database : Type 0 where
 abbrev pub link_at : Database → Key → Option Link
 link_at d k = map.get d.links k
 
--- The router is marked as without transit, so no route may pass through it (a stub router of RFC 6987).
--- A mark alone makes no router.
+-- The router is marked as without transit, so no route may pass through it (a stub router of RFC
+-- 6987). A marked address at which no link begins or ends isn't a router of the database.
 abbrev pub IsMarked : Database → ℕ → Type 0
 IsMarked d router = IsTrue (set.contains d.marks router)
 
--- The router isn't marked.
+-- The router isn't marked as without transit, so routes may pass through it.
 abbrev pub HasTransit : Database → ℕ → Type 0
 HasTransit d router = ¬ IsMarked d router
 
--- How many marks the database has.
+-- How many addresses the database marks as those of routers without transit.
 abbrev pub mark_count : Database → ℕ
 mark_count d = set.len d.marks
 
@@ -48,15 +48,15 @@ mark_count d = set.len d.marks
 abbrev pub IsLinkOf : Database → Link → Type 0
 IsLinkOf d l = link_at d (key_of l) ≡ Some l
 
--- `r` is the reverse of `l`: it joins the same two interfaces in the other direction. `r` begins at the
--- router and the interface where `l` ends, and ends where `l` begins.
+-- `r` is the reverse of `l`: it joins the same two interfaces in the other direction. `r` begins at
+-- the router and the interface where `l` ends, and ends where `l` begins.
 pub record IsReverse (l r : Link) : Type 0 where
   pub from : r.from ≡ l.to
   pub local : r.local ≡ l.remote
   pub to : r.to ≡ l.from
   pub remote : r.remote ≡ l.local
 
--- The database has the reverse of the link, with any attributes.
+-- The database has the reverse of the link, whatever the attributes of the reverse are.
 abbrev pub HasReverse : Database → Link → Type 0
 HasReverse d l = (r : Link) × IsLinkOf d r × IsReverse l r
 
@@ -68,7 +68,7 @@ link_count d = map.len d.links
 abbrev pub AreAtTheirKeys : Database → Type 0
 AreAtTheirKeys d = (k : Key) (l : Link) → link_at d k ≡ Some l → key_of l ≡ k
 
--- The rows are exactly the links of the database.
+-- The list `rows` has exactly the links of the database.
 pub record AreLinksOf (d : Database) (rows : List Link) : Type 0 where
   pub each : All (IsLinkOf d) rows
   pub whole : (l : Link) → IsLinkOf d l → Contains rows l

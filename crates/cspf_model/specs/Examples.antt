@@ -53,7 +53,7 @@ asked_fields to hops = record {
   hops = hops;
 }
 
--- A hop to the routers in this prefix.
+-- A hop to the routers with an address in this prefix.
 abbrev pub hop : ℕ → ℕ → Bool → Hop
 hop first length loose =
     record { prefix = record { address = first; length = length }; loose = loose }
@@ -71,9 +71,8 @@ back l = link l.to l.remote l.from l.local l.metric 0 (λ same. l.two_ends (sym 
 abbrev pub both_ways : List Link → List Link
 both_ways links = links ++ map back links
 
--- The first network has three ways from 1.1.1.1 to 4.4.4.4. Each leads to 10.9.0.1 first: by one link,
--- by 3.3.3.3, or by 10.9.0.2.
--- This link leads from 1.1.1.1 to 10.9.0.1, and its metric is 10.
+-- The first network has three ways from 1.1.1.1 to 4.4.4.4. Each leads to 10.9.0.1 first: by one
+-- link, by 3.3.3.3, or by 10.9.0.2. This link leads from 1.1.1.1 to 10.9.0.1, and its metric is 10.
 abbrev pub from_1_to_inner_1 : Link
 from_1_to_inner_1 = link_by (router 1) (inner 1) 10 2 1 2 refl
 
@@ -123,9 +122,8 @@ loose_inner_hop = hop (address 10 9 0 0) 16 true
 abbrev pub first_router_hop : Hop
 first_router_hop = hop (router 1) 32 false
 
--- The second network has one way from 1.1.1.1 over 2.2.2.2 to 3.3.3.3. Another link from 2.2.2.2 has no
--- unreserved bandwidth.
--- This link leads from 1.1.1.1 to 2.2.2.2.
+-- The second network has one way from 1.1.1.1 over 2.2.2.2 to 3.3.3.3. Another link from 2.2.2.2
+-- has no unreserved bandwidth. This link leads from 1.1.1.1 to 2.2.2.2.
 abbrev pub from_1_to_2 : Link
 from_1_to_2 = link_by (router 1) (router 2) 10 12 1 2 refl
 
@@ -144,30 +142,32 @@ from_2_to_4 =
 abbrev pub three_links : List Link
 three_links = from_1_to_2 ∷ from_2_to_3 ∷ from_2_to_4 ∷ []
 
--- The strict hop to 172.16.0.0/12. This prefix covers an interface of 2.2.2.2: that of the link without
--- unreserved bandwidth.
+-- The strict hop to 172.16.0.0/12. This prefix covers an interface of 2.2.2.2: that of the link
+-- without unreserved bandwidth.
 abbrev pub interface_hop : Hop
 interface_hop = hop (address 172 16 0 0) 12 false
 
--- The database has exactly these links, and no marks.
+-- The database has exactly these links, and no router is marked as without transit.
 pub record IsNetwork (d : Database) (links : List Link) : Type 0 where
   pub listed : AreLinksOf d links
   pub unmarked : d.marks ≡ set.empty
 
--- `P` holds of each database with exactly these links and no marks, and each request from 1.1.1.1 with
--- this tail-end and these hops.
+-- `P` holds of each database and request of the following kind. The database has exactly these
+-- links, and no router is marked as without transit. The request leads from 1.1.1.1 to this
+-- tail-end and has these hops.
 abbrev pub Holds : List Link → ℕ → List Hop → (Database → Request → Type 0) → Type 0
 Holds links to hops P =
     (d : Database) (q : Request)
     → IsNetwork d links → HasRequestFields q (asked_fields to hops) → P d q
 
--- There is a database with exactly these links and no marks, and for any hops there is a request from
--- 1.1.1.1 with them. So a law of the form `Holds` isn't empty.
+-- There is a database with exactly these links, in which no router is marked as without transit.
+-- For any hops there is a request from 1.1.1.1 to this tail-end with these hops. So a law of the
+-- form `Holds` isn't true merely because it speaks of no database or request.
 pub record AreFound (links : List Link) (to : ℕ) : Type 0 where
   pub database : (d : Database) × IsNetwork d links
   pub request : (hops : List Hop) → (q : Request) × HasRequestFields q (asked_fields to hops)
 
--- A strict leg to 10.9.0.0/16 may visit both routers of this prefix.
+-- A strict leg to 10.9.0.0/16 may visit both routers whose Router IDs are in this prefix.
 abbrev pub MayStandAtOwners : Type 0
 MayStandAtOwners = Holds (both_ways six_links) (router 4) (inner_hop ∷ []) (λ d q. IsRoute d q way_inside)
 
@@ -185,12 +185,13 @@ MayStandAnywhere =
 abbrev pub IsOutsideBeforeInside : Type 0
 IsOutsideBeforeInside = walk_cmp way_outside way_inside ≡ Less
 
--- The leg to a hop that the head-end owns may be empty.
+-- The leg to a hop may be empty if the head-end has an address in the hop's prefix.
 abbrev pub MayBeEmpty : Type 0
 MayBeEmpty =
     Holds (both_ways six_links) (router 4) (first_router_hop ∷ inner_hop ∷ []) (λ d q. IsRoute d q way_inside)
 
--- A route may meet a hop by the address of an interface whose link isn't admissible.
+-- A route reaches a hop if it comes to a router with an interface address in the hop's prefix, even
+-- if the link of this interface isn't admissible.
 abbrev pub MayBeMetByAnyLink : Type 0
 MayBeMetByAnyLink =
     Holds (both_ways three_links) (router 3) (interface_hop ∷ [])

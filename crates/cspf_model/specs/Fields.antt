@@ -6,7 +6,8 @@ use Rattle.cspf_model.specs.declared.request.Request.{Request}
 use Rattle.cspf_model.specs.declared.request.RequestError.{RequestError}
 use Rattle.cspf_model.specs.declared.request.RequestError.TheVariants.{Priority, SameEnds}
 
--- The attributes of a link, without the facts that hold of each link.
+-- The attributes of a link, without the proofs that it has eight bandwidths and its ends are
+-- different routers.
 pub record LinkFields : Type 0 where
   pub from : ℕ
   pub local : ℕ
@@ -43,7 +44,8 @@ abbrev pub AreFieldsOfLinks : Type 0
 AreFieldsOfLinks =
     (l : Link) (fields : LinkFields) → HasLinkFields l fields ↔ (fields_of_link l ≡ fields)
 
--- The fields of a request, without the facts that hold of each request.
+-- The fields of a request, without the proofs that its setup priority is at most 7 and its ends are
+-- different routers.
 pub record RequestFields : Type 0 where
   pub id : ℕ
   pub from : ℕ
@@ -55,7 +57,7 @@ pub record RequestFields : Type 0 where
   pub include_all : ℕ
   pub hops : List Hop
 
--- The fields of a request, given in the order of `Request::new`.
+-- The fields of a request, given in the order of the parameters of `Request::new`.
 abbrev pub request_fields : ℕ → ℕ → ℕ → ℕ → ℕ → ℕ → ℕ → ℕ → List Hop → RequestFields
 request_fields id from to setup bandwidth exclude_any include_any include_all hops = record {
   id = id;
@@ -91,7 +93,8 @@ abbrev pub AreFieldsOfRequests : Type 0
 AreFieldsOfRequests =
     (q : Request) (fields : RequestFields) → HasRequestFields q fields ↔ (fields_of_request q ≡ fields)
 
--- Why no request has these fields. The setup priority is above 7, or else the head-end is the tail-end.
+-- Why no request can have these fields. Either the setup priority is above 7, or it is at most 7
+-- and the head-end is the tail-end.
 abbrev pub IsRequestFault : RequestFields → RequestError → Type 0
 IsRequestFault fields Priority = 7 < fields.setup
 IsRequestFault fields SameEnds = (fields.setup ≤ 7) × (fields.from ≡ fields.to)

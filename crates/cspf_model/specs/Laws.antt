@@ -17,13 +17,14 @@ use Rattle.cspf_model.specs.Routes.{IsRoute}
 use Rattle.cspf_model.specs.Best.{Answer, IsBestAnswer}
 use Rattle.cspf_model.specs.Examples.{address}
 
--- Two walks of the same request with the same local addresses are equal.
+-- Two walks of one request are equal if their links have the same local addresses in the same
+-- order.
 abbrev pub WalksAreTold : Type 0
 WalksAreTold =
     (d : Database) (q : Request) (v w : List Link)
     → IsWalk d q v → IsWalk d q w → locals_of v ≡ locals_of w → v ≡ w
 
--- Two routes of the same request that tie are equal.
+-- Two routes of the same request that compare as equal are equal.
 abbrev pub RoutesAreRanked : Type 0
 RoutesAreRanked =
     (d : Database) (q : Request) (v w : List Link)
@@ -34,41 +35,47 @@ abbrev pub OneBestAnswer : Type 0
 OneBestAnswer =
     (d : Database) (q : Request) (a b : Answer) → IsBestAnswer d q a → IsBestAnswer d q b → a ≡ b
 
--- The database after a list of batches has at each key what the last change of this key left there.
+-- The database after a list of batches has at each key the link that the last change with this key
+-- put, if any. A router is marked as without transit exactly if the last change of its transit took
+-- its transit away.
 abbrev pub LastChangeDecides : Type 0
 LastChangeDecides = (batches : List NumberedChanges) → IsDatabaseOf (database_after batches) batches
 
--- A list of batches has at most one database.
+-- A list of batches makes at most one database.
 abbrev pub OneDatabase : Type 0
 OneDatabase =
     (batches : List NumberedChanges) (d e : Database)
     → IsDatabaseOf d batches → IsDatabaseOf e batches → d ≡ e
 
--- One more batch changes the database that the batches before it made.
+-- The database after one more batch is the database after the batches before it, with the changes
+-- of this batch made in order.
 abbrev pub OneMoreBatch : Type 0
 OneMoreBatch =
     (batches : List NumberedChanges) (b : NumberedChanges)
     → database_after (batches ++ b ∷ []) ≡ after_changes (database_after batches) b.changes
 
--- A list of batches with one more is lawful exactly if the list is lawful, and the new batch fits the
--- list's database.
+-- A list of batches is lawful if each batch fits the database that the batches before it make. A
+-- list with one batch appended is lawful exactly if two facts hold. The list is lawful, and the
+-- appended batch fits the database that the list makes.
 abbrev pub LawfulByOneMore : Type 0
 LawfulByOneMore =
     (batches : List NumberedChanges) (b : NumberedChanges)
     → AreLawful (batches ++ b ∷ []) ↔ (AreLawful batches × Fits (database_after batches) b)
 
--- A prefix of a lawful list of batches is lawful.
+-- A list of batches is lawful if each batch fits the database that the batches before it make. If a
+-- list is lawful, each beginning of the list is lawful, too.
 abbrev pub FirstBatchesAreLawful : Type 0
 FirstBatchesAreLawful =
     (batches more : List NumberedChanges) → AreLawful (batches ++ more) → AreLawful batches
 
--- `all_routers` has exactly the routers of the database, if each link is at its own key.
+-- If a database has each link at the link's own key, `all_routers` has exactly the routers of the
+-- database.
 abbrev pub RoutersAreCounted : Type 0
 RoutersAreCounted =
     (d : Database) → AreAtTheirKeys d → (router : ℕ)
     → IsTrue (set.contains (all_routers d) router) ↔ IsRouterOf d router
 
--- After any list of batches each link is at its own key.
+-- The database after any list of batches has each link at the link's own key.
 abbrev pub LinksAreAtTheirKeys : Type 0
 LinksAreAtTheirKeys =
     (batches : List NumberedChanges) → AreAtTheirKeys (database_after batches)
@@ -84,11 +91,12 @@ abbrev pub OneRefusal : Type 0
 OneRefusal =
     (d : Database) (b : NumberedChanges) (e f : Refusal) → IsRefusal d b e → IsRefusal d b f → e ≡ f
 
--- A batch that is refused doesn't fit.
+-- A batch that is refused doesn't fit the database.
 abbrev pub RefusedIsUnfit : Type 0
 RefusedIsUnfit = (d : Database) (b : NumberedChanges) (e : Refusal) → IsRefusal d b e → ¬ Fits d b
 
--- The local address 10.0.0.9 comes before 10.0.0.10.
+-- Of two walks of one link each and the same cost, the one with the local address 10.0.0.9 comes
+-- before the one with 10.0.0.10.
 abbrev pub AddressesCompareAsNumbers : Type 0
 AddressesCompareAsNumbers =
     (l m : Link) → l.metric ≡ m.metric → l.local ≡ 167772169 → m.local ≡ 167772170
@@ -115,15 +123,16 @@ FirstAddressDecides =
     → n.local ≡ address 10 0 0 2 → o.local ≡ address 10 0 0 3
     → walk_cmp (l ∷ m ∷ []) (n ∷ o ∷ []) ≡ Less
 
--- If the first local addresses are equal, the next local addresses decide.
+-- If two walks of the same cost and number of links have the same first local address, their next
+-- local addresses decide the order.
 abbrev pub NextAddressDecides : Type 0
 NextAddressDecides =
     (l m n o : Link) → cost_of (l ∷ m ∷ []) ≡ cost_of (n ∷ o ∷ [])
     → l.local ≡ n.local → m.local ≡ address 10 0 0 2 → o.local ≡ address 10 0 0 3
     → walk_cmp (l ∷ m ∷ []) (n ∷ o ∷ []) ≡ Less
 
--- A link is put, removed, and put once more with other attributes. The database then has the link of
--- the last change.
+-- A link is put, removed, and put once more with other attributes. The database then has the link
+-- of the last change.
 abbrev pub LastPutStands : Type 0
 LastPutStands =
     (l m : Link) → key_of l ≡ key_of m
@@ -160,13 +169,15 @@ pub record AsksForGroups (q : Request) (excluded any all : ℕ) : Type 0 where
   pub include_all : q.include_all ≡ all
   pub bandwidth : q.bandwidth ≡ 0
 
--- A link of these groups is admitted for every request with these affinities and without bandwidth.
+-- A link of these groups is admitted for every request that has these affinities and asks for no
+-- bandwidth.
 abbrev pub AreAdmittedWith : (group exclude_any include_any include_all : ℕ) → Type 0
 AreAdmittedWith group exclude_any include_any include_all =
     (q : Request) (l : Link)
     → l.group ≡ group → AsksForGroups q exclude_any include_any include_all → IsAdmitted q l
 
--- A link of these groups isn't admitted for any request with these affinities and without bandwidth.
+-- A link of these groups isn't admitted for any request that has these affinities and asks for no
+-- bandwidth.
 abbrev pub AreRefusedWith : (group exclude_any include_any include_all : ℕ) → Type 0
 AreRefusedWith group exclude_any include_any include_all =
     (q : Request) (l : Link)

@@ -7,21 +7,21 @@ use Rattle.cspf_model.specs.Database.{Database}
 use Rattle.cspf_model.specs.Walks.{end_of, routers_of}
 use Rattle.cspf_model.specs.Targets.{IsTarget, IsInside}
 
--- The links, perhaps none, are a leg from the router on. They end at a target of the leg, and visit
--- only routers inside the leg.
+-- The links are a leg that begins at the router; a leg may be empty. The links end at a target of
+-- the leg, and visit only routers inside the leg.
 pub record IsLeg (d : Database) (q : Request) (leg router : ℕ) (links : List Link) : Type 0 where
   pub arrives : IsTarget d q leg (end_of router links)
   pub within : AllByRecursion (IsInside d q leg) (routers_of router links)
 
--- Legs that follow each other, where `leg` is the number of the first. The first leg begins at the
--- router, and each other leg begins where the leg before it ends.
+-- The lists of links are legs that follow each other, and `leg` is the number of the first. The
+-- first leg begins at the router, and each other leg begins where the leg before it ends.
 abbrev pub AreLegs : Database → Request → ℕ → ℕ → List (List Link) → Type 0
 AreLegs d q leg router [] = Unit {0}
 AreLegs d q leg router (links ∷ rest) =
     IsLeg d q leg router links × AreLegs d q (suc leg) (end_of router links) rest
 
--- The walk consists of these legs in this order: one leg to each hop, in the order of the hops, and one
--- to the tail-end.
+-- The walk consists of these legs in this order: one leg to each hop, in the order of the hops, and
+-- one to the tail-end.
 pub record IsCutInto (d : Database) (q : Request) (walk : List Link) (legs : List (List Link))
     : Type 0 where
   pub number : length legs ≡ suc (length q.hops)

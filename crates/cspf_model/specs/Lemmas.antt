@@ -1,4 +1,5 @@
--- Private: definitions for lemmas, on rows that make a database and on the effect of changes on rows.
+-- Private: definitions for lemmas on databases that are made from a list of links, called rows, and
+-- on how changes act on these rows.
 pub mod LinkRows
 pub mod LinkChanges
 pub mod MarkChanges

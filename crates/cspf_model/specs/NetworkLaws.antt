@@ -1,4 +1,5 @@
--- Laws of small networks: on reverses, marks, unknown ends, and routers at which no link begins.
+-- Laws of small networks: on reverses of links, routers without transit, unknown ends, and routers
+-- at which no link begins.
 use Rattle.std.specs.Prelude.{◌≡◌, ℕ, ◌↔◌, true, false, List, [], ◌∷◌, ◌++◌, length, map, refl}
 use Rattle.cspf_model.specs.declared.link.Link.{Link}
 use Rattle.cspf_model.specs.declared.request.Request.{Request}
@@ -19,7 +20,7 @@ network_batch links marks = record {
   changes = map (λ l. Put l) links ++ map (λ r. Node r false) marks;
 }
 
--- The database with these links and these marks.
+-- The database with these links, in which these routers are marked as without transit.
 abbrev pub network : List Link → List ℕ → Database
 network links marks = database_after (network_batch links marks ∷ [])
 
@@ -27,19 +28,23 @@ network links marks = database_after (network_batch links marks ∷ [])
 abbrev pub from_2_to_1 : Link
 from_2_to_1 = link_by (router 2) (router 1) 10 12 2 1 refl
 
--- Not the reverse: its remote address is 10.0.12.9 in place of 10.0.12.1.
+-- A link from 2.2.2.2 that isn't the reverse of `from_1_to_2`, because its remote address is
+-- 10.0.12.9 in place of 10.0.12.1.
 abbrev pub back_to_other_address : Link
 back_to_other_address = link_by (router 2) (router 1) 10 12 2 9 refl
 
--- Not the reverse: its local address is 10.0.12.9 in place of 10.0.12.2.
+-- A link from 2.2.2.2 that isn't the reverse of `from_1_to_2`, because its local address is
+-- 10.0.12.9 in place of 10.0.12.2.
 abbrev pub back_from_other_address : Link
 back_from_other_address = link_by (router 2) (router 1) 10 12 9 1 refl
 
--- Not the reverse: it ends at 3.3.3.3 in place of 1.1.1.1.
+-- A link from 2.2.2.2 that isn't the reverse of `from_1_to_2`, because it ends at 3.3.3.3 in place
+-- of 1.1.1.1.
 abbrev pub back_to_other_router : Link
 back_to_other_router = link_by (router 2) (router 3) 10 12 2 1 refl
 
--- Not the reverse: it begins at 3.3.3.3 in place of 2.2.2.2.
+-- A link to 1.1.1.1 that isn't the reverse of `from_1_to_2`, because it begins at 3.3.3.3 in place
+-- of 2.2.2.2.
 abbrev pub back_from_other_router : Link
 back_from_other_router = link_by (router 3) (router 1) 10 12 2 1 refl
 
@@ -47,8 +52,8 @@ back_from_other_router = link_by (router 3) (router 1) 10 12 2 1 refl
 abbrev pub IsUnusableAmong : List Link → Type 0
 IsUnusableAmong links = (q : Request) → ¬ IsUsable (network links []) q from_1_to_2
 
--- In a network of these links the link from 1.1.1.1 to 2.2.2.2 is usable for each request that admits
--- it.
+-- In a network of these links the link from 1.1.1.1 to 2.2.2.2 is usable for each request that
+-- admits it.
 abbrev pub IsUsableAmong : List Link → Type 0
 IsUsableAmong links =
     (q : Request) → IsAdmitted q from_1_to_2 → IsUsable (network links []) q from_1_to_2
@@ -57,7 +62,7 @@ IsUsableAmong links =
 abbrev pub MayBeAdmitted : Link → Type 0
 MayBeAdmitted l = (q : Request) × IsAdmitted q l
 
--- Links between each two of 1.1.1.1, 2.2.2.2 and 3.3.3.3, in both directions.
+-- The links in both directions between each two of the routers 1.1.1.1, 2.2.2.2 and 3.3.3.3.
 abbrev pub triangle : List Link
 triangle =
     from_1_to_2 ∷ from_2_to_1 ∷ from_2_to_3 ∷ back from_2_to_3 ∷ from_1_to_3 ∷ back from_1_to_3 ∷ []
@@ -74,16 +79,17 @@ way_and_back = from_1_to_2 ∷ from_2_to_1 ∷ []
 abbrev pub way_by_1_again : List Link
 way_by_1_again = from_1_to_2 ∷ from_2_to_1 ∷ from_1_to_3 ∷ []
 
--- `P` holds of the triangle with these marks, and each request from 1.1.1.1 to 3.3.3.3 without hops.
+-- `P` holds of the triangle in which these routers are marked as without transit, and of each
+-- request from 1.1.1.1 to 3.3.3.3 without hops.
 abbrev pub HoldsWithMarks : List ℕ → (Database → Request → Type 0) → Type 0
 HoldsWithMarks marks P =
     (q : Request) → HasRequestFields q (asked_fields (router 3) []) → P (network triangle marks) q
 
--- In the triangle with these marks the links are a walk.
+-- In the triangle in which these routers are marked as without transit, the links are a walk.
 abbrev pub IsWalkWithMarks : List ℕ → List Link → Type 0
 IsWalkWithMarks marks walk = HoldsWithMarks marks (λ d q. IsWalk d q walk)
 
--- In the triangle with these marks the links aren't a walk.
+-- In the triangle in which these routers are marked as without transit, the links aren't a walk.
 abbrev pub IsNoWalkWithMarks : List ℕ → List Link → Type 0
 IsNoWalkWithMarks marks walk = HoldsWithMarks marks (λ d q. ¬ IsWalk d q walk)
 
@@ -91,29 +97,30 @@ IsNoWalkWithMarks marks walk = HoldsWithMarks marks (λ d q. ¬ IsWalk d q walk)
 abbrev pub MayBeAsked : Type 0
 MayBeAsked = (q : Request) × HasRequestFields q (asked_fields (router 3) [])
 
--- A change that takes a router's transit away marks the router.
+-- After a change that takes a router's transit away, the router is marked as without transit.
 abbrev pub IsMarkedByChange : Type 0
 IsMarkedByChange = (d : Database) (r : ℕ) → IsMarked (after_change d (Node r false)) r
 
--- A change that gives a router transit removes its mark.
+-- After a change that gives a router transit, the router isn't marked as without transit.
 abbrev pub IsUnmarkedByChange : Type 0
 IsUnmarkedByChange = (d : Database) (r : ℕ) → HasTransit (after_change d (Node r true)) r
 
--- The walk may be continued by the link. The link is admissible and begins where the walk ends, and the
--- walk may leave that router.
+-- The walk may be continued by the link. The link is admissible and begins where the walk ends, and
+-- the walk may leave the router at which it ends.
 pub record MayComeNext (d : Database) (q : Request) (walk : List Link) (l : Link) : Type 0 where
   pub admissible : IsAdmissible d q l
   pub joined : l.from ≡ end_of q.from walk
   pub leaves : MayLeave d l.from (length walk)
 
--- A walk with one more link is a walk exactly if the link may come next.
+-- If a link is appended to a walk, the result is a walk exactly if `MayComeNext` holds of the walk
+-- and the link.
 abbrev pub WalksGrowByOneLink : Type 0
 WalksGrowByOneLink =
     (d : Database) (q : Request) (walk : List Link) (l : Link)
     → IsWalk d q walk → IsWalk d q (walk ++ l ∷ []) ↔ MayComeNext d q walk l
 
--- The network has one link between 1.1.1.1 and 2.2.2.2, and its reverse. There, requests between these
--- two ends have this best answer and no other.
+-- In the network of the link from 1.1.1.1 to 2.2.2.2 and its reverse, each request from `from` to
+-- `to` has the best answer `answer` and no other.
 abbrev pub IsAnswerBetween : ℕ → ℕ → Answer → Type 0
 IsAnswerBetween from to answer =
     (q : Request) → q.from ≡ from → q.to ≡ to → (other : Answer)

@@ -3,7 +3,7 @@ use Rattle.cspf_model.specs.Best.{Answer, unknown_from, unknown_to, no_route, ro
 use Rattle.cspf_model.specs.declared.outcome.Outcome.{Outcome}
 use Rattle.cspf_model.specs.declared.outcome.Outcome.TheVariants.{Route, NoRoute, UnknownFrom, UnknownTo}
 
--- The answer that an outcome stands for.
+-- The answer of the definitions (`Answer`) that an outcome of `best` stands for.
 abbrev pub answer_of : Outcome → Answer
 answer_of (Route links) = route links
 answer_of NoRoute = no_route

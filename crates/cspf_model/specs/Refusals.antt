@@ -16,7 +16,7 @@ abbrev pub change_at : List Change → ℕ → Option Change
 change_at changes zero = None
 change_at changes (suc before) = slice_get changes before
 
--- The change at this place has the key of an earlier change.
+-- The change at this place, counted from 1, has the key of an earlier change.
 pub record RepeatsAt (changes : List Change) (place : ℕ) : Type 0 where
   pub earlier : ℕ
   pub is_earlier : earlier < place
@@ -32,7 +32,7 @@ RemovesNothing d (Put l) = ⊥
 RemovesNothing d (Remove from local) = link_at d (from, local) ≡ None
 RemovesNothing d (Node router transit) = ⊥
 
--- The change at this place removes a link that the database doesn't have.
+-- The change at this place, counted from 1, removes a link that the database doesn't have.
 pub record RemovesNothingAt (d : Database) (changes : List Change) (place : ℕ) : Type 0 where
   pub change : Change
   pub is_change : change_at changes place ≡ Some change
@@ -51,18 +51,19 @@ IsShort changes = length changes ≤ MOST_CHANGES
 abbrev pub AreOnceEach : List Change → Type 0
 AreOnceEach changes = IsDistinct (eq_by_cmp change_key_cmp) (map key_changed changes)
 
--- For each removal, the database has a link with its key.
+-- For each removal of the list, the database has a link with the removal's key.
 abbrev pub ArePresent : Database → List Change → Type 0
 ArePresent d changes = All (IsPresent d) changes
 
--- The list has at most 4,096 changes, all with different keys, and the database has the key of each
--- removal.
+-- The list has at most 4,096 changes, no two of which have the same key. For each removal, the
+-- database has a link with the removal's key.
 pub record AreInOrder (d : Database) (changes : List Change) : Type 0 where
   pub short : IsShort changes
   pub once : AreOnceEach changes
   pub present : ArePresent d changes
 
--- Why a batch doesn't fit a database. Of several reasons only the first in this order is the refusal.
+-- The reason why a batch doesn't fit a database. If several reasons apply, only the first in the
+-- order below is the refusal.
 abbrev pub IsRefusal : Database → NumberedChanges → Refusal → Type 0
 IsRefusal d batch TooLong = MOST_CHANGES < length batch.changes
 IsRefusal d batch (Duplicate at) =
@@ -80,8 +81,8 @@ IsRefusal d batch TooManyMarks =
     × (router_count (after_changes d batch.changes) ≤ MOST_ROUTERS)
     × (MOST_MARKS < mark_count (after_changes d batch.changes))
 
--- The first batch of the list that doesn't fit has the number `number`, and is refused for the reason
--- `why`. It doesn't fit the database that the batches before it make.
+-- Of the batches in the list, the one with the number `number` is the first that doesn't fit the
+-- database that the batches before it make. This batch is refused for the reason `why`.
 pub record IsFirstUnfit (batches : List NumberedChanges) (number : ℕ) (why : Refusal) : Type 0 where
   pub before : List NumberedChanges
   pub batch : NumberedChanges

@@ -15,11 +15,12 @@ abbrev pub routers_on : List Link → List ℕ
 routers_on [] = []
 routers_on (l ∷ ls) = routers_of l.from (l ∷ ls)
 
--- Some router is twice among the routers on the links.
+-- Some router is twice among the routers that `routers_on` lists for the links.
 abbrev pub VisitsTwice : List Link → Type 0
 VisitsTwice links = ¬ IsDistinct nat_eq (routers_on links)
 
--- These are 1 to `MOST_ROUTE_LINKS` joined links. `kept` is their cost, which is below 2^45.
+-- There are 1 to `MOST_ROUTE_LINKS` links, each of which begins where the link before it ends.
+-- `kept` is the cost of the links, which is below 2^45.
 pub record IsKept (links : List Link) (kept : ℕ) : Type 0 where
   pub some : 0 < length links
   pub most : length links ≤ MOST_ROUTE_LINKS

@@ -7,13 +7,14 @@ use Rattle.cspf_model.specs.declared.link.Link.{Link}
 use Rattle.cspf_model.specs.declared.request.Request.{Request}
 use Rattle.cspf_model.specs.Database.{Database, IsLinkOf, IsRouterOf}
 
--- The link begins at the router, and the prefix covers the address of its interface there.
+-- The link begins at the router, and the prefix covers the address of the link's interface at this
+-- router.
 pub record BeginsWithin (prefix : PrefixParts) (router : ℕ) (l : Link) : Type 0 where
   pub from : l.from ≡ router
   pub local : Covers prefix l.local
 
--- The prefix covers an address of the router: the Router ID, or the address of an interface of one of
--- its links. The link is one of the database that begins there, whether or not it is admissible.
+-- The prefix covers an address of the router. This is the Router ID, or the address of the router's
+-- interface on a link of the database that begins at the router. The link needn't be admissible.
 abbrev pub CoversAddressOf : Database → PrefixParts → ℕ → Type 0
 CoversAddressOf d prefix router =
     Covers prefix router ⊎ ((l : Link) × IsLinkOf d l × BeginsWithin prefix router l)
@@ -24,15 +25,15 @@ pub record Owns (d : Database) (prefix : PrefixParts) (router : ℕ) : Type 0 wh
   pub known : IsRouterOf d router
   pub covered : CoversAddressOf d prefix router
 
--- The router is a target of the leg to a hop if it owns the hop's prefix. The only target of the leg
--- after the last hop is the tail-end.
+-- A target of the leg to a hop is a router of the database with an address in the hop's prefix. The
+-- only target of the leg after the last hop is the tail-end.
 abbrev pub IsTargetOf : Database → ℕ → Option Hop → ℕ → Type 0
 IsTargetOf d to (Some hop) router = Owns d hop.prefix router
 IsTargetOf d to None router = router ≡ to
 
--- The router is a target of a leg. The only target of leg 0, before the first hop, is the head-end. The
--- targets of leg i are the routers that own the prefix of hop i, where the first hop is hop 1. The only
--- target of the leg after the last hop is the tail-end.
+-- The router is a target of a leg. The only target of leg 0, before the first hop, is the head-end.
+-- The targets of leg i are the routers of the database with an address in the prefix of hop i,
+-- where the first hop is hop 1. The only target of the leg after the last hop is the tail-end.
 abbrev pub IsTarget : Database → Request → ℕ → ℕ → Type 0
 IsTarget d q zero router = router ≡ q.from
 IsTarget d q (suc i) router = IsTargetOf d q.to (slice_get q.hops i) router
@@ -43,7 +44,8 @@ IsLoose (Some hop) = IsTrue hop.loose
 IsLoose None = Unit {0}
 
 -- The router is inside the leg, so the leg may visit it. All routers are inside a loose leg. The
--- routers inside a strict leg are its own targets and the targets of the leg before it.
+-- routers inside a strict leg are the targets of this leg (routers where it may end) and the
+-- targets of the leg before it.
 abbrev pub IsInside : Database → Request → ℕ → ℕ → Type 0
 IsInside d q zero router = ⊥
 IsInside d q (suc i) router =

@@ -9,8 +9,8 @@ use Rattle.cspf_model.specs.declared.request.Request.{Request}
 use Rattle.cspf_model.specs.Database.{Database, HasTransit}
 use Rattle.cspf_model.specs.Admissible.{IsAdmissible}
 
--- The links are joined: the first link begins at the router, and each other link begins where the link
--- before it ends.
+-- The links are joined: the first link begins at the router, and each other link begins where the
+-- link before it ends.
 abbrev pub AreJoined : ℕ → List Link → Type 0
 AreJoined router [] = Unit {0}
 AreJoined router (l ∷ ls) = (l.from ≡ router) × AreJoined l.to ls
@@ -20,19 +20,21 @@ abbrev pub routers_passed : List Link → List ℕ
 routers_passed [] = []
 routers_passed (l ∷ ls) = map (λ m. m.from) ls
 
--- A walk of the request: admissible links that follow each other from the head-end on. The walk passes
--- through no router without transit, but it may begin or end at one.
+-- A walk of the request: admissible links that follow each other from the head-end on. The walk
+-- passes through no router that is marked as without transit, but it may begin or end at such a
+-- router.
 pub record IsWalk (d : Database) (q : Request) (walk : List Link) : Type 0 where
   pub links : AllByRecursion (IsAdmissible d q) walk
   pub joined : AreJoined q.from walk
   pub transit : AllByRecursion (HasTransit d) (routers_passed walk)
 
--- The router at which joined links end that begin at `router`.
+-- The router at which the links end, if they are joined and begin at `router`.
 abbrev pub end_of : ℕ → List Link → ℕ
 end_of router [] = router
 end_of router (l ∷ ls) = end_of l.to ls
 
--- The routers that joined links from `router` on visit, including both ends.
+-- The routers that the links visit, including both ends, if the links are joined and begin at
+-- `router`.
 abbrev pub routers_of : ℕ → List Link → List ℕ
 routers_of router links = router ∷ map (λ l. l.to) links
 

@@ -1,5 +1,5 @@
-//! Laws that follow from the definitions of `specs/` alone. Each function here does nothing. Its
-//! contract is the law.
+//! Laws that follow from the definitions of `specs/` alone. Each function here has an empty body.
+//! Its contract states the law.
 ghost use Rattle.std.specs.Prelude.{◌≡◌};
 ghost use Rattle.std.specs.Cmp.{IsTotalOrder};
 ghost use Rattle.cspf_model.specs.declared.limits.TheConstants.{MOST_LINKS, MOST_ROUTERS, MOST_MARKS, MOST_CHANGES, MOST_VERSIONS, MOST_ROUTE_LINKS};
@@ -14,7 +14,7 @@ pub use hop_laws::{route_without_hops, worked_routes};
 pub use network_laws::{worked_ends, worked_marks, worked_reverses, worked_unknown_ends};
 
 /// The order of walks is total. Two different walks of one request have different local addresses.
-/// So of the routes of one request only equal routes tie.
+/// So two different routes of one request never compare as equal.
 pub fn order_of_walks()
     ensures total { IsTotalOrder walk_cmp }
     ensures told { WalksAreTold }
@@ -26,41 +26,45 @@ pub fn one_best_answer()
     ensures { OneBestAnswer }
 {}
 
-/// The database after a list of batches has at each key what the last change of this key left
-/// there. There is only one such database.
+/// The database after a list of batches has at each key the link that the last change with this key
+/// put, if any. A router is marked as without transit exactly if the last change of its transit
+/// took its transit away. A list of batches makes only one database.
 pub fn last_change_decides()
     ensures decides { LastChangeDecides }
     ensures one { OneDatabase }
 {}
 
-/// One more batch changes the database that the batches before it made.
+/// The database after one more batch is the database after the batches before it, with the changes
+/// of this batch made in order.
 pub fn absorbing()
     ensures { OneMoreBatch }
 {}
 
-/// A list of batches with one more is lawful exactly if the list is lawful, and the new batch fits
-/// the list's database. A prefix of a lawful list is lawful.
+/// A list of batches is lawful if each batch fits the database that the batches before it make. A
+/// list with one batch appended is lawful exactly if two facts hold. The list is lawful, and the
+/// appended batch fits the database that the list makes. A beginning of a lawful list is lawful.
 pub fn lawful_batches()
     ensures more { LawfulByOneMore }
     ensures first { FirstBatchesAreLawful }
 {}
 
-/// `router_count` counts the routers of a database in which each link is at its own key. After any
-/// list of batches each link is at its own key. So a list of different routers of a database has at
-/// most as many items as the database has routers.
+/// If a database has each link at the link's own key, `router_count` is how many routers it has.
+/// The database after any list of batches has each link at the link's own key. So a list of
+/// different routers of a database has at most as many items as the database has routers.
 pub fn counted_routers()
     ensures counted { RoutersAreCounted }
     ensures distinct { NoRouterIsLeftOut }
     ensures at_their_keys { LinksAreAtTheirKeys }
 {}
 
-/// A link consists of its attributes, and a request of its fields. Neither has anything else.
+/// A link consists of its attributes and has nothing else. A request consists of its fields and has
+/// nothing else.
 pub fn fields_of_links_and_requests()
     ensures links { AreFieldsOfLinks }
     ensures requests { AreFieldsOfRequests }
 {}
 
-/// A batch is refused for at most one reason, and only if it doesn't fit.
+/// A batch is refused for at most one reason, and only if it doesn't fit the database.
 pub fn one_refusal()
     ensures one { OneRefusal }
     ensures unfit { RefusedIsUnfit }
@@ -74,7 +78,8 @@ pub fn worked_orders()
     ensures cheaper { CheaperLinksComeFirst }
 {}
 
-/// Of three changes of the same key, the last change decides.
+/// If three changes have the same key, the last of them decides which link the database has at this
+/// key.
 pub fn worked_changes()
     ensures put { LastPutStands }
     ensures removed { LastRemovalStands }
@@ -107,7 +112,7 @@ pub fn worked_affinities()
     ensures no_groups { AreAdmittedWith 0 0 0 0 }
 {}
 
-/// The limits of the crate are those that the formats promise.
+/// The limits of this crate are the numbers that the description of the text formats states.
 pub fn limits_of_formats()
     ensures links { MOST_LINKS ≡ 16384 }
     ensures routers { MOST_ROUTERS ≡ 1024 }

@@ -1,23 +1,26 @@
 //! The limits of a database, a batch, a route and a journal.
 use cspf_addr::MOST_HOPS;
 
-/// The most links of a database.
+/// The greatest number of links that a database may have.
 pub const MOST_LINKS: usize = 16384;
 
-/// The most routers of a database. Its routers are those at which its links begin or end.
+/// The greatest number of routers that a database may have. The routers of a database are those at
+/// which its links begin or end.
 pub const MOST_ROUTERS: usize = 1024;
 
-/// The most addresses that are marked as those of routers without transit.
+/// The greatest number of addresses that may be marked as those of routers without transit.
 pub const MOST_MARKS: usize = 1024;
 
-/// The most changes of a batch.
+/// The greatest number of changes that a batch may have.
 pub const MOST_CHANGES: usize = 4096;
 
-/// The greatest version, and so the most batches that are published.
+/// The greatest version number. Each published batch makes a new version, so there are at most this
+/// many published batches.
 pub const MOST_VERSIONS: u32 = 1_000_000;
 
-/// The most legs of a route: one to each hop, and one to the tail-end.
+/// The greatest number of legs that a route may have: one to each hop, and one to the tail-end.
 pub const MOST_LEGS: usize = MOST_HOPS + 1;
 
-/// The most links of a route. Each leg has fewer links than a database has routers.
+/// The greatest number of links that a route may have. Each leg has fewer links than a database has
+/// routers.
 pub const MOST_ROUTE_LINKS: usize = MOST_LEGS * (MOST_ROUTERS - 1);

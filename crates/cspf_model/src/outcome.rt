@@ -3,7 +3,7 @@ use crate::Route;
 /// The answer to a request.
 #[derive(Debug, Drop)]
 pub enum Outcome {
-    /// The least route.
+    /// The route that comes first in the order of walks.
     Route(Route),
     /// No walk of admissible links is a route.
     NoRoute,

@@ -10,13 +10,13 @@ pub enum Refusal {
     /// Two changes of the batch have the same key.
     #[error("change {at} is on the key of an earlier change")]
     Duplicate {
-        /// The least place of a change that has the key of an earlier change.
+        /// The place, counted from 1, of the first change that has the key of an earlier change.
         at: usize,
     },
     /// A change removes a link that the table doesn't have.
     #[error("change {at} removes a link that is not there")]
     Absent {
-        /// The least place of a removal whose link the table doesn't have.
+        /// The place, counted from 1, of the first removal whose link the table doesn't have.
         at: usize,
     },
     /// The table would have more than `MOST_LINKS` links after the batch.

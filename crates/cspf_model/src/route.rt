@@ -60,7 +60,8 @@ impl Route {
         self.cost
     }
 
-    /// Whether the route visits some router twice, its head-end included.
+    /// Whether the route visits some router twice. The head-end counts as visited once at the
+    /// start.
     pub fn again(&self) -> bool
         ensures { IsTrue result ↔ VisitsTwice self.now }
     {

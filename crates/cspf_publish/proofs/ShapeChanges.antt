@@ -1,5 +1,6 @@
--- A list of batches and its first part give databases of one shape, if as many batches change the shape
--- in both.
+-- Take a list of batches and its first part. If as many batches of both change more than unreserved
+-- bandwidths, the databases that both make have one shape: they differ at most in unreserved
+-- bandwidths.
 use Rattle.std.proofs.Common.{◌≡◌, ℕ, ◌+◌, ◌≤◌, List, [], ◌∷◌, ◌++◌, length, refl, sym, ap, subst, inl, inr, ◌∙◌, arith}
 use Rattle.cspf_model.specs.Numbered.{NumberedChanges}
 use Rattle.cspf_model.specs.Database.{Database}
@@ -23,15 +24,17 @@ after_batch : (d : Database) (b : NumberedChanges) (bs : List NumberedChanges)
     → after_changes d (changes_of (b ∷ bs)) ≡ after_changes (after_changes d b.changes) (changes_of bs)
 after_batch d b bs = after_changes-append d b.changes (changes_of bs)
 
--- the database keeps its shape if none of the batches changes the shape
+-- if none of the batches changes more than unreserved bandwidths, the database after them differs
+-- from the one before at most in unreserved bandwidths
 none_changed : (d : Database) (bs : List NumberedChanges) → HasShapeChangesAfter d bs 0 → HaveOneShape d (after_changes d (changes_of bs))
 none_changed d [] is = HaveOneShape-self d
 none_changed d (b ∷ bs) (inl p) =
     subst (HaveOneShape d) (sym (after_batch d b bs)) (HaveOneShape-trans d (after_changes d b.changes) _ p.0 (none_changed (after_changes d b.changes) bs p.1))
 none_changed d (b ∷ bs) (inr p) = absurd (omega (arith, p.2))
 
--- Two lists begin with the same batch. They give databases of one shape, if their other batches do so
--- from the database after that batch.
+-- Apply one batch to a database, and then each of two lists of batches to the result. If the two
+-- databases at the end differ at most in unreserved bandwidths, the same holds of the two lists
+-- that begin with this batch.
 after_one_batch : (d : Database) (b : NumberedChanges) (xs ys : List NumberedChanges)
     → HaveOneShape (after_changes (after_changes d b.changes) (changes_of xs)) (after_changes (after_changes d b.changes) (changes_of ys))
     → HaveOneShape (after_changes d (changes_of (b ∷ xs))) (after_changes d (changes_of (b ∷ ys)))
@@ -39,8 +42,8 @@ after_one_batch d b xs ys is =
     subst (λ e. HaveOneShape e (after_changes d (changes_of (b ∷ ys)))) (sym (after_batch d b xs))
     (subst (HaveOneShape (after_changes (after_changes d b.changes) (changes_of xs))) (sym (after_batch d b ys)) is)
 
--- If as many batches change the shape in a whole list as in its first part, both give databases of one
--- shape.
+-- If as many batches change more than unreserved bandwidths in a whole list as in its first part,
+-- the databases of both differ at most in unreserved bandwidths.
 as_many_changes : (d : Database) (first rest : List NumberedChanges) (count : ℕ) → HasShapeChangesAfter d first count → HasShapeChangesAfter d (first ++ rest) count
     → HaveOneShape (after_changes d (changes_of first)) (after_changes d (changes_of (first ++ rest)))
 as_many_changes d [] rest count is all = none_changed d rest (subst (HasShapeChangesAfter d rest) is all)
@@ -58,7 +61,8 @@ one_shape all first count begins is its =
     subst (λ bs. HaveOneShape (database_after first) (database_after bs)) (sym begins.1)
     (as_many_changes no_links first begins.0 count is (subst (λ bs. HasShapeChanges bs count) begins.1 its))
 
--- one more batch that keeps the shape doesn't change the count
+-- one more batch that changes at most unreserved bandwidths doesn't change the count of batches
+-- that change more
 kept_after : (d : Database) (bs : List NumberedChanges) (b : NumberedChanges) (count : ℕ) → HasShapeChangesAfter d bs count
     → HaveOneShape (after_changes d (changes_of bs)) (after_changes (after_changes d (changes_of bs)) b.changes) → HasShapeChangesAfter d (bs ++ b ∷ []) count
 kept_after d [] b count is one = inl (one, is)
@@ -67,7 +71,7 @@ kept_after d (a ∷ bs) b count (inl p) one =
 kept_after d (a ∷ bs) b count (inr p) one =
     inr (p.0, p.1, p.2, kept_after (after_changes d a.changes) bs b p.1 p.3 (subst (λ e. HaveOneShape e (after_changes e b.changes)) (after_batch d a bs) one))
 
--- one more batch that changes the shape adds 1 to the count
+-- one more batch that changes more than unreserved bandwidths adds 1 to the count of such batches
 changed_after : (d : Database) (bs : List NumberedChanges) (b : NumberedChanges) (count : ℕ) → HasShapeChangesAfter d bs count
     → (¬ HaveOneShape (after_changes d (changes_of bs)) (after_changes (after_changes d (changes_of bs)) b.changes)) → HasShapeChangesAfter d (bs ++ b ∷ []) (count + 1)
 changed_after d [] b count is not = inr (not, count, refl, is)
@@ -84,7 +88,8 @@ pub HasShapeChanges-changed : (s : ReplicaState) (b : NumberedChanges) → HasIt
     → (¬ HaveOneShape s.database (after_changes s.database b.changes)) → HasShapeChanges (s.known.batches ++ b ∷ []) (s.shape_changes + 1)
 HasShapeChanges-changed s b has counts not = changed_after no_links s.known.batches b s.shape_changes counts (subst (λ d. ¬ HaveOneShape d (after_changes d b.changes)) has not)
 
--- at most as many batches change the shape as the list has
+-- the number of batches that change more than unreserved bandwidths is at most the length of the
+-- list
 within_length : (d : Database) (bs : List NumberedChanges) (count : ℕ) → HasShapeChangesAfter d bs count → count ≤ length bs
 within_length d [] count is = omega (arith, is)
 within_length d (b ∷ bs) count (inl p) = omega (arith, within_length (after_changes d b.changes) bs count p.1)

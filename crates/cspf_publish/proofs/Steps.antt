@@ -1,4 +1,5 @@
--- Each step on the replicas keeps their rule.
+-- Each step on the replicas (the two copies of the table of links) keeps their invariant,
+-- `HoldsBetweenSteps`.
 use Rattle.std.proofs.Common.{◌≡◌, ℕ, ◌≢◌, Bool, true, false, List, [], ◌∷◌, ◌++◌, set, refl, sym, ap, ◌∙◌, subst, ⊎_elim}
 use mathlib.Core.Option.{some, some-ne-none}
 use lib.ListN.{get_elem?}
@@ -21,7 +22,8 @@ use Rattle.cspf_publish.specs.declared.seat_view.SeatView.TheVariants.{New, Aske
 use Rattle.cspf_journal.proofs.Prefixes.{BeginsWith-self, BeginsWith-snoc, IsHistory-snoc}
 use Rattle.cspf_publish.proofs.FitTest.{database_with-Fits, database_with-nothing}
 
--- each seat knows the published batches that its view names
+-- each user of the replicas (a new reader, an asker or the publisher) knows the batches that its
+-- view has
 abbrev AllKnow : ReplicaState → List SeatView → Type 0
 AllKnow s views = (seat : ℕ) (v : SeatView) → get_elem? views seat ≡ some v → Knows s v
 
@@ -32,8 +34,9 @@ AllKnow-set s views seat w all knows j u e =
 AllKnow-snoc : (s : ReplicaState) (views : List SeatView) (w : SeatView) → AllKnow s views → Knows s w → AllKnow s (views ++ w ∷ [])
 AllKnow-snoc s views w all knows j u e = ⊎_elim (all j u) (λ (t : w ≡ u). subst (λ (z : SeatView). Knows s z) t knows) (at_snoc views w u j e)
 
--- A view is replaced. There is still at most one publisher's view, if the new view is a publisher's
--- only when the old view was.
+-- A view is what one user of the replicas knows. If one view is replaced, at most one view is still
+-- a publisher's. The condition is that the new view is a publisher's only if the replaced view was
+-- one.
 HasOnePublisher-set : (views : List SeatView) (seat : ℕ) (v w : SeatView) → get_elem? views seat ≡ some v → HasOnePublisher views → (IsPublisher w → IsPublisher v) → HasOnePublisher (set views seat w)
 HasOnePublisher-set views seat v w at one was i j x y ex ey px py =
     ⊎_elim
@@ -47,7 +50,8 @@ HasOnePublisher-set views seat v w at one was i j x y ex ey px py =
     (at_set views seat j w y ey))
     (at_set views seat i w x ex)
 
--- after a view is replaced there is at most one publisher's view, if there was none before
+-- if no view of the list (what one user of the replicas knows) is a publisher's, at most one is a
+-- publisher's after one view is replaced
 HasOnePublisher-first : (views : List SeatView) (seat : ℕ) (w : SeatView) → ((j : ℕ) (u : SeatView) → get_elem? views j ≡ some u → IsPublisher u → ⊥) → HasOnePublisher (set views seat w)
 HasOnePublisher-first views seat w none i j x y ex ey px py =
     ⊎_elim
@@ -71,7 +75,8 @@ HasOnePublisher-snoc views w one not i j x y ex ey px py =
 pub AreFirstOf-self : (known : KnownBatches) → AreFirstOf known known
 AreFirstOf-self known = record { source = refl; begins = BeginsWith-self known.batches }
 
--- after one more batch is published, a seat that isn't a publisher's still knows its batches
+-- after one more batch is published, askers (which answer requests) and new readers still know the
+-- batches that they knew before
 Knows-more : (s t : ReplicaState) (b : NumberedChanges) → t.known ≡ known_with s.known.batches s.known.source b → (v : SeatView) → Knows s v → (IsPublisher v → ⊥) → Knows t v
 Knows-more s t b is New knows not = tt
 Knows-more s t b is (Asker known) knows not =
@@ -79,7 +84,8 @@ Knows-more s t b is (Asker known) knows not =
     subst (λ (k : KnownBatches). AreFirstOf k known) (sym is) more
 Knows-more s t b is (Publisher known) knows not = absurd (not tt)
 
--- at the publisher's first step, a seat that isn't a publisher's keeps what it knows
+-- a publisher's first step doesn't change what the askers (which answer requests) and the new
+-- readers know
 Knows-opens : (s t : ReplicaState) → t.known ≡ s.known → (v : SeatView) → Knows s v → (IsPublisher v → ⊥) → Knows t v
 Knows-opens s t is New knows not = tt
 Knows-opens s t is (Asker known) knows not = subst (λ (k : KnownBatches). AreFirstOf k known) (sym is) knows
@@ -90,7 +96,8 @@ is_open_by s New knows is = absurd is
 is_open_by s (Asker known) knows is = absurd is
 is_open_by s (Publisher known) knows is = knows.1
 
--- the rule holds at first, when the writer's seat is the only seat
+-- the invariant of the replicas (the table's two copies), `HoldsBetweenSteps`, holds at first, when
+-- the replicas have only one user, the writer, and the writer knows no batches
 pub begins : (s : ReplicaState) → IsHistory s.known.batches → HasItsDatabase s → CountsShapeChanges s → IsCopyByRight s → HoldsBetweenSteps s (New ∷ [])
 begins s history has counts right = record {
   history = history;
@@ -101,7 +108,8 @@ begins s history has counts right = record {
   one_publisher = HasOnePublisher-snoc [] New (λ i j v w e f p q. absurd (some-ne-none v (sym e))) (λ p. p);
 }
 
--- a new reader keeps the rule
+-- the invariant of the replicas (the table's two copies), `HoldsBetweenSteps`, still holds after a
+-- new reader that knows no batches is made
 pub admits : Admits HoldsBetweenSteps New
 admits s views w = record {
   history = w.history;
@@ -115,7 +123,8 @@ admits s views w = record {
 later_of : (s : ReplicaState) (v : SeatView) → Knows s v → (known : KnownBatches) → v ≡ Asker known → AreFirstOf s.known known
 later_of s v knows known is = subst (λ (z : SeatView). Knows s z) is knows
 
--- an entry keeps the rule
+-- the invariant of the replicas (the two copies of the table), `HoldsBetweenSteps`, still holds
+-- after an asker (which answers requests) enters one of them to search there
 pub enters : (seat : ℕ) (v : SeatView) → Turns HoldsBetweenSteps seat v (λ s. s) Enters
 enters seat v s views w at = let self = AreFirstOf-self s.known in (
   Asker s.known,
@@ -130,7 +139,8 @@ enters seat v s views w at = let self = AreFirstOf-self s.known in (
   record { same = refl; database = w.database; shapes = w.shapes; later = later_of s v (w.seats seat v at); after = refl },
 )
 
--- the publisher's first step keeps the rule
+-- the invariant of the replicas (the table's two copies), `HoldsBetweenSteps`, still holds after
+-- the publisher's first step
 pub opens : (seat : ℕ) (v : SeatView) (s next : ReplicaState) → s.is_open ≡ false → next.is_open ≡ true → next.database ≡ s.database → next.known ≡ s.known → next.shape_changes ≡ s.shape_changes
     → next.right ≡ s.right → TurnsAt HoldsBetweenSteps seat v s next Opens
 opens seat v s next was now database same as_many right views w at =
@@ -148,7 +158,8 @@ opens seat v s next was now database same as_many right views w at =
       record { same = same; after = refl },
     )
 
--- the rule is kept when the publisher publishes a batch that may come next
+-- the invariant of the replicas (the table's two copies), `HoldsBetweenSteps`, still holds after
+-- the publisher publishes a batch that may come next
 pub publishes : LawfulByOneMore → (seat : ℕ) (v : SeatView) (s next : ReplicaState) (b : NumberedChanges) → v ≡ Publisher s.known → MayFollow s.known.batches b
     → next.known ≡ known_with s.known.batches s.known.source b → next.is_open ≡ true → HasItsDatabase next → CountsShapeChanges next → next.right ≡ s.right → TurnsAt HoldsBetweenSteps seat v s next Publishes
 publishes law seat v s next b mine follows is now has counts right views w at =
@@ -197,7 +208,8 @@ view_with_note-IsPublisher New told p = note_of-IsPublisher told p
 view_with_note-IsPublisher (Asker known) told p = p
 view_with_note-IsPublisher (Publisher known) told p = p
 
--- the rule is kept when a note is made of a seat's view
+-- the invariant of the replicas (the table's two copies), `HoldsBetweenSteps`, still holds after
+-- the publisher or an asker makes a note of the batches that it knows
 pub forks : (seat : ℕ) (v : SeatView) → Forks HoldsBetweenSteps seat v v (note_of v)
 forks seat v s views w at = record {
   history = w.history;
@@ -208,7 +220,8 @@ forks seat v s views w at = record {
   one_publisher = HasOnePublisher-snoc (set views seat v) (note_of v) (HasOnePublisher-set views seat v v at w.one_publisher (λ p. p)) (note_of-IsPublisher v);
 }
 
--- the rule is kept when a seat takes in a note
+-- the invariant of the replicas (the table's two copies), `HoldsBetweenSteps`, still holds after a
+-- user of the replicas takes in another user's note of known batches
 pub merges : (seat : ℕ) (v : SeatView) (other : ℕ) (w : SeatView) → Merges HoldsBetweenSteps seat v other w (view_with_note v w) New
 merges seat v other w s views holds at apart there =
     let its : Knows s w = ⊎_elim (λ (t : (other ≡ seat) × (view_with_note v w ≡ w)). absurd (apart t.0)) (λ (t : (other ≢ seat) × (get_elem? views other ≡ some w)). holds.seats other w t.1) (at_set views seat other (view_with_note v w) w there) in
@@ -222,14 +235,17 @@ merges seat v other w s views holds at apart there =
       one_publisher = HasOnePublisher-set (set views seat (view_with_note v w)) other w New there one (λ p. absurd p);
     }
 
--- a replica still has the database of its batches after it absorbs a batch that may come next
+-- a replica's database is still the database after its batches, if the replica (a copy of the
+-- table) absorbs a batch that may come next
 pub HasItsDatabase-more : OneMoreBatch → (s : ReplicaState) (b : NumberedChanges) (count : ℕ) → HasItsDatabase s → MayFollow s.known.batches b
     → HasItsDatabase (state_with s b (known_with s.known.batches s.known.source b) count)
 HasItsDatabase-more law s b count has follows =
     database_with-Fits s.database b (subst (λ (d : Database). Fits d b) (sym has) follows.fits)
     ∙ (ap (λ (d : Database). after_changes d b.changes) has ∙ sym (law s.known.batches b))
 
--- two operations that change nothing only open the replica
+-- After two operations without changes, a replica (a copy of the table) counts 0 batches that
+-- change more than unreserved bandwidths. Its field `is_open` is true, and its other fields are as
+-- before.
 pub idle_twice : (s : ReplicaState)
     → state_with (state_with s (idle_batch s.known).batch s.known 0) (idle_batch s.known).batch s.known 0
     ≡ record { right = s.right; database = s.database; known = s.known; shape_changes = 0; is_open = true }
@@ -238,8 +254,8 @@ idle_twice s =
     ap (λ (d : Database). (let it : ReplicaState = record { right = s.right; database = d; known = s.known; shape_changes = 0; is_open = true } in it))
     (ap (λ (d : Database). database_with d (idle_batch s.known).batch) (nothing s.database) ∙ nothing s.database)
 
--- an open replica is `published_state` if it has the database of its batches and a `CopyRight` of their
--- source
+-- A replica with `is_open` true is `published_state`, if it has the database of its batches, and a
+-- `CopyRight` of the journal that they are from.
 pub state_from_known : (s : ReplicaState) → HasItsDatabase s → IsCopyByRight s → s.is_open ≡ true → s ≡ published_state s.known s.shape_changes
 state_from_known s has right now =
     ap (λ (d : Database). (let it : ReplicaState = record { right = s.right; database = d; known = s.known; shape_changes = s.shape_changes; is_open = s.is_open } in it)) has

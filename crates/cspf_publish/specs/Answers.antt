@@ -13,7 +13,7 @@ abbrev pub IsBestAfter : List NumberedChanges → Request → Outcome → Type 0
 IsBestAfter batches q outcome = IsBestAnswer (database_after batches) q (answer_of outcome)
 
 -- The answer has the request's id, and its version is the number of these batches. Its outcome is the
--- best answer in their database.
+-- best answer in the database of these batches.
 pub record IsAnswerAfter (batches : List NumberedChanges) (q : Request) (a : Answer) : Type 0 where
   pub id : a.id ≡ q.id
   pub version : a.version ≡ length batches

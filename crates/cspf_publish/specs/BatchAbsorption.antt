@@ -1,5 +1,6 @@
--- The database of a table after a batch, whether or not the batch fits: the effect of an operation
--- on a replica.
+-- The effect of an operation on the database of a replica (a copy of the table of links): the
+-- batch's changes are made if the batch fits, and nothing changes otherwise. Also the test whether
+-- a batch fits.
 use Rattle.std.specs.Prelude.{Bool, true, ◌&&◌, not, cond, nat_le, is_some, List, [], ◌∷◌, length, map}
 use Rattle.std.specs.Ordering.{eq_by_cmp}
 use Rattle.std.specs.List.{list_all}

@@ -1,4 +1,5 @@
--- How the rule between steps sees a replica of the table.
+-- The value by which the rule of the replicas describes a replica (one of the two copies of the
+-- table of links).
 use Rattle.std.specs.Prelude.{ℕ, Bool, true}
 use Rattle.logbook.specs.Pages.{Book}
 use Rattle.cspf_model.specs.Numbered.{NumberedChanges}
@@ -7,9 +8,10 @@ use Rattle.cspf_model.specs.Changes.{database_after}
 use Rattle.cspf_journal.specs.KnownBatches.{KnownBatches}
 use Rattle.cspf_publish.specs.BatchAbsorption.{database_with}
 
--- `right` is the source whose `CopyRight` the replica holds. `known` are the replica's batches, and
--- `shape_changes` is how many of them change the shape of the database. `is_open` is true from the
--- publisher's first step on: then a publisher's seat knows the batches.
+-- `right` is the source (the identity) of the journal whose `CopyRight` the replica (a copy of the
+-- table) holds. `known` are the replica's batches, and `shape_changes` is how many of them change
+-- more than unreserved bandwidths. `is_open` is true from the publisher's first step on: then the
+-- publisher's view has the batches.
 pub record ReplicaState : Type 0 where
   pub right : Book
   pub database : Database
@@ -17,8 +19,8 @@ pub record ReplicaState : Type 0 where
   pub shape_changes : ℕ
   pub is_open : Bool
 
--- a replica after the publisher's first step: it has the database of its batches, and a `CopyRight` of
--- their source
+-- a replica (a copy of the table) after the publisher's first step: it has the database of its
+-- batches, and a `CopyRight` of the journal that they are from
 abbrev pub published_state : KnownBatches → ℕ → ReplicaState
 published_state known shape_changes = record {
   right = known.source;
@@ -28,8 +30,9 @@ published_state known shape_changes = record {
   is_open = true;
 }
 
--- The replica after it absorbs a batch. `known` are its batches then, and this batch is their last. A
--- batch that doesn't fit leaves the database as it was.
+-- The replica (a copy of the table) after it absorbs a batch. `known` are the replica's batches
+-- after that, and this batch is the last of them. A batch that doesn't fit leaves the database as
+-- it was.
 abbrev pub state_with : ReplicaState → NumberedChanges → KnownBatches → ℕ → ReplicaState
 state_with s b known shape_changes = record {
   right = s.right;

@@ -1,4 +1,4 @@
--- Private: how many batches of a list change the shape of the database.
+-- Private: how many batches of a list change more than unreserved bandwidths.
 use Rattle.std.specs.Prelude.{◌≡◌, ◌⊎◌, ℕ, ◌+◌, List, [], ◌∷◌}
 use Rattle.cspf_model.specs.Numbered.{NumberedChanges}
 use Rattle.cspf_model.specs.Database.{Database}

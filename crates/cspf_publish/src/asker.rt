@@ -1,4 +1,5 @@
-//! Askers, which answer requests from the published replica without waiting.
+//! Askers. An asker answers requests from the published replica (a copy of the table of links), and
+//! never waits.
 
 ghost use Rattle.std.specs.Prelude.{◌≡◌, ◌⊎◌, length, IfOk, IfErr};
 ghost use Rattle.std.specs.Arc.{arc_value};
@@ -66,11 +67,12 @@ impl Asker {
         Asker { seat, known, count }
     }
 
-    /// The best answer in the database of the last published version. After the call the asker knows
-    /// the batches of that version. On `NoEntry` nothing has changed. On `Memory` only the known
-    /// batches may have changed.
-    // The entered version is never below that of an earlier entry. If it is below a version that the
-    // asker learnt, the call returns `NoEntry`. This happens in no run.
+    /// Returns the best answer in the database of the last published version. After the call the
+    /// asker knows the batches of that version. On `NoEntry` nothing has changed. On `Memory` at
+    /// most the known batches have changed.
+    // The asker (which answers requests) never enters a replica (a copy of the table) of a lower
+    // version than before. If the version of the replica is below a version that the asker learnt
+    // of, the call returns `NoEntry`. This happens in no run.
     pub fn ask(&mut self, alloc: Global, request: &Request) -> Result<Answer, AskError>
         ensures source { self.new.source ≡ self.old.source }
         ensures later { BeginsWith self.new.batches self.old.batches }
@@ -95,7 +97,8 @@ impl Asker {
         }
     }
 
-    /// Learns the batches of the token, if they are more than the asker knows.
+    /// Learns the batches that were published when `told` was made, if they are more than the asker
+    /// (which answers requests) knows.
     pub fn learn(&mut self, told: Told)
         requires { told.source ≡ self.old.source }
         ensures source { self.new.source ≡ self.old.source }
@@ -107,14 +110,15 @@ impl Asker {
         let _raised = self.known.raise(told.known());
     }
 
-    /// The batches that the asker knows. The journal has recorded them all.
+    /// The batches that the asker (which answers requests) knows. The journal has recorded them
+    /// all.
     pub fn known(&self) -> &Known
         ensures { result.now ≡ known_of self.now }
     {
         &self.known
     }
 
-    /// The version up to which the asker knows the batches.
+    /// The version up to which the asker (which answers requests) knows the batches.
     pub fn seen(&self) -> u32
         ensures version { result ≡ length self.now.batches }
         ensures history { IsHistory self.now.batches }
@@ -122,8 +126,8 @@ impl Asker {
         self.known.version()
     }
 
-    /// Learns the batches of the token, and returns the version up to which the asker then knows
-    /// batches.
+    /// Learns the batches that were published when `told` was made. Returns the version up to which
+    /// the asker (which answers requests) then knows batches.
     pub fn meet(&mut self, told: Told) -> u32
         requires { told.source ≡ self.old.source }
         ensures source { self.new.source ≡ self.old.source }
@@ -137,9 +141,11 @@ impl Asker {
         self.seen()
     }
 
-    /// Reads the count of published batches in one step, for a row of a reader. From then on the asker
-    /// knows at least as many batches. The reading is the last of `steps` after the call. The publisher
-    /// moves the count once a batch is published. The call takes no memory, and never blocks.
+    /// Reads the count of published batches, in one step of the journal. The step names the reader,
+    /// and the row that the reader is about to answer. From then on the asker knows at least as
+    /// many batches as the count says. The reading is the last step of `steps` after the call. The
+    /// publisher raises the count after each batch that it publishes. The call takes no memory, and
+    /// never blocks.
     pub fn catch_up(&mut self, steps: &mut SeenSteps, row: RowOfReader) -> u32
         requires { steps.old.source ≡ self.old.source }
         ensures caught_up { CatchesUp (known_of self.old) (known_of self.new) steps.old steps.new row.reader row.place result }

@@ -1,4 +1,5 @@
-//! The seat of an asker, and how it enters a replica and searches there.
+//! What an asker (which answers requests) keeps between two requests: its *seat*. Also how the
+//! asker enters a replica of the table and searches there.
 
 ghost use Rattle.std.specs.Prelude.{◌≡◌, IfOk, IfSome, IfNone};
 ghost use Rattle.left_right.specs.Sides.{view};
@@ -18,22 +19,25 @@ use cspf_model::{Outcome, Request};
 use left_right::reader::Reader;
 use std::alloc::{AllocError, Global};
 
-/// A reader of the published replica.
+/// A reader of the published replica (a copy of the table of links).
 pub(crate) type ReplicaReader = Reader<Replica, SeatView, ReplicaRule>;
 
-/// The seat of an asker.
+/// What an asker (which answers requests) keeps between two requests.
 #[derive(Drop)]
 pub(crate) struct AskerSeat {
-    /// The reader of the published replica.
+    /// The reader of the published replica (a copy of the table).
     pub(crate) reader: ReplicaReader,
-    /// Trees of the database that the asker entered last. The field is `None` before the first entry.
+    /// Trees of lower bounds for the search in the database of the replica (a copy of the table)
+    /// that the asker (which answers requests) entered last. The field is `None` before the first
+    /// entry.
     pub(crate) trees: Option<KnownTrees>,
-    /// How many trees the asker keeps at most.
+    /// How many trees of lower bounds the asker (which answers requests) keeps at most.
     pub(crate) most_trees: usize,
 }
 
-// The trees for the database of a replica. If there are no trees yet, there is room for at most `most`
-// trees.
+// Returns the trees of lower bounds for the database of a replica (a copy of the table). They are
+// made from `trees`, those of an earlier database. If `trees` is `None`, the result has no trees
+// yet, and memory for at most `most` trees.
 fn trees_at(alloc: Global, replica: &Replica, most: usize, trees: Option<KnownTrees>) -> KnownTrees
     requires shapes { CountsShapeChanges replica.now }
     requires source { IfSome trees (λ old. replica.now.known.source ≡ old.source) }
@@ -50,7 +54,8 @@ fn trees_at(alloc: Global, replica: &Replica, most: usize, trees: Option<KnownTr
     }
 }
 
-// Searches a replica. Returns the trees of its database, and the result of the search.
+// Searches the database of a replica (a copy of the table). Returns the trees of lower bounds for
+// this database, and the result of the search.
 fn search(
     alloc: Global,
     replica: &Replica,
@@ -70,8 +75,9 @@ fn search(
     (trees, outcome)
 }
 
-// Enters a replica and searches its table. Returns the replica's batches, and the result of the search.
-// The batches of the last entry are a prefix of these batches.
+// Enters a replica (a copy of the table) and searches its table. Returns the replica's batches, and
+// the result of the search. The batches of the asker's last entry are a prefix of the replica's
+// batches.
 pub(crate) fn enter_and_search(
     seat: AskerSeat,
     ask: (Global, Request),

@@ -12,14 +12,14 @@ use thiserror::Error;
 /// Why no publisher is opened.
 #[derive(Clone, Copy, Debug, PartialEq, Eq, Error)]
 pub enum OpenError {
-    /// The number of askers isn't 1 to 64.
+    /// The number of askers (which answer requests) isn't 1 to 64.
     #[error("the number of askers is not 1 to {most}", most = MOST_ASKERS)]
     Askers,
     /// Out of memory.
     #[error("out of memory")]
     Memory,
-    /// There was no place for a reader. This error happens in no run, since `open` makes a place for
-    /// each asker's reader.
+    /// The replicas (the table's two copies) have no place left for another reader. This error
+    /// happens in no run, since `open` makes a place for each asker's reader.
     #[error("no place for a reader")]
     Places,
 }
@@ -38,13 +38,13 @@ pub enum ApplyError {
     /// The journal has failed at an earlier batch.
     #[error("stopped by a fault of the journal")]
     Stopped,
-    /// 1,000,000 batches are published.
+    /// 1,000,000 batches, the most that are allowed, are already published.
     #[error("{most} batches are published", most = MOST_VERSIONS)]
     Exhausted,
-    /// The batch's number isn't the version plus 1.
+    /// The batch's number isn't the published version plus 1.
     #[error("expected batch {expected}")]
     WrongNumber {
-        /// The version plus 1.
+        /// The number that the batch should have: the published version plus 1.
         expected: u32,
     },
     /// The batch doesn't fit the published database.
@@ -64,10 +64,10 @@ pub enum ApplyError {
 /// Why a request isn't answered.
 #[derive(Clone, Copy, Debug, PartialEq, Eq, Error)]
 pub enum AskError {
-    /// The published replica couldn't be entered. Nothing changed.
+    /// The published replica (a copy of the table) couldn't be entered. Nothing changed.
     #[error("no entry")]
     NoEntry,
-    /// Out of memory. The asker may know more batches than before.
+    /// Out of memory. The asker (which answers requests) may know more batches than before.
     #[error("out of memory")]
     Memory,
 }

@@ -1,4 +1,4 @@
-//! Trees of the database of known batches.
+//! Trees of lower bounds for the search in a database, with the batches that make this database.
 
 ghost use Rattle.std.specs.Prelude.{◌≡◌, IfOk};
 ghost use Rattle.cspf_model.specs.Changes.{database_after};
@@ -13,8 +13,8 @@ use cspf_trees::{Trees, trees_outlast_bandwidth};
 use std::alloc::{AllocError, Global};
 use std::marker::Model;
 
-/// Trees, the batches that make their database, and how many of these batches change the shape of the
-/// database.
+/// Trees of lower bounds for the search in a database, the batches that make this database, and how
+/// many of these batches change more than unreserved bandwidths.
 #[derive(Drop)]
 pub(crate) struct KnownTrees {
     trees: Trees,
@@ -28,7 +28,7 @@ impl Model for KnownTrees {
     ghost use Rattle.cspf_publish.specs.ShapeChanges.{HasShapeChanges};
     ghost use Rattle.cspf_publish.specs.AskerStates.{AskerState, asker_with};
 
-    // The state of an asker that has these trees.
+    // The state of an asker (which answers requests) that has these trees.
     ghost Value = { AskerState };
 
     ghost view = { λ t. asker_with t.known t.trees.most };
@@ -38,7 +38,8 @@ impl Model for KnownTrees {
 }
 
 impl KnownTrees {
-    /// Room for at most `most` trees of a replica's database. There are no trees yet.
+    /// Memory for at most `most` trees of lower bounds in a replica's database. There are no trees
+    /// yet.
     pub(crate) fn new(alloc: Global, replica: &Replica, most: usize) -> KnownTrees
         requires { CountsShapeChanges replica.now }
         ensures { result ≡ asker_with replica.now.known most }
@@ -50,14 +51,16 @@ impl KnownTrees {
         }
     }
 
-    /// Moves on to the database of a replica of the same source. The trees are kept if no batch between
-    /// the two databases changes more than unreserved bandwidths.
+    /// Moves on to the database of a replica (a copy of the table) of the same journal. The trees
+    /// are kept if the batches that the replica has beyond those of the trees change at most
+    /// unreserved bandwidths. Otherwise there are no trees any more.
     pub(crate) fn enter(&mut self, replica: &Replica)
         requires source { replica.now.known.source ≡ self.old.source }
         requires shapes { CountsShapeChanges replica.now }
         ensures { self.new ≡ asker_with replica.now.known self.old.most_trees }
     {
-        // Law: a tree of a database is also a tree of each database with the same shape.
+        // Law: a tree of lower bounds for one database is also one for each database that differs
+        // from it only in unreserved bandwidths.
         trees_outlast_bandwidth();
         if self.shape_changes == replica.shape_changes && self.known.raise(&replica.known) {
             return;
@@ -67,8 +70,8 @@ impl KnownTrees {
         self.shape_changes = replica.shape_changes;
     }
 
-    /// The best answer to a request in the database of a replica. The replica has the same batches as
-    /// these trees.
+    /// The best answer to a request in the database of a replica (a copy of the table). The replica
+    /// has the same batches as these trees.
     pub(crate) fn best(
         &mut self,
         alloc: Global,

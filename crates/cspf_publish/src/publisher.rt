@@ -1,5 +1,5 @@
-//! The publisher: it checks each batch, writes its text to the journal, and then shows it to
-//! the askers.
+//! The publisher: it checks each batch, writes the batch's text to the journal, and then shows the
+//! batch to the askers (which answer requests).
 
 ghost use Rattle.std.specs.Prelude.{◌≡◌, ◌↔◌, ◌*◌, ◌≤◌, ◌⊎◌, ◌++◌, [], ◌∷◌, true, false, length, take, All, IfOk, OnOk, IfErr, OnErr, vec_len, sum_by};
 ghost use Rattle.std.specs.Io.KnownBytes.{Appends};
@@ -48,9 +48,9 @@ impl<W> Model for Publisher<W> {
         × (p.journal.batches ≡ p.replicas.batches) };
 }
 
-/// Opens a publisher of the empty database, version 0, with 1 to 64 askers. The publisher owns the
-/// journal's writer. The bounds of all trees of the askers take at most `TREE_MEGABYTES` megabytes.
-/// Each error gives the writer back untouched.
+/// Opens a publisher of the empty database, version 0, with 1 to 64 askers (which answer requests).
+/// The publisher owns the journal's writer. All trees of lower bounds of the askers take at most
+/// `TREE_MEGABYTES` megabytes for their bounds. Each error returns the writer untouched.
 pub fn open<W: Write, R: Wait>(
     rt: &R,
     alloc: Global,
@@ -74,9 +74,10 @@ pub fn open<W: Write, R: Wait>(
     open_over(rt, alloc, NewJournal::new(journal), askers, trees)
 }
 
-/// Does what `open` does, over a new journal. All askers together keep at most `trees` trees, in equal
-/// parts. The publisher and its askers have the journal's source, so the journal has recorded all
-/// batches that they know.
+/// Does what `open` does, over a new journal. All askers (which answer requests) together keep at
+/// most `trees` trees of lower bounds, in equal parts. The publisher and its askers know only
+/// batches of this journal (the source is its identity). So the journal has recorded all batches
+/// that they know.
 pub fn open_over<W: Write, R: Wait>(
     rt: &R,
     alloc: Global,
@@ -146,7 +147,8 @@ impl<W: Write> Publisher<W> {
         })
     }
 
-    /// Returns a token of the published batches. The call never blocks.
+    /// Returns a value from which askers learn of the batches that are published now. The call
+    /// never blocks.
     pub fn tell(&mut self) -> Told
         ensures batches { result.batches ≡ self.old.batches }
         ensures source { result.source ≡ self.old.source }
@@ -155,8 +157,9 @@ impl<W: Write> Publisher<W> {
         self.replicas.tell()
     }
 
-    /// Returns the steps of the journal up to the last count of published batches. That count was this
-    /// publisher's version, so an asker that reads the count later reads at least this version.
+    /// Returns the steps of the journal up to the last step that counts a batch as published. These
+    /// steps count as many batches as this publisher's version says. So an asker (which answers
+    /// requests) that reads the count of published batches later reads at least this version.
     pub fn steps(&self) -> SeenSteps
         ensures source { result.source ≡ self.now.source }
         ensures count { count_of result.steps ≡ length self.now.batches }
@@ -165,9 +168,10 @@ impl<W: Write> Publisher<W> {
         self.replicas.steps()
     }
 
-    /// Publishes a batch and returns the new version. The batch's text is first written whole to the
-    /// journal. Once the batch is published, the count that askers read is the new version. The call
-    /// may wait for askers that are inside a call. Errors are checked in the order of `ApplyError`.
+    /// Publishes a batch and returns the new version. The batch's text is first written whole to
+    /// the journal. Once the batch is published, the count of published batches is the new version,
+    /// and askers (which answer requests) read this count. The call may wait for askers that are
+    /// inside a call. Errors are checked in the order of `ApplyError`.
     pub fn apply<R: Wait>(
         &mut self,
         rt: &R,
@@ -205,7 +209,7 @@ impl<W: Write> Publisher<W> {
         let Ok(copy) = batch.copy(alloc) else {
             return Err(ApplyError::Memory);
         };
-        // Only the publisher takes steps on the journal's list, so `Lost` happens in no run.
+        // Only the publisher adds batches to the journal's list, so the error `Lost` happens in no run.
         match self.journal.record(batch, text.as_slice()) {
             Ok(recorded) => Ok(self.replicas.publish(rt, copy, recorded)),
             Err(NotRecorded::Writer { written }) => Err(ApplyError::Journal { written }),
@@ -213,8 +217,8 @@ impl<W: Write> Publisher<W> {
         }
     }
 
-    /// Ends the publisher, and returns the journal's writer as the last call left it. The call may wait
-    /// for askers that are inside a call.
+    /// Ends the publisher, and returns the journal's writer as the last call left it. The call may
+    /// wait for askers (which answer requests) that are inside a call.
     pub fn close<R: Wait>(self, rt: &R) -> W
         ensures { result ≡ self.journal }
     {

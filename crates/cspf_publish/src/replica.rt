@@ -1,4 +1,5 @@
-//! The replicas of the table, and the operation that changes both.
+//! The replicas (the two copies of the table of links), and the operation that changes both
+//! replicas.
 ghost use Rattle.std.specs.Prelude.{◌≡◌, ◌++◌, [], ◌∷◌};
 ghost use Rattle.cspf_journal.specs.Histories.{MayFollow};
 ghost use Rattle.cspf_publish.specs.BatchAbsorption.{database_with};
@@ -12,7 +13,7 @@ use left_right::Absorb;
 use std::alloc::AllocError;
 use std::marker::Model;
 
-/// A batch, and the list of batches up to this batch.
+/// A batch, and the journal's list of batches up to this batch.
 #[derive(Drop)]
 pub struct PendingBatch {
     /// The batch.
@@ -27,16 +28,17 @@ pub struct PendingBatch {
 /// table.
 #[derive(Drop)]
 pub struct Replica {
-    /// The right to be one of the two copies.
+    /// The right to be one of the two copies of a journal's table.
     pub right: CopyRight,
     /// The table.
     pub table: Table,
     /// The batches that the table has absorbed.
     pub known: Known,
-    /// How many of these batches changed more than unreserved bandwidths.
+    /// How many of the absorbed batches changed more than unreserved bandwidths.
     pub shape_changes: u32,
-    /// Whether the replica has absorbed an operation. If so, a publisher's seat knows the replica's
-    /// batches.
+    /// Whether the replica (a copy of the table) has absorbed an operation, perhaps one without
+    /// changes. From the publisher's first step on, the replica that askers (which answer requests)
+    /// enter has done so.
     pub is_open: bool,
 }
 

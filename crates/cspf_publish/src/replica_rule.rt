@@ -1,4 +1,5 @@
-//! The rule of the replicas, and what is known after each kind of step.
+//! The rule of the replicas (the two copies of the table), an invariant of all steps on them. Also
+//! what the publisher or an asker knows after each kind of step that it makes.
 ghost use Rattle.cspf_publish.specs.ReplicaRule.{HoldsBetweenSteps, Enters, Opens, Publishes, note_of, view_with_note};
 ghost use Rattle.cspf_publish.specs.declared.seat_view.SeatView.TheVariants.{New as IsNew};
 
@@ -7,7 +8,8 @@ use crate::seat_view::SeatView;
 use atomic_table::{Join, Split};
 use crossbeam_utils::rule::{Outcome, Protocol};
 
-/// The rule that holds between any two steps.
+/// The rule of the replicas (the two copies of the table), an invariant: it holds before the first
+/// step on the replicas, and after each step.
 pub struct ReplicaRule;
 
 impl Protocol<Replica, SeatView> for ReplicaRule {
@@ -16,28 +18,31 @@ impl Protocol<Replica, SeatView> for ReplicaRule {
     ghost first = { IsNew };
 }
 
-/// The publisher's first step. After it the publisher's seat knows the published batches.
+/// The publisher's first step, which changes no replica's database. After this step the publisher's
+/// view (what it knows) has the published batches.
 pub struct Opening;
 
 impl Outcome<Replica, SeatView> for Opening {
     ghost then = { Opens };
 }
 
-/// A swap, at which a batch takes effect.
+/// The swap of the two replicas (copies of the table). At this step a batch takes effect.
 pub struct Swap;
 
 impl Outcome<Replica, SeatView> for Swap {
     ghost then = { Publishes };
 }
 
-/// An entry, at which an ask takes effect.
+/// The entry of an asker (which answers requests) into a replica (a copy of the table). At this
+/// step the asker's search takes effect.
 pub struct Entry;
 
 impl Outcome<Replica, SeatView> for Entry {
     ghost then = { Enters };
 }
 
-/// The note to a new asker's seat: the batches that the publisher's seat knows.
+/// The note from which a new asker's view (what it knows) is made: the batches that the publisher
+/// knows.
 pub struct FirstNote;
 
 impl Split<SeatView> for FirstNote {

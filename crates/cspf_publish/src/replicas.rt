@@ -1,4 +1,4 @@
-//! Both replicas of the table.
+//! Both replicas (copies) of the table of links.
 ghost use Rattle.std.specs.Prelude.{◌≡◌, ℕ, ◌<◌, ◌≤◌, ◌++◌, [], ◌∷◌, true, false, length, drop, All, IfOk, OnOk, IfErr, vec_len, vec_capacity, sum_by};
 ghost use Rattle.std.specs.Arc.{arc_value};
 ghost use Rattle.left_right.specs.Sides.{view};
@@ -36,9 +36,10 @@ use std::sync::{Arc, Wait};
 
 type ReplicaWriter = Writer<Replica, PendingBatch, SeatView, ReplicaRule>;
 
-/// A pair of replicas, and the count of the batches that they show. The pair holds the only right to
-/// count its source's batches. Its replicas hold the two `CopyRight`s of the source, so a source has
-/// only one pair. A pair isn't `Drop`: end it by `close`.
+/// A pair of replicas (the table's two copies), and the count of the batches that are published in
+/// them. The pair holds its journal's only right to count batches as published. Its replicas hold
+/// the journal's two `CopyRight`s, so a journal has only one pair. A pair isn't `Drop`: end it by
+/// `close`.
 pub(crate) struct Replicas {
     writer: ReplicaWriter,
     right: RightToCount,
@@ -67,7 +68,8 @@ impl Model for Replicas {
         × (arc_value r.count ≡ r.writer.desk.shown.value.known.source) };
 }
 
-// Takes the first step, which changes no table. After it the writer's seat knows the published batches.
+// Takes the publisher's first step, which changes no table. After this step the writer's view (what
+// it knows) has the published batches.
 fn open_writer<R: Wait>(writer: ReplicaWriter, rt: &R) -> ReplicaWriter
     requires empty { writer.desk.shown.value ≡ record {
       right = writer.desk.shown.value.known.source;
@@ -87,7 +89,8 @@ fn open_writer<R: Wait>(writer: ReplicaWriter, rt: &R) -> ReplicaWriter
     writer
 }
 
-// Publishes the pending batch in one step, and returns the new version.
+// Publishes the pending batch in one step, the swap of the table's two copies (the replicas), and
+// returns the new version.
 fn swap_replicas<R: Wait>(writer: ReplicaWriter, rt: &R) -> (ReplicaWriter, u32)
     requires shown { writer.desk.shown.value
         ≡ published_state writer.desk.shown.value.known writer.desk.shown.value.shape_changes }
@@ -110,8 +113,9 @@ fn swap_replicas<R: Wait>(writer: ReplicaWriter, rt: &R) -> (ReplicaWriter, u32)
         → result.0.desk.shown.value.known ≡ p.known }
     ensures version { result.1 ≡ length result.0.desk.shown.value.known.batches }
 {
-    // Laws: the next batch makes its changes in the database of the batches before it. The list stays
-    // lawful with this batch.
+    // Laws: the database after one more batch is the database after the batches before it, with the
+    // changes of this batch made. If each batch of a list fits after the batches before it, the
+    // same holds of the list with one more batch that fits.
     absorbing();
     lawful_batches();
     let (writer, published) = writer.publish_as::<Swap, R>(rt);
@@ -120,7 +124,7 @@ fn swap_replicas<R: Wait>(writer: ReplicaWriter, rt: &R) -> (ReplicaWriter, u32)
     (writer, version)
 }
 
-// An operation that changes nothing.
+// An operation that changes no replica's database.
 fn idle_operation(alloc: Global, known: &Known) -> PendingBatch
     ensures { result ≡ idle_batch known.now }
 {
@@ -169,8 +173,8 @@ fn append_idle(writer: &mut ReplicaWriter, alloc: Global, known: &Known) -> Resu
     Ok(())
 }
 
-// The writer of two empty replicas, after its first step. The replicas hold the two `CopyRight`s of
-// their source.
+// The writer of two empty replicas (the table's two copies), after the publisher's first step. The
+// replicas hold the two `CopyRight`s of their journal.
 fn new_writer<R: Wait>(
     rt: &R,
     alloc: Global,
@@ -196,8 +200,8 @@ fn new_writer<R: Wait>(
     Ok(open_writer(writer, rt))
 }
 
-// Appends an operation. The log has had room for it since the replicas were made, so the loop runs only
-// once.
+// Appends an operation to the writer's log of operations for the replicas (the table's two copies).
+// The log has had memory for it since the replicas were made, so the loop runs only once.
 fn append<R: Wait>(writer: &mut ReplicaWriter, rt: &R, operation: PendingBatch)
     ensures desk { writer.new.desk ≡ writer.old.desk }
     ensures pending { drop writer.new.behind writer.new.log.items
@@ -213,7 +217,8 @@ fn append<R: Wait>(writer: &mut ReplicaWriter, rt: &R, operation: PendingBatch)
     unreachable!()
 }
 
-// A new reader. The replicas were made with a place for each asker's reader.
+// A new reader of the published replica (a copy of the table). The replicas were made with a place
+// for each asker's reader.
 fn new_reader(writer: &ReplicaWriter) -> Result<ReplicaReader, OpenError>
     ensures view { IfOk result (λ reader. view reader.place ≡ IsNew) }
     ensures table { IfOk result (λ reader. reader.place.table_id ≡ writer.now.desk.place.table_id) }
@@ -225,8 +230,8 @@ fn new_reader(writer: &ReplicaWriter) -> Result<ReplicaReader, OpenError>
     }
 }
 
-// A reference to the count for one more asker. There are far fewer references than an `Arc` may have,
-// so the loop runs only once.
+// Returns a reference to the count of published batches for one more asker. There are far fewer
+// references than an `Arc` may have, so the loop runs only once.
 fn share<R: Wait>(count: &Arc<PublishedCount>, rt: &R) -> Arc<PublishedCount>
     ensures { arc_value result ≡ arc_value count.now }
 {
@@ -238,8 +243,8 @@ fn share<R: Wait>(count: &Arc<PublishedCount>, rt: &R) -> Arc<PublishedCount>
     unreachable!()
 }
 
-// Counts as published the last batch of the replica that askers enter. Nothing else moves the count, so
-// the loop runs only once.
+// Raises the count of published batches by 1, for the batch that was published last. Nothing else
+// changes this count, so the loop runs only once.
 fn count_shown<R: Wait>(
     right: &mut RightToCount,
     rt: &R,
@@ -260,8 +265,8 @@ fn count_shown<R: Wait>(
 }
 
 impl Replicas {
-    /// Two empty replicas. The writer's log takes memory only here. Later the log never has more than
-    /// two operations.
+    /// Makes two empty replicas (the table's two copies). Only this call takes memory for the
+    /// writer's log of operations. Later the log never has more than two operations.
     pub(crate) fn new<R: Wait>(
         rt: &R,
         alloc: Global,
@@ -282,9 +287,10 @@ impl Replicas {
         })
     }
 
-    /// Makes `count` askers, with `room` as their memory. The askers know the published batches.
-    /// Together they keep at most `trees` trees, in equal parts. The call fails only if there is no
-    /// place for a reader.
+    /// Makes `count` askers, with `room` as the memory for their list. The askers (which answer
+    /// requests) know the published batches. Together they keep at most `trees` trees of lower
+    /// bounds, in equal parts. The call fails only if the replicas (the table's two copies) have no
+    /// place left for a reader.
     pub(crate) fn askers<R: Wait>(
         &mut self,
         rt: &R,
@@ -367,7 +373,8 @@ impl Replicas {
         version
     }
 
-    /// The steps of the journal up to the last count, which is the number of published batches.
+    /// The steps of the journal up to the last step that counts a batch as published. These steps count
+    /// all published batches.
     pub(crate) fn steps(&self) -> SeenSteps
         ensures source { result.source ≡ self.now.source }
         ensures count { count_of result.steps ≡ length self.now.batches }
@@ -376,14 +383,15 @@ impl Replicas {
         self.right.steps()
     }
 
-    /// A token of the published batches.
+    /// Returns a value from which askers learn of the batches that are published now.
     pub(crate) fn tell(&self) -> Told
         ensures { result ≡ self.now }
     {
         Told::new(self.known())
     }
 
-    /// Drops both replicas, and returns the batches of the replica that was published last.
+    /// Drops both replicas (the table's two copies), and returns the batches of the replica that
+    /// was published last.
     pub(crate) fn close<R: Wait>(self, rt: &R) -> Known
         ensures { result ≡ self }
     {

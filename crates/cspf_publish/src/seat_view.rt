@@ -1,12 +1,15 @@
-//! The view that the rule of the replicas has of each seat.
+//! What each user of the replicas (the table's two copies) knows, as the rule of the replicas says.
 use cspf_journal::Known;
 
-/// The view of a seat. No value of this type is made at run time.
+/// What a user of the replicas (a new reader, an asker or the publisher) knows, as the rule of the
+/// replicas says. In proofs each user has a *seat*, and this value is the seat's *view*. No value
+/// of this type is made at run time.
 pub enum SeatView {
-    /// A seat that knows nothing yet.
+    /// What a new reader knows: nothing yet.
     New,
-    /// An asker's seat, and the batches of its last entry.
+    /// What an asker (which answers requests) knows: the batches of the replica (a copy of the
+    /// table) that it entered last.
     Asker(Known),
-    /// The publisher's seat, and the batches that are published.
+    /// What the publisher knows: the published batches.
     Publisher(Known),
 }

@@ -4,7 +4,8 @@ ghost use Rattle.cspf_journal.specs.Histories.{IsHistory};
 use cspf_journal::Known;
 use std::marker::Model;
 
-/// A token of the batches that a publisher had published when it made the token.
+/// The batches that a publisher had published when it made this value. From this value askers
+/// (which answer requests) learn of these batches.
 #[derive(Drop)]
 pub struct Told {
     known: Known,
@@ -25,14 +26,14 @@ impl Told {
         Told { known }
     }
 
-    /// The batches of the token. The journal has recorded them all.
+    /// The batches that were published when this value was made. The journal has recorded them all.
     pub fn known(&self) -> &Known
         ensures { result.now ≡ self.now }
     {
         &self.known
     }
 
-    /// The version of the token: how many batches it has.
+    /// The version that was published when this value was made: how many batches the value has.
     pub fn version(&self) -> u32
         ensures version { result ≡ length self.now.batches }
         ensures history { IsHistory self.now.batches }

@@ -12,8 +12,9 @@ use Rattle.cspf_rows.specs.declared.row.Row.TheVariants as row
 use Rattle.cspf_rows.specs.declared.row_error.RowError.TheVariants as error
 use Rattle.cspf_rows.specs.Rows.{link_with, request_with, put_between, put, ask_between, ask}
 
--- `put_between` gives back the link whose attributes it gets, whatever proofs `eight` and `ends`
--- are
+-- From the attributes of a link, `put_between` makes a row that puts this link. This holds for each
+-- proof `eight` that there are eight bandwidths, and each decision `ends` whether both ends are one
+-- router.
 pub put_between-link : (l : Link) (eight : length l.free ≡ 8) (ends : Dec (l.from ≡ l.to)) → put_between (fields_of_link l) eight ends ≡ Ok (row.Put l)
 put_between-link l eight (yes same) = absurd (l.two_ends same)
 put_between-link l eight (no apart) = λ i.
@@ -23,7 +24,7 @@ pub put-attributes : (l : Link) (eight : length l.free ≡ 8) → put (fields_of
 unfolding put
 put-attributes l eight = put_between-link l eight (ℕ_discrete l.from l.to)
 
--- `put` gives back the link whose attributes it gets
+-- from the attributes of a link, `put` makes a row that puts this link
 pub put-link : AreFieldsOfLinks → (l : Link) (fields : LinkFields) (eight : length fields.free ≡ 8) → HasLinkFields l fields → put fields eight ≡ Ok (row.Put l)
 put-link links l fields eight h =
     subst (λ (a : LinkFields). (e : length a.free ≡ 8) → put a e ≡ Ok (row.Put l)) ((links l fields).0 h) (put-attributes l) eight
@@ -37,7 +38,9 @@ pub put-self : (fields : LinkFields) (eight : length fields.free ≡ 8) → fiel
 unfolding put
 put-self fields eight one = put_between-self fields eight (ℕ_discrete fields.from fields.to) one
 
--- `ask_between` gives back the request whose fields it gets, whatever proofs `low` and `ends` are
+-- From the fields of a request, `ask_between` makes a row that asks for this request. This holds
+-- for each decision `low` whether the priority is below 8, and each decision `ends` whether both
+-- ends are one router.
 pub ask_between-request : (q : Request) (low : Dec (q.setup < 8)) (ends : Dec (q.from ≡ q.to)) → ask_between (fields_of_request q) low ends ≡ Ok (row.Ask q)
 ask_between-request q (no above) ends = absurd (above q.priority)
 ask_between-request q (yes below) (yes same) = absurd (q.two_ends same)
@@ -48,7 +51,7 @@ pub ask-fields : (q : Request) → ask (fields_of_request q) ≡ Ok (row.Ask q)
 unfolding ask
 ask-fields q = ask_between-request q (dec_le (suc q.setup) 8) (ℕ_discrete q.from q.to)
 
--- `ask` gives back the request whose fields it gets
+-- from the fields of a request, `ask` makes a row that asks for this request
 pub ask-request : AreFieldsOfRequests → (q : Request) (fields : RequestFields) → HasRequestFields q fields → ask fields ≡ Ok (row.Ask q)
 ask-request requests q fields h = subst (λ (a : RequestFields). ask a ≡ Ok (row.Ask q)) ((requests q fields).0 h) (ask-fields q)
 

@@ -27,7 +27,8 @@ unfolding fields_text
 fields_text-unquoted [] h = refl
 fields_text-unquoted (x ∷ xs) h = rw h.0 (ap (λ rest. 44 ∷ (x ++ rest)) (fields_text-unquoted xs h.1))
 
--- `record_line` of such a record is the text that `csv` writes for its fields
+-- if no field of a record needs quotes, `record_line` of this record is the text that `csv` writes
+-- for its fields
 line_text-row_text : (x y : List ℕ) (ys : List (List ℕ)) → AreUnquoted (x ∷ y ∷ ys) → record_line (x ∷ y ∷ ys) ≡ row_text default_writer (x ∷ y ∷ ys)
 unfolding is_blank
 line_text-row_text x y ys h =
@@ -52,7 +53,7 @@ cut_lines n [] few h = none_left n
 cut_lines zero (r ∷ rs) few h = absurd (omega arith)
 cut_lines (suc n) (r ∷ rs) few h = next_line n r (flat_map record_line rs) h.0 ∙ ap (λ more. r ∷ more) (cut_lines n rs (omega arith) h.1)
 
--- a line has at least one byte
+-- a text that is a line and further bytes has at least one byte more than these further bytes
 line_text-some : (r : List (List ℕ)) (tail : List ℕ) → suc (length tail) ≤ length (record_line r ++ tail)
 unfolding record_line
 line_text-some r tail = simp length-append (omega arith)
@@ -61,7 +62,8 @@ lines_enough : (rs : List (List (List ℕ))) → length rs ≤ length (flat_map 
 lines_enough [] = omega arith
 lines_enough (r ∷ rs) = omega (arith, line_text-some r (flat_map record_line rs), lines_enough rs)
 
--- lines of such records are cut into these records, if the lines begin with no byte order mark
+-- the lines of records that need no quotes are cut into these records, if the text of the lines
+-- doesn't begin with a byte order mark
 pub rows_of-lines : (rs : List (List (List ℕ))) → AreUnquotedRecords rs → strip_bom (flat_map record_line rs) ≡ flat_map record_line rs → rows_of (flat_map record_line rs) ≡ rs
 unfolding rows_of
 rows_of-lines rs h no_mark = rw no_mark (cut_lines _ rs (omega (arith, lines_enough rs)) h)

@@ -22,7 +22,8 @@ use Rattle.cspf_rows.specs.FieldValues.{field, number_at, small_number_at, prior
 use Rattle.cspf_rows.specs.FieldTexts.{AreTextsRead}
 use Rattle.cspf_rows.specs.Says.{SpellsNumber, SpellsFlag, SpellsAddress, SpellsHops}
 
--- if two steps gave a value, the first step gave a value, and the second gave `y` for it
+-- if two steps, one after the other, gave the value `y`, the first step gave a value, and the
+-- second step made `y` from this value
 pub first_step : {A B : Type 0} (r : Result A RowError) (f : A → Result B RowError) (y : B) → (r >>= f) ≡ Ok y → (x : A) × (r ≡ Ok x) × (f x ≡ Ok y)
 first_step (Ok x) f y found = (x, refl, found)
 first_step (Err e) f y found = absurd (cc)
@@ -32,12 +33,13 @@ found : {A : Type 0} (o : Option A) (e : RowError) (x : A) → ok_or o e ≡ Ok 
 found None e x same = absurd (cc)
 found (Some y) e x same = cc
 
--- if a test led to a value and not to the error, the test was true
+-- if a choice between the value `v` and an error gave a value, the test of the choice was true, and
+-- the value is `v`
 passed : {A : Type 0} (b : Bool) (v n : A) (e : RowError) → cond b (Ok v) (Err e) ≡ Ok n → (b ≡ true) × (v ≡ n)
 passed true v n e same = (refl, cc)
 passed false v n e same = absurd (cc)
 
--- a number below 2 is the number of the flag that says whether it is 1
+-- if a number is below 2, and a flag says whether the number is 1, the number is that of this flag
 small_flag : (n : ℕ) (flag : Bool) → n < 2 → eqb n 1 ≡ flag → n ≡ flag_number flag
 small_flag zero flag small is = rw (← is) refl
 small_flag (suc zero) flag small is = rw (← is) refl
@@ -123,7 +125,7 @@ module _ (texts : AreTextsRead) (fields : List (List ℕ)) (place : ℕ) where
   unfolding mask_at
   spelled-mask_at n read = (texts.masks (field fields place) n).0 (found _ _ n read)
 
--- mapping the errors of a result keeps its value
+-- if mapping the errors of a result gives a list of hops, the result itself is this list of hops
 kept : {A B : Type 0} (r : Result (List Hop) A) (f : A → B) (hops : List Hop) → result_map_both (λ (h : List Hop). h) f r ≡ Ok hops → r ≡ Ok hops
 kept (Ok h) f hops same = cc
 kept (Err e) f hops same = absurd (cc)
@@ -133,7 +135,7 @@ pub begins : (text : List ℕ) (test : Bool) → test ≡ starts_with eqb text (
     → (test ≡ true → text ≡ codes "ero:" ++ drop 4 text) × ((rest : List ℕ) → text ≡ codes "ero:" ++ rest → test ≡ true)
 begins text test is = starts_is Decides-eqb text (codes "ero:") test is
 
--- the digits of bytes that spell hops are read as these hops
+-- if digits decode to bytes that spell hops, the digits are read as these hops
 hex_hops_of-spelled : AreObjectsRead → (digits : List ℕ) (bytes : List ℕ) (hops : List Hop) → decode_of digits ≡ Ok bytes → Spells bytes hops → hex_hops_of digits ≡ Ok hops
 unfolding hex_hops_of
 hex_hops_of-spelled objects digits bytes hops found spelled = rw (found, (objects bytes hops (decode_of-ok digits bytes found).3).1 spelled) refl
@@ -146,7 +148,7 @@ spelled-hex_hops_of objects digits hops read = cases (decode_of digits) refl rea
     cases (Ok bytes) found read = (bytes, found, (objects bytes hops (decode_of-ok digits bytes found).3).0 (kept _ _ hops read))
     cases (Err e) found read = absurd (cc)
 
--- a text that spells hops is read as these hops
+-- if a text spells hops, as a hop list or as an EXPLICIT_ROUTE object, it is read as these hops
 either-spelled : AreObjectsRead → (text : List ℕ) (hops : List Hop) → SpellsHops text hops → either_hops_of text ≡ Ok hops
 unfolding either_hops_of
 either-spelled objects text hops (inl list) = rw (no_object, list.read) refl

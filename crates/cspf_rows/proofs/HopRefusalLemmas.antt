@@ -13,17 +13,19 @@ use Rattle.cspf_rows.specs.FieldValues.{object_hops_of, hex_hops_of, either_hops
 use Rattle.cspf_rows.specs.RowRefusals.{IsHopsFault}
 use Rattle.cspf_rows.proofs.FieldLemmas.{begins}
 
--- a result with its errors mapped has an error only if the result had one
+-- if mapping the errors of a result by `f` gives the error `e`, the result itself is an error, and
+-- `f` maps this error to `e`
 pub mapped_error : {A B : Type 0} (r : Result (List Hop) A) (f : A → B) (e : B) → result_map_both (λ (h : List Hop). h) f r ≡ Err e → (why : A) × (r ≡ Err why) × (f why ≡ e)
 mapped_error (Ok h) f e same = absurd (cc)
 mapped_error (Err why) f e same = (why, refl, cc)
 
--- digits that the decoder refuses decode to no bytes
+-- if the decoder refuses digits, it doesn't decode them to bytes
 no_bytes : (r : Result (List ℕ) FromHexError) (e : FromHexError) (bytes : List ℕ) → r ≡ Err e → r ≡ Ok bytes → ⊥
 no_bytes (Ok b) e bytes bad good = cc bad
 no_bytes (Err f) e bytes bad good = cc good
 
--- if an object in digits is refused for `why`, the text has that fault
+-- if a text is `ero:` and digits, and these digits are refused for the fault `why`, the text has
+-- this fault
 hex_told : (text digits : List ℕ) (why : HopsFault) → text ≡ codes "ero:" ++ digits → hex_hops_of digits ≡ Err why → IsHopsFault text why
 unfolding hex_hops_of
 hex_told text digits why whole read = cases (decode_of digits) refl read
@@ -36,7 +38,7 @@ hex_told text digits why whole read = cases (decode_of digits) refl read
         let is : fault.Hex ≡ why = cc same in
         subst (IsHopsFault text) is (digits, whole, λ bytes other. no_bytes (decode_of digits) e bytes found other)
 
--- if a text is refused for `why`, it has that fault
+-- if a text is refused for the fault `why`, it has this fault
 pub fault_told : (text : List ℕ) (why : HopsFault) → either_hops_of text ≡ Err why → IsHopsFault text why
 unfolding either_hops_of
 fault_told text why read = cases (starts_with eqb text (codes "ero:")) refl read
@@ -57,7 +59,7 @@ hex_fault digits none = cases (decode_of digits) refl
     cases (Ok bytes) found = absurd (none bytes found)
     cases (Err e) found = refl
 
--- a text with a fault is refused for that fault
+-- if a text has a fault, it is refused for this fault
 pub told_fault : (text : List ℕ) (why : HopsFault) → IsHopsFault text why → either_hops_of text ≡ Err why
 unfolding either_hops_of hex_hops_of
 told_fault text (fault.Text why) (other, bad) = rw (false_from_ne_true _ (λ test. other (drop 4 text) ((begins text _ refl).0 test)), bad) refl

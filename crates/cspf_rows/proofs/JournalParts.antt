@@ -1,5 +1,5 @@
--- How the parts of a journal grow by one record: whole batches, open changes, and the records after
--- them.
+-- How one more record changes the parts of a journal: its whole batches, the open changes after
+-- them, and the records after these. An open change is one whose `end` row hasn't come.
 use Rattle.std.proofs.Common.{◌≡◌, ◌≢◌, ℕ, ◌+◌, ◌≤◌, Bool, true, false, List, [], ◌∷◌, ◌++◌, map, length, Result, Ok, refl, sym, ap, ◌∙◌, append_assoc, append-nil, arith}
 use Rattle.std.proofs.lemmas.Grind.{flat_map-append}
 use Rattle.std.proofs.lemmas.List.{map-append, length-append, length-map}
@@ -38,7 +38,7 @@ module _ (bs : List NumberedChanges) (cs : List Change) (seen : List (List (List
   seen_more : seen ++ (fields ∷ []) ≡ h.whole ++ (h.open_ones ++ (fields ∷ []))
   seen_more = ap (λ (s : Records). s ++ (fields ∷ [])) h.split ∙ one_more h.whole h.open_ones h.behind fields h.ended
 
-  -- the next record is one more open change
+  -- if the next record is a change, it is one more open change
   pub parts_change : (change : Change) → row_of fields ≡ Ok (change_row change) → AreJournalParts bs (cs ++ (change ∷ [])) false (seen ++ (fields ∷ []))
   parts_change change row = record {
     numbers = h.numbers;
@@ -56,7 +56,8 @@ module _ (bs : List NumberedChanges) (cs : List Change) (seen : List (List (List
   numbered-push first [] b numbers next = (omega (arith, next), tt)
   numbered-push first (x ∷ xs) b numbers next = (numbers.0, numbered-push (first + 1) xs b numbers.1 (omega (arith, next)))
 
-  -- the next record ends a batch
+  -- if the next record is the `end` row of the open changes, these changes become one more whole
+  -- batch, and no change is open any more
   pub parts_batch : (batch : NumberedChanges) → batch.number ≡ 1 + length bs → batch.changes ≡ cs
       → row_of fields ≡ Ok (row.End batch.number (length batch.changes)) → AreJournalParts (bs ++ (batch ∷ [])) [] false (seen ++ (fields ∷ []))
   parts_batch batch number same row = record {
@@ -77,7 +78,8 @@ module _ (bs : List NumberedChanges) (cs : List Change) (seen : List (List (List
   some_one : (fields ∷ []) ≢ []
   some_one e = cc
 
-  -- the next record is the first that is in no batch
+  -- if the next record is neither a change nor the `end` row of the open changes, it is the first
+  -- record after these changes that is in no batch
   pub parts_end : EndsBatches (1 + length bs) (length cs) (row_of fields) → AreJournalParts bs cs true (seen ++ (fields ∷ []))
   parts_end last = record {
     numbers = h.numbers;
@@ -99,7 +101,7 @@ some_more : (more : Records) (fields : List (List ℕ)) → more ++ (fields ∷ 
 some_more [] fields e = cc
 some_more (r ∷ more) fields e = cc
 
--- the next record comes after a record that is in no batch
+-- if some record after the open changes is in no batch, the next record is in no batch either
 pub parts_behind : (bs : List NumberedChanges) (cs : List Change) (seen : List (List (List ℕ))) (fields : List (List ℕ)) → AreJournalParts bs cs true seen
     → AreJournalParts bs cs true (seen ++ (fields ∷ []))
 parts_behind bs cs seen fields h = record {
@@ -114,7 +116,8 @@ parts_behind bs cs seen fields h = record {
   ended = some_more h.behind fields;
 }
 
--- records are read as the rows of those in `whole`, and then as what those in `left` are read as
+-- if records are `whole` followed by `left`, and `whole` is read as `rows`, the records are read as
+-- `rows` followed by what `left` is read as
 said : (whole left seen : Records) (rows : List Row) → seen ≡ whole ++ left → map row_of whole ≡ read_rows rows → map row_of seen ≡ read_rows rows ++ map row_of left
 said whole left seen rows split read = rw (split, map-append row_of whole left, read) refl
 
@@ -129,7 +132,8 @@ module _ (bs : List NumberedChanges) (cs : List Change) (ended : Bool) (seen : L
       (open_no_batch cs (1 + length bs) (map row_of h.behind) h.ends) in
       omega (arith, less, length-map more row_of, length-map (h.open_ones ++ h.behind) row_of, ap length opens)
 
-  -- if no more records come, the records are a journal of these batches, with this rest
+  -- If no more records come, the records that were read are a journal of these batches. `rest` says
+  -- whether records are left after the batches.
   journal_of_parts : (rest : Rest) → IsRest (h.open_ones ++ h.behind) rest → IsJournal seen bs rest
   journal_of_parts rest is_rest = record {
     left = h.open_ones ++ h.behind;
@@ -151,15 +155,17 @@ some_open [] behind [] rows some e = some refl
 some_open [] behind (c ∷ cs) rows some e = cc
 some_open (o ∷ opens) behind cs rows some e = cc
 
--- a journal with no open changes, and no record that is in no batch, is clean
+-- if a journal has no open changes, and all its records are in batches, it is clean: no record is
+-- left after its batches
 pub journal_clean : (bs : List NumberedChanges) (seen : List (List (List ℕ))) → AreJournalParts bs [] false seen → IsJournal seen bs rest.Clean
 journal_clean bs seen h = journal_of_parts bs [] false seen h rest.Clean (rw (h.ended, no_records h.open_ones h.open_rows) refl)
 
--- a journal that ends with open changes is torn
+-- if a journal ends with open changes, it is torn: records are left after its batches
 pub journal_open : (bs : List NumberedChanges) (cs : List Change) (seen : List (List (List ℕ))) → AreJournalParts bs cs false seen → cs ≢ [] → IsJournal seen bs rest.Torn
 journal_open bs cs seen h some = journal_of_parts bs cs false seen h rest.Torn (some_open h.open_ones h.behind cs h.open_rows some)
 
--- a row is left that is in no batch
+-- if a row that is in no batch follows the open changes of a journal, the journal is torn: records
+-- are left after its whole batches
 pub journal_behind : (bs : List NumberedChanges) (cs : List Change) (seen : List (List (List ℕ))) → AreJournalParts bs cs true seen → IsJournal seen bs rest.Torn
 journal_behind bs cs seen h = journal_of_parts bs cs true seen h rest.Torn (some_behind h.open_ones h.behind h.ended)
 
@@ -173,7 +179,8 @@ same_rest (l ∷ left) [] one two count a b = absurd (omega arith)
 same_rest (l ∷ left) (m ∷ more) rest.Clean rest.Torn count a b = absurd (cc)
 same_rest (l ∷ left) (m ∷ more) rest.Torn rest.Clean count a b = absurd (cc)
 
--- no records are two different lists of batches, or have two different rests
+-- If the same records are a journal of one list of batches and also of another, the two lists are
+-- the same. Records are left after the batches of both, or of neither.
 pub one_journal : (records : List (List (List ℕ))) (batches others : List NumberedChanges) (rest other : Rest)
     → IsJournal records batches rest → IsJournal records others other → (batches ≡ others) × (rest ≡ other)
 one_journal records batches others rest other a b =
@@ -190,7 +197,7 @@ rows_enough : (batches : List NumberedChanges) → length batches ≤ length (jo
 rows_enough [] = omega arith
 rows_enough (b ∷ bs) = simp length-append (omega (arith, rows_enough bs))
 
--- there are no more batches than records
+-- a journal has at most as many whole batches as records
 pub few_batches : (bs : List NumberedChanges) (cs : List Change) (ended : Bool) (seen : List (List (List ℕ))) → AreJournalParts bs cs ended seen → length bs ≤ length seen
 few_batches bs cs ended seen h =
     let whole : length h.whole ≡ length (journal_rows bs) =

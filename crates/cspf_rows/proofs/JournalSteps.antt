@@ -1,4 +1,5 @@
--- How each row that a reader reads changes what it has read of a journal.
+-- How one more row changes what a reader of a journal has read: whole batches, and then open
+-- changes.
 use Rattle.std.proofs.Common.{◌≡◌, ◌≢◌, ℕ, ◌+◌, ◌<◌, ◌≤◌, Bool, true, false, List, [], ◌∷◌, ◌++◌, length, length-append, Option, Some, None, IfSome, IfOk, OnOk, Result, Ok, Err, refl, sym, ◌∙◌, arith}
 use Rattle.std.specs.Option.{option_map}
 use Rattle.cspf_model.specs.declared.batch.Change.{Change}
@@ -19,7 +20,7 @@ use Rattle.cspf_rows.specs.GivenBatches.{HasGiven}
 use Rattle.cspf_rows.proofs.ProgressLemmas.{sees_none, sees_next, sees_all, sees_more, if_some_more}
 use Rattle.cspf_rows.proofs.JournalParts.{parts_none, parts_change, parts_batch, parts_end, parts_behind, journal_clean, journal_open, journal_behind, few_batches}
 
--- a reader that has read whole batches and nothing after them has returned these batches
+-- if a reader has read whole batches and no record after them, it has returned these batches
 pub given : {R : Type 0} (rem : R → Option (List ℕ)) (all : Option (List (List (List ℕ)))) (reader : JournalReader R) (bs : List NumberedChanges)
     → HasRead rem all reader bs [] false → HasGiven rem all reader bs
 given rem all reader bs h =
@@ -31,13 +32,14 @@ given rem all reader bs h =
       read = h;
     }
 
--- a reader that has read no row has returned no batches
+-- if a reader has read no row, it has returned no batches
 pub given_none : {R : Type 0} (rem : R → Option (List ℕ)) (all : Option (List (List (List ℕ)))) (reader : JournalReader R)
     → reader.rows ≡ 0 → reader.count ≡ 0 → rows_left rem reader.records ≡ all → HasGiven rem all reader []
 given_none rem all reader rows count left =
     given rem all reader [] (record { count = count; seen = rw (rows, left) (sees_none (AreJournalParts [] [] false) all parts_none) })
 
--- of the records that the old reader had left, the new reader has read `fields` and no more
+-- the new reader is the old reader after it has read one more record, and this record has the
+-- fields `fields`
 pub record ReadsOne {R : Type 0} (rem : R → Option (List ℕ)) (old new : JournalReader R) (fields : List (List ℕ)) : Type 0 where
   pub takes : Takes (rows_left rem old.records) (rows_left rem new.records) true fields
   pub rows : new.rows ≡ old.rows + 1
@@ -53,13 +55,14 @@ module _ {R : Type 0} (rem : R → Option (List ℕ)) (all : Option (List (List 
         (λ seen counted parts. more seen parts));
   }
 
-  -- the row is one more open change
+  -- if the row is a change, the reader after this row, `new`, has read one more open change
   pub read_change : (next : ℕ) (b c : NumberedChanges) → ReadsOne rem old new fields → HasRead rem all old bs b.changes false → new.count ≡ old.count
       → IsTaken (row_of fields) next b c taken.Change → HasRead rem all new bs c.changes false
   read_change next b c one h same is =
       rw is.2 (read_next b.changes (b.changes ++ (is.0 ∷ [])) false false bs one h (same ∙ h.count) (λ seen parts. parts_change bs b.changes seen fields parts is.0 is.1))
 
-  -- the row ends a batch
+  -- if the row is the `end` row of the open changes, the reader after this row, `new`, has read one
+  -- more whole batch, and no change is open
   pub read_batch : (b c : NumberedChanges) → ReadsOne rem old new fields → HasRead rem all old bs b.changes false → new.count ≡ old.count + 1
       → IsTaken (row_of fields) new.count b c taken.Batch → HasRead rem all new (bs ++ (c ∷ [])) [] false
   read_batch b c one h more is =
@@ -68,7 +71,8 @@ module _ {R : Type 0} (rem : R → Option (List ℕ)) (all : Option (List (List 
       read_next b.changes [] false false (bs ++ (c ∷ [])) one h (omega (arith, length-append bs (c ∷ [])))
       (λ seen parts. parts_batch bs b.changes seen fields parts c number is.2 (rw (is.2, is.1) is.0))
 
-  -- the row is the first that is in no batch
+  -- if the row is neither a change nor the `end` row of the open changes, the reader after it,
+  -- `new`, has read a row that is in no batch
   pub read_end : (b c : NumberedChanges) → ReadsOne rem old new fields → HasRead rem all old bs b.changes false → new.count ≡ old.count
       → IsTaken (row_of fields) (new.count + 1) b c taken.Behind → HasRead rem all new bs b.changes true
   read_end b c one h same is =
@@ -76,17 +80,19 @@ module _ {R : Type 0} (rem : R → Option (List ℕ)) (all : Option (List (List 
       let next : new.count + 1 ≡ 1 + length bs = omega arith in
       read_next b.changes b.changes false true bs one h (same ∙ h.count) (λ seen parts. parts_end bs b.changes seen fields parts (rw next at is.0))
 
-  -- the row comes after a row that is in no batch
+  -- if the reader before the row, `old`, has read a row that is in no batch, the reader after it,
+  -- `new`, has the same whole batches and open changes
   pub read_behind : (cs : List Change) → ReadsOne rem old new fields → HasRead rem all old bs cs true → new.count ≡ old.count → HasRead rem all new bs cs true
   read_behind cs one h same = read_next cs cs true true bs one h (same ∙ h.count) (λ seen parts. parts_behind bs cs seen fields parts)
 
-  -- there is a row more than a journal may have
+  -- if 1,000,000 rows were read, and there is one more, the journal has too many rows
   pub read_too_many : (cs : List Change) (ended : Bool) → HasRead rem all old bs cs ended → old.rows ≡ 1000000
       → Takes (rows_left rem old.records) (rows_left rem new.records) true fields → IfSome all (λ rows. 1000000 < length rows)
   read_too_many cs ended h most takes =
       rw most at (sees_more (AreJournalParts bs cs ended) all (rows_left rem old.records) (rows_left rem new.records) old.rows fields h.seen takes)
 
-  -- no row is left, so all records of the stream are read
+  -- if no row is left, and the records that were read are a journal, all records of the stream are
+  -- this journal
   read_all : (cs : List Change) (ended : Bool) (rest : Rest) → HasRead rem all old bs cs ended → old.rows ≤ 1000000
       → Takes (rows_left rem old.records) (rows_left rem new.records) false fields
       → ((seen : List (List (List ℕ))) → AreJournalParts bs cs ended seen → IsJournal seen bs rest) → IfSome all (λ rows. IsJournal rows bs rest × (length rows ≤ 1000000))
@@ -102,13 +108,15 @@ module _ {R : Type 0} (rem : R → Option (List ℕ)) (all : Option (List (List 
       → Takes (rows_left rem old.records) (rows_left rem new.records) false fields → IfSome all (λ rows. IsJournal rows bs rest.Torn × (length rows ≤ 1000000))
   read_open cs some h few takes = read_all cs false rest.Torn h few takes (λ seen parts. journal_open bs cs seen parts some)
 
-  -- no row is left after the open changes
+  -- If no row is left after the open changes, the stream is a journal of the whole batches. It is
+  -- clean (no row follows these batches) exactly if no change is open.
   pub read_rest : (cs : List Change) (left : Rest) → (left ≡ rest.Clean → cs ≡ []) → (left ≡ rest.Torn → cs ≢ []) → HasRead rem all old bs cs false → old.rows ≤ 1000000
       → Takes (rows_left rem old.records) (rows_left rem new.records) false fields → IfSome all (λ rows. IsJournal rows bs left × (length rows ≤ 1000000))
   read_rest cs rest.Clean clean torn h few takes = read_clean cs (clean refl) h few takes
   read_rest cs rest.Torn clean torn h few takes = read_open cs (torn refl) h few takes
 
-  -- no row is left after the rows that are in no batch
+  -- If no row is left, and a row that is in no batch was read, the stream is a journal of the whole
+  -- batches. The journal is torn: rows follow these batches.
   pub read_torn : (cs : List Change) → HasRead rem all old bs cs true → old.rows ≤ 1000000
       → Takes (rows_left rem old.records) (rows_left rem new.records) false fields → IfSome all (λ rows. IsJournal rows bs rest.Torn × (length rows ≤ 1000000))
   read_torn cs h few takes = read_all cs true rest.Torn h few takes (journal_behind bs cs)
@@ -121,11 +129,12 @@ module _ {R : Type 0} (rem : R → Option (List ℕ)) (all : Option (List (List 
   pub came_end : (come : JournalStep) (left : Rest) → come ≡ step.End left → ComesTo rem all reader bs b come → IfSome all (λ rows. IsJournal rows bs left × (length rows ≤ 1000000))
   came_end come left e came = rw e at came
 
--- an error that a call returns is the error of its caller
+-- if a function returns the error of a function that it calls, the two errors are the same
 pub same_fault : {A B : Type 0} (r : Result A ReadError) (s : Result B ReadError) (e f k : ReadError) → r ≡ Err k → r ≡ Err f → f ≡ e → s ≡ Err e → s ≡ Err k
 same_fault r s e f k is ends same was = cc
 
--- if the bytes of the stream are known, the result is that of their records
+-- if the bytes of the stream are known, the journal that is read is the journal of the records of
+-- these bytes
 pub whole_read : {R : Type 0} (rem : R → Option (List ℕ)) (reader : JournalReader R) (bytes : Option (List ℕ)) (r : Result Journal ReadError)
     → HasGiven rem (option_map rows_of bytes) reader []
     → IfOk r (λ read. (all : Option (List (List (List ℕ)))) → HasGiven rem all reader [] → IfSome all (λ rows. IsJournal rows read.batches.items read.rest × (length rows ≤ 1000000)))

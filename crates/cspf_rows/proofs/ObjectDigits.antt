@@ -1,4 +1,4 @@
--- The digits of an object, and the bytes that they decode to.
+-- The hexadecimal digits of an EXPLICIT_ROUTE object, and the bytes that they decode to.
 use Rattle.std.proofs.Common.{◌≡◌, ℕ, zero, suc, ◌+◌, ◌*◌, ◌%◌, ◌≤◌, inl, inr, List, [], ◌∷◌, ◌++◌, false, is_ok, length, take, min, Result, Ok, Err, refl, sym, ap, ◌∙◌, arith}
 use Rattle.std.proofs.lemmas.Bool.{cases_lt}
 use Rattle.std.proofs.lemmas.List.{take_all, length-take-le, take-append-le}
@@ -13,13 +13,14 @@ use Rattle.hex.proofs.HexLemmas.{decode_of-digits, decode_of-even, decode_of-ok,
 use Rattle.cspf_rows.specs.declared.row_error.HopsFault.TheVariants as fault
 use Rattle.cspf_rows.specs.FieldValues.{object_hops_of, hex_hops_of}
 
--- if two steps gave a value, each of them gave one
+-- if two steps together gave a value, the first step gave a value, and the second step gave the
+-- final value for it
 both_decoded : {A B : Type 0} (r : Result A FromHexError) (more : A → Result B FromHexError) (b : B) → (r >>= more) ≡ Ok b → (a : A) × (r ≡ Ok a) × (more a ≡ Ok b)
 both_decoded (Ok a) more b same = (a, refl, same)
 both_decoded (Err e) more b same = absurd (cc)
 
--- if the byte of the first two digits is decoded, and `count` bytes after it, then `count + 1`
--- bytes are decoded
+-- if two digits decode to `byte`, and the next `2 * count` digits to the first `count` bytes of
+-- `rest`, all these digits decode to `byte` and these bytes
 pair_more : (at count high low byte : ℕ) (digits rest : List ℕ) → pair_value high low at ≡ Ok byte → decode_pairs (at + 2) (take (2 * count) digits) ≡ Ok (take count rest)
     → decode_pairs at (take (2 * suc count) (high ∷ low ∷ digits)) ≡ Ok (take (suc count) (byte ∷ rest))
 unfolding decode_pairs
@@ -27,7 +28,7 @@ pair_more at count high low byte digits rest first later =
     let two : 2 * suc count ≡ suc (suc (2 * count)) = omega arith in
     rw (two, first, later) refl
 
--- the first `2 * count` digits decode to the first `count` bytes
+-- if digits decode to bytes, the first `2 * count` digits decode to the first `count` bytes
 decode_pairs-take : (at count : ℕ) (digits bytes : List ℕ) → decode_pairs at digits ≡ Ok bytes → decode_pairs at (take (2 * count) digits) ≡ Ok (take count bytes)
 unfolding decode_pairs
 decode_pairs-take at zero digits bytes found = refl
@@ -41,7 +42,7 @@ decode_pairs-take at (suc count) (high ∷ low ∷ digits) bytes found =
     let whole : byte ∷ rest ≡ bytes = cc all in
     pair_more at count high low byte digits rest first (decode_pairs-take (at + 2) count digits rest later) ∙ ap (λ all_bytes. Ok (take (suc count) all_bytes)) whole
 
--- the digits of the first `count` bytes are decoded into a buffer of `count` bytes
+-- if digits decode to bytes, the first `2 * count` digits decode to the first `count` bytes
 pub front_decoded : (count : ℕ) (digits bytes : List ℕ) → decode_of digits ≡ Ok bytes → 2 * count ≤ length digits → decode_sized (take (2 * count) digits) count ≡ Ok (take count bytes)
 front_decoded count digits bytes found within =
     let parts = decode_of-ok digits bytes found in
@@ -51,7 +52,7 @@ front_decoded count digits bytes found within =
     ∙ (decode_of-even (take (2 * count) digits) (omega arith)
     ∙ decode_pairs-take 0 count digits bytes (sym (decode_of-even digits parts.0) ∙ found))
 
--- a text that isn't pairs of hexadecimal digits is refused as `Hex`
+-- if a text isn't an even number of hexadecimal digits, it is refused as `Hex`
 pub not_pairs : (digits : List ℕ) → ((length digits % 2 ≡ 0) × AllPass is_hex_digit digits → ⊥) → hex_hops_of digits ≡ Err fault.Hex
 unfolding hex_hops_of
 not_pairs digits other = refused (decode_of digits) refl
@@ -60,13 +61,14 @@ not_pairs digits other = refused (decode_of digits) refl
     refused (Ok bytes) found = let parts = decode_of-ok digits bytes found in absurd (other (parts.0, parts.1))
     refused (Err e) found = refl
 
--- pairs of hexadecimal digits decode to half as many bytes as there are digits
+-- an even number of hexadecimal digits decodes to half as many bytes
 pub pairs_decoded : (digits : List ℕ) → (length digits % 2 ≡ 0) × AllPass is_hex_digit digits → (bytes : List ℕ) × (decode_of digits ≡ Ok bytes) × (length digits ≡ 2 * length bytes)
 pairs_decoded digits pairs =
     let (bytes, found) = decode_of-digits digits pairs.0 pairs.1 in
     (bytes, found, (decode_of-ok digits bytes found).2)
 
--- the first `count` bytes are decoded: all bytes of the object, or 64 if the object is longer
+-- if `count` is the size of an object, or 64 if the object is longer, the first `count` bytes of
+-- the object are its first 64 bytes
 pub front_taken : (size count : ℕ) (bytes : List ℕ) → length bytes ≡ size → count ≡ min size 64 → take 64 bytes ≡ take count bytes
 front_taken size count bytes same least =
     elim (cases_lt 64 (length bytes)) [
@@ -76,12 +78,12 @@ front_taken size count bytes same least =
       | inr short ↦ take_all 64 bytes (omega arith) ∙ sym (take_all count bytes (omega arith))
     ]
 
--- a result with a value isn't an error
+-- if a result is a value, `is_ok` of this result isn't false
 pub no_error : {A E : Type 0} (r : Result A E) (x : A) → r ≡ Ok x → false ≡ is_ok r → ⊥
 no_error (Ok y) x same told = cc
 no_error (Err e) x same told = cc
 
--- digits are read as the hops that their bytes spell
+-- if pairs of digits decode to bytes, the digits are read as the hops that these bytes spell
 pub hex_hops_of-pairs : (digits : List ℕ) (read : Result (List Hop) EroError) → (length digits % 2 ≡ 0) × AllPass is_hex_digit digits
     → ((bytes : List ℕ) → decode_of digits ≡ Ok bytes → read ≡ ero_of bytes) → hex_hops_of digits ≡ result_map_both (λ hops. hops) fault.Ero read
 unfolding hex_hops_of
@@ -89,7 +91,8 @@ hex_hops_of-pairs digits read pairs each =
     let (bytes, found, size) = pairs_decoded digits pairs in
     ap object_hops_of found ∙ sym (ap (λ r. result_map_both (λ (hops : List Hop). hops) fault.Ero r) (each bytes found))
 
--- the decoded bytes are at the start of their buffer
+-- if the decoded bytes are written at the start of their buffer, the buffer begins with the first
+-- `count` of these bytes
 pub front_placed : (count : ℕ) (bytes front place back : List ℕ) → count ≤ length place → count ≤ length bytes → front ≡ take (length (take count place)) bytes
     → take count (front ++ back) ≡ take count bytes
 front_placed count bytes front place back room within written =

@@ -1,4 +1,5 @@
--- What holds of the records of a stream that were read, after one more record and at the end.
+-- What holds of the records that were read from a stream: after one more record is read, and at the
+-- end of the stream.
 use Rattle.std.proofs.Common.{◌≡◌, ℕ, ◌+◌, ◌<◌, true, false, List, [], ◌∷◌, ◌++◌, length, Option, Some, None, IfSome, refl, sym, ap, ◌∙◌, append_assoc, append-nil, arith}
 use Rattle.std.proofs.lemmas.List.{length-append}
 use Rattle.cspf_rows.specs.Records.{Takes}
@@ -21,7 +22,9 @@ split_next (Some all) (Some left) None seen fields split takes = absurd takes
 split_next (Some all) (Some left) (Some rest) seen fields split takes = split ∙ rw takes (sym (append_assoc seen (fields ∷ []) rest))
 
 module _ (Holds : List (List (List ℕ)) → Type 0) (all left next : Option (List (List (List ℕ)))) (count : ℕ) (fields : List (List ℕ)) (h : HasSeen Holds all left count) where
-  -- one more record was read
+  -- Let `Holds` be true of the first `count` records, and let one more record be read. If `More` is
+  -- true of the first `count` records followed by the new one, `More` is true of all records that
+  -- were read.
   pub sees_next : (More : List (List (List ℕ)) → Type 0) → Takes left next true fields
       → ((seen : List (List (List ℕ))) → length seen ≡ count → Holds seen → More (seen ++ (fields ∷ []))) → HasSeen More all next (count + 1)
   sees_next More takes more = record {
@@ -31,7 +34,7 @@ module _ (Holds : List (List (List ℕ)) → Type 0) (all left next : Option (Li
     split = split_next all left next h.seen fields h.split takes;
   }
 
-  -- no record is left, so this holds of all records
+  -- if no record is left, `Holds` is true of all records, and there are `count` records
   pub sees_all : Takes left next false fields → IfSome all (λ rows. Holds rows × (length rows ≡ count))
   sees_all takes = go all left h.split takes
     where
@@ -42,7 +45,8 @@ module _ (Holds : List (List (List ℕ)) → Type 0) (all left next : Option (Li
           let whole : all ≡ h.seen = split ∙ rw takes (append-nil h.seen) in
           rw whole (h.holds, h.counted)
 
-  -- the next record follows those that were read
+  -- if there is a next record, all records are those that were read, followed by this record and
+  -- further ones
   pub sees_another : Takes left next true fields
       → IfSome all (λ rows. (before : List (List (List ℕ))) × (after : List (List (List ℕ))) × (rows ≡ before ++ (fields ∷ after)) × Holds before × (length before ≡ count))
   sees_another takes = go all left next h.split takes
@@ -54,7 +58,8 @@ module _ (Holds : List (List (List ℕ)) → Type 0) (all left next : Option (Li
       go (Some all) (Some left) None split takes = absurd takes
       go (Some all) (Some left) (Some rest) split takes = (h.seen, rest, split ∙ rw takes refl, h.holds, h.counted)
 
--- if `P` implies `Q` for each value, it does so for a value that may be missing
+-- if `P` implies `Q` for each value, and `P` holds of an option's value if it has one, then `Q`
+-- holds of this value
 pub if_some_more : {T : Type 0} {P Q : T → Type 0} (o : Option T) → ((x : T) → P x → Q x) → IfSome o P → IfSome o Q
 if_some_more None more h = tt
 if_some_more (Some x) more h = more x h
@@ -62,7 +67,7 @@ if_some_more (Some x) more h = more x h
 longer : (rows before after : Records) (fields : List (List ℕ)) (count : ℕ) → rows ≡ before ++ (fields ∷ after) → length before ≡ count → count < length rows
 longer rows before after fields count split counted = omega (arith, ap length split, length-append before (fields ∷ after))
 
--- there are more records than were read before this one
+-- if one more record is read after `count` records, there are more than `count` records
 pub sees_more : (Holds : List (List (List ℕ)) → Type 0) (all left next : Option (List (List (List ℕ)))) (count : ℕ) (fields : List (List ℕ))
     → HasSeen Holds all left count → Takes left next true fields → IfSome all (λ rows. count < length rows)
 sees_more Holds all left next count fields h takes =

@@ -12,14 +12,15 @@ use Rattle.cspf_rows.specs.FieldTexts.{AreTextsRead}
 use Rattle.cspf_rows.proofs.HopTexts.{no_object}
 use Rattle.cspf_rows.proofs.RowLaws.{row_of-said}
 
--- in a list of written numbers, the field at a place is the text of the number at that place
+-- in a list of the texts of numbers, the field at an index is the text of the number at this index
 decimal_at : (xs : List ℕ) (place : ℕ) → place < length xs → unwrap_or (field_at (map decimal xs) place) [] ≡ decimal (slice_index xs place)
 unfolding field_at
 decimal_at [] place within = absurd (omega (arith, within))
 decimal_at (x ∷ xs) zero within = refl
 decimal_at (x ∷ xs) (suc place) within = decimal_at xs place (omega (arith, within))
 
--- the text that is written for a value spells that value
+-- the text that is written for a value spells this value; the next lemmas state this for each sort
+-- of field
 number_written : {bound : ℕ} (n : ℕ) → n < bound → SpellsNumber bound (decimal n) n
 number_written n small = record { small = small; written = refl }
 

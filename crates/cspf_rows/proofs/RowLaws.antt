@@ -32,10 +32,10 @@ eight_items (a ∷ b ∷ c ∷ d ∷ e ∷ f ∷ g ∷ []) n = absurd (omega (ar
 eight_items (a ∷ b ∷ c ∷ d ∷ e ∷ f ∷ g ∷ h ∷ []) n = refl
 eight_items (a ∷ b ∷ c ∷ d ∷ e ∷ f ∷ g ∷ h ∷ i ∷ rest) n = absurd (omega (arith, n))
 
--- a field that spells a value is read as that value
+-- the lemmas by which a field that spells a value is read as this value
 ruleset fields_said = (number_at-spelled, small_number_at-spelled, priority_at-spelled, address_at-spelled, mask_at-spelled)
 
--- a record that says a `put` row is read as that row
+-- if a record says a `put` row, the record is read as that row
 put_row_of-said : AreTextsRead → (fields : List (List ℕ)) (link : Link) → SaysPut fields link → put_row_of fields ≡ Ok (row.Put link)
 unfolding put_row_of
 put_row_of-said texts fields link s =
@@ -60,7 +60,7 @@ unfolding ask_row_of
 ask_row_of-said texts fields request s =
     simp (fields_said, texts, s.id, s.from, s.to, s.setup, s.bandwidth, s.exclude_any, s.include_any, s.include_all, hops_at-spelled texts fields 10 request.hops s.hops) (ask-fields request)
 
--- a record that says a row is read as that row
+-- if a record says a row, the record is read as that row
 pub row_of-said : AreTextsRead → (fields : List (List ℕ)) (r : Row) → Says fields r → row_of fields ≡ Ok r
 unfolding row_of
 row_of-said texts fields (row.Put link) s = rw (s.kind, s.count) (put_row_of-said texts fields link s)
@@ -69,7 +69,7 @@ row_of-said texts fields (row.Node router transit) s = rw (s.kind, s.count) (nod
 row_of-said texts fields (row.End number count) s = rw (s.kind, s.count) (end_row_of-said texts fields number count s)
 row_of-said texts fields (row.Ask request) s = rw (s.kind, s.count) (ask_row_of-said texts fields request s)
 
--- `put_between` gives the row of a link that has these attributes
+-- if `put_between` gives a row, this row puts a link that has these attributes
 said-put : (link : LinkFields) (eight : length link.free ≡ 8) (ends : Dec (link.from ≡ link.to)) (r : Row) → put_between link eight ends ≡ Ok r
     → (l : Link) × (row.Put l ≡ r) × HasLinkFields l link
 said-put link eight (yes same) r made = absurd (cc)
@@ -79,7 +79,7 @@ said-put link eight (no apart) r made = (
   record { from = refl; local = refl; to = refl; remote = refl; metric = refl; group = refl; free = refl },
 )
 
--- `ask_between` gives the row of a request that has these fields
+-- if `ask_between` gives a row, this row asks for a request that has these fields
 said-ask : (request : RequestFields) (low : Dec (request.setup < 8)) (ends : Dec (request.from ≡ request.to)) (r : Row) → ask_between request low ends ≡ Ok r
     → (q : Request) × (row.Ask q ≡ r) × HasRequestFields q request
 said-ask request (no above) ends r made = absurd (cc)
@@ -90,7 +90,8 @@ said-ask request (yes below) (no apart) r made = (
   record { id = refl; from = refl; to = refl; setup = refl; bandwidth = refl; exclude_any = refl; include_any = refl; include_all = refl; hops = refl },
 )
 
--- if the fields of a record are read as the attributes of a link, the record says that link
+-- if the fields of a record are read as the attributes of a link, the record says the row that puts
+-- that link
 said-link : AreTextsRead → (fields : List (List ℕ)) (l : Link) (link : LinkFields) → HasLinkFields l link → length fields ≡ 15 → field fields 1 ≡ codes "put"
     → address_at fields 2 ≡ Ok link.from
     → address_at fields 3 ≡ Ok link.local
@@ -126,7 +127,8 @@ said-link texts fields l link has count kind from local to remote metric group u
   free_7 = spelled-number_at texts fields 15 (slice_index l.free 7) (u7 ∙ ap (λ free. Ok (slice_index free 7)) (sym has.free));
 }
 
--- what follows from the values of both steps holds if both steps gave a value
+-- if two reading steps, one after the other, gave a value, each claim that follows from the values
+-- of both steps holds
 stepped : {A B : Type 0} {G : Type 0} (r : Result A RowError) (f : A → Result B RowError) (y : B) → (r >>= f) ≡ Ok y → ((x : A) → r ≡ Ok x → f x ≡ Ok y → G) → G
 stepped r f y found next = let step = first_step r f y found in next step.0 step.1 step.2
 
@@ -151,8 +153,8 @@ said-put_row_of texts fields r count kind read =
     let made = said-put _ _ _ r after_u7 in
     subst (Says fields) made.1 (said-link texts fields made.0 _ made.2 count kind is_from is_local is_to is_remote is_metric is_group is_u0 is_u1 is_u2 is_u3 is_u4 is_u5 is_u6 is_u7)))))))))))))))
 
--- a record is read as a row of two fields: it says that row, if it says the row of each two values
--- that the fields are read as
+-- Let a record say the row `make x y` if its two fields are read as `x` and `y`. Then the record
+-- says each row that `row_of_two` reads from it.
 said_of_two : {A B : Type 0} (fields : List (List ℕ)) (first : Result A RowError) (second : Result B RowError) (make : A → B → Row) (r : Row)
     → ((x : A) (y : B) → first ≡ Ok x → second ≡ Ok y → Says fields (make x y)) → row_of_two first second make ≡ Ok r → Says fields r
 said_of_two fields (Ok x) (Ok y) make r says read =
@@ -205,20 +207,20 @@ said-ask_row_of texts fields r count kind read =
     } in
     subst (Says fields) made.1 said
 
--- if a test led to a row and not to the error, the test was true
+-- if a choice between a row and an error gave a row, the test of the choice was true
 passed_row : (b : Bool) (x : Result Row RowError) (e : RowError) (r : Row) → cond b x (Err e) ≡ Ok r → (b ≡ true) × (x ≡ Ok r)
 passed_row true x e r read = (refl, read)
 passed_row false x e r read = absurd (cc)
 
--- if a row is read, the record has the number of fields of its kind
+-- if a record is read as a row of its kind, it has the number of fields of this kind
 counted : (fields : List (List ℕ)) (count : ℕ) (x : Result Row RowError) (e : RowError) (r : Row) → cond (eqb (length fields) count) x (Err e) ≡ Ok r
     → (length fields ≡ count) × (x ≡ Ok r)
 counted fields count x e r read =
     let h = passed_row (eqb (length fields) count) x e r read in
     (eqb-true (length fields) count h.0, h.1)
 
--- a claim about a test of the first field holds if it holds for the tested word and for any other
--- text
+-- Let a record be read as `x` if its first field is the word `name`, and as `y` otherwise. A claim
+-- about the row that is read holds if it holds in both cases.
 by_word : {G : Type 0} (text name : List ℕ) (x y : Result Row RowError) (r : Row) (b : Bool) → b ≡ bytes_eq text name → cond b x y ≡ Ok r
     → (text ≡ name → x ≡ Ok r → G) → (y ≡ Ok r → G) → G
 by_word text name x y r true is read here there = here ((bytes_eq-Decides text name).0 (sym is)) read
@@ -238,7 +240,7 @@ said-row_of texts fields r read =
 pub rows_read : AreTextsRead → AreRowsRead
 rows_read texts fields r = (said-row_of texts fields r, row_of-said texts fields r)
 
--- a record that says two rows is read as each of them, so the two are the same
+-- if a record says two rows, the two rows are the same, because the record is read as each of them
 pub one_row : AreTextsRead → SaysOneRow
 one_row texts fields r other first second =
     let read = row_of-said texts fields r first in

@@ -1,4 +1,4 @@
--- How reading one record changes the rows that a reader has left.
+-- How reading one record changes the list of the rows that a reader hasn't read yet.
 use Rattle.std.proofs.Common.{◌≡◌, ℕ, suc, zero, ◌<◌, ◌⊎◌, inl, inr, Bool, true, false, if◌then◌else◌, List, [], ◌∷◌, length, Option, Some, None, IfSome, refl, ap, add-one, arith}
 use Rattle.std.specs.Option.{option_map}
 use Rattle.csv.specs.Machine.{Read, next_record, step, is_end, fields_after, field_after, ends_at_end}
@@ -9,7 +9,8 @@ use Rattle.csv.specs.declared.parser.State.TheVariants as st
 use Rattle.csv.specs.declared.reader.Reader.{Reader}
 use Rattle.cspf_rows.specs.Records.{rest_of, rows_left, rows_of, Takes}
 
--- after a read fewer bytes are left, or no bytes at the start of a record
+-- after a read either fewer bytes are left, or no bytes are left and the reader is at the start of
+-- a record
 abbrev IsShorter : List ℕ → Read → Type 0
 IsShorter xs p = (length p.2 < length xs) ⊎ ((p.1 ≡ st.StartRecord) × (p.2 ≡ []))
 
@@ -29,13 +30,14 @@ shorter cfg s fields field (c ∷ xs) =
     chosen (is_end (step cfg s c).1) _ _ (IsShorter (c ∷ xs)) (inl (omega arith))
     (longer c xs _ (shorter cfg (step cfg s c).0 (fields_after (step cfg s c).1 fields field) (field_after (step cfg s c).1 c field) xs))
 
--- no bytes at the start of a record have no records
+-- if the reader is at the start of a record, and no bytes are left, no records are left
 none_left : (n : ℕ) → records_from default_config n st.StartRecord [] ≡ []
 unfolding records_from next_record
 none_left zero = refl
 none_left (suc n) = refl
 
--- the records after a read are the same for each limit on their number that is high enough
+-- Let the rest of a text, after one record is read, be cut into at most `n` or at most `m` records.
+-- If both limits give the same records for each shorter text, they give the same records here.
 same_after : (n m : ℕ) (xs : List ℕ) (o : Option Read) → IfSome o (IsShorter xs)
     → ((s : State) (ys : List ℕ) → length ys < length xs → records_from default_config n s ys ≡ records_from default_config m s ys)
     → records_next (records_from default_config n) o ≡ records_next (records_from default_config m) o
@@ -50,7 +52,8 @@ enough (suc n) zero s xs a b = absurd (omega arith)
 enough (suc n) (suc m) s xs a b =
     same_after n m xs _ (shorter default_config s [] [] xs) (λ t ys h. enough n m t ys (omega arith) (omega arith))
 
--- after a read, the rows that are left are those of the state and the bytes after it
+-- after one record is read, the rows that are left are `rest_of` the reader's new state and the
+-- bytes that are left
 left_after : (xs : List ℕ) (o : Option Read) → IfSome o (IsShorter xs) → records_next (records_from default_config (length xs)) o ≡ records_next rest_of o
 unfolding rest_of
 left_after xs None h = refl
@@ -75,7 +78,7 @@ takes s s2 None after found fields h = tt
 takes s s2 (Some xs) None found fields h = absurd h
 takes s s2 (Some xs) (Some ys) found fields h = takes_known _ _ found fields s2 ys (rest_next s xs) h
 
--- reading a record takes the first row that is left, or finds no row
+-- reading a record either takes the first of the rows that are left, or finds that no row is left
 pub takes_read : {R : Type 0} (rem : R → Option (List ℕ)) (old new : Reader R) (found : Bool) (fields : List (List ℕ))
     → old.config ≡ default_config → ReadRecord rem old new found fields → Takes (rows_left rem old) (rows_left rem new) found fields
 takes_read rem old new found fields config h =
@@ -86,7 +89,7 @@ unfolding rest_of rows_of
 rows_of_known None = refl
 rows_of_known (Some text) = refl
 
--- a reader that was just opened has all rows of its bytes left
+-- a reader that was just opened still has to read all rows of its bytes
 pub rows_opened : {R : Type 0} (rem : R → Option (List ℕ)) (r : Reader R) (bytes : Option (List ℕ))
     → reader_state r ≡ st.StartRecord → source_of rem r ≡ option_map strip_bom bytes → rows_left rem r ≡ option_map rows_of bytes
 rows_opened rem r bytes state source = rw (state, source) (rows_of_known bytes)

@@ -1,4 +1,4 @@
--- Prefixes of a list of rows that are whole batches.
+-- Which prefixes of a list of rows consist of whole batches.
 use Rattle.std.proofs.Common.{◌≡◌, ◌≢◌, ℕ, ◌+◌, ◌≤◌, List, [], ◌∷◌, ◌++◌, map, length, Result, Ok, refl, sym, ap, ◌∙◌, append_assoc, arith}
 use Rattle.std.proofs.lemmas.List.{map-append, length-append, length-map}
 use Rattle.cspf_model.specs.declared.batch.Change.{Change}
@@ -13,11 +13,13 @@ use Rattle.cspf_rows.specs.JournalReading.{EndsBatches, AreBehind}
 abbrev ReadRow : Type 0
 ReadRow = Result Row RowError
 
--- each of these rows was read without an error
+-- the results of reading these rows, each without an error
 abbrev pub read_rows : List Row → List (Result Row RowError)
 read_rows rows = map {B = Result Row RowError} Ok rows
 
--- if rows begin with two whole batches, the two batches are the same
+-- If a list of rows begins with the rows of one batch, and also with those of another, the two
+-- batches have the same changes and the same number. The rows after the two batches are then the
+-- same, too.
 pub same_batch : (cs ds : List Change) (m k n l : ℕ) (xs ys : List (Result Row RowError))
     → read_rows (map change_row cs ++ (row.End m k ∷ [])) ++ xs ≡ read_rows (map change_row ds ++ (row.End n l ∷ [])) ++ ys
     → (cs ≡ ds) × (m ≡ n) × (xs ≡ ys)
@@ -49,14 +51,14 @@ same_batch (change.Node r t ∷ cs) (change.Node s u ∷ ds) m k n l xs ys e =
     let transit : t ≡ u = cc in
     (rw (router, transit, more.0) refl, more.1, more.2)
 
--- the rows of a list of batches are the rows of the first batch, and then those of the other
+-- the rows of a list of batches are the rows of the first batch, followed by the rows of the other
 -- batches
 split_first : (b : NumberedChanges) (bs : List NumberedChanges) (xs : List ReadRow)
     → read_rows (journal_rows (b ∷ bs)) ++ xs ≡ read_rows (batch_rows b) ++ (read_rows (journal_rows bs) ++ xs)
 split_first b bs xs = rw (map-append {B = ReadRow} Ok (batch_rows b) (journal_rows bs), append_assoc (read_rows (batch_rows b)) (read_rows (journal_rows bs)) xs) refl
 
--- if two lists of batches have the same rows, their first batches are the same, and so are the rows
--- after these
+-- if two lists of batches have the same rows, their first batches are the same, and the rows after
+-- the first batches are the same
 first_two : (b o : NumberedChanges) (bs os : List NumberedChanges) (xs ys : List ReadRow)
     → read_rows (journal_rows (b ∷ bs)) ++ xs ≡ read_rows (journal_rows (o ∷ os)) ++ ys
     → (b.changes ≡ o.changes) × (b.number ≡ o.number) × (read_rows (journal_rows bs) ++ xs ≡ read_rows (journal_rows os) ++ ys)
@@ -67,7 +69,9 @@ first_two b o bs os xs ys e =
 abbrev pub HasNoBatch : ℕ → List (Result Row RowError) → Type 0
 HasNoBatch number xs = (batch : NumberedChanges) (rest : List (Result Row RowError)) → batch.number ≡ number → xs ≢ read_rows (batch_rows batch) ++ rest
 
--- if no whole batch follows the batches `bs`, no other list of batches leaves fewer rows
+-- Let rows be those of the batches `bs` followed by `xs`, and also those of the batches `os`
+-- followed by `ys`. If `xs` doesn't begin with a whole batch of the next number, `ys` has at least
+-- as many rows as `xs`.
 pub longest_prefix : (first : ℕ) (bs os : List NumberedChanges) (xs ys : List (Result Row RowError)) → AreNumberedFrom first bs → AreNumberedFrom first os
     → read_rows (journal_rows bs) ++ xs ≡ read_rows (journal_rows os) ++ ys → HasNoBatch (first + length bs) xs → length xs ≤ length ys
 longest_prefix first [] [] xs ys numbers others e none = omega (arith, ap length e)
@@ -83,7 +87,8 @@ equal_batches b o number changes =
     ap (λ n. let x : NumberedChanges = record { number = n; changes = b.changes } in x) number
     ∙ ap (λ cs. let x : NumberedChanges = record { number = o.number; changes = cs } in x) changes
 
--- two lists of batches that leave equally many rows are the same, and they leave the same rows
+-- Let a list of rows begin with the rows of one list of batches, and also with those of another. If
+-- equally many rows follow both, the two lists of batches are the same.
 pub same_prefix : (bs os : List NumberedChanges) (xs ys : List (Result Row RowError))
     → read_rows (journal_rows bs) ++ xs ≡ read_rows (journal_rows os) ++ ys → length xs ≡ length ys → bs ≡ os
 same_prefix [] [] xs ys e count = refl
@@ -93,7 +98,8 @@ same_prefix (b ∷ bs) (o ∷ os) xs ys e count =
     let two = first_two b o bs os xs ys e in
     rw (equal_batches b o two.1 two.0, same_prefix bs os xs ys two.2 count) refl
 
--- open changes, followed by a row that is in no batch, don't begin with a whole batch
+-- Let rows begin with open changes. If no row comes after these changes, or the next row is neither
+-- a change nor their `end` row, the rows don't begin with a whole batch.
 no_batch : (opens cs : List Change) (done n k number count : ℕ) (xs rest : List ReadRow)
     → AreBehind n k xs → done + length opens ≡ k → done + length cs ≡ count → number ≡ n
     → read_rows (map change_row opens) ++ xs ≡ read_rows (map change_row cs ++ (row.End number count ∷ [])) ++ rest → ⊥

@@ -10,7 +10,8 @@ use Rattle.cspf_model.specs.declared.link.Link.{Link}
 use Rattle.cspf_model.specs.Numbered.{NumberedChanges}
 use Rattle.cspf_rows.specs.Written.{put_fields, drop_fields, node_fields, end_fields}
 
--- the fields of a change; the group of a link is written with eight digits
+-- the fields of the record of a change; the group of a link is written as `0x` and eight
+-- hexadecimal digits
 abbrev pub change_fields : Change → List (List ℕ)
 change_fields (change.Put link) = put_fields link (mask_text link.group)
 change_fields (change.Remove from local) = drop_fields from local
@@ -20,7 +21,7 @@ change_fields (change.Node router transit) = node_fields router transit
 unfoldable pub record_line : List (List ℕ) → List ℕ
 record_line fields = join_with_byte 44 fields ++ (10 ∷ [])
 
--- the records of a batch: one for each change, in order, and then the end row
+-- the records of a batch: one for each change, in order, and then that of the `end` row
 abbrev pub batch_records : NumberedChanges → List (List (List ℕ))
 batch_records batch = map change_fields batch.changes ++ (end_fields batch.number (length batch.changes) ∷ [])
 
@@ -28,7 +29,7 @@ batch_records batch = map change_fields batch.changes ++ (end_fields batch.numbe
 abbrev pub batch_text : NumberedChanges → List ℕ
 batch_text batch = flat_map record_line (batch_records batch)
 
--- private: the fields, each after a comma
+-- private: a comma and the field, for each of the fields
 abbrev pub fields_after : List (List ℕ) → List ℕ
 fields_after fields = flat_map (λ field. 44 ∷ field) fields
 

@@ -59,16 +59,17 @@ address_at fields place = ok_or (address_of (field fields place)) (error.Address
 unfoldable pub mask_at : List (List ℕ) → ℕ → Result ℕ RowError
 mask_at fields place = ok_or (mask_of (field fields place)) (error.Mask place)
 
--- the hops of an object whose digits were decoded, or the fault of its digits
+-- the hops of an EXPLICIT_ROUTE object whose digits were decoded, or the fault of its digits or its
+-- bytes
 abbrev pub object_hops_of : Result (List ℕ) FromHexError → Result (List Hop) HopsFault
 object_hops_of (Ok bytes) = result_map_both (λ hops. hops) fault.Ero (ero_of bytes)
 object_hops_of (Err e) = Err fault.Hex
 
--- the hops of an object that is written in hexadecimal digits
+-- the hops of an EXPLICIT_ROUTE object that is written in hexadecimal digits
 unfoldable pub hex_hops_of : List ℕ → Result (List Hop) HopsFault
 hex_hops_of digits = object_hops_of (decode_of digits)
 
--- the hops that a text spells: as an object after `ero:`, or else as a hop list
+-- the hops that a text spells: as an EXPLICIT_ROUTE object after `ero:`, or else as a hop list
 unfoldable pub either_hops_of : List ℕ → Result (List Hop) HopsFault
 either_hops_of text =
     if starts_with nat_eq text (codes "ero:")

@@ -7,7 +7,7 @@ use Rattle.cspf_rows.specs.declared.limits.TheConstants.{MOST_ROWS}
 use Rattle.cspf_rows.specs.JournalReading.{HasRead}
 use Rattle.cspf_rows.specs.Records.{IsPlain}
 
--- how many rows a reader has read
+-- how many rows of a journal a reader has read
 abbrev pub rows_read : {R : Type 0} → JournalReader R → ℕ
 rows_read reader = reader.rows
 
@@ -18,12 +18,12 @@ pub record CanRead {R : Type 0} (reader : JournalReader R) : Type 0 where
   pub rows : rows_read reader ≤ MOST_ROWS
   pub count : reader.count ≤ rows_read reader
 
--- a read from the stream below the reader failed
+-- a read of the journal's bytes failed
 abbrev pub HasFailed : {R : Type 0} → JournalReader R → Type 0
 HasFailed reader = has_failed reader.records ≡ true
 
--- The reader has returned these batches, and it is right after their rows. The batches have the
--- numbers 1, 2, 3 and so on. `all` has the records of the journal, if they are known.
+-- The reader has returned these batches, which have the numbers 1, 2, 3 and so on, and has read no
+-- row after them. `all` has the records of the journal, if they are known.
 pub record HasGiven {R : Type 0} (rem : R → Option (List ℕ)) (all : Option (List (List (List ℕ))))
     (reader : JournalReader R) (batches : List NumberedChanges) : Type 0 where
   pub numbers : AreNumberedFrom 1 batches

@@ -10,14 +10,14 @@ use Rattle.cspf_rows.specs.declared.journal.Rest.{Rest}
 use Rattle.cspf_rows.specs.declared.journal.Rest.TheVariants as rest
 use Rattle.cspf_rows.specs.Rows.{row_of}
 
--- the row of a change
+-- the row of a journal that says this change
 abbrev pub change_row : Change → Row
 change_row (change.Put link) = row.Put link
 change_row (change.Remove from local) = row.Remove from local
 change_row (change.Node router transit) = row.Node router transit
 
--- the rows of a whole batch: a row for each change, in order, and an end row with the count of the
--- changes
+-- the rows of a whole batch: a row for each change, in order, and an `end` row that says how many
+-- changes the batch has
 abbrev pub batch_rows : NumberedChanges → List Row
 batch_rows batch = map change_row batch.changes ++ (row.End batch.number (length batch.changes) ∷ [])
 
@@ -25,8 +25,8 @@ batch_rows batch = map change_row batch.changes ++ (row.End batch.number (length
 abbrev pub journal_rows : List NumberedChanges → List Row
 journal_rows batches = flat_map batch_rows batches
 
--- A prefix of the records is whole batches with the numbers 1, 2, 3 and so on, and `left` are the
--- records after them. A record that is no row is in no batch, and a request isn't in a batch
+-- The records begin with those of whole batches with the numbers 1, 2, 3 and so on, and `left` are
+-- the records after these. A record that is no row is in no batch, and a request isn't in a batch
 -- either.
 pub record BeginsWithBatches (records : List (List (List ℕ))) (batches : List NumberedChanges) (left : List (List (List ℕ))) : Type 0 where
   pub numbers : AreNumberedFrom 1 batches
@@ -39,9 +39,8 @@ abbrev pub IsRest : List (List (List ℕ)) → Rest → Type 0
 IsRest left rest.Clean = left ≡ []
 IsRest left rest.Torn = left ≢ []
 
--- The batches of a journal are the longest prefix of its records that is whole batches with the
--- numbers 1, 2, 3 and so on. No other such prefix leaves fewer records. A batch need not fit a
--- database.
+-- The batches of a journal are those of the longest prefix of its records that consists of whole
+-- batches with the numbers 1, 2, 3 and so on. A batch need not fit a database.
 pub record IsJournal (records : List (List (List ℕ))) (batches : List NumberedChanges) (rest : Rest) : Type 0 where
   pub left : List (List (List ℕ))
   pub begins : BeginsWithBatches records batches left

@@ -40,7 +40,8 @@ AreTextsCut = (batches : List NumberedChanges) → AreWritable batches → rows_
 abbrev pub AreJournalsReadBack : Type 0
 AreJournalsReadBack = (batches : List NumberedChanges) → AreWritable batches → IsJournal (rows_of (journal_text batches)) batches rest.Clean
 
--- no records are two different lists of batches, or have two different rests
+-- If the same records are a journal of one list of batches and also of another, the two lists are
+-- the same. Records are left after the batches of both, or of neither.
 abbrev pub IsOneJournal : Type 0
 IsOneJournal =
     (records : List (List (List ℕ))) (batches others : List NumberedChanges) (rest other : Rest)

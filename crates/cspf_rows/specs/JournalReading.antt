@@ -26,13 +26,14 @@ EndsBatches number count (Ok (row.End n k)) = ¬ ((n ≡ number) × (k ≡ count
 EndsBatches number count (Ok (row.Ask request)) = Unit {0}
 EndsBatches number count (Err error) = Unit {0}
 
--- there are no rows, or the first of them is in no batch
+-- either there are no rows, or the first row is neither a change nor the `end` row of the batch
+-- with this number and this many changes
 abbrev pub AreBehind : ℕ → ℕ → List (Result Row RowError) → Type 0
 AreBehind number count [] = Unit {0}
 AreBehind number count (row ∷ rows) = EndsBatches number count row
 
--- how a row changes the batch that is read: `old` has the open changes before the row, and `new`
--- those after it
+-- how a row changes the batch that is being read: `old` has the batch's changes before the row, and
+-- `new` has its changes after the row
 abbrev pub IsTaken : Result Row RowError → ℕ → NumberedChanges → NumberedChanges → Taken → Type 0
 IsTaken read next old new taken.Change =
     (change : Change) × (read ≡ Ok (change_row change)) × (new.changes ≡ old.changes ++ change ∷ [])
@@ -41,8 +42,8 @@ IsTaken read next old new taken.Batch =
 IsTaken read next old new taken.Behind =
     EndsBatches next (length old.changes) read × (new.changes ≡ old.changes)
 
--- The records are those of whole batches, and then those of open changes. If a row in no batch
--- follows, any records may come after it.
+-- The records are those of whole batches, followed by those of open changes, whose `end` row hasn't
+-- come. If a row that is in no batch follows, any records may come after this row.
 pub record AreJournalParts (batches : List NumberedChanges) (changes : List Change) (has_ended : Bool)
     (seen : List (List (List ℕ))) : Type 0 where
   pub numbers : AreNumberedFrom 1 batches
@@ -55,15 +56,16 @@ pub record AreJournalParts (batches : List NumberedChanges) (changes : List Chan
   pub ends : AreBehind (1 + length batches) (length changes) (map row_of behind)
   pub ended : MatchBool has_ended (behind ≢ []) (behind ≡ [])
 
--- A reader has read the records of these batches, and of these open changes. If a row in no batch
--- followed, it has also read records after that row.
+-- A reader has read the records of these batches and of these open changes, whose `end` row hasn't
+-- come. If `has_ended` is set, the reader has also read a row that is in no batch, and perhaps rows
+-- after this row.
 pub record HasRead {R : Type 0} (rem : R → Option (List ℕ)) (all : Option (List (List (List ℕ))))
     (reader : JournalReader R) (batches : List NumberedChanges) (changes : List Change)
     (has_ended : Bool) : Type 0 where
   pub count : reader.count ≡ length batches
   pub seen : HasSeen (AreJournalParts batches changes has_ended) all (rows_left rem reader.records) reader.rows
 
--- what a reader finds after the batches: one more batch, or the end
+-- what a reader finds after it has read `batches`: one more whole batch, or the end of the stream
 abbrev pub ComesTo : {R : Type 0} → (R → Option (List ℕ)) → Option (List (List (List ℕ))) → JournalReader R
     → List NumberedChanges → NumberedChanges → JournalStep → Type 0
 ComesTo rem all reader batches batch step.Batch = HasRead rem all reader (batches ++ batch ∷ []) [] false

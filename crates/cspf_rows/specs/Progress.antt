@@ -7,7 +7,7 @@ AreSplit None left seen = Unit {0}
 AreSplit (Some all) None seen = ⊥
 AreSplit (Some all) (Some left) seen = all ≡ seen ++ left
 
--- the first `count` records were read, and `Holds` is true of them
+-- the first `count` records of a stream were read, and `Holds` is true of the list of these records
 pub record HasSeen (Holds : List (List (List ℕ)) → Type 0) (all left : Option (List (List (List ℕ)))) (count : ℕ) : Type 0 where
   pub seen : List (List (List ℕ))
   pub counted : length seen ≡ count

@@ -2,7 +2,8 @@
 use Rattle.cspf_rows.specs.declared.record_error.RecordError.{RecordError}
 use Rattle.cspf_rows.specs.declared.record_error.RecordError.TheVariants as record_error
 
--- the fault of a stream: `memory` for refused memory, and `device` for a failed read
+-- the fault of a stream of which a record can't be read: `memory` if memory was refused, and
+-- `device` if a read failed
 abbrev pub stream_fault_of : {E : Type 0} → E → E → RecordError → E
 stream_fault_of memory device record_error.Memory = memory
 stream_fault_of memory device record_error.Device = device

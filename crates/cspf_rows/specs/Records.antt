@@ -1,4 +1,4 @@
--- How a stream of bytes is cut into records, and which records a reader has left.
+-- How a stream of bytes is cut into records, and which records a reader hasn't read yet.
 use Rattle.std.specs.Prelude.{◌≡◌, ◌+◌, ℕ, Bool, true, false, List, [], ◌∷◌, length, Option, Some, None}
 use Rattle.std.specs.Option.{option_map}
 use Rattle.csv.specs.Reading.{default_config, records, strip_bom, records_from, source_of, reader_state, reader_trim, reader_config, is_flexible, has_failed, Ready}
@@ -16,16 +16,16 @@ Records = List (List (List ℕ))
 unfoldable pub rows_of : List ℕ → List (List (List ℕ))
 rows_of bytes = records default_config (strip_bom bytes)
 
--- the rows of the bytes that are left, if the reader is in state `s`
+-- the rows of the bytes that aren't read yet, if the reader is in state `s`
 unfoldable pub rest_of : State → List ℕ → List (List (List ℕ))
 rest_of s bytes = records_from default_config (length bytes + 1) s bytes
 
--- the rows that a reader has left, if the bytes of the reader underneath are known
+-- the rows that a reader hasn't read yet, if the bytes that it hasn't read yet are known
 abbrev pub rows_left : {R : Type 0} → (R → Option (List ℕ)) → Reader R → Option (List (List (List ℕ)))
 rows_left rem r = option_map (λ bytes. rest_of (reader_state r) bytes) (source_of rem r)
 
--- The reader has the default settings and hasn't failed. It reads records with no header and with
--- any number of fields.
+-- The reader has the default settings and hasn't failed. It takes no record as a header, and a
+-- record may have any number of fields.
 pub record IsPlain {R : Type 0} (r : Reader R) : Type 0 where
   pub trim : reader_trim r ≡ trim.None
   pub ready : Ready r
@@ -33,7 +33,8 @@ pub record IsPlain {R : Type 0} (r : Reader R) : Type 0 where
   pub flexible : is_flexible r ≡ true
   pub going : has_failed r ≡ false
 
--- a read took the first of the rows, or there was no row
+-- if a row was found, it was the first of the rows, and `after` are the others; if none was found,
+-- there was no row
 abbrev pub Takes : Option (List (List (List ℕ))) → Option (List (List (List ℕ))) → Bool → List (List ℕ) → Type 0
 Takes None after found fields = Unit {0}
 Takes (Some rows) after false fields = rows ≡ []

@@ -1,4 +1,4 @@
--- Private: how one record refuses a stream of requests.
+-- Private: with which error a stream of requests is refused because of one of its records.
 use Rattle.std.specs.Prelude.{◌≡◌, ℕ, Result, Ok, Err}
 use Rattle.cspf_rows.specs.declared.row.Row.{Row}
 use Rattle.cspf_rows.specs.declared.row_error.RowError.{RowError}
@@ -6,7 +6,8 @@ use Rattle.cspf_rows.specs.declared.requests_error.RequestsError.{RequestsError}
 use Rattle.cspf_rows.specs.declared.requests_error.RequestsError.TheVariants as fault
 use Rattle.cspf_rows.specs.Requests.{IsNoRequest}
 
--- the row at this place, read as `read`, refuses the stream with this fault
+-- because of the row with this number, which is read as `read`, the stream is refused with this
+-- fault
 abbrev pub IsRefusedAt : ℕ → Result Row RowError → RequestsError → Type 0
 IsRefusedAt place read fault.Memory = ⊥
 IsRefusedAt place read fault.Device = ⊥

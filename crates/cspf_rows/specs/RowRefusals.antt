@@ -1,4 +1,5 @@
--- Why a record is refused: the first reason that applies, in the order of the formats.
+-- Why a record is refused: the first reason that applies. The kind comes first, then the number of
+-- fields, each field in order, and the two ends.
 use Rattle.std.specs.Prelude.{◌≡◌, ◌≢◌, ℕ, Bool, ◌+◌, ◌^◌, ◌↔◌, ◌⊎◌, List, [], ◌∷◌, ◌++◌, length, codes, Ok, Err}
 use Rattle.hex.specs.Hex.{decode_of}
 use Rattle.cspf_addr.specs.MaskText.{SpellsMask}
@@ -39,7 +40,7 @@ word_of node_kind = codes "node"
 word_of end_kind = codes "end"
 word_of ask_kind = codes "ask"
 
--- the sorts of the fields after the first
+-- the sorts of the fields of a row of this kind, from field 2 on: what each field has to spell
 abbrev pub sorts_of : Kind → List Sort
 sorts_of put_kind = address ∷ address ∷ address ∷ address ∷ small_number ∷ mask ∷ number ∷ number ∷ number ∷ number ∷ number ∷ number ∷ number ∷ number ∷ []
 sorts_of drop_kind = address ∷ address ∷ []
@@ -57,14 +58,17 @@ SpellsSort flag text = (b : Bool) × SpellsFlag text b
 SpellsSort mask text = (n : ℕ) × SpellsMask text n
 SpellsSort hops text = (list : List Hop) × SpellsHops text list
 
--- why a text spells no hops: as a hop list, or after `ero:` by its digits or by their bytes
+-- Why a text spells no hops. If it doesn't begin with `ero:`, the reason is that it isn't a hop
+-- list. If it does, the reason is that the text after `ero:` doesn't decode to bytes, or that these
+-- bytes aren't an EXPLICIT_ROUTE object that spells hops.
 abbrev pub IsHopsFault : List ℕ → HopsFault → Type 0
 IsHopsFault text (fault.Text why) = ((rest : List ℕ) → text ≢ codes "ero:" ++ rest) × (hops_of text ≡ Err why)
 IsHopsFault text fault.Hex = (digits : List ℕ) × (text ≡ codes "ero:" ++ digits) × ((bytes : List ℕ) → decode_of digits ≢ Ok bytes)
 IsHopsFault text (fault.Ero why) =
     (digits : List ℕ) × (bytes : List ℕ) × (text ≡ codes "ero:" ++ digits) × (decode_of digits ≡ Ok bytes) × (ero_of bytes ≡ Err why)
 
--- the refusal of the field with this number, whose text spells no value of its sort
+-- the field with this number is refused with the error `e`, because its text spells no value of the
+-- field's sort
 abbrev pub IsFieldRefused : Sort → ℕ → List ℕ → RowError → Type 0
 IsFieldRefused address place text e = (e ≡ error.Address place) × ¬ SpellsSort address text
 IsFieldRefused number place text e = (e ≡ error.Number place) × ¬ SpellsSort number text
@@ -80,7 +84,8 @@ IsFieldRefused hops place text e = (why : HopsFault) × (e ≡ error.Hops why) �
 abbrev pub SpellOneAddress : List ℕ → List ℕ → Type 0
 SpellOneAddress text other = (n : ℕ) × SpellsAddress text n × SpellsAddress other n
 
--- the refusal of a record whose fields all spell values: its two ends are the same router
+-- a record whose fields all spell values is refused with the error `e`, because its two ends are
+-- the same router
 abbrev pub AreEndsRefused : Kind → List (List ℕ) → RowError → Type 0
 AreEndsRefused put_kind fields e = (e ≡ error.SelfLink) × SpellOneAddress (field fields 2) (field fields 4)
 AreEndsRefused drop_kind fields e = ⊥
@@ -88,15 +93,16 @@ AreEndsRefused node_kind fields e = ⊥
 AreEndsRefused end_kind fields e = ⊥
 AreEndsRefused ask_kind fields e = (e ≡ error.SameEnds) × SpellOneAddress (field fields 3) (field fields 4)
 
--- The first field from `place` on that spells no value of its sort is refused. If each field spells
--- a value, the ends are refused.
+-- The record is refused for the first field from number `place` on that spells no value of its
+-- sort. If each field spells a value, the record is refused because its ends are the same router.
 abbrev pub AreFieldsRefused : Kind → ℕ → List Sort → List (List ℕ) → RowError → Type 0
 AreFieldsRefused kind place [] fields e = AreEndsRefused kind fields e
 AreFieldsRefused kind place (sort ∷ sorts) fields e =
     IsFieldRefused sort place (field fields place) e
     ⊎ (SpellsSort sort (field fields place) × AreFieldsRefused kind (place + 1) sorts fields e)
 
--- the refusal of a record of this kind: for the number of its fields, or for one of its fields
+-- a record of this kind is refused with the error `e`: for its number of fields, for one of its
+-- fields, or because its two ends are the same router
 abbrev pub IsRefusedAs : Kind → List (List ℕ) → RowError → Type 0
 IsRefusedAs kind fields e =
     ((e ≡ error.Fields) × (length fields ≢ 1 + length (sorts_of kind)))
@@ -108,7 +114,7 @@ IsRefused fields e =
     ((e ≡ error.Kind) × ((kind : Kind) → field fields 1 ≢ word_of kind))
     ⊎ ((kind : Kind) × (field fields 1 ≡ word_of kind) × IsRefusedAs kind fields e)
 
--- the reader refuses a record exactly for the reason that is defined here
+-- the reader refuses a record with an error exactly if `IsRefused` says so
 abbrev pub AreRowsRefused : Type 0
 AreRowsRefused = (fields : List (List ℕ)) (e : RowError) → (row_of fields ≡ Err e) ↔ IsRefused fields e
 

@@ -33,8 +33,8 @@ pub record SpellsHopList (text : List ℕ) (hops : List Hop) : Type 0 where
   pub other : (rest : List ℕ) → text ≢ codes "ero:" ++ rest
   pub read : hops_of text ≡ Ok hops
 
--- the text is `ero:` and then the hexadecimal digits, of either case, of an object that spells the
--- hops
+-- the text is `ero:` and then the hexadecimal digits, of either case, of an EXPLICIT_ROUTE object
+-- that spells the hops
 pub record SpellsObject (text : List ℕ) (hops : List Hop) : Type 0 where
   pub digits : List ℕ
   pub bytes : List ℕ
@@ -42,12 +42,13 @@ pub record SpellsObject (text : List ℕ) (hops : List Hop) : Type 0 where
   pub decoded : decode_of digits ≡ Ok bytes
   pub spelled : Spells bytes hops
 
--- the text spells the hops as a hop list or as an object
+-- the text spells the hops as a hop list or as an EXPLICIT_ROUTE object
 abbrev pub SpellsHops : List ℕ → List Hop → Type 0
 SpellsHops text hops = SpellsHopList text hops ⊎ SpellsObject text hops
 
--- The fields of a `put` row: the word, the router, the local address, the neighbor, the remote
--- address, the metric and the group. The unreserved bandwidths at the priorities 0 to 7 follow.
+-- The fields of a `put` row: the word `put`, the router, the local address, the neighbor, the
+-- remote address, the metric and the group. The unreserved bandwidths at the priorities 0 to 7
+-- follow.
 pub record SaysPut (fields : List (List ℕ)) (link : Link) : Type 0 where
   pub count : length fields ≡ 15
   pub kind : field fields 1 ≡ codes "put"
@@ -66,29 +67,31 @@ pub record SaysPut (fields : List (List ℕ)) (link : Link) : Type 0 where
   pub free_6 : SpellsNumber (2 ^ 64) (field fields 14) (slice_index link.free 6)
   pub free_7 : SpellsNumber (2 ^ 64) (field fields 15) (slice_index link.free 7)
 
--- the fields of a `drop` row: the word, and the router and the local address of the link to remove
+-- the fields of a `drop` row: the word `drop`, and the router and the local address of the link to
+-- remove
 pub record SaysRemove (fields : List (List ℕ)) (router address : ℕ) : Type 0 where
   pub count : length fields ≡ 3
   pub kind : field fields 1 ≡ codes "drop"
   pub from : SpellsAddress (field fields 2) router
   pub local : SpellsAddress (field fields 3) address
 
--- the fields of a `node` row: the word, the router, and whether it has transit
+-- the fields of a `node` row: the word `node`, the router, and whether it has transit
 pub record SaysNode (fields : List (List ℕ)) (address : ℕ) (flag : Bool) : Type 0 where
   pub count : length fields ≡ 3
   pub kind : field fields 1 ≡ codes "node"
   pub router : SpellsAddress (field fields 2) address
   pub transit : SpellsFlag (field fields 3) flag
 
--- the fields of an `end` row: the word, the number of the batch, and the count of its changes
+-- the fields of an `end` row: the word `end`, the number of the batch, and the count of its changes
 pub record SaysEnd (fields : List (List ℕ)) (version changes : ℕ) : Type 0 where
   pub count : length fields ≡ 3
   pub kind : field fields 1 ≡ codes "end"
   pub number : SpellsNumber (2 ^ 32) (field fields 2) version
   pub has : SpellsNumber (2 ^ 32) (field fields 3) changes
 
--- The fields of an `ask` row: the word, the id, the head-end, the tail-end, the setup priority, the
--- bandwidth, the three affinities, and the hops. Hops may be spelled in more than one way.
+-- The fields of an `ask` row: the word `ask`, the id, the head-end, the tail-end, the setup
+-- priority, the bandwidth, the three affinities, and the hops. Hops may be spelled in more than one
+-- way.
 pub record SaysAsk (fields : List (List ℕ)) (request : Request) : Type 0 where
   pub count : length fields ≡ 10
   pub kind : field fields 1 ≡ codes "ask"
@@ -114,6 +117,6 @@ Says fields (row.Ask request) = SaysAsk fields request
 abbrev pub AreRowsRead : Type 0
 AreRowsRead = (fields : List (List ℕ)) (row : Row) → (row_of fields ≡ Ok row) ↔ Says fields row
 
--- a record says only one row
+-- a `csv` record says only one row of the text formats
 abbrev pub SaysOneRow : Type 0
 SaysOneRow = (fields : List (List ℕ)) (row other : Row) → Says fields row → Says fields other → row ≡ other

@@ -9,7 +9,7 @@ use Rattle.cspf_rows.specs.declared.row_error.HopsFault.TheVariants as fault
 use Rattle.cspf_rows.specs.declared.row_error.RowError.{RowError}
 use Rattle.cspf_rows.specs.declared.row_error.RowError.TheVariants as error
 
--- the words for an object whose bytes spell no hops
+-- the words for an EXPLICIT_ROUTE object whose bytes spell no hops
 abbrev pub ero_words : EroError → List ℕ
 ero_words ero.Short = codes "short"
 ero_words ero.Length = codes "length"
@@ -20,15 +20,15 @@ ero_words (ero.Unsupported at kind) = codes "unsupported"
 ero_words (ero.Sublength at) = codes "sublength"
 ero_words (ero.PrefixLength at) = codes "prefix-length"
 
--- the words for hops: the place of the bad hop, or that there are too many hops, or why an object
--- is refused
+-- the words for hops that are refused: the number of the first bad hop, or that there are too many
+-- hops, or why an EXPLICIT_ROUTE object is refused
 abbrev pub hops_words : HopsFault → List ℕ
 hops_words (fault.Text (hops.BadHop at)) = decimal at
 hops_words (fault.Text hops.TooManyHops) = codes "count"
 hops_words fault.Hex = codes "hex"
 hops_words (fault.Ero why) = codes "ero " ++ ero_words why
 
--- the words for each reason
+-- the words for each reason why a record is no row
 abbrev pub words : RowError → List ℕ
 words error.Kind = codes "kind"
 words error.Fields = codes "fields"

@@ -1,4 +1,4 @@
--- The records that are written for rows, and the laws that these are read as the same rows.
+-- The records that are written for rows, and the laws that these records are read as the same rows.
 use Rattle.std.specs.Prelude.{◌≡◌, ℕ, Bool, ◌^◌, ◌<◌, ◌≤◌, List, [], ◌∷◌, map, length, slice_index, codes, Ok}
 use Rattle.std.specs.Fmt.{decimal}
 use Rattle.std.specs.List.{AllByRecursion}
@@ -22,7 +22,8 @@ pub record IsLinkInRange (link : Link) : Type 0 where
   pub metric : link.metric < 2 ^ 32
   pub free : (priority : ℕ) → priority < 8 → slice_index link.free priority < 2 ^ 64
 
--- the numbers of a request are in the ranges of their types, and it has at most `MOST_HOPS` hops
+-- the numbers of a request are in the ranges of their types, and the request has at most
+-- `MOST_HOPS` hops
 pub record IsRequestInRange (request : Request) : Type 0 where
   pub id : request.id < 2 ^ 64
   pub from : request.from < 2 ^ 32
@@ -31,7 +32,7 @@ pub record IsRequestInRange (request : Request) : Type 0 where
   pub few : length request.hops ≤ MOST_HOPS
   pub hops : AllByRecursion (λ hop. IsPrefix hop.prefix) request.hops
 
--- the record of a link; `group` is a text that spells its group
+-- the record that puts a link; `group` is a text that spells the link's group
 abbrev pub put_fields : Link → List ℕ → List (List ℕ)
 put_fields link group =
     codes "put" ∷ address_text link.from ∷ address_text link.local ∷ address_text link.to ∷ address_text link.remote ∷ decimal link.metric ∷ group ∷ map decimal link.free

@@ -1,4 +1,4 @@
-//! Writes the text of a batch: a line for each change, and its end row.
+//! Writes the text of a batch: a line for each change, and the line of its `end` row.
 
 ghost use Rattle.std.specs.Prelude.{◌≡◌, ◌++◌, ◌∷◌, [], ℕ, List, ◌^◌, ◌<◌, map, codes, IfOk, OnOk};
 ghost use Rattle.std.specs.Fmt.{decimal};
@@ -14,7 +14,7 @@ use cspf_model::{Batch, Change, Link};
 use itoa::Buffer;
 use std::alloc::{AllocError, Global};
 
-/// The text of a batch: one line for each change, in order, and then its end row. The group of a
+/// The text of a batch: one line for each change, in order, and then its `end` row. The group of a
 /// link is written as `0x` and eight lower-case hexadecimal digits, and each line ends with a line
 /// feed.
 pub fn batch_text(alloc: Global, batch: &Batch) -> Result<Vec<u8>, AllocError>
@@ -93,7 +93,7 @@ fn write_address(text: &mut Vec<u8>, address: Addr) -> Result<(), AllocError>
     write_octet(text, d)
 }
 
-/// Writes a point and the octet of an address.
+/// Writes a dot and then one octet of an address in decimal digits.
 fn write_octet(text: &mut Vec<u8>, octet: u8) -> Result<(), AllocError>
     ensures { OnOk result (text.new.items ≡ text.old.items ++ (46 ∷ decimal octet)) }
 {
@@ -101,13 +101,14 @@ fn write_octet(text: &mut Vec<u8>, octet: u8) -> Result<(), AllocError>
     write_digits(text, u64::from(octet))
 }
 
-/// Writes a comma and a mask, as `0x` and eight hexadecimal digits.
+/// Writes a comma, and then a mask: `0x` and eight hexadecimal digits.
 fn write_mask(text: &mut Vec<u8>, mask: Mask) -> Result<(), AllocError>
     ensures { OnOk result (text.new.items ≡ text.old.items ++ (44 ∷ mask_text mask)) }
 {
     let mut digits = [0; 8];
     let Ok(()) = hex::encode_to_slice(mask.bits().to_be_bytes(), &mut digits) else {
-        // The buffer has room for two digits of each of the four bytes.
+        // This can't happen, because `digits` has room for two digits of each of the mask's four
+        // bytes.
         unreachable!()
     };
     text.extend_from_slice(b",0x")?;

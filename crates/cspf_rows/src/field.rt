@@ -97,7 +97,8 @@ pub(crate) fn mask(fields: &ByteRecord, place: usize) -> Result<Mask, RowError>
     Mask::parse(text(fields, place)).map_err(|_| RowError::Mask { field: place })
 }
 
-/// The hops that a field spells, as a hop list, or as an object in hexadecimal digits after `ero:`.
+/// The hops that a field spells, as a hop list, or as an EXPLICIT_ROUTE object in hexadecimal
+/// digits after `ero:`.
 #[tactic(auto, unfolding(crate::specs::FieldValues::hops_at))]
 pub(crate) fn hops(fields: &ByteRecord, place: usize) -> Result<Hops, RowError>
     requires { 1 ≤ place }

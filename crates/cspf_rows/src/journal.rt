@@ -1,5 +1,5 @@
-//! Journals. A journal's batches are the longest prefix of its rows that is whole batches with the
-//! numbers 1, 2, 3 and so on. Rows may follow them.
+//! Journals. The batches of a journal are those of the longest prefix of its rows that consists of
+//! whole batches with the numbers 1, 2, 3 and so on. Rows may follow this prefix.
 
 mod laws;
 mod reader;
@@ -14,13 +14,14 @@ pub use whole::read_journal;
 /// What follows the last whole batch of a journal.
 #[derive(Clone, Copy, Debug, PartialEq, Eq)]
 pub enum Rest {
-    /// No row.
+    /// No row of the journal follows its last whole batch.
     Clean,
-    /// One row or more, which don't begin with a whole batch of the next number.
+    /// One row or more follow the last whole batch. They don't begin with a whole batch of the next
+    /// number.
     Torn,
 }
 
-/// The result of reading on in a journal: a batch, or the end.
+/// What the next read of a journal finds: a batch, or the end.
 #[derive(Clone, Copy, Debug, PartialEq, Eq)]
 pub enum JournalStep {
     /// One more whole batch.
@@ -34,6 +35,6 @@ pub enum JournalStep {
 pub struct Journal {
     /// The batches, in order.
     pub batches: Vec<Batch>,
-    /// What follows the batches.
+    /// What follows the journal's last batch: no row, or rows that are in no batch.
     pub rest: Rest,
 }

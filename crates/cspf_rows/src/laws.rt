@@ -10,7 +10,7 @@ use cspf_addr::{
 use cspf_ero::objects_are_read;
 use cspf_model::fields_of_links_and_requests;
 
-/// The laws of fields on which reading rows rests (`AreTextsRead`).
+/// The laws of fields that the laws of rows use (`AreTextsRead`).
 fn texts_are_read()
     ensures { AreTextsRead }
 {
@@ -21,7 +21,7 @@ fn texts_are_read()
     fields_of_links_and_requests();
 }
 
-/// Law: a record is read as a row exactly if it says that row, and it says only one row.
+/// Law: a `csv` record is read as a row exactly if it says that row, and it says only one row.
 pub fn rows_are_read()
     ensures read { AreRowsRead }
     ensures one { SaysOneRow }

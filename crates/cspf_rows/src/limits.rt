@@ -1,4 +1,4 @@
-//! The limit on the rows of a stream.
+//! The limit on the rows (records) of a stream.
 
-/// The most rows that a stream may have.
+/// The most rows (records) that a stream may have.
 pub const MOST_ROWS: u32 = 1_000_000;

@@ -1,4 +1,5 @@
-//! Reads the hops of an object that a field spells in hexadecimal digits, without taking memory.
+//! Reads the hops of an EXPLICIT_ROUTE object that a field spells in hexadecimal digits. Takes no
+//! memory.
 
 ghost use Rattle.std.specs.Prelude.{◌≡◌, ◌*◌, ◌%◌, ◌≤◌, ◌↔◌, IsTrue, ℕ, List, length, take};
 ghost use Rattle.std.specs.List.{AllPass};
@@ -10,8 +11,9 @@ use crate::row_error::HopsFault;
 use cspf_addr::Hops;
 use cspf_ero::{EroError, FIRST_BYTES, read_ero_front};
 
-/// The hops of an object in hexadecimal digits of either case. Only the first bytes are decoded,
-/// into a buffer on the stack: these and the object's size decide which hops it spells.
+/// The hops of an EXPLICIT_ROUTE object that is written in hexadecimal digits of either case. Only
+/// the object's first bytes are decoded, into a buffer on the stack. These bytes and the object's
+/// size decide which hops the object spells.
 pub(crate) fn read_object(digits: &[u8]) -> Result<Hops, HopsFault>
     ensures { result ≡ hex_hops_of digits.now }
 {
@@ -24,7 +26,7 @@ pub(crate) fn read_object(digits: &[u8]) -> Result<Hops, HopsFault>
     }
 }
 
-/// The hops of an object in pairs of hexadecimal digits.
+/// The hops of an EXPLICIT_ROUTE object that is written in pairs of hexadecimal digits.
 fn read_pairs(digits: &[u8]) -> Result<Hops, EroError>
     requires { (length digits.now % 2 ≡ 0) × AllPass is_hex_digit digits.now }
     ensures { (bytes : List ℕ) → decode_of digits.now ≡ Ok bytes → result ≡ ero_of bytes }

@@ -9,7 +9,8 @@ use crate::output::open_writer::OpenWriter;
 use std::io::Write;
 
 /// Writes the whole text. If a write fails in any way or takes no byte, the error is how many bytes
-/// of the text were taken before. It takes no memory, and doesn't flush.
+/// of the text were taken before this write. The function takes no memory, and doesn't flush the
+/// writer.
 pub fn put_all<W: Write>(to: &mut W, text: &[u8]) -> Result<(), usize>
     ensures all { OnOk result (Appends (W.contents to.old) (W.contents to.new) text.now) }
     ensures front { IfErr result (λ n.
@@ -19,8 +20,8 @@ pub fn put_all<W: Write>(to: &mut W, text: &[u8]) -> Result<(), usize>
     put_through(&mut OpenWriter::new(to), text)
 }
 
-/// Writes the whole text, or returns how many bytes of it were taken. With `to` it can only write,
-/// and after a failed write it can't write again.
+/// Writes the whole text, or returns how many of its bytes were taken before a write failed. `to`
+/// can be used only for writing, and not again after a failed write.
 fn put_through<W: Write>(to: &mut OpenWriter<W>, text: &[u8]) -> Result<(), usize>
     requires { to.old.has_failed ≡ false }
     ensures writer { to.new.to.ghost_name ≡ to.old.to.ghost_name }

@@ -9,7 +9,8 @@ use csv::{ByteRecord, Reader, ReaderBuilder};
 use std::alloc::Global;
 use std::io::Read;
 
-/// Opens a reader of the rows of a stream: records with no header, of any number of fields.
+/// Opens a reader of the rows of a stream. It takes no record as a header, and a record may have
+/// any number of fields.
 pub fn open_records<R: Read>(alloc: Global, reader: R) -> Reader<R>
     ensures plain { IsPlain result }
     ensures rows { rows_left R.remaining result ≡ option_map rows_of (R.remaining reader) }

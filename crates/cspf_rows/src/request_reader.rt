@@ -18,8 +18,8 @@ use csv::{ByteRecord, Reader};
 use std::alloc::{AllocError, Global};
 use std::io::Read;
 
-/// Reads a stream of requests, one in each row. The first row that is refused, or is no request, is
-/// an error, and so is a stream of more than `MOST_ROWS` rows.
+/// Reads a stream of requests, one in each row. Returns an error for the first row that is refused
+/// or is no request, and for a stream of more than `MOST_ROWS` rows.
 pub fn read_requests<R: Read + Drop>(
     alloc: Global,
     reader: R,
@@ -37,7 +37,7 @@ pub fn read_requests<R: Read + Drop>(
     read_rest(alloc, &mut records, &mut fields)
 }
 
-/// Reads the requests that a reader has left.
+/// Reads the requests that a reader hasn't read yet.
 fn read_rest<R: Read>(
     alloc: Global,
     records: &mut Reader<R>,
@@ -58,7 +58,7 @@ fn read_rest<R: Read>(
     Ok(requests)
 }
 
-/// Reads the requests that a reader has left, one after the other, into `requests`.
+/// Reads the requests that a reader hasn't read yet, one after the other, into `requests`.
 fn read_all<R: Read>(
     records: &mut Reader<R>,
     fields: &mut ByteRecord,
@@ -88,7 +88,7 @@ fn read_all<R: Read>(
     Ok(())
 }
 
-/// Adds a request.
+/// Appends a request to the list.
 fn add(requests: &mut Vec<Request>, request: Request) -> Result<(), AllocError>
     ensures { OnOk result (requests.new.items ≡ requests.old.items ++ request ∷ []) }
 {
@@ -96,7 +96,7 @@ fn add(requests: &mut Vec<Request>, request: Request) -> Result<(), AllocError>
     Ok(())
 }
 
-/// The request that the record at this place asks for.
+/// The request that a record asks for. `place` is the number of the record, counted from 1.
 fn read_request(place: u32, fields: &ByteRecord) -> Result<Request, RequestsError>
     ensures ok { IfOk result (λ request. row_of (fields_of fields.now) ≡ Ok (row.Ask request)) }
     ensures err { IfErr result (IsRefusedAt place (row_of (fields_of fields.now))) }

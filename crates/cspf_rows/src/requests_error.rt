@@ -16,15 +16,15 @@ pub enum RequestsError {
     /// A record is no row.
     #[error("row {row}: {error}")]
     Bad {
-        /// The number of the record.
+        /// The number of the record in its stream.
         row: u32,
         /// Why the record is no row.
         error: RowError,
     },
-    /// A row is no request.
+    /// A row of the stream is no request.
     #[error("row {row} asks for nothing")]
     NotAsk {
-        /// The number of the row.
+        /// The number of the row in its stream.
         row: u32,
     },
 }

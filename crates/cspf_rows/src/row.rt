@@ -9,14 +9,14 @@ use cspf_addr::Addr;
 use cspf_model::{Link, LinkError, Request, RequestError, fields_of_links_and_requests};
 use csv::ByteRecord;
 
-/// What a record says.
+/// What a record of a stream says: a change, the end of a batch, or a request.
 #[derive(Clone, Copy, Debug, PartialEq, Eq)]
 pub enum Row {
     /// A change that puts the link.
     Put(Link),
     /// A change that removes the link with this key.
     Remove {
-        /// The router that the link runs from.
+        /// The router at which the link begins.
         from: Addr,
         /// The address of the link's interface at that router.
         local: Addr,

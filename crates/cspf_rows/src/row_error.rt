@@ -16,37 +16,37 @@ pub enum RowError {
     Fields,
     /// A field isn't a number in its range.
     Number {
-        /// The number of the field.
+        /// The number of the field in its record, counted from 1.
         field: usize,
     },
     /// A field isn't an address.
     Address {
-        /// The number of the field.
+        /// The number of the field in its record, counted from 1.
         field: usize,
     },
     /// A field isn't a mask.
     Mask {
-        /// The number of the field.
+        /// The number of the field in its record, counted from 1.
         field: usize,
     },
     /// The setup priority is above 7.
     Priority,
     /// The field of the hops spells no hops.
     Hops(HopsFault),
-    /// The link runs from a router to itself.
+    /// The link begins and ends at the same router.
     SelfLink,
     /// The request is from a router to itself.
     SameEnds,
 }
 
-/// Why a field spells no hops, neither as a hop list nor as an object.
+/// Why a field spells no hops, neither as a hop list nor as an EXPLICIT_ROUTE object.
 #[derive(Clone, Copy, Debug, PartialEq, Eq)]
 pub enum HopsFault {
     /// The text spells no hop list.
     Text(HopsError),
     /// The text after `ero:` isn't an even number of hexadecimal digits.
     Hex,
-    /// The bytes after `ero:` aren't an object that spells hops.
+    /// The bytes after `ero:` aren't an EXPLICIT_ROUTE object that spells hops.
     Ero(EroError),
 }
 

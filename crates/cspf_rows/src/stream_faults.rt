@@ -1,4 +1,5 @@
-//! The errors of journals and of requests, for a record that can't be read and for refused memory.
+//! With which error the reading of a journal or of requests ends if a record can't be read or
+//! memory is refused.
 
 ghost use Rattle.std.specs.Prelude.{◌≡◌};
 ghost use Rattle.cspf_rows.specs.ReadFaults.{stream_fault_of};

@@ -1,5 +1,5 @@
--- If no route can pass a strict leg, there is no way to the tail-end from its start routers or from
--- earlier legs.
+-- If no route can pass a strict leg, there is no way to the tail-end from the routers where the leg
+-- begins, or from earlier legs.
 use Rattle.std.proofs.Common.{◌≡◌, ◌⊎◌, inl, inr, ℕ, suc, ◌+◌, ◌*◌, ◌/◌, ◌%◌, ◌<◌, ◌≤◌, List, Contains, length, sym, ap, subst, ◌∙◌, arith}
 use Rattle.std.proofs.lemmas.Bool.{cases_lt}
 use Rattle.cspf_model.specs.declared.request.Request.{Request}
@@ -16,7 +16,7 @@ module _ (d : Database) (q : Request) (listed : AreListed d) (leg : ℕ) (broken
     (bounds : List ℕ) (many : length bounds ≡ (length q.hops + 1) * 1024) (before : (i : ℕ) → i < leg * 1024 → bound_at bounds i ≡ NO_WAY)
     (shut : (p : ℕ) → Contains starts p → bound_at bounds (leg * 1024 + p) ≡ NO_WAY)
     (others : (i : ℕ) → leg * 1024 ≤ i → (bound_at bounds i ≡ 0) ⊎ ((p : ℕ) × Contains starts p × (i ≡ leg * 1024 + p))) where
-  -- Each bound is `NO_WAY` or 0.
+  -- Each bound in the list `bounds` is either `NO_WAY` or 0.
   either : (i : ℕ) → (bound_at bounds i ≡ NO_WAY) ⊎ (bound_at bounds i ≡ 0)
   either i =
       elim (cases_lt i (leg * 1024)) [
@@ -24,7 +24,8 @@ module _ (d : Database) (q : Request) (listed : AreListed d) (leg : ℕ) (broken
         | inr high ↦ elim (others i high) [ inl zero ↦ inr zero | inr at ↦ inl (ap (bound_at bounds) at.2 ∙ shut at.0 at.1) ]
       ]
 
-  -- A state of the leg at one of the start routers that were shut.
+  -- Lemmas on a state of the leg (a router in this leg), if the state's router is one of the
+  -- routers where the leg begins.
   module _ (i p : ℕ) (ix : IsStateIndex d q i) (has : Contains starts p) (is : i ≡ leg * 1024 + p) where
     place : i % 1024 ≡ p
     place = omega (arith, is, ix.place, listed.few, are.within has.0 0 has.1, has.2)
@@ -35,7 +36,8 @@ module _ (d : Database) (q : Request) (listed : AreListed d) (leg : ℕ) (broken
     begins : IsTarget d q leg (router_at d (i % 1024))
     begins = (are.each (i % 1024) ix.place).0 (subst (Contains starts) (sym place) has)
 
-  -- The bound of a state of the leg is `NO_WAY` if the leg begins at its router.
+  -- If the leg begins at the router of one of its states (routers in legs), the bound of this state
+  -- is `NO_WAY`.
   shut_there : (i : ℕ) → IsStateIndex d q i → i / 1024 ≡ leg → IsTarget d q leg (router_at d (i % 1024)) → bound_at bounds i ≡ NO_WAY
   shut_there i ix at target =
       let whole : leg * 1024 + i % 1024 ≡ i = omega (arith, at) in

@@ -1,4 +1,4 @@
--- A walk is a route exactly if it reaches the end state.
+-- A walk is a route exactly if it reaches the end state (the tail-end in the last leg).
 use Rattle.std.proofs.Common.{◌≡◌, inl, inr, ℕ, suc, ◌+◌, ◌≤◌, List, [], ◌∷◌, ◌++◌, ◌⊎◌, length, map, refl, sym, ap, ◌∙◌, subst, arith, add-one, append_assoc, append-nil}
 use Rattle.std.specs.List.{AllByRecursion, flat_map}
 use Rattle.std.proofs.lemmas.Option.{slice_get_past}
@@ -42,36 +42,40 @@ AreJoined-append_parts a [] w joined = (tt, joined)
 AreJoined-append_parts a (l ∷ v) w joined = let parts = AreJoined-append_parts l.to v w joined.1 in ((joined.0, parts.0), parts.1)
 
 module _ (d : Database) where
-  -- Continued by a link from a router with transit, all links still begin at routers with transit.
+  -- If all links of a walk begin at routers with transit, and so does one more link, the same holds
+  -- after this link is added.
   froms_push : (w : List Link) (l : Link) → AllByRecursion (HasTransit d) (map (λ m. m.from) w) → HasTransit d l.from
       → AllByRecursion (HasTransit d) (map (λ m. m.from) (w ++ (l ∷ [])))
   froms_push [] l all here = (here, tt)
   froms_push (m ∷ w) l all here = (all.0, froms_push w l all.1 here)
 
-  -- A walk that is continued by a link, and may leave that link's router, still passes only through
-  -- routers with transit.
+  -- Suppose that a walk passes only through routers with transit, and may leave the router where a
+  -- link begins. The walk continued by this link also passes only through routers with transit.
   passed_push : (w : List Link) (l : Link) → AllByRecursion (HasTransit d) (routers_passed w) → MayLeave d l.from (length w)
       → AllByRecursion (HasTransit d) (routers_passed (w ++ (l ∷ [])))
   passed_push [] l all leaves = tt
   passed_push (m ∷ w) l all (inl transit) = froms_push w l all transit
   passed_push (m ∷ w) l all (inr none) = absurd (omega (arith, none))
 
-  -- If all links begin at routers with transit, the links of a prefix do too.
+  -- If all links of a walk begin at routers with transit, so do its first links, however many of
+  -- them are taken.
   froms_before : (v w : List Link) → AllByRecursion (HasTransit d) (map (λ m. m.from) (v ++ w)) → AllByRecursion (HasTransit d) (map (λ m. m.from) v)
   froms_before [] w all = tt
   froms_before (m ∷ v) w all = (all.0, froms_before v w all.1)
 
-  -- If a walk passes only through routers with transit, a prefix of it does too.
+  -- If a walk passes only through routers with transit, so does the walk over its first links,
+  -- however many of them are taken.
   passed_before : (v w : List Link) → AllByRecursion (HasTransit d) (routers_passed (v ++ w)) → AllByRecursion (HasTransit d) (routers_passed v)
   passed_before [] w all = tt
   passed_before (m ∷ v) w all = froms_before v w all
 
-  -- If all links begin at routers with transit, each single link does too.
+  -- If all links of a walk begin at routers with transit, so does each single link of the walk.
   froms_at : (v : List Link) (l : Link) (w : List Link) → AllByRecursion (HasTransit d) (map (λ m. m.from) (v ++ (l ∷ w))) → HasTransit d l.from
   froms_at [] l w all = all.0
   froms_at (m ∷ v) l w all = froms_at v l w all.1
 
-  -- Each link of a walk begins at a router that the links before it may leave.
+  -- If a walk passes only through routers with transit, the walk over the links before one of its
+  -- links may leave the router where this link begins.
   leaves_at : (v : List Link) (l : Link) (w : List Link) → AllByRecursion (HasTransit d) (routers_passed (v ++ (l ∷ w))) → MayLeave d l.from (length v)
   leaves_at [] l w all = inr refl
   leaves_at (m ∷ v) l w all = inl (froms_at v l w all)
@@ -90,20 +94,21 @@ module _ (d : Database) (q : Request) where
       )
   reached_walk w s (steps r (by_turn within target)) = reached_walk _ _ r
 
-  -- A state that a walk reaches is in a leg of the request.
+  -- The leg of each state that a walk reaches is one of the request's legs: from leg 1 to the leg
+  -- after the last hop. A state is a router in a leg.
   pub reached_leg : (w : List Link) (s : State) → Reaches d q w s → (1 ≤ s.leg) × (s.leg ≤ length q.hops + 1)
   reached_leg w s starts = (omega arith, omega arith)
   reached_leg w s (steps r (by_link l a enters leaves)) = reached_leg _ _ r
   reached_leg w s (steps r (by_turn within target)) = (omega arith, omega arith)
 
-  -- The router of a state that a walk reaches is inside the state's leg.
+  -- If a walk reaches a state (a router in a leg), the state's router is inside the state's leg.
   reached_inside : (w : List Link) (s : State) → Reaches d q w s → IsInside d q s.leg s.router
   reached_inside w s starts = inr (inl refl)
   reached_inside w s (steps r (by_link l a enters leaves)) = enters.inside
   reached_inside w s (steps r (by_turn within target)) = inr (inl target.target)
 
-  -- Let a walk reach a state, and let links from there be cut into the remaining legs. The walk
-  -- continued by these links is cut into legs.
+  -- Suppose that a walk reaches a state (a router in a leg), and that further links are cut into
+  -- the remaining legs. Then the walk continued by these links is cut into legs.
   reached_cut : (w : List Link) (s : State) → Reaches d q w s → (leg : List Link) (rest : List (List Link)) → AreLegs d q s.leg s.router (leg ∷ rest)
       → s.leg + length rest ≡ suc (length q.hops) → (legs : List (List Link)) × IsCutInto d q (w ++ (leg ++ flat_map (λ links. links) rest)) legs
   reached_cut w s starts leg rest are count = (leg ∷ rest, record { number = omega arith; whole = refl; each = are })
@@ -113,8 +118,8 @@ module _ (d : Database) (q : Request) where
   reached_cut w s (steps r (by_turn within target)) leg rest are count =
       reached_cut _ _ r [] (leg ∷ rest) (record { arrives = target.target; within = (reached_inside _ _ r, tt) }, are) (omega arith)
 
-  -- If a walk to the tail-end passes only through routers with transit, `RunsOn` holds of each of its
-  -- links.
+  -- If a walk to the tail-end passes only through routers with transit, `RunsOn` holds of each of
+  -- its links.
   pub run_on : (a : ℕ) (w : List Link) → AreJoined a w → AllByRecursion (HasTransit d) (routers_passed w) → end_of a w ≡ q.to → AllByRecursion (RunsOn d q) w
   run_on a [] joined passed end = tt
   run_on a (l ∷ []) joined passed end = (inr end, tt)
@@ -124,7 +129,7 @@ module _ (d : Database) (q : Request) where
   pub last_target : (b : ℕ) → IsTarget d q (suc (length q.hops)) b ≡ (b ≡ q.to)
   last_target b = ap (λ o. IsTargetOf d q.to o b) (slice_get_past q.hops (length q.hops) (omega arith))
 
-  -- The last of the remaining legs ends at the tail-end.
+  -- The links of the remaining legs end at the tail-end.
   legs_end : (k a : ℕ) (first : List Link) (rest : List (List Link)) → k + length rest ≡ suc (length q.hops) → AreLegs d q k a (first ∷ rest)
       → end_of a (first ++ flat_map (λ links. links) rest) ≡ q.to
   legs_end k a first [] count legs =
@@ -133,7 +138,8 @@ module _ (d : Database) (q : Request) where
   legs_end k a first (second ∷ rest) count legs =
       end_of-append a first (second ++ flat_map (λ links. links) rest) ∙ legs_end (suc k) (end_of a first) second rest (omega arith) legs.1
 
-  -- Joined links inside a leg lead from a state of that leg to another.
+  -- If a walk has reached a state of a leg, and joined links inside this leg continue it, the
+  -- longer walk reaches a state of this leg too. A state is a router in a leg.
   along : (k : ℕ) (a : ℕ) (links v : List Link) → Reaches d q v (record { leg = k; router = a }) → AllByRecursion (IsAdmissible d q) links → AreJoined a links
       → AllByRecursion (IsInside d q k) (routers_of a links) → AllByRecursion (RunsOn d q) links → AllByRecursion (HasTransit d) (routers_passed (v ++ links)) → Reaches d q (v ++ links) (record { leg = k; router = end_of a links })
   along k a [] v r all joined within on passed = rw (append-nil v) r
@@ -142,14 +148,15 @@ module _ (d : Database) (q : Request) where
       rw (← append_assoc v (l ∷ []) ls) (along k l.to ls (v ++ (l ∷ [])) (steps here (by_link l all.0 (record { inside = within.1.0; through = on.0 }) (leaves_at d v l ls passed))) all.1 joined.1 within.1 on.1
       (rw append_assoc passed))
 
-  -- If `RunsOn` holds of each link, and a route may visit the router where they begin, it may visit the
-  -- router where they end.
+  -- Suppose that `RunsOn` holds of each link, and that a route may visit the router where the links
+  -- begin. Then the route may also visit the router where they end.
   stands_on : (a : ℕ) (links : List Link) → MayStand d q a → AllByRecursion (RunsOn d q) links → MayStand d q (end_of a links)
   stands_on a [] stands on = stands
   stands_on a (l ∷ links) stands (inl transit, on) = stands_on l.to links (inl transit) on
   stands_on a (l ∷ links) stands (inr end, on) = stands_on l.to links (inr (inr end)) on
 
-  -- The links of all remaining legs lead on to a target of the last leg.
+  -- If a walk is continued by the links of all remaining legs, the longer walk reaches a target of
+  -- the last leg (a router where this leg may end).
   through : (k : ℕ) (a : ℕ) (first : List Link) (rest : List (List Link)) (v : List Link) → Reaches d q v (record { leg = k; router = a }) → MayStand d q a
       → k + length rest ≡ suc (length q.hops) → AreLegs d q k a (first ∷ rest)
       → AllByRecursion (IsAdmissible d q) (first ++ flat_map (λ links. links) rest) → AreJoined a (first ++ flat_map (λ links. links) rest)

@@ -1,4 +1,6 @@
--- The walks that are offered when one node is expanded: by its turn, and by each of its links.
+-- The walks that continue a node when labels are offered for it: by its step to the next leg, and
+-- by each link from its router. A node is the record of a walk, and a label holds the best walk
+-- found so far to a state.
 use Rattle.std.proofs.Common.{◌≡◌, ◌⊎◌, inl, inr, ℕ, ◌+◌, ◌-◌, ◌/◌, ◌%◌, ◌<◌, ◌≤◌, Bool, true, false, not, nat_eq, Some, None, List, [], ◌∷◌, ◌++◌, filter, length, take, slice_get, slice_index, slice_index_or, refl, sym, ap, subst, ◌∙◌, arith}
 use Rattle.std.specs.List.{All, Contains}
 use Rattle.std.proofs.lemmas.Bool.{cases_lt, eqb-true, eq-eqb}
@@ -72,7 +74,9 @@ module _ (d : Database) (q : Request) (nodes : List Node) (at state : ℕ) (is :
   router : (slice_index_or nodes at nowhere).router ≡ slice_index (router_list d) (state % 1024)
   router = ap (λ (s : State). s.router) is.there
 
-  -- Lemmas on the walks after the turn was offered.
+  -- Lemmas on the walk that continues a node by the step to the next leg. Also on the walks of
+  -- `CrossesUpTo` with `row` 0, which take none of the node's links. A node is the record of a
+  -- walk.
 
   pub turn_index : state / 1024 < length q.hops → IsStateIndex d q (state + 1024)
   turn_index h =
@@ -125,7 +129,8 @@ module _ (d : Database) (q : Request) (nodes : List Node) (at state : ℕ) (is :
   turn_cases w t (inr (inl x)) = inr x
   turn_cases w t (inr (inr x)) = absurd (no_row 0 w t x)
 
-  -- Lemmas on the walks after a link was offered.
+  -- Lemmas on the walks that continue a node by the link `l`, which has the index `row` among the
+  -- links from the node's router. A node is the record of a walk.
 
   module _ (row : ℕ) (l : Link) (listed : slice_get (links_from_index d (state % 1024)) row ≡ Some l) (end : ℕ) (ends : IsIndexOf d l.to end) (few : length (router_list d) ≤ 1024) where
     pub link_index : IsStateIndex d q (state - state % 1024 + end)
@@ -172,7 +177,8 @@ module _ (d : Database) (q : Request) (nodes : List Node) (at state : ℕ) (is :
     row_is : l ≡ slice_index_or (links_from_index d (state % 1024)) row l
     row_is = sym (get_or_from_slice_get (links_from_index d (state % 1024)) row l l listed)
 
-    -- The walks that continue the node by the links before a row, by the link of this row, and by both.
+    -- Lemmas on walks that continue the node by one of its first `row` links, by the next link, or
+    -- by one of its first `row + 1` links. A node is the record of a walk.
 
     pub row_kept : (w : List Link) (t : State) → CrossesFrom d q nodes (take row (links_from_index d (state % 1024))) at w t
         → CrossesFrom d q nodes (take (row + 1) (links_from_index d (state % 1024))) at w t
@@ -197,22 +203,28 @@ module _ (d : Database) (q : Request) (nodes : List Node) (at state : ℕ) (is :
     link_cases w t (inl x) = inl (inl x)
     link_cases w t (inr x) = elim (row_cases w t x) [ inl old ↦ inl (inr old) | inr new ↦ inr new ]
 
-  -- The case in which the node's walk may not leave its router, so no link is offered.
+  -- Lemmas for the case that the node's walk may not leave its router, and no label is offered for
+  -- a link. A label holds the best walk found so far to a state.
 
-  -- In this case no walk continues the node by a link.
+  -- If the node's walk may not leave its router, no walk continues the node (the record of a walk)
+  -- by a link.
   pub no_link_crosses : (NodeMayLeave d nodes at state → ⊥) → (l : Link) (w : List Link) (t : State) → CrossesBy d q nodes at l w t → ⊥
   no_link_crosses never l w t x =
       let same : x.node ≡ slice_index_or nodes at nowhere = same_Some x.node (slice_index_or nodes at nowhere) (sym x.there ∙ there) in
       let runs : l.from ≡ slice_index (router_list d) (state % 1024) = x.runs ∙ ap (λ (n : Node). n.router) same ∙ router in
       never (rw runs at x.leaves)
 
-  -- A walk of `CrossesUpTo` with no row continues an earlier node, or continues this node by its turn.
+  -- `CrossesUpTo` with `row` 0 takes none of the links of the node at `at` (the record of a walk).
+  -- Each of its walks continues an earlier node by one step, or the node at `at` by the step to the
+  -- next leg at the same router.
   pub turn_below : (w : List Link) (t : State) → CrossesUpTo d q nodes at (state % 1024) 0 w t → CrossesBelow d q nodes (links_of d) (at + 1) w t
   turn_below w t (inl x) = (x.0, omega (arith, x.1), x.2)
   turn_below w t (inr (inl turn)) = (at, omega arith, inl turn)
   turn_below w t (inr (inr x)) = absurd (no_row 0 w t x)
 
-  -- There is no other walk from these nodes.
+  -- Suppose that the walk of the node at `at` (the record of a walk) may not leave its router. Then
+  -- a walk that continues this node or an earlier one is a walk of `CrossesUpTo` with `row` 0: it
+  -- takes no link from this node.
   pub below_turn : (NodeMayLeave d nodes at state → ⊥) → (w : List Link) (t : State) → CrossesBelow d q nodes (links_of d) (at + 1) w t
       → CrossesUpTo d q nodes at (state % 1024) 0 w t
   below_turn never w t x =
@@ -226,7 +238,8 @@ module _ (d : Database) (q : Request) (nodes : List Node) (at state : ℕ) (is :
             ]
       ]
 
-  -- Lemmas on the walks after all links were offered.
+  -- Lemmas on the walks that continue the node by the step to the next leg at the same router or by
+  -- any link from its router. A node is the record of a walk.
 
   pub here_from : (w : List Link) (t : State) → CrossesFrom d q nodes (take (length (links_from_index d (state % 1024))) (links_from_index d (state % 1024))) at w t
       → CrossesFrom d q nodes (links_of d) at w t

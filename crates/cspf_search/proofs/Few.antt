@@ -1,4 +1,5 @@
--- Nodes with different states at few routers in few legs are few.
+-- If no two nodes have the same state, each leg has at most 1,024 nodes, because the database has
+-- at most 1,024 routers. A state is a router in a leg, and a node is the record of a walk.
 use Rattle.std.proofs.Common.{◌≡◌, inl, inr, ℕ, zero, suc, ◌*◌, ◌<◌, ◌≤◌, Bool, true, false, not, nat_eq, List, [], ◌∷◌, filter, length, map, slice_index_or, refl, sym, ◌∙◌, arith}
 use Rattle.std.specs.List.{All, AllByRecursion, AllPairs, IsDistinct}
 use Rattle.std.proofs.lemmas.Bool.{and_cases, eqb-true, eqb-false, not-true}
@@ -16,21 +17,23 @@ use Rattle.cspf_search.specs.Frontier.{nowhere}
 abbrev pub HasFewRouters : Database → Type 0
 HasFewRouters d = (routers : List ℕ) → IsDistinct nat_eq routers → AllByRecursion (IsRouterOf d) routers → length routers ≤ 1024
 
--- The two nodes have different states.
+-- The two nodes have different states. A state is a router in a leg, and a node is the record of a
+-- walk.
 abbrev pub AreTold : Node → Node → Type 0
 AreTold m n = same_state (state_of m) (state_of n) ≡ false
 
--- No two nodes have the same state.
+-- No two nodes have the same state. A state is a router in a leg, and a node is the record of a
+-- walk.
 abbrev pub AreApart : List Node → Type 0
 AreApart nodes = AllPairs AreTold nodes
 
--- The node is at a router of the database, in one of the first `legs` legs.
+-- The node (the record of a walk) is at a router of the database, in one of the first `legs` legs.
 pub record IsWithin (d : Database) (legs : ℕ) (n : Node) : Type 0 where
   pub router : IsRouterOf d n.router
   pub low : 1 ≤ n.leg
   pub high : n.leg ≤ legs
 
--- In one leg there are at most as many nodes as routers.
+-- In one leg there are at most as many nodes (records of walks) as routers.
 module _ (d : Database) (few : HasFewRouters d) (leg : ℕ) (nodes : List Node) (apart : AreApart nodes) (routers : All (λ n. IsRouterOf d n.router) nodes)
     (here : All (λ n. nat_eq n.leg leg ≡ true) nodes) where
   routers_apart : (i j : ℕ) (e : Node) → i < j → j < length nodes → nat_eq (slice_index_or nodes i e).router (slice_index_or nodes j e).router ≡ false
@@ -54,7 +57,9 @@ module _ (d : Database) (few : HasFewRouters d) (leg : ℕ) (nodes : List Node) 
       let all = All-map (IsRouterOf d) (λ (n : Node). n.router) nodes routers in
       omega (arith, few (map (λ (n : Node). n.router) nodes) routers_distinct (recursion_from_All (IsRouterOf d) _ all), length-map nodes (λ (n : Node). n.router))
 
--- At routers of the database in the first legs there are at most 1,024 nodes for each leg.
+-- If nodes with different states are at routers of the database in the first `legs` legs, there are
+-- at most 1,024 of them for each leg. A state is a router in a leg, and a node is the record of a
+-- walk.
 pub nodes_few : (d : Database) → HasFewRouters d → (legs : ℕ) (nodes : List Node) → AreApart nodes → All (IsWithin d legs) nodes → length nodes ≤ legs * 1024
 nodes_few d few zero [] apart within = omega arith
 nodes_few d few zero (n ∷ ns) apart within = absurd (let first = within 0 n (omega arith) in omega (arith, first.low, first.high))

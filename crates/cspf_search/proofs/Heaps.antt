@@ -1,4 +1,4 @@
--- What holds of the keys that are popped from a heap.
+-- Lemmas on the keys that are popped from a heap.
 use Rattle.std.proofs.Common.{◌≡◌, ◌⊎◌, inl, inr, ℕ, zero, suc, ◌+◌, ◌<◌, ◌≤◌, false, List, [], ◌∷◌, ◌++◌, length, take, slice_index_or, refl, sym, ap, subst, arith}
 use Rattle.std.specs.List.{All, Contains}
 use Rattle.std.specs.List.Sorted.{IsPermutation}
@@ -33,8 +33,8 @@ no_less k rank j i h =
       | inr ge ↦ let e : k ≡ rank = omega arith in inr (omega arith, no_less_index k rank j i e h)
     ]
 
--- If `x` is the greatest of some keys by `heap_key_cmp`, no key has a lower rank, or the same rank and
--- a lower index.
+-- If no key of a list is greater than `x` by `heap_key_cmp`, none has a lower number than `x`, or
+-- the same number and a lower index.
 pub keys_up_to : (x : HeapKey) (xs : List HeapKey) → IsUpperBound heap_key_cmp x xs → (y : HeapKey) → Contains xs y → IsUpTo x.0.0 x.0.1 y
 keys_up_to x xs upper y at =
     no_less y.0.0 x.0.0 y.0.1 x.0.1 (All-contains (λ z. lt_by_cmp heap_key_cmp x z ≡ false) xs y (All-from_recursion (λ z. lt_by_cmp heap_key_cmp x z ≡ false) xs upper) at)
@@ -43,7 +43,8 @@ only : (x y : HeapKey) → Contains (x ∷ []) y → x ≡ y
 only x y (zero, h, e) = e
 only x y (suc k, h, e) = absurd (omega arith)
 
--- Each key is the popped key, or is still in the heap.
+-- After a key was popped from a heap, each key that was in the heap is the popped key or is still
+-- in the heap.
 pub others_left : (x : HeapKey) (old new : List HeapKey) → IsPermutation old (x ∷ new) → (y : HeapKey) → Contains old y → (x ≡ y) ⊎ Contains new y
 others_left x old new moved y at =
     elim (Contains-append_cases (x ∷ []) new y (Contains-permutation old (x ∷ new) y moved at)) [
@@ -51,15 +52,19 @@ others_left x old new moved y at =
       | inr there ↦ inr there
     ]
 
--- The popped key was in the heap.
+-- The popped key was in the heap before it was popped.
 pub was_there : (x : HeapKey) (old new : List HeapKey) → IsPermutation old (x ∷ new) → Contains old x
 was_there x old new moved = Contains-permutation (x ∷ new) old x (IsPermutation-sym old (x ∷ new) moved) (0, omega arith, refl)
 
--- The rank of the label at an index within the list.
+-- The rank of the label at an index of the list doesn't depend on which label is given for reads
+-- past the end of the list. A label holds the best walk found so far to a state, and a walk's rank
+-- is its cost and its number of links as one number.
 pub rank_read : (labels : List Label) (i : ℕ) (e : Label) → i < length labels → (slice_index_or labels i e).rank ≡ (label_at labels i).rank
 rank_read labels i e h = ap (λ (l : Label). l.rank) (get_or_default labels i e no_label h)
 
--- A key was popped from the heap. The lemmas say which of the keys that are left are live.
+-- Lemmas on which keys of the heap are live after one key was popped. A key is live if the present
+-- label of its state gives this key, and the state isn't in a closed leg. A state is a router in a
+-- leg, and a label holds the best walk found so far to a state.
 module _ (d : Database) (q : Request) (goal : Goal) (labels : List Label) (old heap new : List HeapKey) (x : HeapKey)
     (live : (key : HeapKey) → Contains old key → IsLive goal labels key → Contains heap key) (keyed : All (IsKey d q goal) heap) (moved : IsPermutation heap (x ∷ new)) where
   pub keyed_left : All (IsKey d q goal) new
@@ -68,7 +73,9 @@ module _ (d : Database) (q : Request) (goal : Goal) (labels : List Label) (old h
   pub popped_key : IsKey d q goal x
   popped_key = All-contains (IsKey d q goal) heap x keyed (was_there x heap new moved)
 
-  -- If the popped key isn't live, all live keys are left.
+  -- If the popped key isn't live, because its state has another label now or is in a closed leg,
+  -- all live keys are still in the heap. A state is a router in a leg, and a label holds the best
+  -- walk found so far to a state.
   pub live_left : (IsLive goal labels x → ⊥) → (key : HeapKey) → Contains old key → IsLive goal labels key → Contains new key
   live_left stale key at is =
       elim (others_left x heap new moved key (live key at is)) [
@@ -76,7 +83,9 @@ module _ (d : Database) (q : Request) (goal : Goal) (labels : List Label) (old h
         | inr left ↦ left
       ]
 
-  -- If the popped key is live, it is the least of the live keys.
+  -- If the popped key is live, it is the least of the live keys: those of the present labels of
+  -- states in legs that aren't closed. A state is a router in a leg, and a label holds the best
+  -- walk found so far to a state.
   pub popped_least : IsHeap heap_key_cmp heap → PopsGreatest heap_key_cmp heap x new → goal.floor ≤ x.0.1 → (label_at labels x.0.1).rank + lift goal x.0.1 ≡ x.0.0
       → IsLeast d q goal labels old x.0.1 new
   popped_least ordered pops behind is =
@@ -96,11 +105,13 @@ module _ (d : Database) (q : Request) (goal : Goal) (labels : List Label) (old h
             ];
       }
 
--- The key that is read past the end of a list.
+-- The key that is read at an index past the end of a list of keys.
 abbrev pub blank : HeapKey
 blank = record { 0 = (0, 0) }
 
--- One more key of a heap was looked at. A key is kept if the index of its state is at least the floor.
+-- Lemmas on looking at one more key of a heap. The key is kept if the index of its state is at
+-- least the floor, the first index after the states of the closed legs. A state is a router in a
+-- leg.
 module _ (floor : ℕ) (items left : List HeapKey) (k : ℕ) (within : k < length items)
     (kept : (key : HeapKey) → Contains (take k items) key → floor ≤ key.0.1 → Contains left key) (none_else : (key : HeapKey) → Contains left key → Contains items key) where
   abbrev pub looked : HeapKey
@@ -109,7 +120,9 @@ module _ (floor : ℕ) (items left : List HeapKey) (k : ℕ) (within : k < lengt
   cases : (key : HeapKey) → Contains (take (k + 1) items) key → Contains (take k items) key ⊎ (looked ≡ key)
   cases key has = let more : take (k + 1) items ≡ take k items ++ looked ∷ [] = take_more items k blank within in Contains-push_cases (take k items) looked key (rw more at has)
 
-  -- The case in which the key is below the floor.
+  -- The floor is the first index after the states (routers in legs) of the closed legs. If the key
+  -- that is looked at is of a state with an index below the floor, the key is dropped. Of the keys
+  -- up to this one, those of states from the floor on are then still kept.
   pub key_dropped : looked.0.1 < floor → (key : HeapKey) → Contains (take (k + 1) items) key → floor ≤ key.0.1 → Contains left key
   key_dropped low key has up =
       elim (cases key has) [
@@ -117,7 +130,7 @@ module _ (floor : ℕ) (items left : List HeapKey) (k : ℕ) (within : k < lengt
         | inr is ↦ absurd (omega (arith, low, up, ap (λ (x : HeapKey). x.0.1) is))
       ]
 
-  -- The case in which the key is kept.
+  -- Lemmas for the case that the key that is looked at is put among the kept keys.
   module _ (new : List HeapKey) (moved : IsPermutation (looked ∷ left) new) where
     pub key_kept : (key : HeapKey) → Contains (take (k + 1) items) key → floor ≤ key.0.1 → Contains new key
     key_kept key has up =
@@ -133,7 +146,9 @@ module _ (floor : ℕ) (items left : List HeapKey) (k : ℕ) (within : k < lengt
           | inr there ↦ none_else key there
         ]
 
--- The labels are still right after the keys of states in closed legs were dropped.
+-- If the keys of states in closed legs are dropped from the heap, `AreLabels` still holds of the
+-- labels and of the keys that are left. A state is a router in a leg, and a label holds the best
+-- walk found so far to a state.
 pub labels_open : (d : Database) (q : Request) (nodes : List Node) (P : List Link → State → Type 0) (goal : Goal) (labels : List Label) (old new : List HeapKey)
     → AreLabels d q nodes P goal labels old → IsOpenOf goal.floor old new → AreLabels d q nodes P goal labels new
 labels_open d q nodes P goal labels old new are left = record {

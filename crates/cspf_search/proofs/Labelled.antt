@@ -1,4 +1,5 @@
--- The walks of nodes and the settled walks of states, and how one more node changes both.
+-- The walk of each node (the record of a walk), and the settled walk of each state, which is a
+-- router in a leg. Also how both change when one more node is appended.
 use Rattle.std.proofs.Common.{◌≡◌, inl, inr, ℕ, zero, suc, ◌+◌, ◌<◌, Bool, true, false, not, Option, Some, None, option_map, position, List, [], ◌∷◌, ◌++◌, length, slice_index_or, refl, sym, ap, ◌∙◌, arith}
 use Rattle.std.specs.List.{position_or_len, AllPairs}
 use Rattle.std.proofs.lemmas.Bool.{cases_lt, lt-ltb, not-true, not_from_true, not_from_false, eqb-true, eq-eqb, and_parts, and_from}
@@ -11,7 +12,8 @@ use Rattle.cspf_search.specs.States.{State}
 use Rattle.cspf_search.specs.Arena.{walk_with, walk_at, walks_after, walks, walk_of, state_of, same_state, index_of, labels_of, IsRanked, IsRoot, HasLast, AreNodes, IsNext}
 use Rattle.cspf_search.proofs.Settles.{Adds}
 
--- Lemmas on the walks of nodes, and of one more node.
+-- Lemmas on the walks of a list of nodes (records of walks), and on the walk of a node that is
+-- appended.
 
 walks_after-push : (done : List (List Link)) (nodes : List Node) (n : Node)
     → walks_after done (nodes ++ (n ∷ [])) ≡ walks_after done nodes ++ (walk_with (walk_at (walks_after done nodes) n.parent) n.by ∷ [])
@@ -41,7 +43,8 @@ module _ (nodes : List Node) (n : Node) where
   pub walk_of-old : (m : Node) → m.parent < length nodes → walk_of (nodes ++ (n ∷ [])) m ≡ walk_of nodes m
   walk_of-old m h = ap (λ w. walk_with w m.by) (walk_at-old m.parent h)
 
--- Lemmas on the index of a state among the nodes.
+-- Lemmas on the index of the first node with a state. A state is a router in a leg, and a node is
+-- the record of a walk.
 
 pub position-None : {X : Type 0} (p : X → Bool) (xs : List X) (k : ℕ) (d : X) → position p xs ≡ None → k < length xs → p (slice_index_or xs k d) ≡ false
 position-None p xs k d e h =
@@ -65,9 +68,10 @@ same_state-true s t e =
 same_state-itself : (s : State) → same_state s s ≡ true
 same_state-itself s = and_from _ _ (eq-eqb s.leg s.leg refl) (eq-eqb s.router s.router refl)
 
--- Lemmas on the settled walk of a state.
+-- Lemmas on the settled walk of a state (a router in a leg).
 
--- A settled walk is the walk of some node with this state.
+-- The settled walk of a state is the walk of a node with this state. A state is a router in a leg,
+-- and a node is the record of a walk.
 pub label_from : (nodes : List Node) (s : State) (w : List Link) (d : Node) → labels_of nodes s ≡ Some w
     → (i : ℕ) × (i < length nodes) × (state_of (slice_index_or nodes i d) ≡ s) × (walk_at (walks nodes) i ≡ w)
 label_from nodes s w d e =
@@ -79,19 +83,22 @@ label_from nodes s w d e =
       | None ↦ λ at is. absurd (cc)
     ] refl e
 
--- The index of a node is the index of its state.
+-- If no two nodes have the same state, the search for the state of the node at the index `i` finds
+-- the index `i`. A state is a router in a leg, and a node is the record of a walk.
 pub index_at : (nodes : List Node) → AllPairs (λ m n. same_state (state_of m) (state_of n) ≡ false) nodes → (i : ℕ) (d : Node) → i < length nodes
     → index_of nodes (state_of (slice_index_or nodes i d)) ≡ Some i
 index_at nodes apart i d h =
     position-first (λ n. same_state (state_of n) (state_of (slice_index_or nodes i d))) nodes i d h
     (same_state-itself (state_of (slice_index_or nodes i d))) (λ k l. apart k i d l h)
 
--- The walk of a node is the settled walk of its state.
+-- If no two nodes have the same state, the walk of a node is the settled walk of the node's state.
+-- A state is a router in a leg, and a node is the record of a walk.
 pub label_at : (nodes : List Node) → AllPairs (λ m n. same_state (state_of m) (state_of n) ≡ false) nodes → (i : ℕ) (d : Node) → i < length nodes
     → labels_of nodes (state_of (slice_index_or nodes i d)) ≡ Some (walk_at (walks nodes) i)
 label_at nodes apart i d h = ap (option_map (λ i. walk_at (walks nodes) i)) (index_at nodes apart i d h)
 
--- A state that isn't settled has no index.
+-- If a state isn't settled, none of the settled nodes has this state. A state is a router in a leg,
+-- and a node is the record of a walk.
 pub open_index : (nodes : List Node) (s : State) → labels_of nodes s ≡ None → index_of nodes s ≡ None
 open_index nodes s e =
     elim (index_of nodes s) as (λ o. option_map (λ i. walk_at (walks nodes) i) o ≡ None → o ≡ None) [
@@ -105,7 +112,8 @@ apart_push nodes n apart left =
     all_pairs_push (λ m n. same_state (state_of m) (state_of n) ≡ false) nodes n apart
     (λ k d h. position-None (λ m. same_state (state_of m) (state_of n)) nodes k d (open_index nodes (state_of n) left) h)
 
--- Lemmas on one more node that is appended.
+-- Lemmas on a list of nodes to which one more node is appended. The state of this node isn't
+-- settled before. A state is a router in a leg, and a node is the record of a walk.
 
 module _ (nodes : List Node) (n : Node) (are : AreNodes nodes) (next : IsNext nodes n) (left : labels_of nodes (state_of n) ≡ None) where
   at_old : (i : ℕ) (d : Node) → i < length nodes → slice_index_or (nodes ++ (n ∷ [])) i d ≡ slice_index_or nodes i d
@@ -114,7 +122,8 @@ module _ (nodes : List Node) (n : Node) (are : AreNodes nodes) (next : IsNext no
   at_new : (i : ℕ) (d : Node) → i ≡ length nodes → slice_index_or (nodes ++ (n ∷ [])) i d ≡ n
   at_new i d e = get_or_push nodes n d i (sym e)
 
-  -- What holds of the old nodes and of the new node holds of all.
+  -- If something holds of each old node (the record of a walk) and of the new node, it holds of
+  -- each node of the list.
   by_index : (P : ℕ → Node → Type 0) → ((i : ℕ) (d : Node) → i < length nodes → P i (slice_index_or nodes i d)) → P (length nodes) n
       → (i : ℕ) (d : Node) → i < length (nodes ++ (n ∷ [])) → P i (slice_index_or (nodes ++ (n ∷ [])) i d)
   by_index P old new i d h =
@@ -172,7 +181,7 @@ module _ (nodes : List Node) (n : Node) (are : AreNodes nodes) (next : IsNext no
 started : (p : ℕ) (b : Option Link) → p ≡ 0 → b ≡ None → walk_with [] b ≡ walk_with (walk_at (walk_with [] b ∷ []) p) b
 started p b first last = rw (first, last) refl
 
--- Lemmas on the root as the only node.
+-- Lemmas on the list whose only node (the record of a walk) is the root.
 module _ (n : Node) (root : IsRoot n) where
   only : (P : ℕ → Node → Type 0) → P 0 n → (i : ℕ) (d : Node) → i < 1 → P i (slice_index_or (n ∷ []) i d)
   only P here zero d h = here

@@ -1,4 +1,4 @@
--- The targets of legs, as a query has them.
+-- The targets of the legs (the routers where a leg may end), as a query gives them.
 use Rattle.std.proofs.Common.{◌≡◌, inl, inr, ℕ, ◌+◌, ◌/◌, ◌%◌, ◌<◌, ◌++◌, ◌∷◌, [], IsTrue, List, Contains, take, Vec, Global, length, slice_index_or, sym, ap, subst, ◌∙◌}
 use Rattle.std.proofs.lemmas.List.{take_more}
 use Rattle.std.proofs.lemmas.List.Elements.{Contains-push_cases}
@@ -9,17 +9,20 @@ use Rattle.cspf_graph.specs.Lists.{router_at}
 use Rattle.cspf_graph.specs.Roles.{AreRoles, AreTargets, AreTargetsOf, IsStateIndex, MayTurn}
 use Rattle.cspf_graph.specs.RoleSteps.{nothing}
 
--- The list that was read for a leg has the targets of this leg.
+-- The list of targets (routers where the leg may end) that is read for a leg is the list of this
+-- leg's targets.
 pub read_targets : (d : Database) (q : Request) (targets : List (Vec ℕ Global)) (leg : ℕ) (read : Vec ℕ Global) (places : List ℕ) → AreTargets d q targets → leg < length q.hops
     → places ≡ (slice_index_or targets leg read).items → AreTargetsOf d q (leg + 1) places
 read_targets d q targets leg read places are within is = rw is (are.each leg read within)
 
--- If a router's role in a leg says that it is a target, a route may turn there.
+-- If a router's role in a leg says that it is a target, a route may go on to the next leg at this
+-- router. A leg's targets are the routers where it may end.
 pub role_turns : (d : Database) (q : Request) (roles : List Role) → AreRoles d q roles → (i : ℕ) → IsStateIndex d q i → IsTrue (slice_index_or roles i nothing).target
     → MayTurn d q (i / 1024 + 1) (router_at d (i % 1024))
 role_turns d q roles are i ix on = (are.each i nothing ix).target.0 on
 
--- What holds at the first `k` of some indexes, and at the next index, holds at the first `k + 1`.
+-- If something holds of the first `k` items of a list of indexes, and of the next item, it holds of
+-- the first `k + 1` items.
 pub taken_more : (P : ℕ → Type 0) (places : List ℕ) (k place : ℕ) → k < length places → place ≡ slice_index_or places k 0 → ((p : ℕ) → Contains (take k places) p → P p) → P place
     → (p : ℕ) → Contains (take (k + 1) places) p → P p
 taken_more P places k place within read before here p has =

@@ -1,4 +1,5 @@
--- The orders of walks at their states.
+-- Lemmas on the orders by which walks are compared. Some of these orders compare walks together
+-- with their legs, or together with their states (routers in legs).
 use Rattle.std.proofs.Common.{◌≡◌, ℕ, suc, ◌+◌, ◌<◌, ◌≤◌, false, List, [], ◌∷◌, ◌++◌, length, refl, sym, ap, ◌∙◌, arith}
 use Rattle.std.specs.Ordering.{nat_cmp, ordering_then, is_gt}
 use Rattle.std.specs.declared.cmp.Ordering.{Ordering}
@@ -32,7 +33,7 @@ potentials_total potential =
 pub states_total : IsTotalOrder state_cmp
 states_total = then_total ranks_total (on_total (λ (a : ℕ × List Link). locals_of a.1) nat_list_cmp_total)
 
--- Lemmas on one comparison that follows another.
+-- Lemmas on comparing by one order, and by a second order where the first one ties.
 
 then-equal : (o : Ordering) → ordering_then o Equal ≡ o
 then-equal Less = refl
@@ -44,7 +45,8 @@ then_assoc Less p q = refl
 then_assoc Equal p q = refl
 then_assoc Greater p q = refl
 
--- The second order matters only if the first one ties.
+-- Take an order, and two other orders that may decide where this one ties. If these two agree
+-- wherever it ties, the combined orders agree.
 then_same : (o p q : Ordering) → (o ≡ Equal → p ≡ q) → ordering_then o p ≡ ordering_then o q
 then_same Less p q h = refl
 then_same Equal p q h = h refl
@@ -55,7 +57,8 @@ front_no_later Less p h = refl
 front_no_later Equal p h = refl
 front_no_later Greater p h = h
 
--- If the legs are equal, the cost and the number of links decide.
+-- Lemmas on two walks in the same leg. The cost decides which walk comes first, then the number of
+-- links, and then the local addresses.
 
 less_first : (a b d : Ordering) → ordering_then a (ordering_then b Equal) ≡ Less → is_gt (ordering_then a (ordering_then b d)) ≡ false
 less_first Less b d h = refl
@@ -116,14 +119,15 @@ slice_cmp-last (a ∷ xs) [] x y e = absurd (omega arith)
 slice_cmp-last (a ∷ xs) (b ∷ ys) x y e =
     ap (ordering_then (nat_cmp a b)) (slice_cmp-last xs ys x y (omega arith)) ∙ sym (then_assoc (nat_cmp a b) (slice_cmp nat_cmp xs ys) (nat_cmp x y))
 
--- Of two walks of the same length, the last links are compared last.
+-- If two walks of the same length are each continued by a link, the local addresses of these links
+-- are compared last.
 pub locals_cmp-last : (v w : List Link) (l m : Link) → length v ≡ length w
     → locals_cmp (v ++ (l ∷ [])) (w ++ (m ∷ [])) ≡ ordering_then (locals_cmp v w) (nat_cmp l.local m.local)
 locals_cmp-last v w l m e =
     rw (map_push (λ (l : Link). l.local) v l, map_push (λ (l : Link). l.local) w m)
     (slice_cmp-last (locals_of v) (locals_of w) l.local m.local (length-map v (λ (l : Link). l.local) ∙ e ∙ sym (length-map w (λ (l : Link). l.local))))
 
--- If two walks are continued by the same link, their order stays.
+-- If two walks are continued by the same link, the order between them stays the same.
 pub walk_cmp-push : (v w : List Link) (l : Link) → walk_cmp (v ++ (l ∷ [])) (w ++ (l ∷ [])) ≡ walk_cmp v w
 walk_cmp-push v w l =
     rw (cost_of-push v l, cost_of-push w l, length_push v l, length_push w l, nat_cmp-add (cost_of v) (cost_of w) l.metric, nat_cmp-add (length v) (length w) 1)
@@ -134,7 +138,8 @@ walk_cmp-push v w l =
 grows : (a n b k : ℕ) (o : Ordering) → a ≤ b → n < k → ordering_then (nat_cmp a b) (ordering_then (nat_cmp n k) o) ≡ Less
 grows a n b k o up more = grind (arith, nat_tests)
 
--- A walk ranks before the same walk continued by one link.
+-- If the potential falls at most by the metric of a link, a walk ranks before the same walk
+-- continued by this link.
 pub potential_cmp-push : (potential : State → ℕ) (s t : State) (v : List Link) (l : Link) → potential s ≤ potential t + l.metric
     → potential_cmp potential (s, v) (t, v ++ (l ∷ [])) ≡ Less
 potential_cmp-push potential s t v l up =
@@ -144,7 +149,8 @@ potential_cmp-push potential s t v l up =
 turns : (a b n k : ℕ) → a ≤ b → ordering_then (nat_cmp a b) (ordering_then (nat_cmp n n) (nat_cmp k (suc k))) ≡ Less
 turns a b n k up = grind (arith, nat_tests)
 
--- A walk ranks before the same walk in the next leg.
+-- If the potential doesn't fall at the step to the next leg, a walk ranks before the same walk
+-- after this step.
 pub potential_cmp-turn : (potential : State → ℕ) (k router : ℕ) (v : List Link)
     → potential (record { leg = k; router = router }) ≤ potential (record { leg = suc k; router = router })
     → potential_cmp potential (record { leg = k; router = router }, v) (record { leg = suc k; router = router }, v) ≡ Less

@@ -1,4 +1,6 @@
--- The node of the least key is a first crossing. If no key is left, no walk crosses.
+-- The waiting state (a router in a leg) with the least key is the next one to settle. If no key in
+-- the heap counts any more, no further state can be settled. Neither a link nor a step to the next
+-- leg leads from a settled state to an unsettled one outside of the closed legs.
 use Rattle.std.proofs.Common.{◌≡◌, ◌≢◌, inl, inr, ℕ, suc, ◌+◌, ◌-◌, ◌*◌, ◌/◌, ◌%◌, ◌<◌, ◌≤◌, true, Some, None, List, [], ◌∷◌, length, set, replicate, slice_index, refl, sym, ap, subst, ◌∙◌, arith, length-set}
 use Rattle.std.specs.List.{Contains}
 use Rattle.std.specs.BinaryHeap.{IsHeap}
@@ -32,14 +34,18 @@ use Rattle.cspf_search.proofs.Grown.{reached_router, crosses_from, crosses_to, r
 use Rattle.cspf_graph.proofs.RouterIndexes.{same_or_not}
 use Rattle.cspf_search.proofs.Ranks.{before_by_rank, rank_before, rank_tied, rank_is, walk_short, rank_small, crossing_short, state_apart, index_for, potential_of, potential_at, lift_is, potential_consistent}
 
--- The label of a state that isn't settled has a rank above 0.
+-- The label of a state that isn't settled has a rank above 0. A state is a router in a leg, and a
+-- label holds the best walk found so far to a state. A walk's rank is its cost and its number of
+-- links as one number.
 pub open_rank : (d : Database) (nodes : List Node) (P : List Link → State → Type 0) (cap ahead : ℕ) (t : State) (label : Label) → IsLabel d nodes P cap ahead t label
     → index_of nodes t ≡ None → 0 < label.rank
 open_rank d nodes P cap ahead t label (is_settled k none e) left = absurd (cc)
 open_rank d nodes P cap ahead t label (is_reached o r) left = omega (arith, r.rank)
 open_rank d nodes P cap ahead t label (is_unreached o none first) left = omega (arith, none)
 
--- The label of a waiting state describes a node.
+-- If a state isn't settled, and a walk to this state is known, the label of the state describes a
+-- node. A state is a router in a leg, and a node is the record of a walk. A label holds the best
+-- walk found so far to a state.
 pub reached_of : (d : Database) (nodes : List Node) (P : List Link → State → Type 0) (cap ahead : ℕ) (t : State) (label : Label) → IsLabel d nodes P cap ahead t label
     → 0 < label.rank → label.rank < no_rank → IsReached d nodes P cap ahead t label
 reached_of d nodes P cap ahead t label (is_settled k none e) some most = absurd (omega (arith, none))
@@ -61,7 +67,8 @@ module _ (d : Database) (q : Request) (of : AreLinksOf d (links_of d)) (listed :
   abbrev cap : ℕ
   cap = (label_at labels goal.at).rank
 
-  -- Each walk that crosses leads to a state that has an index.
+  -- If a walk continues a settled walk by one step to an unsettled state (a router in a leg), this
+  -- state has an index.
   crossing_index : (w : List Link) (u : State) → Crosses d q (labels_of nodes) w u → (j : ℕ) × IsStateIndex d q j × (u ≡ state_at d j)
   crossing_index w u c =
       let r = steps (settled.reached c.state c.front c.settled) c.step in
@@ -74,7 +81,9 @@ module _ (d : Database) (q : Request) (of : AreLinksOf d (links_of d)) (listed :
   capped : 0 < cap
   capped = open_rank d nodes (CrossesBelow d q nodes (links_of d) (length nodes)) cap (lift goal goal.at) (state_at d goal.at) (label_at labels goal.at) (before.each goal.at there floor.low) left
 
-  -- The key of the goal is its rank, because its bound is 0.
+  -- The goal is the tail-end in the last leg, and its bound is 0. So its lift is 0 too: its key in
+  -- the heap is its rank. A walk's rank is its cost and its number of links as one number. The lift
+  -- of a state is how much its key in the heap exceeds its rank.
   goal_lift : lift goal goal.at ≡ 0
   goal_lift =
       let none = goal_bound d q goal bounds there end in
@@ -83,7 +92,8 @@ module _ (d : Database) (q : Request) (of : AreLinksOf d (links_of d)) (listed :
   goal_waits : cap < no_rank → Contains keys (key_at (cap + lift goal goal.at) goal.at)
   goal_waits known = before.waiting goal.at there floor.low capped known
 
-  -- A walk that crosses into a leg after the closed legs leads to an index from the floor on.
+  -- The floor is the first index after the states (routers in legs) of the closed legs. If a state
+  -- is in a leg after the closed legs, its index is at least the floor.
   behind_floor : (u : State) → goal.floor / 1024 < u.leg → (j : ℕ) → u ≡ state_at d j → goal.floor ≤ j
   behind_floor u h j is = omega (arith, h, ap (λ (s : State). s.leg) is, before.whole)
 
@@ -97,7 +107,11 @@ module _ (d : Database) (q : Request) (of : AreLinksOf d (links_of d)) (listed :
     rank : (label_at labels i).rank ≡ walk_rank (walk_of nodes n)
     rank = here.rank ∙ rank_is nodes are n here.next
 
-    -- A walk whose rank plus lift exceeds the cap also exceeds the least key.
+    -- The cap is the rank of the goal's label, and the lift of a state is how much its key exceeds
+    -- its rank. If the rank of a walk plus the lift of the walk's state exceeds the cap, this sum
+    -- also exceeds the number of the least key. A state is a router in a leg, and a label holds the
+    -- best walk found so far to a state. A walk's rank is its cost and its number of links as one
+    -- number.
     behind : (ahead : ℕ) (w : List Link) → IsBeyond cap ahead w → walk_rank (walk_of nodes n) + lift goal i < walk_rank w + ahead
     behind ahead w beyond =
         elim (least.first (key_at (cap + lift goal goal.at) goal.at) (goal_waits beyond.known) (record { behind = floor.low; same = refl })) [
@@ -190,7 +204,8 @@ module _ (d : Database) (q : Request) (of : AreLinksOf d (links_of d)) (listed :
           uncrossed at.0 at.1 ahead w p clear (label_at labels at.0) refl (before.each at.0 at.1 ahead);
     }
 
--- Lemmas on the labels at the start of the search.
+-- Lemmas on the state of the head-end in the first leg, and on the labels when the search starts. A
+-- label gives, for a state, the best walk found so far.
 
 module _ (d : Database) (q : Request) (listed : AreListed d) (place : ℕ) (at : IsIndexOf d q.from place) where
   start_index : IsStateIndex d q place
@@ -250,7 +265,8 @@ module _ (d : Database) (q : Request) (listed : AreListed d) (place : ℕ) (at :
             ];
       }
 
--- The goal is the state of the tail-end in the leg after the last hop.
+-- The goal, which is the tail-end in the leg after the last hop, has the index of a state of the
+-- request. A state is a router in a leg.
 pub goal_index : (d : Database) (q : Request) → AreListed d → (to legs : ℕ) → legs ≡ length q.hops + 1 → IsIndexOf d q.to to → IsStateIndex d q ((legs - 1) * 1024 + to)
 goal_index d q listed to legs count end =
     let place : ((legs - 1) * 1024 + to) % 1024 ≡ to = omega (arith, end.within, listed.few) in

@@ -1,4 +1,4 @@
--- The indexes of the reverses of links.
+-- Lemmas on the indexes of the reverses of links.
 use Rattle.std.proofs.Common.{◌≡◌, ◌≢◌, inl, inr, ℕ, ◌<◌, Some, List, length, map, slice_get, slice_index, slice_index_or, refl, sym, ap, subst, ◌∙◌}
 use Rattle.std.specs.List.{All}
 use Rattle.std.proofs.lemmas.List.{length-map}
@@ -12,13 +12,14 @@ use Rattle.cspf_search.proofs.Expanded.{kept_from}
 use Rattle.cspf_graph.proofs.RouterIndexes.{same_or_not, one_place}
 use Rattle.cspf_search.proofs.Taken.{end_of_row}
 
--- For each link from the router there is one index in `ends`.
+-- There are as many indexes in `ends` as links from the router.
 pub as_many : (d : Database) (place : ℕ) (ends : List ℕ) → map (λ end. slice_index (router_list d) end) ends ≡ map (λ (l : Link). l.to) (links_from_index d place)
     → length ends ≡ length (links_from_index d place)
 as_many d place ends each =
     sym (length-map ends (λ end. slice_index (router_list d) end)) ∙ ap (λ (ns : List ℕ). length ns) each ∙ length-map (links_from_index d place) (λ (l : Link). l.to)
 
--- The index beside a row is the index of the row's reverse.
+-- At the index that a link has among the links from the router, the list `reverses` has the index
+-- of this link's reverse.
 pub reverse_of_row : (d : Database) (place : ℕ) (reverses : List ℕ)
     → ((nth : ℕ) (e : Link) → nth < length (links_from_index d place) → IsReverseAt d (slice_index_or (links_from_index d place) nth e) (slice_index_or reverses nth 0))
     → (nth : ℕ) (l : Link) → slice_get (links_from_index d place) nth ≡ Some l → IsReverseAt d l (slice_index reverses nth)
@@ -38,11 +39,11 @@ one_reverse d r l m first second of_l of_m =
     same_Some m l (sym of_m ∙ ap (link_at d) key ∙ of_l)
 
 module _ (d : Database) (links : AreLinksOf d (links_of d)) where
-  -- An index other than `NO_LINK` is the index of a reverse.
+  -- If the index that the table has for a link's reverse isn't `NO_LINK`, the link has a reverse.
   pub has_reverse : (l : Link) (n : ℕ) → IsReverseAt d l n → n ≢ NO_LINK → HasReverse d l
   has_reverse l n is some = (slice_index_or (links_of d) n l, links.each n l (is.within some), is.found some)
 
-  -- The reverse of a link's reverse is the link itself.
+  -- The link at the index of the reverse of a link's reverse is the link itself.
   back_again : (l r : Link) → IsLinkOf d l → IsReverse l r → (n : ℕ) → IsReverseAt d r n → slice_get (links_of d) n ≡ Some l
   back_again l r of back n is =
       elim (same_or_not n NO_LINK) [
@@ -55,9 +56,9 @@ module _ (d : Database) (links : AreLinksOf d (links_of d)) where
   module _ (listed : AreListed d) (to : ℕ) (ends reverses : List ℕ) (within : All (λ end. end < length (router_list d)) ends)
       (each : map (λ end. slice_index (router_list d) end) ends ≡ map (λ (l : Link). l.to) (links_from_index d to))
       (beside : (nth : ℕ) (e : Link) → nth < length (links_from_index d to) → IsReverseAt d (slice_index_or (links_from_index d to) nth e) (slice_index_or reverses nth 0)) where
-    -- A link that has a reverse is found from the router at its end, because its reverse is a row
-    -- there. Beside that row are the index of the router where the link begins, and the index of the
-    -- link.
+    -- If a link has a reverse, this reverse is one of the links from the router where the link
+    -- ends. At the index that the reverse has among these links, `ends` has the index of the router
+    -- where the link begins. At the same index, `reverses` has the index of the link.
     pub found_back : (l : Link) → IsLinkOf d l → HasReverse d l → (u : ℕ) → IsIndexOf d l.from u → IsIndexOf d l.to to
         → (nth : ℕ) × (nth < length (links_from_index d to)) × (slice_index ends nth ≡ u) × (slice_get (links_of d) (slice_index reverses nth) ≡ Some l)
     found_back l of has u from end =

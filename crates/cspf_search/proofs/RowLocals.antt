@@ -15,14 +15,14 @@ use Rattle.cspf_columns.proofs.SortedEntries.{both_first, both_second, less_from
 use Rattle.cspf_columns.proofs.RowOrder.{by_key-entries, by_key-filter}
 use Rattle.cspf_search.proofs.Expanded.{runs_from}
 
--- A key below all keys of a list isn't found.
+-- If a key is below all keys of a list, it isn't found in the list.
 missing : (k : Key) (es : List (Key × Link)) → T (below_all key_cmp k es) → find key_cmp k es ≡ None
 missing k [] h = refl
 missing k (e ∷ es) h =
     ap (λ r. cond (is_eq r) (Some e.1) (find key_cmp k es)) (less_from _ (both_first _ _ h)) ∙ missing k es (both_second _ _ h)
 
--- A key that is found after the first entry is also found in the whole list, because the first key is
--- lower.
+-- If a key is found after the first entry of a sorted list, it is also found in the whole list: the
+-- key of the first entry is lower.
 found_behind : (k : Key) (l : Link) (e : Key × Link) (es : List (Key × Link)) → T (below_all key_cmp e.0 es) → find key_cmp k es ≡ Some l → find key_cmp k (e ∷ es) ≡ Some l
 found_behind k l e es below found =
     elim (eq_by_cmp key_cmp k e.0) as (λ b. eq_by_cmp key_cmp k e.0 ≡ b → cond b (Some e.1) (find key_cmp k es) ≡ Some l) [
@@ -32,7 +32,8 @@ found_behind k l e es below found =
       | false ↦ λ _. found
     ] refl
 
--- Entries in order, each with its link's key, are the entries of their links.
+-- Take a sorted list of entries, each of a key and a link. If each entry has the key of its link,
+-- the list is made of its links, each with its own key.
 entries_keyed : (es : List (Key × Link)) → T (is_sorted key_cmp es) → ((k : Key) (l : Link) → find key_cmp k es ≡ Some l → key_of l ≡ k) → es ≡ map entry_of (map (λ e. e.1) es)
 entries_keyed [] sorted keyed = refl
 entries_keyed (e ∷ es) sorted keyed =
@@ -49,7 +50,7 @@ links_by_key d keyed =
 less_local : (a b i j : ℕ) → a ≡ b → ordering_then (nat_cmp a b) (nat_cmp i j) ≡ Less → i < j
 less_local a b i j same less = grind (arith, nat_tests)
 
--- Of the links from a router, a later link has a greater local address.
+-- Of two links from a router, the later one in the list has the greater local address.
 pub locals_rise : (d : Database) → AreAtTheirKeys d → (place i j : ℕ) (l m : Link) → slice_get (links_from_index d place) i ≡ Some l → slice_get (links_from_index d place) j ≡ Some m
     → i < j → l.local < m.local
 locals_rise d keyed place i j l m here there less =

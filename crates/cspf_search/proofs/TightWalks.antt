@@ -1,4 +1,6 @@
--- The walk over the first tight link of each router is the least route, if it leads to the tail-end.
+-- A link is tight if the tree's bound falls over it by exactly its metric, and the number of links
+-- by one. The walk over the first tight link of each router is the least route, if it leads to the
+-- tail-end.
 use Rattle.std.proofs.Common.{◌≡◌, ◌≢◌, inl, inr, ℕ, ◌+◌, ◌^◌, ◌<◌, ◌≤◌, Some, List, [], ◌∷◌, ◌++◌, ◌⊎◌, length, map, slice_get, slice_index, slice_index_or, refl, sym, ap, subst, ◌∙◌, arith, append_assoc, append-nil}
 use Rattle.std.specs.List.{All}
 use Rattle.std.specs.Cmp.{nat_cmp_total}
@@ -41,8 +43,8 @@ use Rattle.cspf_search.proofs.Taken.{end_of_row}
 use Rattle.cspf_search.proofs.Orders.{cost_of-push, walks_total}
 use Rattle.cspf_graph.proofs.RouterIndexes.{one_place}
 
--- A walk that costs more isn't before another walk. At the same cost, a walk with more links isn't
--- before another walk.
+-- A walk that costs more than another doesn't come before it. Neither does a walk that costs the
+-- same and has more links.
 
 cost_first : (a b : ℕ) (o : Ordering) → b < a → ordering_then (nat_cmp a b) o ≡ Less → ⊥
 cost_first a b o h less = grind (arith, nat_tests)
@@ -50,7 +52,8 @@ cost_first a b o h less = grind (arith, nat_tests)
 links_first : (a b m n : ℕ) (o : Ordering) → a ≡ b → n < m → ordering_then (nat_cmp a b) (ordering_then (nat_cmp m n) o) ≡ Less → ⊥
 links_first a b m n o e h less = grind (arith, nat_tests)
 
--- If the cost and the number of links tie, the local addresses decide.
+-- If two walks have the same cost and equally many links, their local addresses decide which walk
+-- comes first.
 locals_decide : (a b m n : ℕ) (o : Ordering) → a ≡ b → m ≡ n → o ≡ Greater → ordering_then (nat_cmp a b) (ordering_then (nat_cmp m n) o) ≡ Less → ⊥
 locals_decide a b m n o e same greater less = grind (arith, nat_tests)
 
@@ -62,11 +65,13 @@ parts_greater [] m l rest on later = local_first m.local l.local (locals_cmp res
 parts_greater (k ∷ front) m l rest on later =
     ap (λ o. ordering_then o (locals_cmp (front ++ (m ∷ rest)) (front ++ (l ∷ on)))) (tied_itself nat_cmp_total k.local) ∙ parts_greater front m l rest on later
 
--- A route that leaves a walk by a later link comes after it.
+-- If a route leaves a walk by a link with a greater local address, it comes after the walk in the
+-- order of local addresses.
 later_greater : (walk route : List Link) → LeavesLater walk route → locals_cmp route walk ≡ Greater
 later_greater walk route b = (λ t. locals_cmp (b.is_route t) (b.is_walk t)) ∙ parts_greater b.front b.other b.taken b.rest b.on b.later
 
--- Such a route also comes after the walk continued by one link.
+-- Suppose that a route leaves a walk by a link with a greater local address. If the walk is
+-- continued by one more link, the route leaves the longer walk in the same way.
 leaves_longer : (walk route : List Link) (l : Link) → LeavesLater walk route → LeavesLater (walk ++ (l ∷ [])) route
 leaves_longer walk route l b = record {
   front = b.front;
@@ -79,7 +84,7 @@ leaves_longer walk route l b = record {
   later = b.later;
 }
 
--- The cost of a link and the links after it.
+-- The cost of a link and the links after it is the link's metric plus the cost of these links.
 cost_of-cons : (l : Link) (links : List Link) → cost_of (l ∷ links) ≡ l.metric + cost_of links
 cost_of-cons l links = sum_by-cons (λ (l : Link). l.metric) l links
 
@@ -93,13 +98,14 @@ place_for d listed router known =
 to_place : (d : Database) (q : Request) → AreListed d → (l : Link) → IsAdmissible d q l → (place : ℕ) × IsIndexOf d l.to place
 to_place d q listed l a = place_for d listed l.to (l, a.link, inr refl)
 
--- An admissible link is in the request's class.
+-- An admissible link is in the request's class: its reverse is in the database, and the link passes
+-- the request's affinities.
 in_class : (d : Database) (q : Request) (l : Link) → IsAdmissible d q l → IsInClass d q l
 in_class d q l a = record { link = a.link; reverse = a.usable.reverse; affinity = a.usable.admitted.affinity }
 
 module _ (d : Database) (q : Request) (tree : Tree) (listed : AreListed d) (is : IsTree d q tree) where
-  -- A way to the tail-end costs at least the bound of its router. If it costs just the bound, it has at
-  -- least the tree's number of links.
+  -- A way to the tail-end costs at least the tree's bound for the router where the way begins. If
+  -- it costs exactly this bound, it has at least the tree's number of links for this router.
   at_least : (router place : ℕ) → IsIndexOf d router place → (links : List Link) → IsWayOn d q router links
       → (tree_bound tree place ≤ cost_of links) × (cost_of links ≡ tree_bound tree place → tree_links tree place ≤ length links)
   at_least router place at [] way =
@@ -117,7 +123,8 @@ module _ (d : Database) (q : Request) (tree : Tree) (listed : AreListed d) (is :
             omega (arith, is.fewer place to.0 l class way.over.0 from to.1 falls, rest.1 (omega (arith, falls, cost, cost_of-cons l links))),
       )
 
-  -- If the way costs just the bound and has just this number of links, its first link is tight, and so
+  -- Lemmas on a way from a router to the tail-end. The way costs exactly the tree's bound for the
+  -- router, and has exactly the tree's number of links for it. Then its first link is tight, and so
   -- are the links after it.
   module _ (router place : ℕ) (at : IsIndexOf d router place) (l : Link) (links : List Link) (way : IsWayOn d q router (l ∷ links))
       (cost : cost_of (l ∷ links) ≡ tree_bound tree place) (many : length (l ∷ links) ≡ tree_links tree place) where
@@ -151,7 +158,8 @@ module _ (d : Database) (q : Request) (tree : Tree) (listed : AreListed d) (is :
       }
 
   module _ (from : ℕ) (there : IsIndexOf d q.from from) where
-    -- The walk without links.
+    -- The walk without links is a tight walk from the head-end to itself. A link is tight if the
+    -- tree's bound falls over it by exactly its metric, and its number of links by one.
     pub tight_none : IsTightWalk d q tree from [] from
     tight_none = record {
       within = there.within;
@@ -162,7 +170,9 @@ module _ (d : Database) (q : Request) (tree : Tree) (listed : AreListed d) (is :
       first = λ route is_route cost many. inl (record { rest = route; whole = refl; way = rw there.is (route_way route is_route); cost = cost; many = many });
     }
 
-    -- The walk is continued by the first tight link of its last router.
+    -- Lemmas on a tight walk that is continued by the first tight link of its last router. A link
+    -- is tight if the tree's bound falls over it by exactly its metric, and its number of links by
+    -- one.
     module _ (of : AreLinksOf d (links_of d)) (keyed : AreAtTheirKeys d) (loose : length q.hops ≡ 0) (to : ℕ) (end : IsIndexOf d q.to to) (walk : List Link) (place : ℕ)
         (before : IsTightWalk d q tree from walk place) (on : place ≢ to) (edge : Edge) (next : IsNextTight d q tree place edge) where
       abbrev l : Link
@@ -202,7 +212,10 @@ module _ (d : Database) (q : Request) (tree : Tree) (listed : AreListed d) (is :
             | inr e ↦ inr (next.is_edge.end.is ∙ e)
           ]
 
-      -- The rest of a route after the walk begins with this link, or with a later one.
+      -- Take a route that begins with the tight walk. Suppose that the rest of the route costs the
+      -- tree's bound for the walk's last router, and has the tree's number of links for it. The
+      -- rest begins with the link `l`, or with a link with a greater local address. A link is tight
+      -- if the tree's bound falls over it by exactly its metric, and its number of links by one.
       goes_on : (rest : List Link) → IsWayOn d q (router_at d place) rest → cost_of rest ≡ tree_bound tree place → length rest ≡ tree_links tree place → (route : List Link) → route ≡ walk ++ rest
           → GoesOn d q tree (walk ++ (l ∷ [])) edge.end route ⊎ LeavesLater (walk ++ (l ∷ [])) route
       goes_on [] way cost many route whole = absurd (not_end way.end)
@@ -254,7 +267,10 @@ module _ (d : Database) (q : Request) (tree : Tree) (listed : AreListed d) (is :
             ];
       }
 
-    -- The walk has reached the tail-end.
+    -- Lemmas on a tight walk that has reached the tail-end. Its cost is the tree's bound for the
+    -- head-end, and its number of links is the tree's number of links for the head-end. A link is
+    -- tight if the tree's bound falls over it by exactly its metric, and its number of links by
+    -- one.
     module _ (loose : length q.hops ≡ 0) (to : ℕ) (end : IsIndexOf d q.to to) (walk : List Link) (at : IsTightWalk d q tree from walk to) where
       is_route : IsRoute d q walk
       is_route =
@@ -268,7 +284,7 @@ module _ (d : Database) (q : Request) (tree : Tree) (listed : AreListed d) (is :
       many_is : length walk ≡ tree_links tree from
       many_is = omega (arith, at.many, is.end_links to end)
 
-      -- A longer route that begins with the walk isn't before it.
+      -- A route that begins with the walk and has the same cost doesn't come before the walk.
       longer_later : (rest other : List Link) → other ≡ walk ++ rest → cost_of other ≡ cost_of walk → walk_cmp other walk ≢ Less
       longer_later [] other whole cost less =
           let same : other ≡ walk = whole ∙ append-nil walk in
@@ -308,7 +324,8 @@ module _ (d : Database) (q : Request) (tree : Tree) (listed : AreListed d) (is :
         small = small;
       }
 
--- What the table's columns say of a tight link.
+-- Lemmas on a link from a router. The first lemma shows from the table's columns that the link is
+-- tight. The second says that a way may lead over the router at the end of a tight link.
 module _ (d : Database) (q : Request) (tree : Tree) (listed : AreListed d) (of : AreLinksOf d (links_of d)) (place : ℕ) (edge : Edge) (is : IsEdge d place edge) where
   pub tight_is : tree_bound tree place ≡ edge.metric + tree_bound tree edge.end → tree_links tree place ≡ tree_links tree edge.end + 1 → edge.reverse ≢ NO_LINK → IsAdmitted q edge.link.now
       → MayLeadOver d q (slice_index (router_list d) edge.end) → IsTight d q tree place edge.link.now
@@ -324,7 +341,9 @@ module _ (d : Database) (q : Request) (tree : Tree) (listed : AreListed d) (of :
   pub tight_over : IsTight d q tree place edge.link.now → MayLeadOver d q (slice_index (router_list d) edge.end)
   tight_over tight = rw is.end.is tight.over
 
--- A link, with the index of the router at its end and the index of its reverse.
+-- For each link from a router, `ends` has the index of the router where the link ends, and
+-- `reverses` has the index of the link's reverse. Both are at the index that the link has among the
+-- links from the router.
 pub beside_row : (d : Database) (place : ℕ) (links : List Link) → links ≡ links_from_index d place → (ends : List ℕ) → All (λ end. end < length (router_list d)) ends
     → map (λ end. slice_index (router_list d) end) ends ≡ map (λ (l : Link). l.to) (links_from_index d place) → (reverses : List ℕ)
     → ((nth : ℕ) (e : Link) → nth < length (links_from_index d place) → IsReverseAt d (slice_index_or (links_from_index d place) nth e) (slice_index_or reverses nth 0))

@@ -9,41 +9,46 @@ use Rattle.cspf_search.specs.declared.limits.TheConstants.{COST_WEIGHT}
 use Rattle.cspf_search.specs.States.{State}
 use Rattle.cspf_search.specs.Settled.{Labels}
 
--- The walk, continued by the link if there is one.
+-- The walk `walk`. If a link is given, it is added at the walk's end.
 abbrev pub walk_with : List Link → Option Link → List Link
 walk_with walk None = walk
 walk_with walk (Some l) = walk ++ (l ∷ [])
 
--- The walk at the index `i`.
+-- The walk at the index `i` of a list of walks.
 abbrev pub walk_at : List (List Link) → ℕ → List Link
 walk_at walks i = slice_index_or walks i []
 
--- The walks `done`, followed by the walks of these nodes.
+-- The walks `done`, followed by the walk of each node (the record of a walk). A node's parent is an
+-- index into the walks before its own walk.
 abbrev pub walks_after : List (List Link) → List Node → List (List Link)
 walks_after done [] = done
 walks_after done (n ∷ ns) = walks_after (done ++ (walk_with (walk_at done n.parent) n.by ∷ [])) ns
 
--- The walks of the nodes. A node's walk is its parent's walk, continued by the node's link.
+-- The walks of the nodes (records of walks). A node's walk is its parent's walk, continued by the
+-- node's link.
 abbrev pub walks : List Node → List (List Link)
 walks nodes = walks_after [] nodes
 
--- The walk of a node whose parent is one of the nodes.
+-- The walk of the node `n` (the record of a walk), whose parent is one of the nodes `nodes`.
 abbrev pub walk_of : List Node → Node → List Link
 walk_of nodes n = walk_with (walk_at (walks nodes) n.parent) n.by
 
--- The state that the walk of a node has reached.
+-- The state that the walk of a node (the record of a walk) has reached: its router, in the leg of
+-- the request that the walk is in.
 abbrev pub state_of : Node → State
 state_of n = record { leg = n.leg; router = n.router }
 
--- Whether two states are equal.
+-- Whether two states have the same leg and the same router.
 abbrev pub same_state : State → State → Bool
 same_state s t = nat_eq s.leg t.leg && nat_eq s.router t.router
 
--- The index of the first node with this state.
+-- The index of the first node with this state. A state is a router in a leg, and a node is the
+-- record of a walk.
 abbrev pub index_of : List Node → State → Option ℕ
 index_of nodes s = position (λ n. same_state (state_of n) s) nodes
 
--- The settled walk of a state is the walk of the first node with this state.
+-- The settled walk of a state is the walk of the first node with this state. A state is a router in
+-- a leg, and a node is the record of a walk.
 abbrev pub labels_of : List Node → Labels
 labels_of nodes s = option_map (λ i. walk_at (walks nodes) i) (index_of nodes s)
 
@@ -51,24 +56,27 @@ labels_of nodes s = option_map (λ i. walk_at (walks nodes) i) (index_of nodes s
 abbrev pub walk_rank : List Link → ℕ
 walk_rank w = cost_of w * COST_WEIGHT + length w + 1
 
--- The rank of a node is the rank of its walk. Each link and each turn before this node took one node,
--- so its links and legs together are at most its index plus 1.
+-- The rank of a node is the rank of its walk. For each link of the walk, and for each step to a
+-- next leg at the same router, one other node comes before this node. So the number of the walk's
+-- links plus the node's leg is at most the node's index plus 1. A node is the record of a walk, and
+-- a walk's rank is its cost and its number of links as one number.
 pub record IsRanked (n : Node) (walk : List Link) (index : ℕ) : Type 0 where
   pub rank : n.rank ≡ walk_rank walk
   pub few : length walk + n.leg ≤ index + 1
   pub small : cost_of walk ≤ length walk * 2 ^ 32
 
--- If a node's walk has a link, the node has a last link.
+-- If the walk of a node (the record of a walk) has a link, the node holds its last link.
 abbrev pub HasLast : Node → Type 0
 HasLast n = 1 < n.rank → IsSome n.by
 
--- The first node: it has no link, and its parent is itself.
+-- The first node (the record of a walk): it has no link, and its parent is itself.
 pub record IsRoot (n : Node) : Type 0 where
   pub parent : n.parent ≡ 0
   pub by : n.by ≡ None
 
--- The nodes form a tree: each but the root comes after its parent. No two nodes have the same state.
--- There are at most 8,192 nodes, which are the states of 1,024 routers in eight legs.
+-- The nodes (records of walks) form a tree: each but the root comes after its parent. No two nodes
+-- have the same state. There are at most 8,192 nodes, which are the states of 1,024 routers in
+-- eight legs.
 pub record AreNodes (nodes : List Node) : Type 0 where
   pub some : 0 < length nodes
   pub most : length nodes ≤ 8192
@@ -82,7 +90,7 @@ pub record AreNodes (nodes : List Node) : Type 0 where
       → IsRanked (slice_index_or nodes i d) (walk_at (walks nodes) i) i
   pub apart : AllPairs (λ m n. same_state (state_of m) (state_of n) ≡ false) nodes
 
--- The node may be appended to these nodes.
+-- The node (the record of a walk) may be appended to the settled nodes `nodes`.
 pub record IsNext (nodes : List Node) (n : Node) : Type 0 where
   pub parent : n.parent < length nodes
   pub linked : HasLast n
@@ -93,10 +101,10 @@ pub record IsInLeg (q : Request) (n : Node) : Type 0 where
   pub low : 1 ≤ n.leg
   pub high : n.leg ≤ length q.hops + 1
 
--- The leg of each node is a leg of the request.
+-- The leg of each node (the record of a walk) is a leg of the request.
 abbrev pub AreInLegs : Request → List Node → Type 0
 AreInLegs q nodes = All (IsInLeg q) nodes
 
--- The node at the start: the head-end with a walk without links.
+-- The node (the record of a walk) at the start: the head-end with a walk without links.
 abbrev pub root_of : Request → Node
 root_of q = record { parent = 0; by = None; leg = 1; router = q.from; rank = 1 }

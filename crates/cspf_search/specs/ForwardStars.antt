@@ -1,5 +1,5 @@
--- Private: the forward stars of the settled nodes in the search by rounds, and the marks of settled
--- states.
+-- Private: the forward stars of the settled nodes in the search by rounds, and which states are
+-- marked as settled. A state is a router in a leg, and a node is the record of a walk.
 use Rattle.std.specs.Prelude.{◌≡◌, ℕ, ◌+◌, ◌*◌, ◌%◌, ◌<◌, Bool, is_some, List, All, length, map, slice_index, slice_index_or}
 use Rattle.cspf_model.specs.declared.limits.TheConstants.{MOST_ROUTERS}
 use Rattle.cspf_model.specs.declared.link.Link.{Link}
@@ -13,8 +13,9 @@ use Rattle.cspf_search.specs.Arena.{state_of, index_of}
 use Rattle.cspf_search.specs.Frontier.{state_at, nowhere}
 use Rattle.cspf_graph.specs.Roles.{IsStateIndex}
 
--- The star has the index of the state `s`, and the links from its router. For each link it also has the
--- index of the router at its end, and the index of its reverse.
+-- The forward star `star` has the index of the state `s` (a router in a leg), and the links from
+-- the router of `s`. For each of these links it also has the index of the router at the link's end,
+-- and the index of the link's reverse.
 pub record IsForwardStar (d : Database) (s : State) (star : ForwardStar) : Type 0 where
   pub state : s ≡ state_at d star.state
   pub place : star.state % MOST_ROUTERS < length (router_list d)
@@ -26,13 +27,14 @@ pub record IsForwardStar (d : Database) (s : State) (star : ForwardStar) : Type 
   pub reverses : (nth : ℕ) (e : Link) → nth < length (links_from_index d (star.state % MOST_ROUTERS))
       → IsReverseAt d (slice_index_or (links_from_index d (star.state % MOST_ROUTERS)) nth e) (slice_index_or star.reverses.now nth 0)
 
--- The stars are the forward stars of the nodes, in the same order.
+-- The list `stars` has the forward star of each of the nodes (records of walks), in the same order.
 pub record AreForwardStars (d : Database) (nodes : List Node) (stars : List ForwardStar) : Type 0 where
   pub many : length stars ≡ length nodes
   pub each : (i : ℕ) (e : ForwardStar) → i < length nodes
       → IsForwardStar d (state_of (slice_index_or nodes i nowhere)) (slice_index_or stars i e)
 
--- The marks are those of exactly the states that have a node.
+-- The entry of a state in `marks` is `true` exactly if one of the nodes has this state. A state is
+-- a router in a leg, and a node is the record of a walk.
 pub record AreStateMarks (d : Database) (q : Request) (nodes : List Node) (marks : List Bool) : Type 0 where
   pub many : length marks ≡ (length q.hops + 1) * MOST_ROUTERS
   pub each : (i : ℕ) (e : Bool) → IsStateIndex d q i

@@ -1,4 +1,5 @@
--- Private: the state of a walk in the legs of a request, and the steps from one walk to the next.
+-- Private: the state of a walk, and the steps from one walk to the next. A state is a router in a
+-- leg of the request.
 use Rattle.std.specs.Prelude.{ℕ, suc, ◌+◌, ◌≤◌, List, [], ◌∷◌, ◌++◌, length}
 use Rattle.cspf_model.specs.declared.link.Link.{Link}
 use Rattle.cspf_model.specs.declared.request.Request.{Request}
@@ -6,7 +7,8 @@ use Rattle.cspf_model.specs.Database.{Database}
 use Rattle.cspf_model.specs.Admissible.{IsAdmissible, MayLeave}
 use Rattle.cspf_graph.specs.Roles.{MayBeLeft, MayEnter, MayTurn}
 
--- The state of a walk: the leg of the request and the router that the walk has reached.
+-- The state of a walk (a router in a leg): the leg of the request that the walk is in, and the
+-- router that it has reached.
 pub record State : Type 0 where
   pub leg : ℕ
   pub router : ℕ
@@ -16,10 +18,11 @@ pub record LeadsOn (d : Database) (q : Request) (l : Link) : Type 0 where
   pub admissible : IsAdmissible d q l
   pub left : MayBeLeft d q l.from
 
--- A step from a walk and its state to another walk and its state. A step by a link: the walk may leave
--- its router, the link is admissible, and a route may enter the link's end in this leg. A step by a
--- turn: the router is a target of the leg to a hop, and the walk goes on in the next leg without a new
--- link.
+-- A step from a walk and its state to another walk and its state. A step by a link: the walk may
+-- leave its router, the link is admissible, and a route may enter the link's end in this leg. A
+-- step to the next leg: the router is a target of the leg to a hop. The walk then has the same
+-- links, and is in the next leg. A state is a router in a leg, and a leg's targets are the routers
+-- where it may end.
 pub data IsStep (d : Database) (q : Request) : List Link → State → List Link → State → Type 0 where
   by_link : {walk : List Link} {leg : ℕ} (l : Link) → IsAdmissible d q l → MayEnter d q leg l.to
       → MayLeave d l.from (length walk)
@@ -33,11 +36,12 @@ pub data IsStep (d : Database) (q : Request) : List Link → State → List Link
 abbrev pub start_of : Request → State
 start_of q = record { leg = 1; router = q.from }
 
--- The state at the end: the tail-end in the leg after the last hop.
+-- The state (a router in a leg) at the end: the tail-end in the leg after the last hop.
 abbrev pub end_state : Request → State
 end_state q = record { leg = length q.hops + 1; router = q.to }
 
--- Steps lead from the start to this walk and this state.
+-- This walk and its state can be reached from the start, which is the head-end in the first leg.
+-- Each step follows a link, or goes from one leg to the next at the same router.
 pub data Reaches (d : Database) (q : Request) : List Link → State → Type 0 where
   starts : Reaches d q [] (start_of q)
   steps : {v w : List Link} {s t : State} → Reaches d q v s → IsStep d q v s w t → Reaches d q w t

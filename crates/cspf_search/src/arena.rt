@@ -1,5 +1,5 @@
-//! The settled walks of a search. A node keeps the last link of its walk and the index of the node
-//! before that link, so no walk is copied.
+//! The settled walks of a search. A node keeps only the last link of its walk, and the index of the
+//! node whose walk ends before this link. So no walk is copied.
 
 ghost use Rattle.cspf_search.specs.declared.limits.TheConstants.{COST_WEIGHT};
 ghost use Rattle.std.specs.Prelude.{◌≡◌, ◌-◌, ◌/◌, ◌%◌, ◌<◌, IfOk, length};
@@ -14,8 +14,8 @@ use cspf_model::Link;
 use std::alloc::{AllocError, Global};
 use std::cmp::Ordering;
 
-/// A walk that the search has settled at its state: the walk's last link, and the node before that
-/// link. A node has 24 bytes.
+/// A walk that the search has settled at its state: the walk's last link, and the index of the node
+/// that has the walk before this link. A node has 24 bytes. A state is a router in a leg.
 #[derive(Drop)]
 pub(crate) struct Node<'a> {
     /// The rank of the walk: its cost times `COST_WEIGHT`, plus its number of links, plus 1.
@@ -24,13 +24,13 @@ pub(crate) struct Node<'a> {
     pub(crate) by: Last<'a>,
     /// The router that the walk has reached.
     pub(crate) router: Addr,
-    /// The index of the node before the last link.
+    /// The index of the node (the record of a walk) whose walk this node continues.
     pub(crate) parent: u16,
     /// The leg of the request that the walk has reached. The first leg is leg 1.
     pub(crate) leg: u16,
 }
 
-/// The number of links of a walk of this rank.
+/// The number of links of a walk of this rank (its cost and number of links as one number).
 fn links_in(rank: u64) -> usize
     requires { 0 < rank }
     ensures { result ≡ (rank - 1) % COST_WEIGHT }
@@ -38,7 +38,7 @@ fn links_in(rank: u64) -> usize
     ((rank - 1) % COST_WEIGHT) as usize
 }
 
-/// The number of links of the walk of the node `at`.
+/// The number of links of the walk of the node at the index `at` (the record of a walk).
 pub(crate) fn links_at(nodes: &[Node<'_>], at: usize) -> usize
     requires arena { AreNodes nodes.now }
     requires within { at < length nodes.now }
@@ -47,7 +47,7 @@ pub(crate) fn links_at(nodes: &[Node<'_>], at: usize) -> usize
     links_in(nodes[at].rank)
 }
 
-/// The cost of the walk of the node `at`.
+/// The cost of the walk of the node at the index `at` (the record of a walk).
 pub(crate) fn cost_at(nodes: &[Node<'_>], at: usize) -> u64
     requires arena { AreNodes nodes.now }
     requires within { at < length nodes.now }
@@ -56,14 +56,14 @@ pub(crate) fn cost_at(nodes: &[Node<'_>], at: usize) -> u64
     (nodes[at].rank - 1) / COST_WEIGHT
 }
 
-/// The index of the node of a router in a leg, if that node is settled.
+/// The index of the node (the record of a walk) of a router in a leg, if there is such a node.
 pub(crate) fn index_of(nodes: &[Node<'_>], leg: usize, router: Addr) -> Option<usize>
     ensures { result ≡ index_of nodes.now (record { leg = leg; router = router }) }
 {
     nodes.iter().position(|node| usize::from(node.leg) == leg && node.router == router)
 }
 
-/// The links of the walk of the node `at`, in order.
+/// The links of the walk of the node at the index `at` (the record of a walk), in order.
 pub(crate) fn links_to(
     alloc: Global,
     nodes: &[Node<'_>],
@@ -84,7 +84,8 @@ pub(crate) fn links_to(
 }
 
 /// Compares the local addresses of two walks with the same number of links, from the first link on.
-/// The comparison goes back from the last links, and stops where both walks have the same parent.
+/// The function goes back over both walks from their last links, and stops where both continue the
+/// same node (the record of a walk).
 pub(crate) fn locals<'a>(nodes: &[Node<'a>], a: &Node<'a>, b: &Node<'a>) -> Ordering
     requires arena { AreNodes nodes.now }
     requires first { IsNext nodes.now a.now }

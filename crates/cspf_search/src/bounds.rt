@@ -1,5 +1,5 @@
-//! Lower bounds of the cost from each state to the tail-end. A backward search, against the
-//! direction of the links, computes them from the last leg to the first.
+//! Lower bounds of the cost from each state (a router in a leg) to the tail-end. A backward search,
+//! against the direction of the links, computes them from the last leg to the first.
 
 ghost use Rattle.std.specs.Prelude.{◌≡◌, ◌≢◌, ◌+◌, ◌-◌, ◌*◌, ◌<◌, ◌≤◌, ◌⊎◌, ◌↔◌, ℕ, min, true, false, IsTrue, IfOk, IfSome, OnOk, length, slice_index, slice_index_or, All, Contains};
 ghost use Rattle.cspf_search.specs.Query.{IsQuery};
@@ -22,7 +22,7 @@ use cspf_model::MOST_ROUTERS;
 use std::alloc::{AllocError, Global};
 use std::cmp::Reverse;
 
-/// How many routers the backward search settles in the last leg at most.
+/// How many routers the backward search settles at most in the last leg.
 const RING: usize = 24;
 
 /// How many routers the backward search settles at most in a leg to a hop. This limit is higher
@@ -30,9 +30,10 @@ const RING: usize = 24;
 /// closed.
 const WIDE: usize = 64;
 
-/// Lowers the bound of the router `from`, if its link to a router with the bound `base` makes the
-/// way shorter. `reverse` is the index of that link, or `NO_LINK`. The bound stays if there is no
-/// link, the request doesn't admit it, or no walk may leave the router `from`.
+/// Lowers the bound of the router `from`, if a link from it to a router with the bound `base` gives
+/// it a shorter way. `reverse` is the index of this link, or `NO_LINK` if there is no such link.
+/// The bound stays if the request doesn't admit the link, or if no walk may leave the router
+/// `from`.
 fn pass(
     query: Query<'_>,
     from: u16,
@@ -62,8 +63,9 @@ fn pass(
     ring.lower(from, ahead)
 }
 
-/// Lowers the bound of each router with a link that ends at the router `to`. The bound of `to` is
-/// `base`. The links that end at `to` are the reverses of the links from there.
+/// Lowers the bound of each router that has a link to the router `to`, if the way over this link
+/// costs less than this bound. The bound of `to` is `base`. The links to `to` are the reverses of
+/// the links from `to`.
 fn walk(query: Query<'_>, to: usize, base: u32, ring: &mut Ring) -> Result<(), AllocError>
     requires query { IsQuery query }
     ensures falls { OnOk result (Falls ring.old ring.new) }
@@ -81,8 +83,9 @@ fn walk(query: Query<'_>, to: usize, base: u32, ring: &mut Ring) -> Result<(), A
     Ok(())
 }
 
-/// Looks at all links that arrive at the router `to`, unless no link may lead a route there in the
-/// leg.
+/// Looks at all links that end at the router `to`. The bound of a router is lowered if one of these
+/// links gives that router a shorter way. The function looks at no link if a route may not enter
+/// `to` by a link in this leg.
 fn take(query: Query<'_>, leg_index: usize, to: usize, ring: &mut Ring) -> Result<(), AllocError>
     requires query { IsQuery query }
     requires leg { leg_index ≤ length query.request.now.hops }
@@ -104,8 +107,8 @@ fn take(query: Query<'_>, leg_index: usize, to: usize, ring: &mut Ring) -> Resul
     Ok(())
 }
 
-/// Settles waiting routers in a leg, nearest first. It settles at most `most` routers, and only
-/// those with bounds below `top`.
+/// Settles waiting routers in a leg, the router with the least bound first. It settles at most
+/// `most` routers, and only routers with bounds below `top`.
 fn grow(
     query: Query<'_>,
     leg_index: usize,
@@ -132,7 +135,7 @@ fn grow(
     Ok(())
 }
 
-/// The bound of the router `place` in the next leg.
+/// The bound that the router at the index `place` has in the next leg.
 fn bound_ahead(ahead: &[u32], place: usize) -> u32
     ensures { result ≡ bound_at ahead.now place }
 {
@@ -142,8 +145,9 @@ fn bound_ahead(ahead: &[u32], place: usize) -> u32
     }
 }
 
-/// Whether no target of the leg to a hop has a way to the tail-end, by the bounds of the next leg.
-/// `leg_index` is the index of the hop.
+/// Whether the leg to the hop at the index `leg_index` is a dead end: none of its targets has a way
+/// to the tail-end from the next leg. Only targets count at which a route may go on to the next
+/// leg. A leg's targets are the routers where it may end.
 fn is_dead_end(query: Query<'_>, leg_index: usize, ahead: &[u32]) -> bool
     requires query { IsQuery query }
     ensures { result ≡ true
@@ -162,19 +166,22 @@ fn is_dead_end(query: Query<'_>, leg_index: usize, ahead: &[u32]) -> bool
     true
 }
 
-/// The greater of two bounds. If `bound` is `NO_WAY`, it is `top`.
+/// The greater of `top` and `bound`. If `bound` is `NO_WAY`, the result is `top`.
 fn farther(top: u32, bound: u32) -> u32 {
     if bound < NO_WAY { bound.max(top) } else { top }
 }
 
-/// The bound at which the backward search may stop. If more than `WIDE` targets wait, it is the
-/// bound of the farthest target.
+/// The bound at which the backward search of a leg may stop. `waiting` targets of the leg (routers
+/// where it may end) have a way to the tail-end, and `farthest` is the greatest of their bounds. If
+/// there are more than `WIDE` such targets, the result is `farthest`, and otherwise it is `NO_WAY`.
 fn far_enough(waiting: usize, farthest: u32) -> u32 {
     if waiting > WIDE { farthest } else { NO_WAY }
 }
 
-/// Begins the leg to the hop at `leg_index`. No router is done. Each target that has a way waits
-/// with its bound in the next leg. Returns the bound at which the backward search may stop.
+/// Begins the backward search in the leg to the hop at `leg_index`. The search has looked at the
+/// links to no router yet. Each target (a router where the leg may end) at which a route may go on
+/// to the next leg gets its bound in the next leg. If such a target has a way to the tail-end, it
+/// waits to be settled. Returns the bound at which the backward search may stop.
 fn begin(
     query: Query<'_>,
     leg_index: usize,
@@ -201,8 +208,8 @@ fn begin(
     Ok(far_enough(ring.heap.len(), top))
 }
 
-/// Begins the leg after the last hop. No router is done. The tail-end, whose index is `to`, waits
-/// with the bound 0.
+/// Begins the backward search in the leg after the last hop. The search has looked at the links to
+/// no router yet. Only the tail-end, whose index is `to`, waits to be settled, with the bound 0.
 fn begin_last(to: usize, ring: &mut Ring) -> Result<(), AllocError>
     requires { to < MOST_ROUTERS }
     ensures none { OnOk result ((w : ℕ) → is_done ring.new w ≡ false) }
@@ -214,8 +221,9 @@ fn begin_last(to: usize, ring: &mut Ring) -> Result<(), AllocError>
     Ok(())
 }
 
-/// Searches back from the targets of a leg. `ahead` has their bounds in the next leg, and is empty
-/// in the last leg. `to` is the index of the tail-end.
+/// Searches back from the targets of a leg (the routers where it may end), against the direction of
+/// the links, for lower bounds of the cost to the tail-end. `ahead` has the bounds of the next leg,
+/// and is empty in the last leg. `to` is the index of the tail-end.
 fn search_back(
     query: Query<'_>,
     to: usize,
@@ -238,9 +246,9 @@ fn search_back(
     grow(query, leg_index, WIDE, top, ring)
 }
 
-/// Computes the bound of each router in a leg from the bounds of the next leg, and returns the
-/// edge. A router's bound is the lesser of its entry in `ring.near` and the edge. `to` is the index
-/// of the tail-end.
+/// Computes the bound of each router in a leg from the bounds of the next leg. Returns the edge:
+/// the least bound of the routers that the search hasn't settled. A router's bound is the lesser of
+/// its entry in `ring.near` and the edge. `to` is the index of the tail-end.
 fn leg_edge(
     query: Query<'_>,
     to: usize,
@@ -258,8 +266,9 @@ fn leg_edge(
     Ok(least_open(&ring.near, &ring.done, query.table.routers().len()))
 }
 
-/// Sets the bound of each router in a leg: the lesser of its bound in `near` and the edge. `first`
-/// is the index of the leg's first state, and `count` the number of routers.
+/// Sets the bound of each router in a leg: the lesser of its entry in `near` and the edge `edge`.
+/// `first` is the index of the leg's first state, and `count` the number of routers. The edge is
+/// the least bound of a router that the search hasn't settled.
 fn set_leg(bounds: &mut [u32], first: usize, count: usize, near: &[u32], edge: u32)
     requires within { first + count ≤ length bounds.old }
     requires near { count ≤ length near.now }
@@ -273,7 +282,7 @@ fn set_leg(bounds: &mut [u32], first: usize, count: usize, near: &[u32], edge: u
     }
 }
 
-/// Sets the bounds of all states before the index `end` to `NO_WAY`.
+/// Sets the bounds of all states (routers in legs) before the index `end` to `NO_WAY`.
 fn shut(bounds: &mut [u32], end: usize)
     requires within { end ≤ length bounds.old }
     ensures before { (i : ℕ) → i < end → bound_at bounds.new i ≡ NO_WAY }
@@ -285,8 +294,9 @@ fn shut(bounds: &mut [u32], end: usize)
 }
 
 /// Sets the bound of each router in the first `legs` legs, from the last of these legs to the
-/// first. Stops at a leg whose targets have no way, and shuts it and all earlier legs. `to` is the
-/// index of the tail-end.
+/// first. If no target of a leg has a way to the tail-end, it sets the bounds of this leg and of
+/// all earlier legs to `NO_WAY`, and stops. `to` is the index of the tail-end. A leg's targets are
+/// the routers where it may end.
 fn set_legs(
     query: Query<'_>,
     to: usize,
@@ -316,7 +326,7 @@ fn set_legs(
     Ok(())
 }
 
-/// Sets the bound of each router in the last leg from a tree.
+/// Sets the bounds of all routers in the last leg to those that a tree gives.
 fn set_last_leg(query: Query<'_>, tree: &Tree, bounds: &mut [u32])
     requires query { IsQuery query }
     requires tree { IsTree query.table.now query.request.now tree.now }
@@ -363,8 +373,8 @@ fn set_all(
     set_legs(query, to, query.legs - 1, &mut ring, bounds)
 }
 
-/// Sets the bounds of the routers `places` in a leg to `NO_WAY`. `first` is the index of the leg's
-/// first state.
+/// Sets the bounds of the routers at the indexes `places` in a leg to `NO_WAY`. `first` is the
+/// index of the leg's first state (a router in a leg).
 fn shut_at(bounds: &mut [u32], first: usize, places: &[u16])
     requires within { All (λ place. first + place < length bounds.old) places.now }
     ensures shut { (p : ℕ) → Contains places.now p → bound_at bounds.new (first + p) ≡ NO_WAY }
@@ -376,9 +386,9 @@ fn shut_at(bounds: &mut [u32], first: usize, places: &[u16])
     }
 }
 
-/// Looks for a strict leg that no route can pass, and returns whether there is such a leg. If so,
-/// sets the bounds of its start routers and of all earlier legs to `NO_WAY`. `from` is the index of
-/// the head-end.
+/// Looks for a strict leg that no route can pass, and returns whether there is such a leg. If there
+/// is one, it sets to `NO_WAY` the bounds of the routers where the leg begins, and all bounds of
+/// earlier legs. `from` is the index of the head-end.
 fn shut_broken(query: Query<'_>, from: usize, bounds: &mut [u32]) -> bool
     requires query { IsQuery query }
     requires from { IsIndexOf query.table.now query.request.now.from from }
@@ -397,9 +407,10 @@ fn shut_broken(query: Query<'_>, from: usize, bounds: &mut [u32]) -> bool
     true
 }
 
-/// For each state, a lower bound of the cost from there to the tail-end. The bound is close to the
-/// cost near the targets of the state's leg, and in the whole last leg if there is a tree. `from`
-/// and `to` are the indexes of the head-end and the tail-end.
+/// For each state, a lower bound of the cost from there to the tail-end. Near the targets of a leg,
+/// the bound is close to the cost. With a tree, it is close to the cost in the whole last leg.
+/// `from` and `to` are the indexes of the head-end and the tail-end. A state is a router in a leg,
+/// and a leg's targets are the routers where it may end.
 pub(crate) fn bounds(
     alloc: Global,
     query: Query<'_>,

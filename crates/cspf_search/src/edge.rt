@@ -21,7 +21,8 @@ pub(crate) struct Edge<'a> {
     ghost same: { metric ≡ link.now.metric },
 }
 
-/// How much a link's metric adds to the rank of a walk.
+/// How much a link's metric adds to the rank of a walk (its cost and number of links as one
+/// number).
 pub(crate) fn weight(link: &Link) -> u64
     ensures value { result ≡ link.now.metric * COST_WEIGHT }
     ensures small { result < 2 ^ 46 }

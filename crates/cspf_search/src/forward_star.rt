@@ -9,10 +9,11 @@ use crate::arena::Node;
 use cspf_db::Table;
 use cspf_model::{Link, MOST_ROUTERS};
 
-/// The forward star of a settled node: the node's state, and the links from its router.
+/// The forward star of a settled node: the node's state, and the links from its router. A state is
+/// a router in a leg, and a node is the record of a walk.
 #[derive(Clone, Copy)]
 pub(crate) struct ForwardStar<'a> {
-    /// The index of the node's state.
+    /// The index of the node's state (a router in a leg).
     pub(crate) state: usize,
     /// The links from the node's router.
     pub(crate) links: &'a [Link],
@@ -22,7 +23,7 @@ pub(crate) struct ForwardStar<'a> {
     pub(crate) reverses: &'a [u16],
 }
 
-/// The forward star of a node.
+/// The forward star of a node (the record of a walk).
 pub(crate) fn star_of<'a>(table: &'a Table, node: &Node<'_>) -> ForwardStar<'a>
     requires listed { AreListed table.now }
     requires known { IsRouterOf table.now node.now.router }

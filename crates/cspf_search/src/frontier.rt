@@ -1,4 +1,6 @@
-//! One step of the search with a heap. Each state that a settled node leads to is offered a label.
+//! One step of the search with a heap. A link, or a step to the next leg, leads from a settled node
+//! to a state. This state is offered a label: the walk to it over the node. A state is a router in
+//! a leg, and a node is the record of a walk.
 
 ghost use Rattle.cspf_model.specs.declared.limits.TheConstants.{MOST_LINKS};
 ghost use Rattle.std.specs.Prelude.{◌≡◌, ◌+◌, ◌*◌, ◌%◌, ◌<◌, ◌≤◌, ◌⊎◌, Some, length, slice_get, slice_index_or, OnOk};
@@ -26,27 +28,31 @@ use std::alloc::{AllocError, Global};
 use std::cmp::Ordering;
 use std::collections::BinaryHeap;
 
-/// The row of a label whose walk ends with a turn to the next leg.
+/// The value of `row` in a label whose walk ends with a step to the next leg at the same router. In
+/// other labels, `row` is the index of the walk's last link among the links from its parent's
+/// router. A label holds the best walk found so far to a state.
 const TURN: u16 = u16::MAX;
 
-/// A settled node that the search continues from.
+/// A settled node (the record of a walk) that the search continues from.
 #[derive(Clone, Copy)]
 struct Source<'a> {
     query: Query<'a>,
     goal: Goal<'a>,
-    /// The settled nodes.
+    /// The settled nodes (records of walks).
     nodes: &'a [Node<'a>],
-    /// The index of this node among the settled nodes.
+    /// The index of the source among the settled nodes (records of walks).
     at: usize,
-    /// The index of the node's state.
+    /// The index of the source's state, which is a router in a leg.
     state: usize,
-    /// The rank of the node's walk.
+    /// The rank (its cost and number of links as one number) of the source's walk.
     rank: u64,
 }
 
 /// Compares the local addresses of the walks of two labels of the same rank, from the first link
-/// on. If both walks continue from the same node, their last links decide. The labels' nodes are
-/// only made if one of the labels is a turn to the next leg.
+/// on. If both walks continue the same node by a link, only these links are compared. The nodes of
+/// the labels are made only if one of the walks ends with a step to the next leg. A node is the
+/// record of a walk, and a label holds the best walk found so far to a state. A walk's rank is its
+/// cost and its number of links as one number.
 fn compare_tied<'a>(table: &'a Table, nodes: &[Node<'a>], a: &Label, b: &Label) -> Ordering
     requires arena { AreNodes nodes.now }
     requires offered { IsOffer table.now nodes.now b.now }
@@ -64,9 +70,11 @@ fn compare_tied<'a>(table: &'a Table, nodes: &[Node<'a>], a: &Label, b: &Label) 
     locals(nodes, x, y).then(l.local.cmp(&m.local))
 }
 
-/// Offers a label to the state `index`. A label of lower rank replaces the old one, and its key
-/// goes into the heap. Of two labels of the same rank the first by local addresses is kept, and the
-/// state's key is already in the heap.
+/// Offers a label to the state at the index `index`. A label of a lower rank replaces the old
+/// label, and its key goes into the heap. Of two labels of the same rank, the label whose walk
+/// comes first by local addresses is kept. In this case the state's key is already in the heap. A
+/// state is a router in a leg, and a label holds the best walk found so far to a state. A walk's
+/// rank is its cost and its number of links as one number.
 fn offer<'a>(
     table: &'a Table,
     nodes: &[Node<'a>],
@@ -91,7 +99,7 @@ fn offer<'a>(
     let old = labels[index];
     if label.rank == old.rank {
         if compare_tied(table, nodes, &old, &label).is_gt() {
-            // The heap already has this key of the state.
+            // The heap already has the key of this state and this rank.
             labels[index] = label;
         }
         return Ok(());
@@ -99,7 +107,9 @@ fn offer<'a>(
     put(labels, heap, index, label, key)
 }
 
-/// Offers a label to the state that the source's turn to the next leg leads to.
+/// Offers a label to the state that the source leads to by a step to the next leg: its router in
+/// the next leg. The source is the settled node that the search continues from. A node is the
+/// record of a walk, and a label holds the best walk found so far to a state.
 fn offer_turn(
     source: Source<'_>,
     labels: &mut [Label],
@@ -138,7 +148,10 @@ fn offer_turn(
     offer(query.table, source.nodes, labels, heap, index, label, key)
 }
 
-/// Offers a label to the state that a link leads to. The source's walk may leave its router.
+/// Offers a label to the state that a link leads to from the source, the settled node that the
+/// search continues from. It is required that the source's walk may leave the router where the link
+/// begins. A state is a router in a leg, and a node is the record of a walk. A label holds the best
+/// walk found so far to a state.
 fn offer_link(
     source: Source<'_>,
     edge: Edge<'_>,
@@ -182,9 +195,11 @@ fn offer_link(
     offer(query.table, source.nodes, labels, heap, index, label, key)
 }
 
-/// Offers labels to the states that the node `at` leads to. The first is the state of its turn to
-/// the next leg. If its walk may leave its router, the others are the states at the ends of that
-/// router's links. `state` is the index of the node's state.
+/// Offers a label to each state that the node at the index `at` leads to: the walk to this state
+/// over the node. The first is the state that the node's step to the next leg at the same router
+/// leads to. If the node's walk may leave its router, the others are the states at the ends of the
+/// router's links. `state` is the index of the node's state. A state is a router in a leg, and a
+/// node is the record of a walk.
 pub(crate) fn expand(
     query: Query<'_>,
     nodes: &[Node<'_>],

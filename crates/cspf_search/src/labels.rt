@@ -1,4 +1,5 @@
-//! The labels of states, the heap of waiting states, and how the next state to settle is found.
+//! The labels of states, the heap of waiting states, and how the next state to settle is found. A
+//! state is a router in a leg, and a label holds the best walk found so far to a state.
 
 ghost use Rattle.cspf_model.specs.declared.limits.TheConstants.{MOST_ROUTERS};
 ghost use Rattle.std.specs.Prelude.{◌≡◌, ◌+◌, ◌*◌, ◌<◌, ◌≤◌, ◌↔◌, IsTrue, All, Contains, length, set, slice_get, option_map, IfSome, IfNone, OnOk};
@@ -18,22 +19,23 @@ use std::alloc::{AllocError, Global};
 use std::cmp::Reverse;
 use std::collections::BinaryHeap;
 
-/// The best walk to a state that the search has seen so far.
+/// For a state (a router in a leg), the best walk that the search has seen so far.
 #[derive(Clone, Copy, Debug)]
 pub(crate) struct Label {
-    /// The walk's cost and number of links as one number above 0, as in `Node`. A settled state has
-    /// the rank 0.
+    /// The walk's cost and number of links as one number above 0, as in `Node`. A settled state (a
+    /// router in a leg) has the rank 0.
     pub(crate) rank: u64,
-    /// The index of the settled node that the walk continues from.
+    /// The index of the settled node (the record of a walk) that the walk continues from.
     pub(crate) parent: u16,
-    /// The index of that node's router in the list of routers.
+    /// The index of the parent's router in the list of routers.
     pub(crate) place: u16,
-    /// The index of the last link among the links of that router. An index past those links means
-    /// the turn to the next leg.
+    /// The index of the walk's last link among the links from the parent's router. An index past
+    /// these links means that the walk ends with the step to the next leg at the same router.
     pub(crate) row: u16,
 }
 
-/// The label of a state to which no walk is known yet.
+/// The label of a state (a router in a leg) to which no walk is known yet. A label otherwise holds
+/// the best walk found so far to its state.
 pub(crate) const OPEN: Label = Label {
     rank: u64::MAX,
     parent: 0,
@@ -41,7 +43,8 @@ pub(crate) const OPEN: Label = Label {
     row: 0,
 };
 
-/// The label of a settled state.
+/// The label of a state (a router in a leg) that is settled. A label otherwise holds the best walk
+/// found so far to its state.
 pub(crate) const SETTLED: Label = Label {
     rank: 0,
     parent: 0,
@@ -49,10 +52,14 @@ pub(crate) const SETTLED: Label = Label {
     row: 0,
 };
 
-/// The key of a waiting state: its rank plus its lift, and then the index of the state.
+/// The key of a waiting state. First comes the rank of its label plus the state's lift, which is
+/// its bound times `COST_WEIGHT`. Then comes the index of the state. A state is a router in a leg,
+/// and a label holds the best walk found so far to a state. A walk's rank is its cost and its
+/// number of links as one number.
 pub(crate) type Waiting = Reverse<(u64, u64)>;
 
-/// The last link of a label's walk, or none for a turn to the next leg.
+/// The last link of a label's walk, or none if the walk ends with a step to the next leg at the
+/// same router.
 pub(crate) fn link_of<'a>(table: &'a Table, label: &Label) -> Option<&'a Link>
     requires { label.now.place < length (router_list table.now) }
     ensures { option_map (λ link. link.now) result ≡ slice_get (links_from_index table.now label.now.place) label.now.row }
@@ -62,7 +69,9 @@ pub(crate) fn link_of<'a>(table: &'a Table, label: &Label) -> Option<&'a Link>
         .get(usize::from(label.row))
 }
 
-/// The node that a label describes.
+/// The node that a label describes. A label gives, for a state, the best walk found so far. This
+/// walk continues the walk of the settled node `parent` by one link, or by the step to the next leg
+/// at the same router. A state is a router in a leg, and a node is the record of a walk.
 pub(crate) fn node_of<'a>(table: &'a Table, nodes: &[Node<'a>], label: &Label) -> Node<'a>
     requires arena { AreNodes nodes.now }
     requires parent { label.now.parent < length nodes.now }
@@ -88,7 +97,8 @@ pub(crate) fn node_of<'a>(table: &'a Table, nodes: &[Node<'a>], label: &Label) -
     }
 }
 
-/// Gives the state `at` this label, and puts its key into the heap.
+/// Gives the state at the index `at` this label, and puts its key into the heap. A state is a
+/// router in a leg, and a label holds the best walk found so far to a state.
 pub(crate) fn put(
     labels: &mut [Label],
     heap: &mut BinaryHeap<Waiting, Global>,
@@ -107,8 +117,11 @@ pub(crate) fn put(
     Ok(())
 }
 
-/// Whether the state `at` is in a leg that isn't closed, and the key matches the present label of
-/// the state.
+/// Whether a key of the state `at` still counts: it is the key that the present label of the state
+/// gives, and the state isn't in a closed leg. Once all targets of a leg at which a route may go on
+/// to the next leg are settled, this leg and all earlier ones are closed. A state is a router in a
+/// leg, and a label holds the best walk found so far to a state. A leg's targets are the routers
+/// where it may end.
 fn is_live(goal: Goal<'_>, labels: &[Label], key: u64, at: usize) -> bool
     requires within { at < length labels.now }
     requires bounds { length goal.bounds.now ≡ length labels.now }
@@ -118,8 +131,10 @@ fn is_live(goal: Goal<'_>, labels: &[Label], key: u64, at: usize) -> bool
     at >= goal.floor && labels[at].rank == key - lift(goal, at)
 }
 
-/// The index of the waiting state with the least key. Keys of states in closed legs are skipped,
-/// and so are keys that don't match the present label of their state.
+/// Takes keys from the heap, and returns the index of the waiting state with the least key. Keys
+/// that aren't those of their state's present label are dropped. So are the keys of states below
+/// the floor, which are in closed legs. A state is a router in a leg, and a label holds the best
+/// walk found so far to a state. The floor is the first index after the states of the closed legs.
 pub(crate) fn least(
     table: &Table,
     request: &Request,
@@ -146,7 +161,8 @@ pub(crate) fn least(
     None
 }
 
-/// Drops the keys of states in closed legs, which are the states below the index `floor`.
+/// Drops from the heap the keys of states (routers in legs) in closed legs. These are the states at
+/// indexes below `floor`.
 pub(crate) fn drop_closed(
     alloc: Global,
     heap: &mut BinaryHeap<Waiting, Global>,

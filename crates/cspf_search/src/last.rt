@@ -8,7 +8,7 @@ use std::marker::Model;
 /// The last link of a walk. A walk without links has none.
 #[derive(Drop)]
 pub(crate) struct Last<'a> {
-    /// The link, among the table's links.
+    /// A reference to the link among the table's links, or `None` if the walk has no link.
     pub(crate) link: Option<&'a Link>,
 }
 
@@ -33,7 +33,7 @@ impl<'a> Last<'a> {
         self.link
     }
 
-    /// The same last link once more.
+    /// A copy of this last link.
     pub(crate) fn same(&self) -> Last<'a>
         ensures { result ≡ self.now }
     {

@@ -1,7 +1,7 @@
 //! The least route of a request in a table's database. A route may begin or end at a router that is
-//! marked as without transit, but it passes through no such router. Three functions compute it:
-//! `best` searches from a heap. `best_by_tree` searches from a heap too, with a tree that many
-//! requests share. `best_by_rounds` searches round by round. Each gives an answer that meets
+//! marked as without transit, but it passes through no such router. Three functions compute it.
+//! `best` searches with a heap. `best_by_tree` searches with a heap too, and with a tree that many
+//! requests share. `best_by_rounds` searches round by round. The answer of each function meets
 //! `IsBestAnswer` of `cspf_model`.
 #![tactic(auto)]
 

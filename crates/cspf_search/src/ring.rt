@@ -1,4 +1,4 @@
-//! The state of the backward search in one leg, from which the bounds of the leg are taken.
+//! The state of the backward search in one leg. The bounds of the leg are read from it.
 
 ghost use Rattle.std.specs.Prelude.{◌≡◌, ◌<◌, ◌≤◌, ℕ, false, IfSome, OnOk, length, set};
 ghost use Rattle.cspf_model.specs.declared.limits.TheConstants.{MOST_ROUTERS};
@@ -9,7 +9,7 @@ use std::alloc::{AllocError, Global};
 use std::cmp::Reverse;
 use std::collections::BinaryHeap;
 
-/// The bound of a waiting router, and its index in the list of routers.
+/// The key of a router that waits to be settled: its bound, and its index in the list of routers.
 type WaitingRouter = Reverse<(u32, u16)>;
 
 /// The state of a backward search in one leg.
@@ -17,9 +17,9 @@ type WaitingRouter = Reverse<(u32, u16)>;
 pub(crate) struct Ring {
     /// For each router, the least bound found so far.
     pub(crate) near: Vec<u32>,
-    /// For each router, whether the search has looked at all links that arrive there.
+    /// For each router, whether the search has looked at all links that end there.
     pub(crate) done: Vec<bool>,
-    /// The waiting routers.
+    /// The keys of the routers that wait to be settled.
     pub(crate) heap: BinaryHeap<WaitingRouter, Global>,
     ghost bounds: { length near.items ≡ MOST_ROUTERS },
     ghost marks: { length done.items ≡ MOST_ROUTERS },
@@ -28,7 +28,8 @@ pub(crate) struct Ring {
 impl Ring {
     ghost use Rattle.cspf_search.specs.Bounds.{Falls, bound_at, is_done};
 
-    /// A ring in which no router is done and no router waits.
+    /// The state of a backward search before it begins: the search has looked at no links, and no
+    /// router waits to be settled.
     pub(crate) fn new(alloc: Global) -> Result<Self, AllocError> {
         Ok(Ring {
             near: Vec::from_elem(alloc, 0u32, MOST_ROUTERS)?,
@@ -37,7 +38,8 @@ impl Ring {
         })
     }
 
-    /// Resets the ring: no router is done, and no router waits.
+    /// Resets this state for a new backward search. All bounds are `NO_WAY`, and the heap is empty.
+    /// No router is done: the search has looked at no links.
     pub(crate) fn clear(&mut self)
         ensures { (w : ℕ) → is_done self.new w ≡ false }
     {
@@ -46,7 +48,8 @@ impl Ring {
         self.heap.clear();
     }
 
-    /// Gives the router `at` this bound. The router waits, unless the bound is `NO_WAY`.
+    /// Sets the bound of the router `at` to `least`. The router then waits to be settled, unless
+    /// this bound is `NO_WAY`.
     pub(crate) fn begin_at(&mut self, at: u16, least: u32) -> Result<(), AllocError>
         requires within { at < MOST_ROUTERS }
         ensures bounds { OnOk result (self.new.near.items ≡ set self.old.near.items at least) }
@@ -59,7 +62,8 @@ impl Ring {
         Ok(())
     }
 
-    /// Lowers the bound of the router `from` to `ahead`, if that is less. The router then waits.
+    /// Makes `ahead` the bound of the router `from`, if `ahead` is less than the router's present
+    /// bound. The router then waits to be settled.
     pub(crate) fn lower(&mut self, from: u16, ahead: u32) -> Result<(), AllocError>
         requires within { from < MOST_ROUTERS }
         ensures falls { OnOk result (Falls self.old self.new) }
@@ -75,7 +79,7 @@ impl Ring {
         Ok(())
     }
 
-    /// The waiting router with the least bound, by its index.
+    /// Takes the waiting router with the least bound from the heap, and returns its index.
     pub(crate) fn nearest(&mut self) -> Option<usize>
         ensures within { IfSome result (λ at. at < MOST_ROUTERS) }
         ensures bounds { self.new.near ≡ self.old.near }

@@ -6,7 +6,8 @@ ghost use Rattle.cspf_search.specs.Bounds.{bound_at};
 use crate::limits::NO_WAY;
 
 /// The least bound among the first `count` routers that aren't done, or `NO_WAY` if all are done.
-/// `near` has the bound of each router, and `done` whether the router is done.
+/// `near` has the bound of each router. A router is done if its entry in `done` is `true`: the
+/// search has looked at all links that end there.
 pub(crate) fn least_open(near: &[u32], done: &[bool], count: usize) -> u32
     requires bounds { count ≤ length near.now }
     requires marks { count ≤ length done.now }

@@ -1,6 +1,6 @@
-//! One round of the search by rounds. It finds the first node that a turn or a link leads to from
-//! any settled node. A settled node is looked at again only if a node that it leads to may come
-//! first.
+//! One round of the search by rounds. It finds the first of the nodes (records of walks) to which a
+//! link, or a step to the next leg, leads from a settled node. It skips a settled node if a lower
+//! bound shows that all nodes that it leads to come after the best node found so far.
 
 ghost use Rattle.std.specs.Prelude.{◌≡◌, ◌⊎◌, ◌+◌, ◌-◌, ◌%◌, ◌<◌, ◌↔◌, true, Some, None, IsTrue, length, slice_get, slice_index_or};
 ghost use Rattle.std.specs.Option.{ForSome, IsSomeAnd};
@@ -42,7 +42,8 @@ fn compare<'a>(nodes: &[Node<'a>], a: &Node<'a>, b: &Node<'a>) -> Ordering
     locals(nodes, a, b)
 }
 
-/// Whether there is a best node, and its rank is lower than `rank`.
+/// Whether there is a best node so far whose rank is lower than `rank`. A node is the record of a
+/// walk, and a walk's rank is its cost and its number of links as one number.
 fn is_late(best: &Option<Node<'_>>, rank: u64) -> bool
     ensures { IsTrue result ↔ IsSomeAnd best.now (λ kept. kept.rank < rank) }
 {
@@ -52,7 +53,7 @@ fn is_late(best: &Option<Node<'_>>, rank: u64) -> bool
     }
 }
 
-/// Keeps the node as the best one, if it comes before the best one so far.
+/// Keeps the node (the record of a walk) as the best one, if it comes before the best one so far.
 fn keep<'a>(nodes: &[Node<'a>], best: &mut Option<Node<'a>>, node: Node<'a>)
     requires arena { AreNodes nodes.now }
     requires first { ForSome best.old (IsNext nodes.now) }
@@ -67,35 +68,38 @@ fn keep<'a>(nodes: &[Node<'a>], best: &mut Option<Node<'a>>, node: Node<'a>)
     *best = Some(node);
 }
 
-/// What a round starts from: the query and the settled nodes.
+/// What a round starts from: the query and the settled nodes (records of walks).
 #[derive(Clone, Copy)]
 pub(crate) struct Round<'a, 'b> {
     pub(crate) query: Query<'b>,
-    /// The settled nodes.
+    /// The settled nodes (records of walks).
     pub(crate) nodes: &'a [Node<'b>],
-    /// The forward star of each settled node.
+    /// The forward star of each settled node (the record of a walk), which has the links from the
+    /// node's router.
     pub(crate) stars: &'a [ForwardStar<'b>],
-    /// For each state, whether it is settled.
+    /// For each state, which is a router in a leg, whether the search has settled it.
     pub(crate) marks: &'a [bool],
 }
 
-/// A settled node from which a round looks for the next node.
+/// A settled node (the record of a walk) from which a round looks for the next node.
 #[derive(Clone, Copy)]
 struct Look<'a, 'b> {
     query: Query<'b>,
-    /// The settled nodes.
+    /// The settled nodes (records of walks).
     nodes: &'a [Node<'b>],
-    /// For each state, whether it is settled.
+    /// For each state, which is a router in a leg, whether the search has settled it.
     marks: &'a [bool],
-    /// The index of this node among the settled nodes.
+    /// The index, among the settled nodes (records of walks), of the node from which the round
+    /// looks.
     at: usize,
-    /// The node's forward star.
+    /// The forward star of the node (the record of a walk) from which the round looks.
     star: ForwardStar<'b>,
 }
 
-/// The node that this node's turn to the next leg leads to. There is no such node in the last leg,
-/// or if the router's state in the next leg is already settled. There is none either if the router
-/// isn't a target of this node's leg.
+/// The node that the step to the next leg at the same router leads to from the node of `look`.
+/// There is none in the last leg, or if the router of the node of `look` isn't a target of its leg.
+/// There is none either if the state of this router in the next leg is already settled. A node is
+/// the record of a walk, and a leg's targets are the routers where it may end.
 fn look_at_turn<'b>(look: Look<'_, 'b>) -> Option<Node<'b>>
     requires look { IsLook look }
     ensures { IsFirst look.entry.nodes.now (LeadsToRow look.entry 0) result }
@@ -121,9 +125,10 @@ fn look_at_turn<'b>(look: Look<'_, 'b>) -> Option<Node<'b>>
     })
 }
 
-/// Keeps the node that the link leads to as the best one, if it comes before the best one so far.
-/// The request must admit the link, and a route must be allowed to enter the router at its end.
-/// This node's walk may leave its router, and the state at the link's end isn't settled.
+/// The link leads to a node. Keeps this node as the best one if it comes before the best node so far.
+/// The request has to admit the link, and a route has to be allowed to enter the router at the
+/// link's end. The walk of the node of `look` may leave its router, and the state at the link's end
+/// isn't settled. A state is a router in a leg, and a node is the record of a walk.
 fn look_at_link<'b>(look: Look<'_, 'b>, edge: Edge<'b>, best: &mut Option<Node<'b>>)
     requires look { IsLook look }
     requires leaves { NodeMayLeave look.query.table.now look.nodes.now look.at look.star.state }
@@ -159,9 +164,10 @@ fn look_at_link<'b>(look: Look<'_, 'b>, edge: Edge<'b>, best: &mut Option<Node<'
     keep(nodes, best, node);
 }
 
-/// Keeps the node that the link in a row leads to as the best one, if it comes before the best one
-/// so far. The state at the link's end must not be settled, and the request must admit the link. A
-/// route must be allowed to enter the router there. This node's walk may leave its router.
+/// The link at the index `row` leads to a node. Keeps this node as the best one if it comes before
+/// the best node so far. It does so only if the state at the link's end isn't settled, the request
+/// admits the link, and a route may enter the router there. The walk of the node of `look` may
+/// leave its router. A state is a router in a leg, and a node is the record of a walk.
 fn look_at_row<'b>(look: Look<'_, 'b>, row: usize, best: &mut Option<Node<'b>>)
     requires look { IsLook look }
     requires leaves { NodeMayLeave look.query.table.now look.nodes.now look.at look.star.state }
@@ -186,8 +192,9 @@ fn look_at_row<'b>(look: Look<'_, 'b>, row: usize, best: &mut Option<Node<'b>>)
     look_at_link(look, edge, best);
 }
 
-/// The first node that this node leads to: by the turn to the next leg, or by a link if its walk
-/// may leave its router.
+/// The first of the nodes that the node of `look` leads to, by the step to the next leg at the same
+/// router or by a link. A link counts only if the node's walk may leave its router. A node is the
+/// record of a walk.
 fn look_from<'b>(look: Look<'_, 'b>) -> Option<Node<'b>>
     requires look { IsLook look }
     ensures { IsFirst look.entry.nodes.now
@@ -206,7 +213,8 @@ fn look_from<'b>(look: Look<'_, 'b>) -> Option<Node<'b>>
     best
 }
 
-/// The rank of the node, or a number above all ranks if there is no node.
+/// The rank of the node, or a number above all ranks if there is no node. A node is the record of a
+/// walk, and a walk's rank is its cost and its number of links as one number.
 fn low_of(found: &Option<Node<'_>>) -> u64
     ensures { result ≡ low_of found.now }
 {
@@ -216,16 +224,17 @@ fn low_of(found: &Option<Node<'_>>) -> u64
     }
 }
 
-/// Whether a settled node can be skipped, because it leads to no node, or only to nodes after the
-/// best one. `low` is a lower bound of the ranks of the nodes that it leads to.
+/// Whether a settled node can be skipped: it leads to no node, or only to nodes that come after the
+/// best one. `low` is a lower bound of the ranks of the nodes that it leads to. A node is the
+/// record of a walk, and a walk's rank is its cost and its number of links as one number.
 fn is_passed(best: &Option<Node<'_>>, low: u64) -> bool
     ensures { result ≡ true → (low ≡ no_rank) ⊎ (low_of best.now < low) }
 {
     low == u64::MAX || low_of(best) < low
 }
 
-/// Keeps the found node as the best one, if there is a found node and it comes before the best one
-/// so far.
+/// If a node (the record of a walk) was found, and it comes before the best one so far, keeps it as
+/// the best one.
 fn keep_found<'a>(nodes: &[Node<'a>], best: &mut Option<Node<'a>>, found: Option<Node<'a>>)
     requires arena { AreNodes nodes.now }
     requires first { ForSome best.old (IsNext nodes.now) }
@@ -237,8 +246,10 @@ fn keep_found<'a>(nodes: &[Node<'a>], best: &mut Option<Node<'a>>, found: Option
     }
 }
 
-/// The first node that a turn or a link leads to from any settled node. For each settled node,
-/// `lows` has a lower bound of the ranks of the nodes that it leads to, before and after the call.
+/// The first of all nodes to which a link, or a step to the next leg, leads from a settled node.
+/// Before and after the call, `lows` has, for each settled node, a lower bound of the ranks of the
+/// nodes that it leads to. A node is the record of a walk, and a walk's rank is its cost and its
+/// number of links as one number.
 pub(crate) fn first<'b>(round: Round<'_, 'b>, lows: &mut Vec<u64>) -> Option<Node<'b>>
     requires round { IsRound round }
     requires lows { AreLows round.query.table.now round.query.request.now round.nodes.now lows.old.items }

@@ -11,8 +11,8 @@ use crate::query::Query;
 use cspf_graph::{admissible, is_loose, may_be_left};
 use cspf_model::MOST_ROUTERS;
 
-/// Whether a route at the router `place` may turn to the next leg there, or after one link.
-/// `leg_index` is the index of the hop that the leg leads to.
+/// Whether a route that has reached the router at the index `place` may go on to the next leg, at
+/// this router or after one more link. `leg_index` is the index of the hop that the leg leads to.
 fn joins(query: Query<'_>, leg_index: usize, place: u16) -> bool
     requires query { IsQuery query }
     requires leg { leg_index < length query.request.now.hops }
@@ -73,7 +73,7 @@ pub(crate) fn starts_of<'a>(query: Query<'a>, head: &'a [u16], leg_index: usize)
     }
 }
 
-/// The first strict leg that no route can pass, by the index of its hop. `head` has one item: the
+/// The index of the hop of the first strict leg that no route can pass. `head` has one item: the
 /// index of the head-end in the list of routers.
 pub(crate) fn first_broken(query: Query<'_>, head: &[u16]) -> Option<usize>
     requires query { IsQuery query }

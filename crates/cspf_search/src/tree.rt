@@ -12,15 +12,17 @@ use cspf_model::{MOST_ROUTERS, Request};
 use std::alloc::{AllocError, Global};
 
 /// For each router, a lower bound of the cost from there to one tail-end. It holds for ways over
-/// links that pass the affinities of the tree, whatever their unreserved bandwidth. For the ways
+/// links that pass the affinities of the tree, whatever their unreserved bandwidth is. For the ways
 /// that cost no more than this bound, the tree also has a lower bound of their number of links.
 #[derive(Drop)]
 pub struct Tree {
-    /// For each router, the least cost found, or `NO_WAY`.
+    /// For each router, the least cost to the tail-end that the search found, or `NO_WAY`.
     pub(crate) near: Vec<u32>,
-    /// For each router, the least number of links found for a way of this cost.
+    /// For each router, the least number of links that the search found for a way of the cost in
+    /// `near`.
     links: Vec<u16>,
-    /// The least cost of the routers that the search hasn't settled. No bound exceeds it.
+    /// The edge: the least cost of the routers that the search hasn't settled. No bound that the
+    /// tree gives exceeds this cost.
     pub(crate) edge: u32,
     ghost many: { length near.items ≡ MOST_ROUTERS },
     ghost counts: { length links.items ≡ MOST_ROUTERS },
@@ -66,9 +68,10 @@ impl Tree {
         self.near[place].min(self.edge)
     }
 
-    /// A lower bound of the number of links of the ways that cost no more than the bound. The ways
-    /// begin at the router at the index `place` in the list of routers. The result is 0 if the
-    /// router's bound is the edge.
+    /// Take each way from the router at the index `place` to the tail-end, if this way costs no
+    /// more than the router's bound. The result is a lower bound of the number of links of these
+    /// ways. It is 0 if the router's bound is the edge, the least cost of the routers that the
+    /// search hasn't settled.
     pub(crate) fn least_links(&self, place: usize) -> u16
         requires { place < MOST_ROUTERS }
         ensures { result ≡ tree_links self.now place }

@@ -1,5 +1,5 @@
-//! The state of the backward search that grows a tree. Waiting routers are ordered by cost, then by
-//! number of links.
+//! The state of the backward search that grows a tree. The waiting routers are ordered by cost, and
+//! at the same cost by their number of links.
 
 ghost use Rattle.std.specs.Prelude.{◌≡◌, ◌<◌, ◌≤◌, ℕ, true, false, IfOk, IfSome, OnOk, length};
 ghost use Rattle.cspf_model.specs.declared.limits.TheConstants.{MOST_ROUTERS};
@@ -10,7 +10,8 @@ use std::alloc::{AllocError, Global};
 use std::cmp::Reverse;
 use std::collections::BinaryHeap;
 
-/// The cost and the number of links of a waiting router, and its index in the list of routers.
+/// The key of a router that waits to be settled: its cost, its number of links, and its index in
+/// the list of routers.
 type RankedRouter = Reverse<(u32, u16, u16)>;
 
 /// The state of a backward search that grows a tree.
@@ -18,11 +19,11 @@ type RankedRouter = Reverse<(u32, u16, u16)>;
 pub(crate) struct TreeRing {
     /// For each router, the least cost to the tail-end found so far, or `NO_WAY`.
     pub(crate) near: Vec<u32>,
-    /// For each router, the least number of links found for a way of this cost.
+    /// For each router, the least number of links found so far for a way of the cost in `near`.
     pub(crate) links: Vec<u16>,
-    /// For each router, whether the search has looked at all links that arrive there.
+    /// For each router, whether the search has looked at all links that end there.
     pub(crate) done: Vec<bool>,
-    /// The waiting routers.
+    /// The keys of the routers that wait to be settled.
     heap: BinaryHeap<RankedRouter, Global>,
     ghost bounds: { length near.items ≡ MOST_ROUTERS },
     ghost counts: { length links.items ≡ MOST_ROUTERS },
@@ -33,8 +34,8 @@ impl TreeRing {
     ghost use Rattle.cspf_search.specs.Bounds.{bound_at};
     ghost use Rattle.cspf_search.specs.TreeSteps.{IsAsNear, TreeFalls, is_settled_there};
 
-    /// A ring in which no router is done. The tail-end, whose index is `to`, waits with the cost 0
-    /// and no links. No other router has a way.
+    /// The state of a search that has looked at no links yet. Only the tail-end, whose index is
+    /// `to`, waits to be settled, with the cost 0 and no links. No other router has a way yet.
     pub(crate) fn begin(alloc: Global, to: usize) -> Result<Self, AllocError>
         requires { to < MOST_ROUTERS }
         ensures none { IfOk result (λ ring. (w : ℕ) → is_settled_there ring w ≡ false) }
@@ -52,8 +53,8 @@ impl TreeRing {
         Ok(ring)
     }
 
-    /// Whether the router `at` has a way that costs less than `ahead`, or one that costs `ahead`
-    /// and has at most `count` links.
+    /// Whether the router `at` has a way to the tail-end that costs less than `ahead`, or one that
+    /// costs `ahead` and has at most `count` links.
     pub(crate) fn is_as_near(&self, at: usize, ahead: u32, count: u16) -> bool
         requires { at < MOST_ROUTERS }
         ensures near { result ≡ true → IsAsNear self.now at ahead count }
@@ -64,8 +65,9 @@ impl TreeRing {
         near < ahead || (near == ahead && self.links[at] <= count)
     }
 
-    /// Gives the router `from` a way of the cost `ahead` with `count` links, unless it already has
-    /// a way that is as near. After it gets a new way, the router waits.
+    /// Gives the router `from` a way of the cost `ahead` with `count` links. Nothing changes if
+    /// this router already has a way that costs less, or one of the same cost with at most as many
+    /// links. If the router gets this way, it waits to be settled.
     pub(crate) fn lower(&mut self, from: u16, ahead: u32, count: u16) -> Result<(), AllocError>
         requires within { from < MOST_ROUTERS }
         ensures falls { OnOk result (TreeFalls self.old self.new) }
@@ -82,7 +84,7 @@ impl TreeRing {
         Ok(())
     }
 
-    /// The first waiting router, by its index.
+    /// Takes the first of the waiting routers from the heap, and returns its index.
     pub(crate) fn nearest(&mut self) -> Option<usize>
         ensures within { IfSome result (λ at. at < MOST_ROUTERS) }
         ensures bounds { self.new.near ≡ self.old.near }

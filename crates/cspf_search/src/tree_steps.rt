@@ -1,5 +1,5 @@
-//! Grows a tree by a search against the links from the tail-end, which settles all routers. It uses
-//! a link if the link has a reverse and passes the affinities.
+//! Grows a tree by a search that goes from the tail-end against the direction of the links, and
+//! settles all routers. The search uses a link if the link has a reverse and passes the affinities.
 
 ghost use Rattle.std.specs.Prelude.{◌≡◌, ◌≢◌, ◌<◌, ◌↔◌, ℕ, IsTrue, OnOk, length, slice_index};
 ghost use Rattle.cspf_columns.specs.declared.limits.TheConstants.{NO_LINK};
@@ -17,9 +17,10 @@ use cspf_graph::accepts;
 use cspf_model::{MOST_ROUTERS, Request};
 use std::alloc::AllocError;
 
-/// Offers the router `from` a way that begins with its link to a router with the cost `base`. The
-/// way has `count` links. `reverse` is the index of that link, or `NO_LINK`. Nothing is offered if
-/// there is no link, or the link doesn't pass the affinities of `any`, a request for no bandwidth.
+/// Offers the router `from` a way that begins with a link to a router whose cost to the tail-end is
+/// `base`. The way has `count` links. `reverse` is the index of the link, or `NO_LINK` if there is
+/// no such link. Nothing is offered if the link doesn't pass the affinities of `any`, a request for
+/// no bandwidth.
 fn pass(
     table: &Table,
     any: &Request,
@@ -48,9 +49,9 @@ fn pass(
     ring.lower(from, ahead, count)
 }
 
-/// Offers a way over the router `to` to each router with a link that ends there. A way has `count`
-/// links, and costs `base` from `to` on. The links that end at `to` are the reverses of the links
-/// from there.
+/// Offers, to each router that has a link to the router `to`, the way over this link. The way has
+/// `count` links, and its part after `to` costs `base`. The links that end at `to` are the reverses
+/// of the links from `to`.
 fn walk(
     table: &Table,
     any: &Request,
@@ -74,7 +75,7 @@ fn walk(
     Ok(())
 }
 
-/// Whether a way to the tail-end may lead over the router `to`, or end there.
+/// Whether a way to the tail-end may lead over the router `to`, or may end there.
 pub(crate) fn may_lead_over(table: &Table, any: &Request, to: usize) -> bool
     requires { to < length (router_list table.now) }
     ensures { IsTrue result
@@ -83,7 +84,8 @@ pub(crate) fn may_lead_over(table: &Table, any: &Request, to: usize) -> bool
     table.transit_at(to) || table.routers()[to] == any.to
 }
 
-/// Looks at all links that arrive at the router `to`, unless no way may lead over that router.
+/// Looks at all links that end at the router `to`. Each router where such a link begins is offered
+/// the way over this link. The function looks at no link if no way may lead over `to`.
 fn take(table: &Table, any: &Request, to: usize, ring: &mut TreeRing) -> Result<(), AllocError>
     requires any { any.now.bandwidth ≡ 0 }
     requires listed { AreListed table.now }
@@ -106,8 +108,8 @@ fn take(table: &Table, any: &Request, to: usize, ring: &mut TreeRing) -> Result<
     Ok(())
 }
 
-/// Settles the waiting routers. Those of the least cost come first, and at the same cost those with
-/// the fewest links.
+/// Settles all waiting routers: those of the least cost first, and at the same cost those with the
+/// fewest links first.
 pub(crate) fn settle(table: &Table, any: &Request, ring: &mut TreeRing) -> Result<(), AllocError>
     requires any { any.now.bandwidth ≡ 0 }
     requires listed { AreListed table.now }

@@ -1,10 +1,10 @@
 //! The route that the bounds of a tree give without a search. A link that the request may use is
-//! *tight* if two things hold: from its router to its end the bound falls by just its metric, and
-//! the number of links by just one. Take a route that costs no more than the head-end's bound, and
-//! has no more links than the tree gives the head-end. All links of such a route are tight. Where
-//! two such routes part, the link in the earlier row has the lower local address, so its route
-//! comes first. So the walk over the first tight link of each router is the least route, if it
-//! leads to the tail-end.
+//! *tight* if two things hold. From its router to its end the bound falls by exactly its metric,
+//! and the number of links falls by exactly one. Take a route that costs no more than the
+//! head-end's bound, and has no more links than the tree's number of links for the head-end. All
+//! links of such a route are tight. Where two such routes part, the link that comes earlier in the
+//! table has the lower local address, so its route comes first. So the walk over the first tight
+//! link of each router is the least route, if it leads to the tail-end.
 
 ghost use Rattle.std.specs.Prelude.{◌≡◌, ◌<◌, ◌↔◌, IfOk, IfSome, IsTrue, length};
 ghost use Rattle.cspf_model.specs.Best.{IsBestRoute};
@@ -24,8 +24,9 @@ use cspf_graph::accepts;
 use cspf_model::{Request, Route};
 use std::alloc::{AllocError, Global};
 
-/// Whether a link from the router `place` is tight for the request. The bounds are compared first,
-/// because they exclude most links.
+/// Whether a link from the router at the index `place` is tight for the request. A link is tight if
+/// the request may use it, the tree's bound falls over it by exactly its metric, and the number of
+/// links by one. The bounds are compared first, because they rule out most links.
 fn is_tight(table: &Table, request: &Request, tree: &Tree, place: usize, edge: Edge<'_>) -> bool
     requires listed { AreListed table.now }
     requires links { AreLinksOf table.now (links_of table.now) }
@@ -45,7 +46,9 @@ fn is_tight(table: &Table, request: &Request, tree: &Tree, place: usize, edge: E
     accepts(edge.link, request) && may_lead_over(table, request, edge.end)
 }
 
-/// The first tight link from the router `place`, if there is one.
+/// The first link from the router at the index `place` that is tight, if there is one. A link is
+/// tight if the request may use it, the bound falls over it by exactly its metric, and the number
+/// of links by one.
 fn tight_from<'a>(
     table: &'a Table,
     request: &Request,
@@ -78,9 +81,10 @@ fn tight_from<'a>(
     None
 }
 
-/// The route over the first tight link of each router from the head-end on, if these links lead to
-/// the tail-end. The request has no hops. `from` and `to` are the indexes of the head-end and the
-/// tail-end in the list of routers.
+/// The route over the first tight link of each router, from the head-end on. A link is tight if the
+/// tree's bound falls over it by exactly its metric, and the number of links by one. There is no
+/// route if these links don't lead to the tail-end. The request has no hops. `from` and `to` are
+/// the indexes of the head-end and the tail-end in the list of routers.
 fn follow(
     alloc: Global,
     table: &Table,
@@ -119,8 +123,8 @@ fn follow(
 }
 
 /// The least route of a request without hops, if a tree for its tail-end and affinities gives it
-/// without a search. With hops or without a tree the result is none. `from` and `to` are the
-/// indexes of the head-end and the tail-end in the list of routers.
+/// without a search. If the request has hops or there is no tree, the result is `None`. `from` and
+/// `to` are the indexes of the head-end and the tail-end in the list of routers.
 pub(crate) fn walk_by_tree(
     alloc: Global,
     table: &Table,

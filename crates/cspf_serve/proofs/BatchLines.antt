@@ -27,7 +27,7 @@ use Rattle.cspf_serve.specs.EarlyEnds.{AreStreamsRefused}
 use Rattle.cspf_serve.specs.PublishedBatches.{IsUnfitBehind, ArePublishedOrRefused, IsAcceptedOrUnfit}
 use Rattle.cspf_serve.specs.RunFaults.{IsStreamFault, IsAnsweringFault, IsStrayInBatchRun, IsBatchFault}
 
--- if `P` holds of the refusing line and implies `Q`, then `Q` holds of it
+-- if `P` holds of the line that refuses a stream and `P` implies `Q`, then `Q` holds of this line
 pub IfRefused-weaker : (s : EarlyEnd) (P Q : List ℕ → Type 0) → ((line : List ℕ) → P line → Q line) → IfRefused s P → IfRefused s Q
 IfRefused-weaker (early_end.Refused line) P Q f refused = f (judge_line_text line) refused
 IfRefused-weaker (early_end.Failed error) P Q f refused = tt
@@ -46,7 +46,8 @@ one_unfit bs published line is lawful = record {
   whole = rw is.is_line refl;
 }
 
--- the versions of the published batches are written, and then the line that refuses the next batch
+-- The lines of the published batches are written, and then the line that refuses the next batch.
+-- These are the lines of a run in which one batch doesn't fit.
 pub unfit_written : (bs published : List NumberedChanges) (qs : List Request) (line : List ℕ) (old mid new : Option (List ℕ)) → IsUnfitBehind bs published line
     → AreLawful published → Appends old mid (version_lines published) → Appends mid new line → Writes old new (λ lines. IsAcceptedOrUnfit bs qs lines 2)
 unfit_written bs published qs line old mid new is lawful versions last = (
@@ -55,7 +56,8 @@ unfit_written bs published qs line old mid new is lawful versions last = (
   Appends-trans old mid new (version_lines published) line versions last,
 )
 
--- all batches are accepted, and the requests are answered
+-- if the lines of all batches are written, and then the replies to the requests, these are the lines
+-- of a run in which all batches are accepted
 pub accepted_written : (bs : List NumberedChanges) (qs : List Request) (d : Database) (old mid new : Option (List ℕ))
     → AreLawful bs → d ≡ database_after bs → Appends old mid (version_lines bs) → Writes mid new (AreReplies d (length bs) qs)
     → Writes old new (λ lines. IsAcceptedOrUnfit bs qs lines 0)
@@ -87,7 +89,7 @@ abbrev pub IsWrittenRun : Bool → Option (List ℕ) → Option (List ℕ) → �
 IsWrittenRun accept_torn kept asked status old new =
     IfSome kept (λ journal. IfSome asked (λ requests. Writes old new (λ lines. IsBatchRun accept_torn (rows_of journal) (rows_of requests) lines status)))
 
--- a stream with this many requests has at least as many records
+-- the index of a request of a stream is also the index of a record of this stream
 rows_asked : (records : Records) (qs : List Request) (index : ℕ) → AreRequestsOf records qs → index < length qs → index < length records
 rows_asked records qs index is within =
     let asks = length-map {B = Result Row RowError} qs (λ (q : Request). Ok (row.Ask q)) in
@@ -95,7 +97,7 @@ rows_asked records qs index is within =
     let same = ap length is.asked in
     omega (arith, within, rows, asks, same)
 
--- which batches of a journal were published, if its bytes are known
+-- which batches of a journal were published, if the journal's bytes are known
 abbrev pub IsPublished : Bool → Option (List ℕ) → List NumberedChanges → Option JudgeLine → Type 0
 IsPublished accept_torn kept published unfit =
     IfSome kept (λ bytes. (batches : List NumberedChanges) × AreBatchesOf accept_torn (rows_of bytes) batches × ArePublishedOrRefused batches published unfit)
@@ -111,7 +113,7 @@ module _ (accept_torn : Bool) (kept asked : Option (List ℕ)) (published : List
       let is = ran read.0 read.2 in
       (is.0, inr (read.0, read.1, inr (qs, of_rows, is.1)), is.2)
 
-  -- the run ends with a status: all batches are accepted, or one doesn't fit
+  -- if a run ends with a status, all its batches are accepted, or one of them doesn't fit
   pub batch_ran : (r : Result ℕ RunError)
       → IfOk r (λ status. (batches : List NumberedChanges) → ArePublishedOrRefused batches published unfit
       → Writes old new (λ lines. IsAcceptedOrUnfit batches qs lines status))
@@ -129,7 +131,8 @@ module _ (accept_torn : Bool) (kept asked : Option (List ℕ)) (published : List
   stray_in_run (Some journal) (Some requests) index version read of_rows within above =
       (rows_asked (rows_of requests) qs index of_rows within, (read.0, read.1, above read.0 read.2))
 
-  -- the run ends by an error while it answers requests
+  -- if a run ends by an error while it answers requests, the error is a fault of a stream or of
+  -- answering
   pub batch_failed : (r : Result ℕ RunError)
       → IfErr r (λ e. IsStreamFault e ⊎ IsAnsweringFault (λ index version. (index < length qs)
       × ((batches : List NumberedChanges) → ArePublishedOrRefused batches published unfit → length batches < version)) e)
@@ -146,7 +149,7 @@ pub refused_alone : (accept_torn : Bool) (journal requests : Records) (line : Li
 refused_alone accept_torn journal requests line (inl refused) = inl (refused, refl)
 refused_alone accept_torn journal requests line (inr (batches, read, refused)) = inr (batches, read, inl (refused, refl))
 
--- a run that a stream's refusal ends early writes the line of the refusal
+-- if a run ends early because a stream is refused, the run writes the line of this refusal
 pub run_refused : (accept_torn : Bool) (kept asked : Option (List ℕ)) (s : EarlyEnd) (r : Result ℕ RunError) (old new : Option (List ℕ))
     → IfRefused s (λ line. IfSome kept (λ journal. IfSome asked (λ requests. AreStreamsRefused accept_torn (rows_of journal) (rows_of requests) line)))
     → IfOk r (λ status. status ≡ 2) → IfOk r (λ status. IsRefusalWritten s old new)
@@ -158,7 +161,7 @@ run_refused accept_torn (Some journal) (Some requests) (early_end.Failed error) 
 run_refused accept_torn (Some journal) (Some requests) (early_end.Refused line) (Ok status) old new refused two written =
     (judge_line_text line, rw two (refused_alone accept_torn (rows_of journal) (rows_of requests) (judge_line_text line) refused), written)
 
--- the output is the lines of a script
+-- the output is the lines of a run over one stream: the journal's rows and then the requests' rows
 pub script_written : AreLinesOfAScript → (accept_torn : Bool) (kept asked old new : Option (List ℕ)) → IsWrittenRun accept_torn kept asked 0 old new
     → IfSome kept (λ journal. IfSome asked (λ requests. IsCleanJournal (rows_of journal) → length (rows_of journal ++ rows_of requests) ≤ 1000000
     → (lines : List ℕ) × (counts : Summary) × IsSolveRun (rows_of journal ++ rows_of requests) lines counts × Appends old new lines))
@@ -168,7 +171,8 @@ script_written law accept_torn (Some journal) (Some requests) old new run = λ c
     let script = law accept_torn (rows_of journal) (rows_of requests) run.0 clean few run.1 in
     (run.0, script.0, script.1, run.2)
 
--- if the status is 0, the output is the lines of a script
+-- if the status is 0, the output is the lines of a run over one stream: the journal's rows and then
+-- the requests' rows
 pub script_of_run : AreLinesOfAScript → (accept_torn : Bool) (kept asked old new : Option (List ℕ)) (r : Result ℕ RunError)
     → IfOk r (λ status. IsWrittenRun accept_torn kept asked status old new) → r ≡ Ok 0
     → IfSome kept (λ journal. IfSome asked (λ requests. IsCleanJournal (rows_of journal) → length (rows_of journal ++ rows_of requests) ≤ 1000000

@@ -1,4 +1,6 @@
--- The replies of clients are fresh, by the one list of steps that has the readings of all clients.
+-- Each reply to a client has at least the version that was published before the request's row was
+-- read. One list of the journal's steps (batches recorded or counted as published, and readings of
+-- that count) shows this for all clients.
 use Rattle.std.proofs.Common.{◌≡◌, ℕ, suc, ◌+◌, ◌^◌, ◌<◌, ◌≤◌, ◌⊎◌, Bool, List, [], ◌∷◌, ◌++◌, length, length-append, append_assoc, append-nil, codes, Option, Some, IfSome, Result, Ok, Err, MatchResult, inl, inr, refl, sym, ap, subst, ◌∙◌, arith, ⊎_elim}
 use Rattle.std.specs.Fmt.{decimal}
 use Rattle.std.specs.Option.{option_map}
@@ -19,11 +21,14 @@ use Rattle.cspf_journal.proofs.JournalSteps.{found_among}
 use Rattle.cspf_journal.proofs.Prefixes.{length-prefix}
 use Rattle.cspf_publish.specs.JournalSteps.{KnownSteps, AreOrderedFrom, count_of}
 use Rattle.cspf_publish.specs.KnownBatches.{KnownBatches}
+use Rattle.cspf_publish.specs.declared.errors.AskError.{AskError}
 use Rattle.cspf_publish.specs.Histories.{BeginsWith}
 use Rattle.cspf_stream.specs.RowAnswers.{AreAnswered, AreAllAnswered}
-use Rattle.cspf_stream.specs.StreamStops.{StopsBetween, StopsInRow, IsRowStopped, HasStopped}
+use Rattle.cspf_stream.specs.StreamStops.{FailsOf, NeverFails, StopsBetween, StopsInRow, IsRowStopped, HasStopped, IsStreamStopped, stream_error_of}
 use Rattle.cspf_stream.specs.declared.error.StreamError.{StreamError}
 use Rattle.cspf_stream.specs.declared.error.StreamError.TheVariants as stream_error
+use Rattle.cspf_stream.specs.declared.error.StreamStop.{StreamStop}
+use Rattle.cspf_stream.specs.declared.error.StreamStop.TheVariants as stop
 use Rattle.cspf_client.specs.ClientRows.{ReadsCount, IsRequestAnswered, IsClientRowAnswered, IsClientAnswered, IsClientUnanswered}
 use Rattle.cspf_client.specs.ClientRuns.{IsClientRun, IsClientStopped}
 use Rattle.cspf_client.specs.SessionStates.{SessionState, AreFirstSteps, HasGoneForward}
@@ -31,8 +36,7 @@ use Rattle.cspf_client.specs.ServingStates.{ServingState, unread_rows}
 use Rattle.cspf_client.specs.declared.client.Client.{Client}
 use Rattle.cspf_client.specs.declared.client.ServedClient.{ServedClient}
 use Rattle.cspf_client.specs.declared.error.ClientError.{ClientError}
-use Rattle.cspf_client.specs.declared.error.ClientError.TheVariants as error
-use Rattle.cspf_client.proofs.Forward.{forward, forward_row_stopped}
+use Rattle.cspf_client.proofs.Forward.{forward, FailsForward, never_forward, unanswered_forward, forward_row_stopped}
 use Rattle.cspf_client.proofs.Prefixes.{AreFirstSteps-trans}
 use Rattle.cspf_serve.specs.ServedRun.{IsServedClient}
 use Rattle.cspf_serve.specs.ServedLaws.{IsReadBefore, IsFreshLine, IsAnsweredFresh, HasFreshLines, ServedRepliesAreFresh, NoReplyIsBehind, read_behind_a_batch}
@@ -41,7 +45,7 @@ use Rattle.cspf_serve.proofs.Pairs.{numbered_weaker}
 abbrev Rows : Type 0
 Rows = List (List (List ℕ))
 
--- nothing is claimed of a row that gets no answer
+-- about a row that gets no answer nothing is stated
 abbrev Nothing : ℕ → Unit {0} → List (List ℕ) → Unit {0} → Type 0
 Nothing place s fields t = Unit {0}
 
@@ -60,7 +64,9 @@ clients_kept place s t [] lines a = ap (λ (x : SessionState). x.client) a.1
 clients_kept place s t (fields ∷ rows) lines a = clients_kept (suc place) a.1 t rows a.2 a.5 ∙ client_kept place s a.1 (row_of fields) a.0 a.3
 
 module _ (all : KnownSteps) (number : ℕ) (order : AreOrderedFrom 0 0 all.steps) where
-  -- the steps have a reading of the count for the client's row
+  -- Suppose that a client reads the count of published batches before it answers a row. Then this
+  -- reading is one of the journal's steps. The steps before it count at most as many batches as the
+  -- client knows after the row.
   read_of : (place : ℕ) (s t : SessionState) → s.client ≡ number → AreFirstSteps all t.steps → ReadsCount place s t → IsReadBefore all.steps number place (length t.known.batches)
   read_of place s t client first reads =
       let up = reads.caught_up in
@@ -115,13 +121,13 @@ module _ (all : KnownSteps) (number : ℕ) (order : AreOrderedFrom 0 0 all.steps
     written = a.written;
   }
 
-  row_stopped : (why : StreamError) (place : ℕ) (fields : List (List ℕ)) (s t : SessionState) (old new : Option (List ℕ)) → s.client ≡ number → AreFirstSteps all t.steps
-      → IsRowStopped IsClientAnswered IsClientUnanswered why place fields s t old new → IsRowStopped (IsAnsweredFresh all.steps number) Nothing why place fields tt tt old new
-  row_stopped stream_error.Memory place fields s t old new client first a = (tt, a.1)
-  row_stopped stream_error.Read place fields s t old new client first a = a
-  row_stopped stream_error.Write place fields s t old new client first a = (a.0, line_of place s t (row_of fields) a.0 client first a.1, a.2)
-  row_stopped stream_error.Flush place fields s t old new client first a = (a.0, line_of place s t (row_of fields) a.0 client first a.1, a.2)
-  row_stopped stream_error.TooManyRows place fields s t old new client first a = a
+  row_stopped : (fails : FailsOf SessionState) (why : StreamError) (place : ℕ) (fields : List (List ℕ)) (s t : SessionState) (old new : Option (List ℕ)) → s.client ≡ number → AreFirstSteps all t.steps
+      → IsRowStopped IsClientAnswered fails why place fields s t old new → IsRowStopped (IsAnsweredFresh all.steps number) Nothing why place fields tt tt old new
+  row_stopped fails stream_error.Memory place fields s t old new client first a = (tt, a.1)
+  row_stopped fails stream_error.Read place fields s t old new client first a = a
+  row_stopped fails stream_error.Write place fields s t old new client first a = (a.0, line_of place s t (row_of fields) a.0 client first a.1, a.2)
+  row_stopped fails stream_error.Flush place fields s t old new client first a = (a.0, line_of place s t (row_of fields) a.0 client first a.1, a.2)
+  row_stopped fails stream_error.TooManyRows place fields s t old new client first a = a
 
   module _ (rows left : Option Rows) (failed : Bool) (s t : SessionState) (old new : Option (List ℕ)) (client : s.client ≡ number) (first : AreFirstSteps all t.steps) where
     between : StopsBetween IsClientAnswered rows s t old new → StopsBetween (IsAnsweredFresh all.steps number) rows tt tt old new
@@ -134,9 +140,9 @@ module _ (all : KnownSteps) (number : ℕ) (order : AreOrderedFrom 0 0 all.steps
       written = a.written;
     }
 
-    in_row : (why : StreamError) → StopsInRow IsClientAnswered IsClientUnanswered why rows left s t old new → StopsInRow (IsAnsweredFresh all.steps number) Nothing why rows left tt tt old new
-    in_row why a =
-        let later : HasGoneForward a.before t = forward_row_stopped why (suc (length a.done)) a.fields a.before t a.mid new a.stops in
+    in_row : (fails : FailsOf SessionState) → FailsForward fails → (why : StreamError) → StopsInRow IsClientAnswered fails why rows left s t old new → StopsInRow (IsAnsweredFresh all.steps number) Nothing why rows left tt tt old new
+    in_row fails known why a =
+        let later : HasGoneForward a.before t = forward_row_stopped fails known why (suc (length a.done)) a.fields a.before t a.mid new a.stops in
         record {
           done = a.done;
           fields = a.fields;
@@ -147,16 +153,18 @@ module _ (all : KnownSteps) (number : ℕ) (order : AreOrderedFrom 0 0 all.steps
           split = a.split;
           answered = lines_of 1 s a.before a.done a.lines client (AreFirstSteps-trans a.before.steps t.steps all later.steps first) a.answered;
           written = a.written;
-          stops = row_stopped why (suc (length a.done)) a.fields a.before t a.mid new (clients_kept 1 s a.before a.done a.lines a.answered ∙ client) first a.stops;
+          stops = row_stopped fails why (suc (length a.done)) a.fields a.before t a.mid new (clients_kept 1 s a.before a.done a.lines a.answered ∙ client) first a.stops;
         }
 
-    stopped : (why : StreamError) → HasStopped IsClientAnswered IsClientUnanswered why rows left failed s t old new → HasStopped (IsAnsweredFresh all.steps number) Nothing why rows left failed tt tt old new
-    stopped stream_error.Memory (inl a) = inl (a.0, between a.1)
-    stopped stream_error.Memory (inr a) = inr (in_row stream_error.Memory a)
-    stopped stream_error.Read a = (a.0, between a.1)
-    stopped stream_error.Write a = in_row stream_error.Write a
-    stopped stream_error.Flush a = in_row stream_error.Flush a
-    stopped stream_error.TooManyRows a = record {
+    stopped : (why : StreamStop AskError) → IsStreamStopped IsClientAnswered IsClientUnanswered why rows left failed s t old new
+        → HasStopped (IsAnsweredFresh all.steps number) Nothing (stream_error_of why) rows left failed tt tt old new
+    stopped (stop.Answer fault) a = inr (in_row (IsClientUnanswered fault) (unanswered_forward fault) stream_error.Memory a)
+    stopped (stop.Stream stream_error.Memory) (inl a) = inl (a.0, between a.1)
+    stopped (stop.Stream stream_error.Memory) (inr a) = absurd a.stops.0
+    stopped (stop.Stream stream_error.Read) a = (a.0, between a.1)
+    stopped (stop.Stream stream_error.Write) a = in_row NeverFails never_forward stream_error.Write a
+    stopped (stop.Stream stream_error.Flush) a = in_row NeverFails never_forward stream_error.Flush a
+    stopped (stop.Stream stream_error.TooManyRows) a = record {
       done = a.done;
       fields = a.fields;
       rest = a.rest;
@@ -167,7 +175,8 @@ module _ (all : KnownSteps) (number : ℕ) (order : AreOrderedFrom 0 0 all.steps
       written = a.written;
     }
 
-  -- the lines of the rows and what is written, whether or not the stream stopped
+  -- All rows, or those before the stream stopped, are answered by lines as `IsFreshLine` describes
+  -- them, and these lines are written.
   abbrev Lines : Option Rows → Option (List ℕ) → Option (List ℕ) → Type 0
   Lines rows old new =
       AreAllAnswered (IsAnsweredFresh all.steps number) rows tt tt old new
@@ -175,14 +184,11 @@ module _ (all : KnownSteps) (number : ℕ) (order : AreOrderedFrom 0 0 all.steps
 
   module _ {Q V : Type 0} (bytes : Q → Option (List ℕ)) (contents : V → Option (List ℕ)) where
     run_lines : (old new : ServingState Q V) → old.state.client ≡ number → AreFirstSteps all new.state.steps → (end : Result (Unit {0}) ClientError)
-        → MatchResult end (λ done. AreAllAnswered IsClientAnswered (unread_rows bytes old.requests) old.state new.state (contents old.replies) (contents new.replies)) (λ why. IsClientStopped bytes contents why old new)
+        → MatchResult end (λ done. AreAllAnswered IsClientAnswered (unread_rows bytes old.requests) old.state new.state (contents old.replies) (contents new.replies)) (λ why. IsClientStopped why (unread_rows bytes old.requests) old.state new.state (contents old.replies) (contents new.replies))
         → Lines (unread_rows bytes old.requests) (contents old.replies) (contents new.replies)
     run_lines old new client first (Ok done) run = inl (all_lines (unread_rows bytes old.requests) old.state new.state (contents old.replies) (contents new.replies) client first run)
-    run_lines old new client first (Err (error.Stream why)) run =
-        inr (why, run.1.0, run.1.1, stopped (unread_rows bytes old.requests) run.1.0 run.1.1 old.state new.state (contents old.replies) (contents new.replies) client first why run.1.2)
-    run_lines old new client first (Err error.NoEntry) run =
-        inr (stream_error.Memory, run.1.0, run.1.1, stopped (unread_rows bytes old.requests) run.1.0 run.1.1 old.state new.state (contents old.replies) (contents new.replies) client first stream_error.Memory run.1.2)
-    run_lines old new client first (Err error.Ahead) run = absurd run
+    run_lines old new client first (Err why) run =
+        inr (stream_error_of run.stop, run.left, run.failed, stopped (unread_rows bytes old.requests) run.left run.failed old.state new.state (contents old.replies) (contents new.replies) client first run.stop run.stopped)
 
     pub served_lines : (published : List NumberedChanges) (client : Client Q V) (served : ServedClient V) → IsServedClient bytes contents published all number client served
         → HasFreshLines bytes contents all.steps number client served
@@ -199,14 +205,15 @@ fresh_runs W J Q V updates said recorded bytes contents writer journal clients s
     (λ n c s is. served_lines served.steps n run.steps_of_run.journal.order bytes contents run.state.run.accepted c s is)
     1 clients served.clients.items run.clients_served
 
--- the lines of a stream of one row are the line of that row
+-- the lines that answer a stream of one row are the line of this row
 one_row : (s t : SessionState) (fields : List (List ℕ)) (lines : List ℕ) → AreAnswered IsClientAnswered 1 s (fields ∷ []) lines t
     → (line : List ℕ) × IsClientAnswered 1 s fields line t × (lines ≡ line)
 unfolding AreAnswered
 one_row s t fields lines a =
     (a.0, subst (λ (n : SessionState). IsClientAnswered 1 s fields a.0 n) (sym a.5.1) a.3, a.4 ∙ (ap (λ (m : List ℕ). a.0 ++ m) a.5.0 ∙ append-nil a.0))
 
--- the reading comes after the step that counts the batch, so it counts 1 batch
+-- the client reads the count of published batches after the step that counts the batch `b` as
+-- published, so 1 batch is counted before this reading
 behind : (b : NumberedChanges) (before after : List LogStep) (count : ℕ) → read_behind_a_batch b ≡ before ++ Read 1 1 count ∷ after → count_of before ≡ 1
 behind b [] after count is = absurd (cc is)
 behind b (x ∷ []) after count is = absurd (cc is)
@@ -226,7 +233,7 @@ pub not_behind : HasOneHead → NoReplyIsBehind
 not_behind one b all fields q client served answer steps rows asks below empty is ended reply =
     let Ended : Result (Unit {0}) ClientError → Type 0 = λ e. MatchResult e
     (λ done. AreAllAnswered IsClientAnswered (unread_rows (λ bytes. Some bytes) is.before.requests) is.before.state is.after.state (Some is.before.replies) (Some is.after.replies))
-    (λ why. IsClientStopped (λ bytes. Some bytes) (λ bytes. Some bytes) why is.before is.after) in
+    (λ why. IsClientStopped why (unread_rows (λ bytes. Some bytes) is.before.requests) is.before.state is.after.state (Some is.before.replies) (Some is.after.replies)) in
     let end : (is.after.end ≡ Ok tt) × BeginsWith (b ∷ []) served.known.batches = elim is.end [
       | inl well ↦ (sym well.0 ∙ ended, well.1)
       | inr ahead ↦ absurd (cc (ahead.0, ended))

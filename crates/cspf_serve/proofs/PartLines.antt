@@ -24,7 +24,7 @@ joined d version (q ∷ qs) ps lines more before after = (
   joined d version qs ps before.1 more before.4 after,
 )
 
--- after one more part, the requests before the index `end` are answered
+-- after one more part is answered, the requests before the index `end` are answered
 pub part_written : (d : Database) (version : ℕ) (qs : List Request) (first end : ℕ) (old mid new : Option (List ℕ)) → first ≤ end
     → Writes old mid (AreReplies d version (take first qs)) → Writes mid new (AreReplies d version (drop first (take end qs)))
     → Writes old new (AreReplies d version (take end qs))
@@ -52,7 +52,8 @@ cut_in_part qs first count end up =
     let cut = taken_of_taken (first + count) end qs in
     (cut.0, cut.1 ∙ take-add first count part ∙ ap (λ l. l ++ take count (drop first part)) (take-take first end qs up))
 
--- a part is answered in part: some prefix of the list of requests is answered
+-- if the requests before a part are answered, and then a prefix of the part, a prefix of all
+-- requests is answered
 pub part_begun : (d : Database) (version : ℕ) (qs : List Request) (first end : ℕ) (old mid new : Option (List ℕ)) → first ≤ end
     → Writes old mid (AreReplies d version (take first qs))
     → HasBegun mid new (λ lines. (count : ℕ) × AreReplies d version (take count (drop first (take end qs))) lines)
@@ -64,7 +65,8 @@ part_begun d version qs first end old mid new up before begun =
     let cut = cut_in_part qs first is.0 end up in
     (cut.0, rw cut.1 (joined d version (take first qs) (take is.0 (drop first (take end qs))) before.0 lines before.1 is.1))) begun
 
--- the askers that are handed back have the source that they had before
+-- the askers (which answer requests) that are handed back still have the same journal (the source
+-- is its identity)
 pub sources_kept : (source : Book) (before after : List AskerState) → AreSameAskers before after
     → All (λ (a : AskerState). a.source ≡ source) before → All (λ (a : AskerState). a.source ≡ source) after
 sources_kept source before after same all i d less =

@@ -33,14 +33,15 @@ use Rattle.cspf_judge.specs.EarlyEnds.{IfRefused, IsJournalLine, WritesFront}
 use Rattle.cspf_serve.specs.EarlyEnds.{IsOwnFaultLine}
 use Rattle.cspf_serve.specs.PublishedBatches.{IsUnfitBehind, ArePublishedOrRefused}
 
--- the number of the batch at index `i`
+-- the batch at index `i` has the number `first + i`
 pub number_at : (first : ℕ) (bs : List NumberedChanges) (i : ℕ) (d : NumberedChanges) → AreNumberedFrom first bs → i < length bs
     → (get_or bs i d).number ≡ first + i
 number_at first [] i d numbered within = absurd (omega arith)
 number_at first (b ∷ bs) zero d numbered within = let is = numbered.0 in omega arith
 number_at first (b ∷ bs) (suc i) d numbered within = let is = number_at (first + 1) bs i d numbered.1 (omega arith) in omega arith
 
--- the line of one more version
+-- the lines of the first `made` versions and the line of the next version are the lines of the
+-- first `made + 1` versions
 pub version_more : (bs : List NumberedChanges) (made : ℕ) → AreNumberedFrom 1 bs → made < length bs
     → version_lines (take made bs) ++ version_line (made + 1) ≡ version_lines (take (made + 1) bs)
 version_more bs made numbered within =
@@ -48,7 +49,8 @@ version_more bs made numbered within =
     let number : (get_or bs made none).number ≡ made + 1 = number_at 1 bs made none numbered within ∙ omega arith in
     rw (add-one made, take-suc bs made none within, ← add-one made) (simp flat_map-append (rw (number, append-nil (version_line (made + 1))) refl))
 
--- the lines of the first `made` versions are written, and the beginning of the next version's line
+-- The lines of the first `made` versions are written, and then the beginning of the next version's
+-- line. This is the beginning of the lines of all versions.
 pub version_front : (bs : List NumberedChanges) (made : ℕ) (old mid new : Option (List ℕ)) → AreNumberedFrom 1 bs → made < length bs
     → Appends old mid (version_lines (take made bs)) → WritesFront mid new (version_line (made + 1)) → WritesFront old new (version_lines bs)
 version_front bs made old mid new numbered within before begun =
@@ -57,7 +59,7 @@ version_front bs made old mid new numbered within before begun =
     front_in_list (λ (b : NumberedChanges). version_line b.number) bs made (get_or bs made none) none old mid new within refl before
     (subst (λ (n : ℕ). WritesFront mid new (version_line n)) (sym number) begun)
 
--- the number of the last batch
+-- the number of the last batch is `first` plus the number of batches before it
 last_number : (first : ℕ) (bs : List NumberedChanges) (b : NumberedChanges) → AreNumberedFrom first (bs ++ (b ∷ [])) → b.number ≡ first + length bs
 last_number first [] b numbered = let is = numbered.0 in omega arith
 last_number first (x ∷ bs) b numbered = let is = last_number (first + 1) bs b numbered.1 in omega arith
@@ -90,7 +92,7 @@ unfit_here contents p after given b e line numbered room published same is shown
       is_line = unfit.2;
     }
 
--- a batch that comes after the one that doesn't fit changes nothing
+-- if a batch doesn't fit, a batch that comes after it isn't published either
 pub unfit_more : (given published : List NumberedChanges) (b : NumberedChanges) (line : List ℕ) → IsUnfitBehind given published line
     → IsUnfitBehind (given ++ (b ∷ [])) published line
 unfit_more given published b line is = record {
@@ -109,14 +111,15 @@ module _ (accept_torn : Bool) (given published : List NumberedChanges) (unfit : 
   accepted rows rest.Clean torn journal few = record { few = few; journal = inl journal }
   accepted rows rest.Torn torn journal few = record { few = few; journal = inr (journal, torn refl) }
 
-  -- a journal that was read has these batches
+  -- The journal that was read has the batches `given`. All of them are published, or only those
+  -- before the first batch that doesn't fit.
   pub journal_read : (all : Option (List (List (List ℕ)))) (left : Rest) → (left ≡ rest.Torn → accept_torn ≡ true)
       → IfSome all (λ rows. IsJournal rows given left × (length rows ≤ 1000000))
       → IfSome all (λ rows. (batches : List NumberedChanges) × AreBatchesOf accept_torn rows batches × ArePublishedOrRefused batches published unfit)
   journal_read None left torn journal = tt
   journal_read (Some rows) left torn journal = (given, accepted rows left torn journal.0 journal.1, is)
 
--- rows are left after the batches of a journal
+-- a journal with rows after its batches is refused, unless such rows are accepted
 pub journal_torn : (accept_torn : Bool) (given : List NumberedChanges) (count : ℕ) (all : Option (List (List (List ℕ)))) (left : Rest) (line : List ℕ)
     → length given ≡ count → IfSome all (λ rows. IsJournal rows given left × (length rows ≤ 1000000))
     → (left ≡ rest.Torn) × (accept_torn ≡ false) × (line ≡ torn_line count) → IfSome all (λ rows. IsJournalRefused accept_torn rows line)
@@ -124,7 +127,8 @@ journal_torn accept_torn given count None left line counted journal is = tt
 journal_torn accept_torn given count (Some rows) left line counted journal is =
     inr (journal.1, is.1, (given, rw is.0 at journal.0, rw counted is.2))
 
--- a journal that can't be read has too many rows, or its fault has no line
+-- if reading a journal fails because it has too many rows, this line refuses the journal; other
+-- faults of reading have no line
 pub journal_unread : (accept_torn : Bool) (all : Option (List (List (List ℕ)))) (why : ReadError) (line : List ℕ)
     → (why ≡ read_error.TooManyRows → IfSome all (λ rows. 1000000 < length rows)) → IsJournalLine why line → IfSome all (λ rows. IsJournalRefused accept_torn rows line)
 journal_unread accept_torn all read_error.Memory line many is = absurd is
@@ -139,7 +143,8 @@ of_bytes None Holds is = tt
 of_bytes (Some text) Holds is = is
 
 module _ {R : Type 0} (accept_torn : Bool) (rem : R → Option (List ℕ)) (reader : JournalReader R) (bytes : Option (List ℕ)) where
-  -- what was read of all records, if the bytes of the journal are known
+  -- Suppose that the bytes of a journal are known. If `Holds` is true of any records that the
+  -- journal's reader may have read, it is true of the records in these bytes.
   pub read_of_bytes : (published : List NumberedChanges) (r : Result (Option JudgeLine) EarlyEnd) → HasGiven rem (option_map rows_of bytes) reader []
       → IfOk r (λ unfit. (all : Option (List (List (List ℕ)))) → HasGiven rem all reader []
       → IfSome all (λ rows. (batches : List NumberedChanges) × AreBatchesOf accept_torn rows batches × ArePublishedOrRefused batches published unfit))

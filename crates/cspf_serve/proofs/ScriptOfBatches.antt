@@ -1,4 +1,5 @@
--- The rows of a journal, followed by the rows of requests, are a script.
+-- The rows of a journal, followed by the rows of requests, are one script: a stream that a single
+-- run answers.
 use Rattle.std.proofs.Common.{◌≡◌, ℕ, ◌+◌, ◌<◌, ◌≤◌, ◌⊎◌, true, false, Bool, List, [], ◌∷◌, ◌++◌, map, take, length, length-append, Result, Ok, inl, inr, refl, sym, ap, subst, ◌∙◌, append_assoc, append-nil, arith}
 use Rattle.std.proofs.lemmas.Bool.{le-ltb}
 use Rattle.std.proofs.lemmas.List.{map-append, length-map, take_all}
@@ -30,7 +31,8 @@ ReadRow = Result Row RowError
 abbrev read_rows : List Row → List (Result Row RowError)
 read_rows rows = map {B = Result Row RowError} Ok rows
 
--- the rows `xs` are answered, and then the rows `ys`
+-- if the rows `xs` are answered, and then the rows `ys`, the rows of both lists are answered in
+-- this order
 AreAnswered-append : (s t u : RunState) (xs ys : Records) (l m : List ℕ) → AreRowsAnswered s xs l t → AreRowsAnswered t ys m u → AreRowsAnswered s (xs ++ ys) (l ++ m) u
 unfolding AreRowsAnswered
 AreAnswered-append s t u [] ys l m before after = rw (before.0, ← before.1) after
@@ -43,8 +45,9 @@ AreAnswered-append s t u (fields ∷ xs) ys l m before after = (
   AreAnswered-append before.1 t u xs ys before.2 m before.5 after,
 )
 
--- The rows are answered by these lines from the state `s` on. After them these batches are
--- accepted, and these changes are open.
+-- The lines answer the rows, if the first row comes in the state `s`. In the state after the rows,
+-- `accepted` are the accepted batches. In this state `changes` are the open changes, which no `end`
+-- row has closed into a batch yet.
 record IsAfter (s : RunState) (rows : Records) (lines : List ℕ) (accepted : List NumberedChanges) (changes : List Change) : Type 0 where
   after : RunState
   answered : AreRowsAnswered s rows lines after
@@ -55,7 +58,7 @@ none_after : (s : RunState) → IsAfter s [] [] s.accepted s.changes
 unfolding AreRowsAnswered
 none_after s = record { after = s; answered = (refl, refl); accepted_are = refl; changes_are = refl }
 
--- the first row is answered, and then the other rows
+-- if the first row is answered, and then the other rows, all rows are answered
 row_after : (s t : RunState) (fields : List (List ℕ)) (rows : Records) (line lines : List ℕ) (accepted : List NumberedChanges) (changes : List Change)
     → IsRowAnswered (at_next_row s) (row_of fields) line t → IsAfter t rows lines accepted changes → IsAfter s (fields ∷ rows) (line ++ lines) accepted changes
 unfolding AreRowsAnswered
@@ -66,7 +69,8 @@ row_after s t fields rows line lines accepted changes here rest = record {
   changes_are = rest.changes_are;
 }
 
--- the rows `xs` are answered, and then the rows `ys`
+-- if the rows `xs` are answered, and then the rows `ys`, the rows of both lists are answered in
+-- this order
 rows_after : (s : RunState) (xs ys : Records) (l m : List ℕ) (a b : List NumberedChanges) (c d : List Change)
     → (first : IsAfter s xs l a c) → IsAfter first.after ys m b d → IsAfter s (xs ++ ys) (l ++ m) b d
 rows_after s xs ys l m a b c d first second = record {
@@ -81,7 +85,8 @@ change_answered s (change.Put link) read is = rw is (refl, refl)
 change_answered s (change.Remove from local) read is = rw is (refl, refl)
 change_answered s (change.Node router transit) read is = rw is (refl, refl)
 
--- the rows of changes have no lines, and the changes are open after them
+-- the rows of changes have no lines, and after these rows the changes are open: they wait for the
+-- `end` row of their batch
 changes_after : (s : RunState) (cs : List Change) (xs : Records) → map row_of xs ≡ read_rows (map change_row cs) → IsAfter s xs [] s.accepted (s.changes ++ cs)
 changes_after s [] [] are = rw (append-nil s.changes) (none_after s)
 changes_after s [] (x ∷ xs) are = absurd (cc)
@@ -93,7 +98,7 @@ changes_after s (c ∷ cs) (x ∷ xs) are =
     row_after s t x xs [] [] s.accepted (s.changes ++ (c ∷ cs)) (change_answered (at_next_row s) c (row_of x) head)
     (rw (← append_assoc s.changes (c ∷ []) cs) (changes_after t cs xs rest))
 
--- records that are read as two lists of rows, one after the other, can be cut into two lists
+-- the records `xs` are cut into two parts, which are read as the rows `ys` and the rows `zs`
 record IsCut (xs : Records) (ys zs : List (Result Row RowError)) : Type 0 where
   front : Records
   back : Records
@@ -116,7 +121,7 @@ records_cut (x ∷ xs) (y ∷ ys) zs are =
       second = rest.second;
     }
 
--- the end row of a batch is answered by the version, and the batch is accepted
+-- the end row of a batch is answered by the line of the batch's version, and the batch is accepted
 end_after : (s : RunState) (number count : ℕ) (xs : Records) → IsAccepted (at_next_row s) number count → map row_of xs ≡ Ok (row.End number count) ∷ []
     → IsAfter s xs (version_line number) (s.accepted ++ (open_batch s number ∷ [])) []
 end_after s number count [] accepted are = absurd (cc)
@@ -148,8 +153,8 @@ batch_after s b xs none room next fits are =
     let same : first.after.accepted ++ (open_batch first.after b.number ∷ []) ≡ s.accepted ++ (b ∷ []) = rw (first.accepted_are, open_ones) refl in
     rw cut.whole (rows_after s cut.front cut.back [] (version_line b.number) s.accepted (s.accepted ++ (b ∷ [])) (s.changes ++ b.changes) [] first (rw same at second))
 
--- batches with the next numbers, each of which fits after the one before, are accepted with their
--- versions
+-- batches that have the next numbers, and of which each fits after those before it, are accepted;
+-- each is answered by the line of its version
 journal_after : OneMoreBatch → (s : RunState) (bs : List NumberedChanges) (xs : Records) → s.changes ≡ [] → AreNumberedFrom (length s.accepted + 1) bs
     → AreLawfulAfter (database_after s.accepted) bs → length s.accepted + length bs ≤ 1000000 → map row_of xs ≡ read_rows (journal_rows bs)
     → IsAfter s xs (version_lines bs) (s.accepted ++ bs) []
@@ -188,7 +193,8 @@ few_batches (b ∷ bs) =
     let changes = map change_row b.changes in
     omega (arith, one, length-append (batch_rows b) (journal_rows bs), length-append changes (row.End b.number (length b.changes) ∷ []))
 
--- at most 1,000,000 rows that leave no change open are a whole run
+-- Suppose that at most 1,000,000 rows are answered by these lines, and that no change waits for its
+-- `end` row after them. Then the rows and the lines are those of a whole run.
 run_of : (rows : Records) (lines : List ℕ) (accepted : List NumberedChanges) → length rows ≤ 1000000 → IsAfter start rows lines accepted []
     → (summary : Summary) × IsSolveRun rows lines summary
 run_of rows lines accepted few after =
@@ -204,7 +210,8 @@ run_of rows lines accepted few after =
       },
     )
 
--- a clean journal that is accepted, and requests that are answered, are a script
+-- A journal has no rows after its batches. If its batches are accepted and the requests are
+-- answered, one run over a single stream answers the rows of both.
 accepted_run : OneMoreBatch → (journal requests : Records) (bs : List NumberedChanges) (qs : List Request) (lines : List ℕ) → IsJournal journal bs rest.Clean
     → AreRequests requests qs → AreAccepted bs qs lines → length (journal ++ requests) ≤ 1000000 → (summary : Summary) × IsSolveRun (journal ++ requests) lines summary
 accepted_run more journal requests bs qs lines clean asked accepted few =
@@ -218,7 +225,7 @@ accepted_run more journal requests bs qs lines clean asked accepted few =
     run_of (journal ++ requests) lines first.after.accepted few
     (rw accepted.whole (rows_after start journal requests (version_lines bs) accepted.replies bs first.after.accepted [] [] first (rw first.changes_are at second)))
 
--- the batches that a run takes from a clean journal are all its batches
+-- if a journal has no rows after its batches, a run takes all batches of the journal
 whole_batches : IsOneJournal → (accept_torn : Bool) (journal : Records) (clean_ones bs : List NumberedChanges) → IsJournal journal clean_ones rest.Clean
     → IsJournal journal bs rest.Clean ⊎ (IsJournal journal bs rest.Torn × (accept_torn ≡ true)) → IsJournal journal bs rest.Clean
 whole_batches one accept_torn journal clean_ones bs clean (inl found) = found

@@ -1,4 +1,4 @@
--- The rows of updates are answered as the specification says, given the state that the code keeps.
+-- The rows of updates are answered as the specification says, given the state that the code stores.
 use Rattle.std.proofs.Common.{◌≡◌, ℕ, suc, ◌+◌, Bool, true, false, List, [], ◌∷◌, length, Option, Result, Ok, Err, inl, inr, refl, ap, arith}
 use Rattle.cspf_rows.specs.Rows.{row_of}
 use Rattle.cspf_rows.specs.declared.row.Row.{Row}
@@ -57,8 +57,9 @@ abbrev Rows : Type 0
 Rows = List (List (List ℕ))
 
 module _ {J : Type 0} (contents : J → Option (List ℕ)) (first : PublisherState J) where
-  -- If the code takes rows one after the other, the specification's answers to them lead from the
-  -- state before the first row to a state after the last row.
+  -- The code answers rows one after the other, and at first it keeps the specification's state `s`.
+  -- Then the specification answers these rows by the same lines, and the code ends with the
+  -- specification's state after them.
   carried : (place : ℕ) (k k' : KeptUpdates J) (s : UpdatesState) (rows : Rows) (lines : List ℕ) → KeepsUpdates contents first k s → place ≡ s.run.rows + 1
       → AreAnswered (IsUpdateTaken contents) place k rows lines k'
       → (t : UpdatesState) × KeepsUpdates contents first k' t × AreAnswered IsUpdateAnsweredAt place s rows lines t × (place + length rows ≡ t.run.rows + 1)

@@ -4,7 +4,8 @@ use Rattle.cspf_ero.specs.ReplyLine.{IsReply}
 use Rattle.cspf_model.specs.Outcome.{answer_of}
 use Rattle.cspf_publish.specs.declared.answer.Answer.{Answer}
 
--- the lines of answers, one reply for each, with the id and version of the answer
+-- the lines are one reply for each answer, in order; each reply has the id and the version of its
+-- answer
 abbrev pub AreAnswerLines : List Answer → List ℕ → Type 0
 AreAnswerLines [] lines = lines ≡ []
 AreAnswerLines (a ∷ answers) lines =

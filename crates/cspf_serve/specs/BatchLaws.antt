@@ -13,9 +13,9 @@ use Rattle.cspf_serve.specs.BatchRun.{IsBatchRun}
 abbrev pub IsCleanJournal : Records → Type 0
 IsCleanJournal records = (batches : List NumberedChanges) × IsJournal records batches rest.Clean
 
--- The journal has no rows after its batches, no request is refused, and both have at most 1,000,000
--- rows together. Then the lines are those of one script: the journal's rows, followed by the
--- requests' rows.
+-- Take a journal with no rows after its batches, and requests of which none is refused, with at
+-- most 1,000,000 rows together. A run over both writes the same lines as a run over one stream,
+-- which has the journal's rows and then the requests' rows.
 abbrev pub AreLinesOfAScript : Type 0
 AreLinesOfAScript =
     (accept_torn : Bool) (journal requests : Records) (lines : List ℕ)

@@ -15,7 +15,7 @@ use Rattle.cspf_stream.specs.Lines.{version_line, refused_batch_line}
 use Rattle.cspf_judge.specs.EarlyEnds.{HasBegun}
 use Rattle.cspf_judge.specs.Inputs.{AreBatchesOf, IsJournalRefused, AreRequestsOf, AreRequestsRefused}
 
--- the lines of accepted batches: one version for each batch
+-- the lines of accepted batches: each batch has one line, with its version
 abbrev pub version_lines : List NumberedChanges → List ℕ
 version_lines batches = flat_map (λ batch. version_line batch.number) batches
 
@@ -32,8 +32,8 @@ AreReplies d version (q ∷ qs) lines =
     (line : List ℕ) × (more : List ℕ) × IsReplyTo d version q line × (lines ≡ line ++ more)
     × AreReplies d version qs more
 
--- Each batch is accepted, and its line is its version. Then the requests are answered at the last
--- version.
+-- Each batch is accepted, and its line names its version. Then the requests are answered at the
+-- last version.
 pub record AreAccepted (batches : List NumberedChanges) (requests : List Request)
     (lines : List ℕ) : Type 0 where
   pub lawful : AreLawful batches
@@ -41,7 +41,7 @@ pub record AreAccepted (batches : List NumberedChanges) (requests : List Request
   pub answered : AreReplies (database_after batches) (length batches) requests replies
   pub whole : lines ≡ version_lines batches ++ replies
 
--- The batches before one that doesn't fit are accepted, and their lines are their versions. The
+-- The batches before one that doesn't fit are accepted, and their lines name their versions. The
 -- last line refuses the batch that doesn't fit.
 pub record IsOneUnfit (batches : List NumberedChanges) (lines : List ℕ) : Type 0 where
   pub before : List NumberedChanges
@@ -62,15 +62,16 @@ AreAnsweredTogether batches records lines status =
     × ((AreAccepted batches requests lines × (status ≡ 0))
     ⊎ (IsOneUnfit batches lines × (status ≡ 2))))
 
--- The lines of the records of a journal and of those of a stream of requests, and the status.
+-- These are the lines and the status of a run over a journal and a stream of requests, given the
+-- records of both.
 abbrev pub IsBatchRun : Bool → Records → Records → List ℕ → ℕ → Type 0
 IsBatchRun accept_torn journal requests lines status =
     (IsJournalRefused accept_torn journal lines × (status ≡ 2))
     ⊎ ((batches : List NumberedChanges) × AreBatchesOf accept_torn journal batches
     × AreAnsweredTogether batches requests lines status)
 
--- What a run has written if it ends early: the lines of the batches and some of the first replies,
--- or all lines of a run that refuses something.
+-- What a run has written if it ends early: the lines of the batches and the replies to a prefix of
+-- the requests, or all lines of a run that refuses something.
 abbrev pub IsBatchRunInPart : Bool → Records → Records → List ℕ → Type 0
 IsBatchRunInPart accept_torn journal requests lines =
     IsBatchRun accept_torn journal requests lines 2
@@ -78,8 +79,8 @@ IsBatchRunInPart accept_torn journal requests lines =
     × ((asked : List Request) × AreRequestsOf requests asked
     × ((count : ℕ) × AreAccepted batches (take count asked) lines)))
 
--- nothing was written, or the beginning of such lines, if the bytes of the journal and the requests
--- are known
+-- If the bytes of the journal and of the requests are known, the run wrote nothing, or the
+-- beginning of lines that `IsBatchRunInPart` allows.
 abbrev pub HasBegunBatch : Bool → Option (List ℕ) → Option (List ℕ) → Option (List ℕ) → Option (List ℕ) → Type 0
 HasBegunBatch accept_torn journal requests old new =
     IfSome journal (λ kept. IfSome requests (λ asked.

@@ -33,7 +33,8 @@ IsFaultBeyond error.Memory e = e ≡ Memory
 IsFaultBeyond (error.Journal written) e = e ≡ Device
 
 -- How an error ends a run at a batch. Memory was refused, or a device failed. If the device is the
--- journal, the publisher is stopped. If it is the lines' writer, the batch is published.
+-- journal, the publisher is stopped. If the device is the writer of the lines, the batch is
+-- published.
 abbrev pub IsPublishingFault : {W : Type 0} → PublisherState W → PublisherState W → NumberedChanges → JudgeError → Type 0
 IsPublishingFault before after b e =
     (e ≡ Memory)
@@ -45,8 +46,8 @@ AreStreamsRefused accept_torn journal requests line =
     IsJournalRefused accept_torn journal line
     ⊎ ((batches : List NumberedChanges) × AreBatchesOf accept_torn journal batches × AreRequestsRefused requests line)
 
--- an error in a part of a list of requests, and the same error with the request's index in the
--- whole list
+-- The first error is of a part of a list of requests. The second is the same error, but names a
+-- request by its index in the whole list.
 abbrev pub IsErrorOfPart : ℕ → ServeError → ServeError → Type 0
 IsErrorOfPart first serve_error.Memory e = e ≡ serve_error.Memory
 IsErrorOfPart first serve_error.NoEntry e = e ≡ serve_error.NoEntry

@@ -4,7 +4,8 @@ use Rattle.cspf_publish.specs.declared.errors.OpenError.TheVariants as open_erro
 use Rattle.cspf_serve.specs.declared.streams.error.RunError.{RunError}
 use Rattle.cspf_serve.specs.declared.streams.error.RunError.TheVariants as run
 
--- the error of a run for each error of `open`, if the number of workers is allowed
+-- the `RunError` for each error of `open`; in a run the error `Askers` doesn't occur, since the
+-- number of askers is one that `open` allows
 abbrev pub run_error_of : OpenError → RunError
 run_error_of open_error.Askers = run.Places
 run_error_of open_error.Memory = run.Memory

@@ -14,14 +14,14 @@ IsFaultShown next None line status = (line ≡ []) × (status ≡ 0)
 IsFaultShown None (Some why) line status = (line ≡ []) × (status ≡ 0)
 IsFaultShown (Some next) (Some why) line status = (line ≡ unpublished_line next.number why) × (status ≡ 2)
 
--- the replies, then the line that counts the applied batches, and then why the next batch wasn't
--- applied
+-- the replies, then the line that counts the applied batches, and then the line that says why the
+-- next batch wasn't applied
 abbrev pub AreLiveLines : List Answer → List NumberedChanges → ℕ → Option ApplyError → ℕ → List ℕ → Type 0
 AreLiveLines answers batches applied fault status lines =
     (replies : List ℕ) × (last : List ℕ) × AreAnswerLines answers replies
     × IsFaultShown (slice_get batches applied) fault last status × (lines ≡ replies ++ applied_line applied ++ last)
 
--- the text of the last line, if there is one
+-- the text of a live run's last line; this text is empty if there is no such line
 abbrev pub last_text : Option Line → List ℕ
 last_text None = []
 last_text (Some line) = line_text line

@@ -1,5 +1,4 @@
--- The lines of updates and requests in a live run, which publishes batches while it answers
--- requests.
+-- The lines of a live run. Such a run publishes the batches of updates while it answers requests.
 use Rattle.std.specs.Prelude.{◌≡◌, ℕ, ◌<◌, ◌≤◌, ◌⊎◌, false, List, [], ◌∷◌, ◌++◌, length, take, Some, slice_get}
 use Rattle.std.specs.List.{flat_map}
 use Rattle.cspf_rows.specs.Records.{Records}
@@ -22,15 +21,15 @@ IsReplyWithin published q line =
     (version : ℕ) × (version ≤ length published)
     × IsReplyTo (database_after (take version published)) version q line
 
--- the replies to the requests in order, each at some published version
+-- the lines are the replies to the requests in order, each at some published version
 abbrev pub AreRepliesWithin : List NumberedChanges → List Request → List ℕ → Type 0
 AreRepliesWithin published [] lines = lines ≡ []
 AreRepliesWithin published (q ∷ qs) lines =
     (line : List ℕ) × (more : List ℕ) × IsReplyWithin published q line × (lines ≡ line ++ more)
     × AreRepliesWithin published qs more
 
--- Why the first batch after the published ones isn't published. It can't be for its number, or for
--- too many batches: both were checked when the updates were read.
+-- Why the first batch after the published ones isn't published. The reason isn't the batch's number
+-- or too many batches, since both were checked when the updates were read.
 abbrev pub IsWhyNot : List NumberedChanges → NumberedChanges → ApplyError → Type 0
 IsWhyNot published b error.Stopped = ⊥
 IsWhyNot published b error.Exhausted = ⊥
@@ -40,7 +39,8 @@ IsWhyNot published b error.Memory = Fits (database_after published) b
 IsWhyNot published b (error.Journal written) =
     Fits (database_after published) b × (written < length (batch_text b))
 
--- For a batch that isn't published, the bytes that the journal got before its fault.
+-- The bytes of an unpublished batch's text that the journal got before it failed. There are none if
+-- the journal didn't fail.
 abbrev pub begun_text : NumberedChanges → ApplyError → List ℕ
 begun_text b (error.Journal written) = take written (batch_text b)
 begun_text b why = []
@@ -55,8 +55,8 @@ IsEndOfLiveRun batches applied line text status =
     × (text ≡ begun_text next why) × (status ≡ 2))
 
 -- A prefix of the batches is published, and each request is answered at the version of a published
--- batch or at version 0. After the replies, one line counts the published batches, and another says
--- why the next batch isn't published, if there is a next one. The journal has the texts of the
+-- batch or at version 0. After the replies, one line counts the published batches, and another line
+-- says why the next batch isn't published, if there is a next one. The journal has the texts of the
 -- published batches, and after a fault also a prefix of the next batch's text.
 pub record AreAnsweredLive (batches : List NumberedChanges) (requests : List Request)
     (lines text : List ℕ) (status : ℕ) : Type 0 where
@@ -71,9 +71,9 @@ pub record AreAnsweredLive (batches : List NumberedChanges) (requests : List Req
   pub written : lines ≡ replies ++ applied_line applied ++ last
   pub recorded : text ≡ flat_map batch_text (take applied batches) ++ begun
 
--- The text that the journal gets in a live run that ends by an error after batches were applied. It
--- is the same as without the error: the texts of the published batches, and after a fault of the
--- journal also a prefix of the next batch's text.
+-- The text that the journal gets, if a live run ends by an error after batches were applied. The
+-- text is the same as without the error. It has the texts of the published batches, and after a
+-- fault of the journal also a prefix of the next batch's text.
 pub record AreRecorded (batches : List NumberedChanges) (text : List ℕ) : Type 0 where
   pub applied : ℕ
   pub inside : applied ≤ length batches
@@ -83,11 +83,12 @@ pub record AreRecorded (batches : List NumberedChanges) (text : List ℕ) : Type
   pub end : IsEndOfLiveRun batches applied last begun status
   pub recorded : text ≡ flat_map batch_text (take applied batches) ++ begun
 
--- no batch was applied, or all batches up to the first that was refused
+-- the text is empty, or it is what the journal gets if batches are applied up to the first that is
+-- refused
 abbrev pub AreRecordedAtError : List NumberedChanges → List ℕ → Type 0
 AreRecordedAtError batches text = (text ≡ []) ⊎ AreRecorded batches text
 
--- The text that the journal gets in a live run over the records of updates that ends by an error.
+-- The text that the journal gets, if a live run over the records of updates ends by an error.
 abbrev pub IsRecordedAtError : Records → List ℕ → Type 0
 IsRecordedAtError updates text =
     (text ≡ []) ⊎ ((batches : List NumberedChanges) × AreBatchesOf false updates batches × AreRecorded batches text)

@@ -20,6 +20,6 @@ refusal_of (error.Journal written) = refusal.Journal written
 abbrev pub applied_line : ℕ → List ℕ
 applied_line count = codes "applied " ++ decimal count ++ codes "\n"
 
--- the line of the batch with this number, which wasn't published
+-- the line for the unpublished batch with this number
 abbrev pub unpublished_line : ℕ → ApplyError → List ℕ
 unpublished_line number why = refused_batch_line number (refusal_of why)

@@ -20,8 +20,8 @@ pub record IsUnfitBehind (batches published : List NumberedChanges) (line : List
   pub refused : IsRefusal (database_after published) batch why
   pub is_line : line ≡ refused_batch_line batch.number (refusal.Unfit why)
 
--- all batches are published, or only those before the first one that doesn't fit, which the line
--- refuses
+-- All batches are published, or only those before the first batch that doesn't fit. In the second
+-- case the line refuses this batch.
 abbrev pub ArePublishedOrRefused : List NumberedChanges → List NumberedChanges → Option JudgeLine → Type 0
 ArePublishedOrRefused batches published None = published ≡ batches
 ArePublishedOrRefused batches published (Some line) = IsUnfitBehind batches published (judge_line_text line)
@@ -31,8 +31,8 @@ abbrev pub IsAcceptedOrUnfit : List NumberedChanges → List Request → List �
 IsAcceptedOrUnfit batches requests lines status =
     (AreAccepted batches requests lines × (status ≡ 0)) ⊎ (IsOneUnfit batches lines × (status ≡ 2))
 
--- all batches are accepted and some of the first requests are answered, or one of the batches
--- doesn't fit
+-- all batches are accepted and a prefix of the requests is answered, or one of the batches doesn't
+-- fit
 abbrev pub IsAcceptedInPart : List NumberedChanges → List Request → List ℕ → Type 0
 IsAcceptedInPart batches requests lines =
     ((count : ℕ) × AreAccepted batches (take count requests) lines) ⊎ IsOneUnfit batches lines

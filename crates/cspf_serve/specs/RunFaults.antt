@@ -11,7 +11,8 @@ use Rattle.cspf_judge.specs.Inputs.{AreBatchesOf}
 use Rattle.cspf_judge.specs.declared.early_end.JudgeError.{JudgeError}
 use Rattle.cspf_judge.specs.declared.early_end.JudgeError.TheVariants as judge_error
 
--- the error of a run for each error of reading or writing, which keeps its name
+-- the `RunError` with the same name as this `JudgeError`, which is an error of reading or writing a
+-- stream
 abbrev pub judged_error_of : JudgeError → RunError
 judged_error_of judge_error.Memory = Memory
 judged_error_of judge_error.Device = Device
@@ -20,11 +21,12 @@ judged_error_of judge_error.Device = Device
 abbrev pub IsStreamFault : RunError → Type 0
 IsStreamFault e = (e ≡ Memory) ⊎ (e ≡ Device)
 
--- memory was refused, or the replicas of the database had no place left for a reader
+-- memory was refused, or the replicas (copies of the database's table) had no place left for a
+-- reader
 abbrev pub IsOpeningFault : RunError → Type 0
 IsOpeningFault e = (e ≡ Memory) ⊎ (e ≡ Places)
 
--- a worker gave up, or `IsStray` holds of the index of a request and the version of its answer
+-- a worker had a fault, or `IsStray` holds of the index of a request and the version of its answer
 abbrev pub IsAnsweringFault : (ℕ → ℕ → Type 0) → RunError → Type 0
 IsAnsweringFault IsStray e =
     ((fault : ServeError) × (e ≡ Serve fault) × IsFaultOfWorker fault)
@@ -41,15 +43,16 @@ IsStrayInBatchRun accept_torn journal requests index version =
     × IfSome journal (λ kept. (batches : List NumberedChanges)
     × AreBatchesOf accept_torn (rows_of kept) batches × (length batches < version))
 
--- the error that ends a run over a journal and requests: in opening the publisher, or later
+-- an error that ends a run over a journal and requests, either while its publisher is opened or
+-- later
 abbrev pub IsBatchFault : Bool → Option (List ℕ) → Option (List ℕ) → RunError → Type 0
 IsBatchFault accept_torn journal requests e = IsOpeningFault e ⊎ IsRunFault (IsStrayInBatchRun accept_torn journal requests) e
 
--- The answer to a request of the stream has a version above the number of the published updates, so
--- above 0.
+-- The index is that of a row of the requests, and the version is above 0. An answer's version that
+-- isn't published is above the number of published batches, and so above 0.
 abbrev pub IsStrayInLiveRun : Option (List ℕ) → ℕ → ℕ → Type 0
 IsStrayInLiveRun requests index version = IfSome requests (λ asked. index < length (rows_of asked)) × (0 < version)
 
--- the error that ends a run over updates and requests: in opening the publisher, or later
+-- an error that ends a run over updates and requests, either while its publisher is opened or later
 abbrev pub IsLiveFault : Option (List ℕ) → RunError → Type 0
 IsLiveFault requests e = IsOpeningFault e ⊎ IsRunFault (IsStrayInLiveRun requests) e

@@ -22,8 +22,9 @@ use Rattle.cspf_serve.specs.NumberedPairs.{AreNumberedPairs}
 use Rattle.cspf_serve.specs.ServedRun.{IsServedClient, IsServedRun}
 use Rattle.cspf_serve.specs.declared.serving.served_run.Served.{Served}
 
--- One of the steps is the reading of the count for this row of the client. The steps before it
--- count at most `version` batches as published.
+-- One of the steps is the client's reading of the count of published batches, and this reading
+-- names the row at `place`. The steps before this reading count at most `version` batches as
+-- published.
 pub record IsReadBefore (steps : List LogStep) (client place version : ℕ) : Type 0 where
   pub before : List LogStep
   pub count : ℕ
@@ -31,15 +32,16 @@ pub record IsReadBefore (steps : List LogStep) (client place version : ℕ) : Ty
   pub reading : steps ≡ before ++ Read client place count ∷ after
   pub fresh : count_of before ≤ version
 
--- A request is answered at a version that is at least the count of published batches before its row
--- was read.
+-- The line is a fresh reply: the version of the answer is at least the count of published batches
+-- before the request's row was read.
 pub record IsFreshReply (steps : List LogStep) (client place : ℕ) (q : Request) (line : List ℕ) : Type 0 where
   pub version : ℕ
   pub answer : Answer
   pub reply : IsReply q.id version answer line
   pub read : IsReadBefore steps client place version
 
--- the line of a row is fresh; only a reply to a request has a version, so every other line is fresh
+-- If the row is a request, its line is a reply whose version is at least the count of published
+-- batches before the row was read. About other lines nothing is stated, since they have no version.
 abbrev pub IsFreshLine : List LogStep → ℕ → ℕ → Result Row RowError → List ℕ → Type 0
 IsFreshLine steps client place (Err why) line = Unit {0}
 IsFreshLine steps client place (Ok (row.Put link)) line = Unit {0}
@@ -48,20 +50,23 @@ IsFreshLine steps client place (Ok (row.Node router transit)) line = Unit {0}
 IsFreshLine steps client place (Ok (row.End number count)) line = Unit {0}
 IsFreshLine steps client place (Ok (row.Ask q)) line = IsFreshReply steps client place q line
 
--- the line that answers the row at this place is fresh; nothing else is claimed of the state
--- between rows
+-- The line that answers the row at this place is as `IsFreshLine` says: a reply has at least the
+-- version that was published before the row was read. Nothing is stated about the states before and
+-- after the row.
 abbrev pub IsAnsweredFresh : List LogStep → ℕ → AnswersOf (Unit {0})
 IsAnsweredFresh steps client place s fields line t = IsFreshLine steps client place (row_of fields) line
 
--- All rows of a client are answered by fresh lines, or all rows before its stream stopped.
+-- All rows of a client, or those before its stream stopped, are answered by lines as `IsFreshLine`
+-- describes them. Each reply has at least the version that was published before its row was read.
 abbrev pub HasFreshLines : {Q V : Type 0} → (Q → Option (List ℕ)) → (V → Option (List ℕ)) → List LogStep → ℕ → Client Q V → ServedClient V → Type 0
 HasFreshLines bytes contents steps number client served =
     AreAllAnswered (IsAnsweredFresh steps number) (option_map rows_of (bytes client.requests)) tt tt (contents client.replies) (contents served.replies)
     ⊎ ((why : StreamError) × (left : Option (List (List (List ℕ)))) × (failed : Bool)
     × HasStopped (IsAnsweredFresh steps number) (λ place s fields t. Unit {0}) why (option_map rows_of (bytes client.requests)) left failed tt tt (contents client.replies) (contents served.replies))
 
--- In a served run each reply has a version that is at least the count of published batches before
--- its row was read. The list of steps that the run hands out shows this.
+-- In a run over updates and clients each reply has a version that is at least the count of
+-- published batches before its row was read. The list of the journal's steps that the run returns
+-- shows this.
 abbrev pub ServedRepliesAreFresh : Type 0 → Type 0 → Type 0 → Type 0 → Type 0
 ServedRepliesAreFresh W J Q V =
     (updates : Option (List ℕ)) (said : W → Option (List ℕ)) (recorded : J → Option (List ℕ)) (bytes : Q → Option (List ℕ)) (contents : V → Option (List ℕ))
@@ -69,11 +74,13 @@ ServedRepliesAreFresh W J Q V =
     → IsServedRun updates said recorded bytes contents writer journal clients served
     → AreNumberedPairs (HasFreshLines bytes contents served.steps.steps) 1 clients served.clients.items
 
--- One batch is published and counted, and then client 1 reads the count for its first row.
+-- The steps of a journal: a batch is recorded and counted as published, and then client 1 reads the
+-- count of published batches before it answers its first row.
 abbrev pub read_behind_a_batch : NumberedChanges → List LogStep
 read_behind_a_batch b = Recorded b ∷ Published 1 ∷ Read 1 1 1 ∷ []
 
--- In a run with these steps, the served client has no reply at version 0.
+-- Take a run whose journal has the steps of `read_behind_a_batch`. If client 1 asks one request and
+-- its stream ends without an error, its reply isn't at version 0.
 abbrev pub NoReplyIsBehind : Type 0
 NoReplyIsBehind =
     (b : NumberedChanges) (all : KnownSteps) (fields : List (List ℕ)) (q : Request) (client : Client (List ℕ) (List ℕ)) (served : ServedClient (List ℕ)) (answer : Answer)

@@ -1,5 +1,5 @@
--- The lines of a stream of updates while clients ask. They are those of a script of the same rows,
--- except at a fault of the journal or of memory, and the number of rows has no limit.
+-- The lines of a stream of updates while clients ask. They are those of a run over one stream of
+-- the same rows, except at a fault of the journal or of memory. The number of rows has no limit.
 use Rattle.std.specs.Prelude.{◌≡◌, ℕ, ◌<◌, ◌≤◌, ◌⊎◌, Bool, true, false, List, [], ◌++◌, take, length, Result, Ok, Err}
 use mathlib.Core.List.{IsPrefix}
 use Rattle.cspf_journal.specs.declared.log_step.LogStep.{LogStep}
@@ -16,26 +16,28 @@ use Rattle.cspf_solve.specs.Script.{RunState, start, at_next_row, after_refused_
 
 -- the state of the updates between two rows
 pub record UpdatesState : Type 0 where
-  -- the state of a script after the same rows; its accepted batches are the published ones
+  -- the state that a run over one stream has after the same rows; its accepted batches are the
+  -- published ones
   pub run : RunState
   -- whether the journal had a fault, after which nothing is published any more
   pub stopped : Bool
   -- the text that was written to the journal
   pub text : List ℕ
-  -- the steps of the journal up to the one that counts the last published batch
+  -- the steps of the journal up to the step that counts the last published batch as published
   pub steps : List LogStep
 
 -- the state before the first row
 abbrev pub no_updates : UpdatesState
 no_updates = record { run = start; stopped = false; text = []; steps = [] }
 
--- the later steps count these batches as published
+-- the steps `after` begin with the steps `before`, and in `after` these batches are counted as
+-- published
 pub record AreNowCounted (batches : List NumberedChanges) (before after : List LogStep) : Type 0 where
   pub later : IsPrefix before after
   pub counted : length batches ≤ count_of after
 
--- What a fault leaves of the journal. Refused memory leaves the journal as it was. A fault of the
--- journal adds a prefix of the batch's text, and nothing is written to the journal after it.
+-- The state after a fault. If memory was refused, the journal is as it was. If the journal failed,
+-- it has got a prefix of the batch's text, and nothing is written to it any more.
 abbrev pub IsLeftByFault : UpdatesState → ℕ → ApplyError → UpdatesState → Type 0
 IsLeftByFault s number error.Stopped t = ⊥
 IsLeftByFault s number error.Exhausted t = ⊥
@@ -52,15 +54,16 @@ IsLeftByFault s number (error.Journal written) t =
       steps = s.steps;
     })
 
--- A batch that a script would accept isn't published because of a fault. The line names the fault.
+-- A run over one stream would accept the batch, but a fault keeps it from being published. The line
+-- names the fault.
 pub record IsUnpublished (s : UpdatesState) (number count : ℕ) (line : List ℕ) (t : UpdatesState) : Type 0 where
   pub accepted : IsAccepted s.run number count
   pub why : ApplyError
   pub left : IsLeftByFault s number why t
   pub line_is : line ≡ unpublished_line number why
 
--- The end row is answered as in a script: its batch is refused or published. If it is published,
--- its text is in the journal, and all published batches are counted.
+-- The end row is answered as in a run over one stream: its batch is refused or published. If it is
+-- published, its text is in the journal, and the journal's steps count all published batches.
 pub record IsAsInScript (s : UpdatesState) (number count : ℕ) (line : List ℕ) (t : UpdatesState) : Type 0 where
   pub answered : IsEndAnswered s.run number count line t.run
   pub going : t.stopped ≡ false
@@ -79,12 +82,12 @@ abbrev pub IsEndUpdate : Bool → UpdatesState → ℕ → ℕ → List ℕ → 
 IsEndUpdate true s number count line t = IsRefusedBehindFault s number line t
 IsEndUpdate false s number count line t = IsAsInScript s number count line t ⊎ IsUnpublished s number count line t
 
--- a row that is no end row is answered as in a script
+-- a row that is no end row is answered as in a run over one stream
 pub record IsOtherUpdate (s : UpdatesState) (r : Result Row RowError) (line : List ℕ) (t : UpdatesState) : Type 0 where
   pub answered : IsRowAnswered s.run r line t.run
   pub same : t ≡ record { run = t.run; stopped = s.stopped; text = s.text; steps = s.steps }
 
--- the state with one more row read
+-- the state after one more row is read, before this row is answered
 abbrev pub at_next_update : UpdatesState → UpdatesState
 at_next_update s = record s { run = at_next_row s.run }
 
@@ -98,7 +101,7 @@ IsUpdateAnswered s (Ok (row.End number count)) line t = IsEndUpdate s.stopped s 
 IsUpdateAnswered s (Ok (row.Ask q)) line t = IsOtherUpdate s (Ok (row.Ask q)) line t
 
 -- Memory is refused at a row, so its line is missing. No batch is published without its line. The
--- state is as before, or it changes only as the missing line would have said: open changes are
--- dropped, or the journal has a fault.
+-- state is as before, or it changes only as the missing line would have said: open changes (without
+-- their `end` row) are dropped, or the journal has a fault.
 abbrev pub IsUpdateLost : UpdatesState → Result Row RowError → UpdatesState → Type 0
 IsUpdateLost s row t = (t ≡ s) ⊎ ((line : List ℕ) × IsUpdateAnswered s row line t × (t.run.accepted ≡ s.run.accepted))

@@ -1,4 +1,4 @@
--- Private: the state of a stream of updates that the code keeps.
+-- Private: the state that the code stores for a stream of updates.
 use Rattle.std.specs.Prelude.{◌≡◌, ℕ, ◌+◌, ◌≤◌, false, Option, List, [], ◌∷◌, ◌++◌, length}
 use mathlib.Core.List.{IsPrefix}
 use Rattle.cspf_journal.specs.declared.log_step.LogStep.{LogStep}
@@ -23,7 +23,8 @@ use Rattle.cspf_solve.specs.Script.{open_batch, after_batch}
 use Rattle.cspf_serve.specs.LiveWords.{refusal_of}
 use Rattle.cspf_serve.specs.Updates.{UpdatesState, AreNowCounted, IsUpdateAnswered, IsUpdateLost, at_next_update}
 
--- a publisher, and the steps of its journal up to the last one that counts batches
+-- a publisher, and the steps of its journal up to the last step that counts one of its batches as
+-- published
 pub record CountedState (J : Type 0) : Type 0 where
   pub publisher : PublisherState J
   pub steps : KnownSteps
@@ -35,23 +36,24 @@ pub record AreAllCounted {J : Type 0} (p : PublisherState J) (steps : KnownSteps
   pub recorded : BeginsWith (batches_of steps.steps) p.batches
   pub counted : length p.batches ≤ count_of steps.steps
 
--- The publisher with its steps, the open changes, the number of answered requests, and the number
--- of refused rows and batches.
+-- What the code stores for the updates of a run: the publisher with its journal's steps, the open
+-- changes, and the numbers of answered requests and of refusals. An open change waits for its `end`
+-- row.
 pub record KeptUpdates (J : Type 0) : Type 0 where
   pub sink : CountedState J
   pub changes : OpenChanges
   pub answers : ℕ
   pub refused : ℕ
 
--- no change is open, no request was answered, and nothing was refused
+-- no change is open (without its `end` row), no request was answered, and nothing was refused
 pub record IsFresh {J : Type 0} (k : KeptUpdates J) : Type 0 where
   pub none : k.changes.count ≡ 0
   pub unasked : k.answers ≡ 0
   pub clean : k.refused ≡ 0
 
--- The publisher has the source that it had at the beginning. Its published batches are the accepted
--- ones, and its journal has grown by the text of the state. The steps in `c` go on from the steps
--- of the state.
+-- The publisher still has the journal with which it began (the source is the journal's identity).
+-- The published batches are the accepted batches of the state `s`, and the journal has grown by the
+-- text of `s`. The journal's steps in `c` begin with the steps of `s`.
 pub record ArePublished {J : Type 0} (contents : J → Option (List ℕ)) (first : PublisherState J) (c : CountedState J) (s : UpdatesState) : Type 0 where
   pub source : c.publisher.source ≡ first.source
   pub batches : c.publisher.batches ≡ s.run.accepted
@@ -59,7 +61,8 @@ pub record ArePublished {J : Type 0} (contents : J → Option (List ℕ)) (first
   pub journal : Appends (contents first.journal) (contents c.publisher.journal) s.text
   pub steps : IsPrefix s.steps c.steps.steps
 
--- the publisher, the open changes and the number of refusals are those of the state
+-- `k`, which the code stores, has the publisher and the open changes (without their `end` row) that
+-- the state `s` of the specification says. It also has the number of refusals that `s` says.
 pub record KeepsUpdates {J : Type 0} (contents : J → Option (List ℕ)) (first : PublisherState J) (k : KeptUpdates J) (s : UpdatesState) : Type 0 where
   pub published : ArePublished contents first k.sink s
   pub changes : AreOpen k.changes s.run.changes
@@ -73,7 +76,8 @@ pub record IsPublished {J : Type 0} (contents : J → Option (List ℕ)) (old ne
   pub recorded : Appends (contents old.journal) (contents new.journal) (batch_text b)
 
 -- How a publisher takes batches and answers requests. Each batch that it accepts is published, and
--- a later step counts it. Each of its errors is a refusal.
+-- a later step of its journal counts the batch as published. Each error of the publisher is a
+-- refusal of the batch.
 abbrev pub publisher_spec : {J : Type 0} → (J → Option (List ℕ)) → SinkSpec (CountedState J)
 publisher_spec contents = record {
   version = λ c. length c.publisher.batches;
@@ -87,7 +91,8 @@ publisher_spec contents = record {
       (answer : Answer) × IsBestAnswer (database_after c.publisher.batches) q answer × IsReply q.id (length c.publisher.batches) answer line;
 }
 
--- the state after the batch with this number was published, and these steps counted it
+-- the state after the batch with this number was published; the journal's steps `steps` count this
+-- batch as published
 abbrev pub after_published : UpdatesState → ℕ → List LogStep → UpdatesState
 after_published s number steps = record {
   run = after_batch s.run number;

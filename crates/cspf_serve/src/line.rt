@@ -11,7 +11,7 @@ use std::fmt;
 /// A line of a run that isn't the reply to a request.
 #[derive(Clone, Copy)]
 pub(crate) enum Line {
-    /// A line that a run over one stream of rows has, too.
+    /// A line that a run over one stream of rows writes, too.
     Stream(StreamLine),
     /// How many batches were published.
     Applied { count: u32 },

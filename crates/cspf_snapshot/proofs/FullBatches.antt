@@ -1,4 +1,5 @@
--- All batches but the last are full. How many changes they have together, and how many batches there are.
+-- How many changes and how many batches there are, if each batch but the last is full: it has 4,096
+-- changes.
 use Rattle.std.proofs.Common.{◌≡◌, ◌≢◌, ℕ, ◌+◌, ◌*◌, ◌<◌, ◌≤◌, ◌==◌, false, min, List, [], ◌∷◌, ◌++◌, length, take, drop, sym, ap, ◌∙◌, arith, length-append, length-take, length-drop, append_assoc}
 use Rattle.std.specs.List.{AllByRecursion}
 use Rattle.std.proofs.lemmas.List.{append-nil, take-append-drop}
@@ -16,7 +17,7 @@ AreFull batches = AllByRecursion (λ b. length b.changes ≡ MOST_CHANGES) batch
 abbrev pub AreShort : List NumberedChanges → Type 0
 AreShort batches = AllByRecursion (λ b. length b.changes ≤ MOST_CHANGES) batches
 
--- one more batch adds its changes at the end of all changes
+-- if one more batch is appended to batches, its changes come after all changes of these batches
 pub changes_of-push : (batches : List NumberedChanges) (b : NumberedChanges)
     → changes_of (batches ++ b ∷ []) ≡ changes_of batches ++ b.changes
 changes_of-push [] b = append-nil b.changes
@@ -24,7 +25,8 @@ changes_of-push (a ∷ batches) b =
     ap (λ cs. a.changes ++ cs) (changes_of-push batches b)
     ∙ sym (append_assoc a.changes (changes_of batches) b.changes)
 
--- if one more batch has the next number, the batches are still numbered one after the other
+-- if one more batch with the next number is appended, the batches are still numbered one after the
+-- other
 pub numbered_push : (first : ℕ) (batches : List NumberedChanges) (b : NumberedChanges)
     → AreNumberedFrom first batches → b.number ≡ first + length batches
     → AreNumberedFrom first (batches ++ b ∷ [])
@@ -32,13 +34,14 @@ numbered_push first [] b numbers next = (omega (arith, next), tt)
 numbered_push first (a ∷ batches) b numbers next =
     (numbers.0, numbered_push (first + 1) batches b numbers.1 (omega (arith, next)))
 
--- if one more batch is full, all batches are full
+-- if all batches are full, and one more full batch is appended, all batches are full
 pub full_push : (batches : List NumberedChanges) (b : NumberedChanges) → AreFull batches
     → length b.changes ≡ MOST_CHANGES → AreFull (batches ++ b ∷ [])
 full_push [] b full more = (more, tt)
 full_push (a ∷ batches) b full more = (full.0, full_push batches b full.1 more)
 
--- full batches, and after them one batch that may have fewer changes: all but the last are full
+-- if one more batch of 1 to 4,096 changes is appended to full batches, all batches but the last are
+-- full
 pub full_but_last_push : (batches : List NumberedChanges) (b : NumberedChanges) → AreFull batches
     → 0 < length b.changes → length b.changes ≤ MOST_CHANGES → AreFullButLast (batches ++ b ∷ [])
 full_but_last_push [] b full some short = (some, short)
@@ -52,14 +55,15 @@ short_each [] full = tt
 short_each (b ∷ []) full = (full.1, tt)
 short_each (b ∷ c ∷ batches) full = (omega (arith, full.0), short_each (c ∷ batches) full.1)
 
--- full batches have 4,096 changes each
+-- full batches together have 4,096 times as many changes as there are batches
 pub length-changes_of-full : (batches : List NumberedChanges) → AreFull batches
     → length (changes_of batches) ≡ length batches * 4096
 length-changes_of-full [] full = omega arith
 length-changes_of-full (b ∷ batches) full =
     omega (arith, length-append b.changes (changes_of batches), full.0, length-changes_of-full batches full.1)
 
--- all batches but the last have 4,096 changes, and the last has at least one
+-- if all batches but the last are full, 4,096 times the number of batches is below the number of
+-- all changes plus 4,096
 pub length-changes_of-lt : (batches : List NumberedChanges) → AreFullButLast batches
     → length batches * 4096 < length (changes_of batches) + 4096
 length-changes_of-lt [] full = omega arith
@@ -68,9 +72,9 @@ length-changes_of-lt (b ∷ []) full =
 length-changes_of-lt (b ∷ c ∷ batches) full =
     omega (arith, length-append b.changes (changes_of (c ∷ batches)), full.0, length-changes_of-lt (c ∷ batches) full.1)
 
--- the changes `rest` aren't empty
+-- In this part, the list `rest` of changes isn't empty.
 module _ (rest : List Change) (is_some : false ≡ (length rest == 0)) where
-  -- there is at least one change
+  -- the list `rest` has at least one change
   some_left : 0 < length rest
   some_left = some rest is_some
     where
@@ -83,19 +87,22 @@ module _ (rest : List Change) (is_some : false ≡ (length rest == 0)) where
   not_empty none =
       let zero_left : length rest ≡ 0 = ap length none in omega (arith, zero_left, some_left)
 
--- One more batch `b` is cut off: the first changes of `rest`. The changes `behind` come after it.
+-- In this part, one more batch `b` is cut off from `rest`: `b` has the first changes of `rest`, and
+-- `behind` has the others.
 module _ (changes : List Change) (batches : List NumberedChanges) (rest : List Change) (all : changes_of batches ++ rest ≡ changes) (whole : rest ≢ [] → AreFull batches) (is_some : false ≡ (length rest == 0)) where
-  -- the batches so far are full, and they don't have all changes
+  -- 4,096 times the number of batches so far is below the number of all changes, because these
+  -- batches are full and `rest` isn't empty
   pub few_so_far : length batches * 4096 < length changes
   few_so_far =
       omega (arith, ap length all, length-append (changes_of batches) rest, length-changes_of-full batches (whole (not_empty rest is_some)), some_left rest is_some)
 
   module _ (b : NumberedChanges) (behind : List Change) (front : b.changes ≡ take (min (length rest) 4096) rest) (back : behind ≡ drop (min (length rest) 4096) rest) where
-    -- the batch has all changes of `rest` if there are at most 4,096, and 4,096 otherwise
+    -- the batch `b` has all changes of `rest` if these are at most 4,096, and otherwise it has
+    -- 4,096 changes
     size : length b.changes ≡ min (length rest) 4096
     size = omega (arith, ap length front, length-take (min (length rest) 4096) rest)
 
-    -- the batches and the changes `behind` are all changes
+    -- the changes of all batches, including `b`, followed by the changes `behind`, are all changes
     pub all_next : changes_of (batches ++ b ∷ []) ++ behind ≡ changes
     all_next =
         ap (λ cs. cs ++ behind) (changes_of-push batches b)
@@ -104,13 +111,13 @@ module _ (changes : List Change) (batches : List NumberedChanges) (rest : List C
         ∙ ap (λ cs. changes_of batches ++ cs) (take-append-drop (min (length rest) 4096) rest)
         ∙ all
 
-    -- the batch has 1 to 4,096 changes, and all batches before it are full
+    -- all batches are full except perhaps the last, `b`, which has 1 to 4,096 changes
     pub full_next : AreFullButLast (batches ++ b ∷ [])
     full_next =
         full_but_last_push batches b (whole (not_empty rest is_some))
         (omega (arith, size, some_left rest is_some)) (omega (arith, size))
 
-    -- if any changes come after the batch, it is full
+    -- if the list `behind` isn't empty, the batch `b` is full, and so all batches are full
     pub whole_next : behind ≢ [] → AreFull (batches ++ b ∷ [])
     whole_next more =
         full_push batches b (whole (not_empty rest is_some))

@@ -16,13 +16,13 @@ use Rattle.cspf_snapshot.proofs.FullBatches.{AreShort}
 use Rattle.cspf_snapshot.proofs.Parts.{IsPartOf, IsOwnChange, AreOwnChanges, part_after, after_changes-append, link_count-le, mark_count-le}
 use Rattle.cspf_snapshot.proofs.RouterCounts.{router_count-le}
 
--- what holds of each item of two joined lists holds of each item of the first
+-- if `P` holds of each item of two joined lists, it holds of each item of the first list
 all_front : {X : Type 0} (P : X → Type 0) (xs ys : List X) → AllByRecursion P (xs ++ ys)
     → AllByRecursion P xs
 all_front P [] ys all = tt
 all_front P (x ∷ xs) ys all = (all.0, all_front P xs ys all.1)
 
--- what holds of each item of two joined lists holds of each item of the second
+-- if `P` holds of each item of two joined lists, it holds of each item of the second list
 all_back : {X : Type 0} (P : X → Type 0) (xs ys : List X) → AllByRecursion P (xs ++ ys)
     → AllByRecursion P ys
 all_back P [] ys all = all
@@ -32,26 +32,30 @@ all_back P (x ∷ xs) ys all = all_back P xs ys all.1
 abbrev HaveOwnChangeKeys : List Change → Type 0
 HaveOwnChangeKeys cs = IsDistinct (eq_by_cmp change_key_cmp) (map key_changed cs)
 
--- what holds of the key of each change holds of the key of each of the first changes
+-- if `P` holds of the key of each change of two joined lists, it holds of the key of each change of
+-- the first list
 keys_front : (P : ChangeKey → Type 0) (bs cs : List Change)
     → AllByRecursion P (map key_changed (bs ++ cs)) → AllByRecursion P (map key_changed bs)
 keys_front P [] cs all = tt
 keys_front P (b ∷ bs) cs all = (all.0, keys_front P bs cs all.1)
 
--- if no two changes have the same key, no two of the first changes have
+-- if no two changes of two joined lists have the same key, no two changes of the first list have
+-- the same key
 own_front : (bs cs : List Change) → HaveOwnChangeKeys (bs ++ cs) → HaveOwnChangeKeys bs
 unfolding IsDistinct
 own_front [] cs own = tt
 own_front (b ∷ bs) cs own =
     (keys_front (λ k. eq_by_cmp change_key_cmp (key_changed b) k ≡ false) bs cs own.0, own_front bs cs own.1)
 
--- if no two changes have the same key, no two of the last changes have
+-- if no two changes of two joined lists have the same key, no two changes of the second list have
+-- the same key
 own_back : (bs cs : List Change) → HaveOwnChangeKeys (bs ++ cs) → HaveOwnChangeKeys cs
 unfolding IsDistinct
 own_back [] cs own = own
 own_back (b ∷ bs) cs own = own_back bs cs own.1
 
--- an own change removes nothing, so all that the changes remove is present
+-- if all changes put links or mark routers, `IsPresent` holds of each change, because no change is
+-- a removal
 all_present : (e d : Database) (cs : List Change) → AreOwnChanges d cs
     → AllByRecursion (IsPresent e) cs
 all_present e d [] own = tt
@@ -70,33 +74,34 @@ len-from_list-le (n ∷ ns) =
     at_most_one_more true n m e most le = omega (arith, e, le)
     at_most_one_more false n m e most le = omega (arith, e, le)
 
--- The database has at most as many links, routers and marks as a table can hold.
+-- The database has at most as many links, routers and marked routers as a table can hold.
 pub record IsSmall (d : Database) : Type 0 where
   pub keyed : AreAtTheirKeys d
   pub links : link_count d ≤ MOST_LINKS
   pub routers : router_count d ≤ MOST_ROUTERS
   pub marks : mark_count d ≤ MOST_MARKS
 
--- The batch `b` has the first of the database's own changes, and the changes `cs` come after it. After the batch
--- the database `e` is still a part of `d`, and not larger than `d`.
+-- In this part, all links of the database `e` are in the database `d`. The changes of the batch
+-- `b`, and then the changes `cs`, lead from `e` to `d`. All of them put links of `d` or mark
+-- routers.
 module _ (counted : RoutersAreCounted) (d : Database) (small : IsSmall d) (e : Database) (b : NumberedChanges) (cs : List Change) (part : IsPartOf e d) (own : AreOwnChanges d (b.changes ++ cs)) (made : after_changes e (b.changes ++ cs) ≡ d) where
-  -- the database after the batch
+  -- the database after the batch `b`
   abbrev next : Database
   next = after_changes e b.changes
 
-  -- the changes `cs` then make the database `d`
+  -- the changes `cs` lead from the database after the batch to the database `d`
   made_next : after_changes next cs ≡ d
   made_next = sym (after_changes-append e b.changes cs) ∙ made
 
-  -- the changes of the batch are own changes of `d`
+  -- the changes of the batch put links of `d` or mark routers
   own_first : AreOwnChanges d b.changes
   own_first = all_front (IsOwnChange d) b.changes cs own
 
-  -- the changes `cs` are own changes of `d`
+  -- the changes `cs` put links of `d` or mark routers
   own_others : AreOwnChanges d cs
   own_others = all_back (IsOwnChange d) b.changes cs own
 
-  -- the database after the batch is a part of `d`
+  -- all links of the database after the batch are in `d`
   part_then : IsPartOf next d
   part_then = part_after e d b.changes part own_first
 
@@ -111,7 +116,9 @@ module _ (counted : RoutersAreCounted) (d : Database) (small : IsSmall d) (e : D
     marks = omega (arith, mark_count-le next d cs own_others, ap mark_count made_next, small.marks);
   }
 
--- batches of at most 4,096 own changes that lead from `e` to `d` are lawful after `e`
+-- Let a table have room for `d`, and let all links of `e` be in `d`. Let batches of at most 4,096
+-- changes lead from `e` to `d`, and let their changes have different keys and only put links of `d`
+-- or mark routers. Then each batch fits the database after the batches before it.
 pub lawful_after : RoutersAreCounted → (d : Database) → IsSmall d → (e : Database) (bs : List NumberedChanges)
     → IsPartOf e d → AreOwnChanges d (changes_of bs) → HaveOwnChangeKeys (changes_of bs)
     → AreShort bs → after_changes e (changes_of bs) ≡ d → AreLawfulAfter e bs

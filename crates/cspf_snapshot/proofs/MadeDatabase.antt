@@ -1,4 +1,4 @@
--- The database that the changes of a snapshot make.
+-- Which database the changes of a snapshot make.
 use Rattle.std.proofs.Common.{◌≡◌, ℕ, ◌||◌, Bool, true, false, Option, Some, None, is_some, List, [], ◌∷◌, map, refl, sym, ap, ◌∙◌}
 use Rattle.std.specs.Ordering.{nat_cmp, eq_by_cmp}
 use Rattle.std.specs.Cmp.{nat_cmp_total}
@@ -14,7 +14,7 @@ use Rattle.cspf_snapshot.specs.Snapshots.{marking, changes_making, AreMarksOf}
 use Rattle.cspf_model.proofs.Databases.Keys.{keys_total, keys_antisymmetric}
 use Rattle.cspf_snapshot.proofs.Parts.{AreOwnChanges, none_is_part, part_after, has_link_after, has_link_put}
 
--- each link that is put is in the database after all changes
+-- after changes that put links, the database has a link at the key of each of these links
 has_links : (e d : Database) (links : List Link) (marks : List ℕ)
     → AreOwnChanges d (changes_making links marks)
     → AllByRecursion (λ l. is_some (link_at (after_changes e (changes_making links marks)) (key_of l)) ≡ true) links
@@ -24,8 +24,8 @@ has_links e d (l ∷ links) marks own = (
   has_links (after_change e (Put l)) d links marks own.1,
 )
 
--- Two options are equal if the value of the first is always that of the second, and the first has a value if the
--- second does.
+-- Two options are equal if each value of the first is the value of the second, and the first has a
+-- value whenever the second has one.
 same_option : (o p : Option Link) → ((l : Link) → o ≡ Some l → p ≡ Some l)
     → ((l : Link) → p ≡ Some l → is_some o ≡ true) → o ≡ p
 same_option None None part has = refl
@@ -35,18 +35,19 @@ same_option None (Some l) part has = absurd (none_there (has l refl))
     none_there e = cc
 same_option (Some l) p part has = sym (part l refl)
 
--- the order of tests that are joined by `or` doesn't matter
+-- in the disjunction of three tests, the first and the second may change places
 or_moved : (a b c : Bool) → ((a || b) || c) ≡ (b || (a || c))
 or_moved true true c = refl
 or_moved true false c = refl
 or_moved false b c = refl
 
--- `or false` changes nothing
+-- the disjunction of a test and `false` is the test itself
 or_none : (a : Bool) → a ≡ (a || false)
 or_none true = refl
 or_none false = refl
 
--- changes that mark routers add them to the marks
+-- after changes that mark routers, a router is marked exactly if it was marked before or one of
+-- these changes marks it
 contains-marking : (e : Database) (marks : List ℕ) (q : ℕ)
     → set.contains (after_changes e (map marking marks)).marks q
     ≡ (set.contains e.marks q || list_any (eq_by_cmp nat_cmp q) marks)
@@ -56,20 +57,22 @@ contains-marking e (router ∷ marks) q =
     ∙ ap (λ b. b || list_any (eq_by_cmp nat_cmp q) marks) (set.contains-insert nat_cmp_total e.marks router q)
     ∙ or_moved (eq_by_cmp nat_cmp q router) (set.contains e.marks q) (list_any (eq_by_cmp nat_cmp q) marks)
 
--- changes that put links and then mark routers add these routers to the marks
+-- after changes that put links and then mark routers, a router is marked exactly if it was marked
+-- before or one of these changes marks it
 contains-making : (e : Database) (links : List Link) (marks : List ℕ) (q : ℕ)
     → set.contains (after_changes e (changes_making links marks)).marks q
     ≡ (set.contains e.marks q || list_any (eq_by_cmp nat_cmp q) marks)
 contains-making e [] marks q = contains-marking e marks q
 contains-making e (l ∷ links) marks q = contains-making (after_change e (Put l)) links marks q
 
--- the changes that put all links of the database `d` and mark all its marked routers
+-- In this part, the changes put all links of the database `d`, and mark all routers that `d` marks
+-- as without transit.
 module _ (d : Database) (links : List Link) (marks : List ℕ) (own : AreOwnChanges d (changes_making links marks)) (listed : AreLinksOf d links) (keyed : AreAtTheirKeys d) (are_marks : AreMarksOf d marks) where
   -- the database that these changes make from the empty database
   abbrev made : Database
   made = after_changes no_links (changes_making links marks)
 
-  -- if `d` has a link at a key, the database that is made has a link there
+  -- if `d` has a link at a key, the database that is made has a link at this key
   is_made : (k : Key) (l : Link) → link_at d k ≡ Some l → is_some (link_at made k) ≡ true
   is_made k l is =
       let same = keyed k l is in
@@ -84,7 +87,7 @@ module _ (d : Database) (links : List Link) (marks : List ℕ) (own : AreOwnChan
       same_map keys_total keys_antisymmetric made.links d.links
       (λ k. same_option (link_at made k) (link_at d k) (part_after no_links d (changes_making links marks) (none_is_part d) own k) (is_made k))
 
-  -- the database that is made has the marks of `d`
+  -- the database that is made marks the same routers as `d`
   marks_made : made.marks ≡ d.marks
   marks_made =
       set.same_set nat_cmp_total set.nat_cmp-IsAntisymmetric made.marks d.marks

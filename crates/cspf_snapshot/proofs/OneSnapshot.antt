@@ -15,7 +15,8 @@ use Rattle.cspf_snapshot.specs.SnapshotLaws.{OneSnapshot}
 use Rattle.cspf_snapshot.proofs.FullBatches.{length-changes_of-lt}
 use Rattle.cspf_snapshot.proofs.RisingLists.{same_rising}
 
--- a database has one list of marks
+-- if two lists have exactly the routers that a database marks, each once and in rising order, the
+-- two lists are equal
 same_marks : (d : Database) (ms ns : List ℕ) → AreMarksOf d ms → AreMarksOf d ns → ms ≡ ns
 same_marks d ms ns are also =
     same_rising ms ns (sorted_from_strictly_increasing ms are.rising) (sorted_from_strictly_increasing ns also.rising)
@@ -41,12 +42,14 @@ same_backs front back other rest long e =
 one_batch : (b c : NumberedChanges) → b.number ≡ c.number → b.changes ≡ c.changes → b ≡ c
 one_batch b c number changes = λ i. record { number = number i; changes = changes i }
 
--- if there is a batch and all but the last are full, there is at least one change
+-- if there is at least one batch, and all batches but the last are full, there is at least one
+-- change
 some_changes : (b : NumberedChanges) (bs : List NumberedChanges) → AreFullButLast (b ∷ bs)
     → 0 < length (changes_of (b ∷ bs))
 some_changes b bs full = omega (arith, length-changes_of-lt (b ∷ bs) full)
 
--- batches that are all full but the last are determined by their changes and the number of the first
+-- Two lists of batches are equal if they have the same changes, and the numbers of both count up
+-- from `first`. In both lists, each batch but the last has to be full.
 same_batches : (first : ℕ) (bs cs : List NumberedChanges) → AreFullButLast bs → AreFullButLast cs
     → AreNumberedFrom first bs → AreNumberedFrom first cs → changes_of bs ≡ changes_of cs → bs ≡ cs
 same_batches first [] [] full also numbers others e = refl

@@ -1,4 +1,5 @@
--- The changes of a snapshot are a database's own changes, and no two of them have the same key.
+-- Each change of a database's snapshot puts a link of this database or marks a router.
+-- `AreOwnChanges` calls such changes own changes of the database. No two of them have the same key.
 use Rattle.std.proofs.Common.{◌≡◌, ℕ, false, List, [], ◌∷◌, map, refl}
 use Rattle.std.specs.Ordering.{nat_cmp, eq_by_cmp}
 use Rattle.std.specs.declared.cmp.Ordering.TheVariants.{Less}
@@ -11,24 +12,27 @@ use Rattle.cspf_snapshot.specs.Snapshots.{marking, changes_making}
 use Rattle.cspf_model.proofs.Databases.Keys.{link_apart}
 use Rattle.cspf_snapshot.proofs.Parts.{AreOwnChanges}
 
--- a change that marks a router is an own change of any database
+-- changes that mark routers as without transit are own changes of every database, as
+-- `AreOwnChanges` defines them
 own_marks : (d : Database) (marks : List ℕ) → AreOwnChanges d (map marking marks)
 own_marks d [] = tt
 own_marks d (router ∷ marks) = (refl, own_marks d marks)
 
--- puts of a database's links, and then changes that mark routers, are its own changes
+-- changes that put links of a database and then mark routers are what `AreOwnChanges` calls own
+-- changes of this database
 pub own_changes : (d : Database) (links : List Link) (marks : List ℕ)
     → AllByRecursion (IsLinkOf d) links → AreOwnChanges d (changes_making links marks)
 own_changes d [] marks each = own_marks d marks
 own_changes d (l ∷ links) marks each = (each.0, own_changes d links marks each.1)
 
--- if one router's address is below another's, changes that mark them have different keys
+-- if the address of a router is below that of another router, the changes that mark the two routers
+-- have different keys
 mark_below_apart : (router other : ℕ) → nat_cmp router other ≡ Less
     → eq_by_cmp change_key_cmp (mark_key router) (mark_key other) ≡ false
 mark_below_apart router other below = rw below refl
 
--- if a router's address is below all others, the change that marks it has a different key from those that
--- mark the others
+-- if a router's address is below those of other routers, the change that marks this router has a
+-- different key from the changes that mark the others
 apart_above : (router : ℕ) (marks : List ℕ)
     → AllByRecursion (λ other. nat_cmp router other ≡ Less) marks
     → AllByRecursion (λ k. eq_by_cmp change_key_cmp (mark_key router) k ≡ false) (map key_changed (map marking marks))
@@ -50,8 +54,8 @@ apart_from_marks : (k : Key) (marks : List ℕ)
 apart_from_marks k [] = tt
 apart_from_marks k (router ∷ marks) = (link_apart k router, apart_from_marks k marks)
 
--- if a link has a different key from other links, its change has a different key from theirs and from all
--- marks
+-- if a link has a different key from other links, the change that puts it has a different key from
+-- those that put these links or mark routers
 apart_from_all : (k : Key) (links : List Link) (marks : List ℕ)
     → AllByRecursion (λ j. eq_by_cmp key_cmp k j ≡ false) (map key_of links)
     → AllByRecursion (λ j. eq_by_cmp change_key_cmp (link_key k) j ≡ false) (map key_changed (changes_making links marks))

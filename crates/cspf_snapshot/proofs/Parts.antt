@@ -1,4 +1,5 @@
--- A database whose links are all in another one, and what the other's own changes do to it.
+-- If a database `d` has all links of a database `e`, this is still so after changes that put links
+-- of `d` or mark routers.
 use Rattle.std.proofs.Common.{◌≡◌, ℕ, ◌+◌, ◌≤◌, Bool, true, false, cond, Option, Some, None, is_some, List, [], ◌∷◌, ◌++◌, sym, ap, refl, ◌∙◌, arith}
 use Rattle.std.specs.Ordering.{eq_by_cmp}
 use Rattle.std.specs.Cmp.{nat_cmp_total}
@@ -16,34 +17,37 @@ use Rattle.cspf_model.proofs.Databases.Keys.{keys_total, keys_same, key_itself}
 abbrev pub IsPartOf : Database → Database → Type 0
 IsPartOf e d = (k : Key) (l : Link) → link_at e k ≡ Some l → link_at d k ≡ Some l
 
--- an own change of `d` puts a link of `d`, or marks a router as without transit
+-- the change is an own change of `d`: it puts a link of `d`, or marks a router as without transit
 abbrev pub IsOwnChange : Database → Change → Type 0
 IsOwnChange d (Put l) = IsLinkOf d l
 IsOwnChange d (Remove from local) = ⊥
 IsOwnChange d (Node router transit) = transit ≡ false
 
--- all changes are own changes of `d`
+-- each change of the list puts a link of `d`, or marks a router as without transit
 abbrev pub AreOwnChanges : Database → List Change → Type 0
 AreOwnChanges d cs = AllByRecursion (IsOwnChange d) cs
 
--- the changes of two joined lists are those of the first list, and then those of the second
+-- the database after two joined lists of changes is the database after the second list, applied to
+-- the database after the first list
 pub after_changes-append : (d : Database) (bs cs : List Change)
     → after_changes d (bs ++ cs) ≡ after_changes (after_changes d bs) cs
 after_changes-append d [] cs = refl
 after_changes-append d (b ∷ bs) cs = after_changes-append (after_change d b) bs cs
 
--- the database without links is a part of every database
+-- the database without links is a part of every database: none of its links is missing there
 pub none_is_part : (d : Database) → IsPartOf no_links d
 none_is_part d k l is = absurd (none_some (sym (map.get-empty key_cmp k) ∙ is))
   where
     none_some : ◌≡◌ {A = Option Link} None (Some l) → ⊥
     none_some e = cc
 
--- if `e` is a part of `d`, its links are at their own keys, since those of `d` are
+-- if all links of `e` are in `d`, and `d` has each link at the link's own key, then `e` has each
+-- link at the link's own key
 pub part_at_keys : (e d : Database) → IsPartOf e d → AreAtTheirKeys d → AreAtTheirKeys e
 part_at_keys e d part keyed k l is = keyed k l (part k l is)
 
--- a part of `d` is still a part after one own change of `d`
+-- if all links of `e` are in `d`, this is still so after a change to `e` that puts a link of `d` or
+-- marks a router
 part_next : (e d : Database) (c : Change) → IsPartOf e d → IsOwnChange d c
     → IsPartOf (after_change e c) d
 part_next e d (Put l) part own k m is =
@@ -54,19 +58,21 @@ part_next e d (Put l) part own k m is =
 part_next e d (Remove from local) part own k m is = absurd own
 part_next e d (Node router transit) part own k m is = part k m is
 
--- a part of `d` is still a part after any own changes of `d`
+-- if all links of `e` are in `d`, this is still so after changes to `e` that put links of `d` or
+-- mark routers
 pub part_after : (e d : Database) (cs : List Change) → IsPartOf e d → AreOwnChanges d cs
     → IsPartOf (after_changes e cs) d
 part_after e d [] part own = part
 part_after e d (c ∷ cs) part own =
     part_after (after_change e c) d cs (part_next e d c part own.0) own.1
 
--- adding an entry doesn't make the count smaller
+-- if a count stays the same or grows by one, it doesn't get smaller
 least_of : (b : Bool) (n m : ℕ) → m ≡ cond b n (n + 1) → n ≤ m
 least_of true n m e = omega (arith, e)
 least_of false n m e = omega (arith, e)
 
--- after an own change there are at least as many links
+-- after a change that puts a link of `d` or marks a router, the database `e` has at least as many
+-- links as before
 link_count_next : (e d : Database) (c : Change) → IsOwnChange d c
     → link_count e ≤ link_count (after_change e c)
 link_count_next e d (Put l) own =
@@ -75,7 +81,8 @@ link_count_next e d (Put l) own =
 link_count_next e d (Remove from local) own = absurd own
 link_count_next e d (Node router transit) own = omega arith
 
--- after an own change there are at least as many marks
+-- after a change that puts a link of `d` or marks a router, the database `e` marks at least as many
+-- routers as before
 mark_count_next : (e d : Database) (c : Change) → IsOwnChange d c
     → mark_count e ≤ mark_count (after_change e c)
 mark_count_next e d (Put l) own = omega arith
@@ -89,21 +96,24 @@ mark_count_next e d (Node router transit) own = marked transit own
         least_of (set.contains e.marks router) (set.len e.marks) (set.len (set.insert e.marks router))
         (set.len-insert nat_cmp_total e.marks router)
 
--- after own changes there are at least as many links
+-- after changes that put links of `d` or mark routers, the database `e` has at least as many links
+-- as before
 pub link_count-le : (e d : Database) (cs : List Change) → AreOwnChanges d cs
     → link_count e ≤ link_count (after_changes e cs)
 link_count-le e d [] own = omega arith
 link_count-le e d (c ∷ cs) own =
     omega (arith, link_count_next e d c own.0, link_count-le (after_change e c) d cs own.1)
 
--- after own changes there are at least as many marks
+-- after changes that put links of `d` or mark routers, the database `e` marks at least as many
+-- routers as before
 pub mark_count-le : (e d : Database) (cs : List Change) → AreOwnChanges d cs
     → mark_count e ≤ mark_count (after_changes e cs)
 mark_count-le e d [] own = omega arith
 mark_count-le e d (c ∷ cs) own =
     omega (arith, mark_count_next e d c own.0, mark_count-le (after_change e c) d cs own.1)
 
--- a key that has a link still has a link after an own change
+-- if `e` has a link at a key, it has a link at this key after a change that puts a link of `d` or
+-- marks a router
 has_link_next : (e d : Database) (c : Change) (k : Key) → IsOwnChange d c
     → is_some (link_at e k) ≡ true → is_some (link_at (after_change e c) k) ≡ true
 has_link_next e d (Put l) k own there =
@@ -116,14 +126,15 @@ has_link_next e d (Put l) k own there =
 has_link_next e d (Remove from local) k own there = absurd own
 has_link_next e d (Node router transit) k own there = there
 
--- a key that has a link still has a link after any own changes
+-- if `e` has a link at a key, it has a link at this key after changes that put links of `d` or mark
+-- routers
 pub has_link_after : (e d : Database) (cs : List Change) (k : Key) → AreOwnChanges d cs
     → is_some (link_at e k) ≡ true → is_some (link_at (after_changes e cs) k) ≡ true
 has_link_after e d [] k own there = there
 has_link_after e d (c ∷ cs) k own there =
     has_link_after (after_change e c) d cs k own.1 (has_link_next e d c k own.0 there)
 
--- after a put there is a link at its key
+-- after a change that puts a link, the database has a link at the key of this link
 pub has_link_put : (e : Database) (l : Link)
     → is_some (link_at (after_change e (Put l)) (key_of l)) ≡ true
 has_link_put e l =

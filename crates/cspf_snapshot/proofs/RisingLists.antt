@@ -8,30 +8,31 @@ use Rattle.std.specs.List.Sorted.{IsStrictlySortedBy}
 use Rattle.std.specs.FinMap.{nat_cmp-IsAntisymmetric}
 use Rattle.std.specs.FinMap.Entries.{find, is_sorted, below_all, same_entries}
 
--- the numbers as the keys of entries that have no values
+-- the entries of a finite set, one for each number of a list: the number is the entry's key, and
+-- the entry's value is empty
 abbrev entries : List ℕ → List (ℕ × Unit {0})
 entries ns = map (λ n. (n, tt)) ns
 
--- the entries have a number exactly if the list has it
+-- a search for a number among the `entries` of a list finds it exactly if the list has this number
 find-entries : (q : ℕ) (ns : List ℕ)
     → find nat_cmp q (entries ns) ≡ cond (list_any (eq_by_cmp nat_cmp q) ns) (Some tt) None
 find-entries q [] = refl
 find-entries q (n ∷ ns) =
     elim (eq_by_cmp nat_cmp q n) as (λ b. cond b (Some tt) (find nat_cmp q (entries ns)) ≡ cond (b || list_any (eq_by_cmp nat_cmp q) ns) (Some tt) None) [ true ↦ refl | false ↦ find-entries q ns ]
 
--- two tests that pass, joined by `and`
+-- if two tests are true, their conjunction is true
 both : (a b : Bool) → a ≡ true → T b → T (a && b)
 both true b is h = h
 both false b is h = absurd (cc)
 
--- a number that is below all numbers of a list is below all entries
+-- a number that is below all numbers of a list is below the keys of all `entries` of this list
 below_entries : (n : ℕ) (ns : List ℕ) → AllByRecursion (λ m. nat_cmp n m ≡ Less) ns
     → T (below_all nat_cmp n (entries ns))
 below_entries n [] below = tt
 below_entries n (m ∷ ns) below =
     both (is_lt (nat_cmp n m)) (below_all nat_cmp n (entries ns)) (ap is_lt below.0) (below_entries n ns below.1)
 
--- the entries of a strictly rising list are sorted
+-- the `entries` of a strictly rising list are sorted by their keys
 sorted_entries : (ns : List ℕ) → IsStrictlySortedBy nat_cmp ns → T (is_sorted nat_cmp (entries ns))
 unfolding IsStrictlySortedBy
 sorted_entries [] rising = tt
@@ -42,7 +43,7 @@ sorted_entries (n ∷ ns) rising =
     first true b g h = h
     first false b g h = absurd g
 
--- the keys of the entries are the numbers
+-- the keys of the `entries` of a list are the numbers of this list
 numbers-entries : (ns : List ℕ) → map (λ e. e.0) (entries ns) ≡ ns
 numbers-entries [] = refl
 numbers-entries (n ∷ ns) = ap (λ ms. n ∷ ms) (numbers-entries ns)

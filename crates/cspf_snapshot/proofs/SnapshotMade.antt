@@ -22,7 +22,8 @@ use Rattle.cspf_snapshot.proofs.OwnChanges.{own_changes, distinct_making}
 use Rattle.cspf_snapshot.proofs.MadeDatabase.{is_database}
 use Rattle.cspf_snapshot.proofs.LawfulParts.{IsSmall, lawful_after, len-from_list-le}
 
--- the lists of a table: its links and its marks
+-- `links` has exactly the links of a table whose database is `d`, and `marks` has exactly the
+-- routers that this table marks as without transit
 pub record AreListsOf (d : Database) (links : List Link) (marks : List ℕ) : Type 0 where
   pub listed : AreLinksOf d links
   pub most : length links ≤ MOST_LINKS
@@ -33,9 +34,10 @@ pub record AreListsOf (d : Database) (links : List Link) (marks : List ℕ) : Ty
   pub are_marks : AreMarksOf d marks
   pub few_marks : length marks ≤ MOST_MARKS
 
--- the changes that put the links of a table and mark its routers
+-- In this part, the changes put the links of a table and then mark the routers that the table marks
+-- as without transit.
 module _ (d : Database) (links : List Link) (marks : List ℕ) (lists : AreListsOf d links marks) where
-  -- the database has no more links, routers and marks than a table can hold
+  -- the table's database has no more links, routers and marked routers than a table can hold
   is_small : IsSmall d
   is_small = record {
     keyed = lists.keyed;
@@ -44,11 +46,11 @@ module _ (d : Database) (links : List Link) (marks : List ℕ) (lists : AreLists
     marks = omega (arith, lists.few_marks, ap set.len lists.are_marks.all, len-from_list-le marks);
   }
 
-  -- these changes are own changes of the database
+  -- each of these changes puts a link of the database or marks a router
   are_own : AreOwnChanges d (changes_making links marks)
   are_own = own_changes d links marks (recursion_from_All (IsLinkOf d) links lists.listed.each)
 
-  -- from the empty database they make the database
+  -- from the empty database, these changes make the table's database
   making : after_changes no_links (changes_making links marks) ≡ d
   making = is_database d links marks are_own lists.listed lists.keyed lists.are_marks
 
@@ -57,7 +59,7 @@ module _ (d : Database) (links : List Link) (marks : List ℕ) (lists : AreLists
   on_own_keys =
       distinct_making links marks lists.once (sorted_from_strictly_increasing marks lists.are_marks.rising)
 
-  -- there is one put for each link and one change for each mark
+  -- there are as many changes as links and marks together
   pub length-changes_making : length (changes_making links marks) ≡ length links + length marks
   length-changes_making =
       omega (arith, length-append (map Put links) (map marking marks), length-map links Put, length-map marks marking)
@@ -66,7 +68,8 @@ module _ (d : Database) (links : List Link) (marks : List ℕ) (lists : AreLists
   pub few_changes : length (changes_making links marks) ≤ MOST_LINKS + MOST_MARKS
   few_changes = omega (arith, length-changes_making, lists.most, lists.few_marks)
 
-  -- batches of these changes, all full but the last, are a snapshot
+  -- if batches have these changes, are numbered from 1, and are all full but the last, they are a
+  -- snapshot of the table's database
   pub is_snapshot : RoutersAreCounted → (batches : List NumberedChanges)
       → changes_of batches ≡ changes_making links marks → AreNumberedFrom 1 batches
       → AreFullButLast batches → IsSnapshot d batches
@@ -84,7 +87,8 @@ module _ (d : Database) (links : List Link) (marks : List ℕ) (lists : AreLists
     database = ap (after_changes no_links) changes ∙ making;
   }
 
--- if three facts give a fourth, and the value of a result has the three, it has the fourth
+-- if three facts about a value imply a fourth, and the value of a result has the three facts, it
+-- has the fourth
 pub if_ok_by : {A E : Type 0} (P Q S R : A → Type 0) → ((a : A) → P a → Q a → S a → R a)
     → (r : Result A E) → IfOk r P → IfOk r Q → IfOk r S → IfOk r R
 if_ok_by P Q S R gives (Ok a) p q s = gives a p q s

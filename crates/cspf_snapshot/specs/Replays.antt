@@ -5,8 +5,9 @@ use Rattle.cspf_model.specs.Refusals.{IsFirstUnfit}
 use Rattle.cspf_snapshot.specs.declared.replay_error.ReplayError.{ReplayError}
 use Rattle.cspf_snapshot.specs.declared.replay_error.ReplayError.TheVariants as error
 
--- Why batches can't be replayed: memory is refused, which may happen with any batches, or this is the first batch
--- that doesn't fit.
+-- Why batches can't be replayed. Either memory is refused, which may happen with any batches. Or
+-- the batch with the number `number` is the first that doesn't fit the database of the batches
+-- before it, and `why` is the reason.
 abbrev pub IsReplayError : List NumberedChanges → ReplayError → Type 0
 IsReplayError batches error.Memory = Unit {0}
 IsReplayError batches (error.Refused number why) = IsFirstUnfit batches number why

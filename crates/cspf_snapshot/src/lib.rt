@@ -1,8 +1,9 @@
-//! From a table to batches and back: the few batches that make a table's database from the empty one,
-//! and the table after the batches of a journal.
+//! From a table to batches and back: the few batches that make a table's database from the empty
+//! database, and the table after the batches of a journal.
 //!
-//! `specs/Snapshots.antt` defines the batches that make a database. `specs/SnapshotLaws.antt` says that
-//! only one list of batches does. `specs/Replays.antt` defines why batches can't be replayed.
+//! `specs/Snapshots.antt` defines the batches that make a database. `specs/SnapshotLaws.antt` says
+//! that a database has only one such list of batches. `specs/Replays.antt` defines why batches
+//! can't be replayed.
 #![tactic(auto)]
 
 mod cutting;

@@ -7,20 +7,21 @@ use cspf_db::Table;
 use cspf_model::{Batch, Change, Link, counted_routers};
 use std::alloc::{AllocError, Global};
 
-/// The batches that make the table's database from the empty one, numbered from 1. First they put the
-/// links, in order of the routers that the links run from and then of the local addresses. Then they mark
-/// each router that has no transit, in rising order of Router ID. Each batch but the last has
-/// `MOST_CHANGES` changes. The snapshot of an empty table has no batches.
+/// The batches, numbered from 1, that make the table's database from the empty database. First they
+/// put the links, in order of the routers that the links run from and then of the local addresses.
+/// Then they mark each router that has no transit, in rising order of Router ID. Each batch but the
+/// last has `MOST_CHANGES` changes. The snapshot of an empty table has no batches.
 pub fn snapshot(alloc: Global, table: &Table) -> Result<Vec<Batch>, AllocError>
     ensures { IfOk result (λ batches. IsSnapshot table.now batches.items) }
 {
-    // Law: the count of routers is that of the database's routers.
+    // Law: `router_count` counts exactly the routers of the database.
     counted_routers();
     let changes = list_changes(alloc, table.links(), table.marks())?;
     cut_into_batches(alloc, &changes)
 }
 
-/// A put of each link, and then a change that marks each router as without transit.
+/// The changes that put each link of `links`, and then mark each router of `marks` as without
+/// transit.
 fn list_changes(alloc: Global, links: &[Link], marks: &[Addr]) -> Result<Vec<Change>, AllocError>
     ensures { IfOk result (λ changes. changes.items ≡ changes_making links.now marks.now) }
 {

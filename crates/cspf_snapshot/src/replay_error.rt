@@ -12,12 +12,12 @@ pub enum ReplayError {
     /// Memory was refused.
     #[error("out of memory")]
     Memory,
-    /// A batch doesn't fit the database of the batches before it, all of which fit.
+    /// A batch doesn't fit the database of the batches before it. All batches before it fit.
     #[error("batch {number}: {refusal}")]
     Refused {
         /// The number of this batch.
         number: u32,
-        /// Why it doesn't fit.
+        /// Why this batch doesn't fit the database of the batches before it.
         refusal: Refusal,
     },
 }

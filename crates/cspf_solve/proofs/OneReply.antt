@@ -1,4 +1,4 @@
--- Two runs over the same rows have the same lines.
+-- Two runs over the same rows of a stream write the same lines.
 use Rattle.std.proofs.Common.{◌≡◌, ℕ, List, [], ◌∷◌, ◌++◌, take, Result, Ok, Err, inl, inr, refl, sym, ap, ◌∙◌, append_assoc, arith}
 use Rattle.cspf_model.specs.Laws.{OneBestAnswer, OneRefusal}
 use Rattle.cspf_ero.specs.ReplyLine.{HasOneReplyLine}
@@ -76,7 +76,7 @@ run_once best reply one rows l m a b x y =
     let same = all_once best reply one start (take 1000000 rows) x.replies y.replies x.after y.after x.answered y.answered in
     (x.whole ∙ rw (same.0, same.1) (sym y.whole), x.counts ∙ rw same.1 (sym y.counts))
 
--- the lines of the rows `xs` come first, and then the lines of the rows `ys`
+-- the lines `l` are those that answer the rows `xs`, followed by those that answer the rows `ys`
 pub record IsSplit (s : RunState) (xs ys : List (List (List ℕ))) (l : List ℕ) (t : RunState) : Type 0 where
   pub first : List ℕ
   pub mid : RunState

@@ -18,7 +18,7 @@ Rows = List (List (List ℕ))
 abbrev IsFront : List ℕ → List ℕ → Type 0
 IsFront out lines = (more : List ℕ) × (lines ≡ out ++ more)
 
--- the rows that are still read after the rows `done`
+-- the rows of `rest` that a run answers after the rows `done`, until it has answered 1,000,000 rows
 abbrev next_rows : Rows → Rows → Rows
 next_rows done rest = take (1000000 - length done) rest
 
@@ -27,7 +27,8 @@ take_done rows done rest split few =
     let count : 1000000 ≡ length done + (1000000 - length done) = omega (arith, few) in
     rw split (ap (λ n. take n (done ++ rest)) count ∙ take-append-add done rest (1000000 - length done))
 
--- the lines of the whole run begin with those of the rows `done`
+-- the output `whole` of the whole run is `lines`, then the lines of the rows that are answered
+-- after `done`, and then the last line
 pub record IsContinued (done rest : List (List (List ℕ))) (lines whole : List ℕ) (after : RunState) : Type 0 where
   pub second : List ℕ
   pub last : RunState
@@ -57,7 +58,8 @@ by_rows_front best reply one rows out lines summary begun run =
     let c = continued best reply one rows begun.done begun.rest out lines begun.after summary begun.first run in
     (c.second ++ last_line c.too_many c.last.changes, c.is_whole ∙ append_assoc out c.second _)
 
--- whole lines and then a part of the next text are a prefix of the whole output
+-- if the whole output is `lines`, the next text and more bytes, then `lines` and the first bytes of
+-- the next text are a prefix of it
 part_front : (lines text rest out whole : List ℕ) (size : ℕ) → whole ≡ lines ++ (text ++ rest) → out ≡ lines ++ take size text → IsFront out whole
 part_front lines text rest out whole size is_whole is_out = (
   drop size text ++ rest,
@@ -72,7 +74,7 @@ take-nil : (n : ℕ) → take {A = List (List ℕ)} n [] ≡ []
 take-nil zero = refl
 take-nil (suc n) = refl
 
--- if no more rows are read, there are no more lines before the last line
+-- if no more rows are answered, no line of a row is left to write, and the state stays the same
 none_next : (s t : RunState) (rows : Rows) (second : List ℕ) → rows ≡ [] → AreRowsAnswered s rows second t → (second ≡ []) × (t ≡ s)
 unfolding AreRowsAnswered
 none_next s t rows second none answered = rw none at answered
@@ -87,7 +89,8 @@ take-cons : (n : ℕ) (x : List (List ℕ)) (xs : Rows) → 0 < n → take n (x 
 take-cons zero x xs some = absurd (omega arith)
 take-cons (suc n) x xs some = ap (λ k. x ∷ take k xs) (omega arith)
 
--- if no more rows are read, the text that is cut off is the last line
+-- If a run answers no row after the rows `done`, its next text is its last line. If its output is
+-- then `lines` and the first `size` bytes of this text, it is a prefix of the whole output.
 last_front : (done rest : Rows) (lines whole : List ℕ) (after : RunState) (text out : List ℕ) (size : ℕ)
     → (c : IsContinued done rest lines whole after) → take (1000000 - length done) rest ≡ [] → text ≡ last_line c.too_many after.changes
     → out ≡ lines ++ take size text → IsFront out whole

@@ -1,4 +1,5 @@
--- Each row adds at most one to each count.
+-- Each row of a stream adds at most one to each count of a run: the counts of rows, of open
+-- changes, of answers and of refusals.
 use Rattle.std.proofs.Common.{ℕ, ◌≤◌, List, [], ◌∷◌, length, length-append, Result, Ok, Err, inl, inr, refl, arith}
 use Rattle.cspf_model.specs.declared.batch.Change.{Change}
 use Rattle.cspf_model.specs.declared.batch.Change.TheVariants as change
@@ -53,7 +54,8 @@ within_rows s t (fields ∷ rows) lines a =
       refused = omega (arith, first.refused, rest.refused);
     }
 
--- after at most 1,000,000 rows no count is above 1,000,000
+-- after at most 1,000,000 rows the solver's counts of rows, of answers and of refusals are at most
+-- 1,000,000 each
 pub counted_rows : (solver : Solver) (s : RunState) (rows : List (List (List ℕ))) (lines : List ℕ)
     → AreRowsAnswered start rows lines s → length rows ≤ 1000000 → KeepsRun solver s → AreCounted solver
 counted_rows solver s rows lines answered few kept =

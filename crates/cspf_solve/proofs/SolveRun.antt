@@ -1,4 +1,5 @@
--- A run over rows: from the solver's answers to the lines and the summary, and the output of a run that stops.
+-- How the lines and the summary of a run follow from the solver's answers, and what the output is
+-- if the run stops.
 use Rattle.std.proofs.Common.{◌≡◌, ◌≢◌, ℕ, suc, ◌+◌, ◌<◌, ◌≤◌, Bool, true, false, List, [], ◌∷◌, ◌++◌, take, length, length-append, Option, Some, None, IfSome, option_map, Result, Ok, Err, IfOk, IfErr, OnOk, inl, inr, refl, sym, ap, subst, ◌∙◌, append_assoc, append-nil, arith}
 use Rattle.std.proofs.KnownBytes.{Appends-nil, Appends-trans, Appends-kept}
 use Rattle.std.proofs.lemmas.Bool.{lt-ltb, le-ltb, false≢true}
@@ -6,11 +7,13 @@ use Rattle.std.proofs.lemmas.List.{take_all, take_at, length-take-le}
 use Rattle.std.specs.Io.KnownBytes.{Appends}
 use Rattle.cspf_rows.specs.Records.{rows_of}
 use Rattle.cspf_rows.specs.Rows.{row_of}
-use Rattle.cspf_stream.specs.FirstRows.{AreFirstRowsAnswered, HasMoreRows, StopsAfterRows, HasStoppedAfter}
+use Rattle.cspf_stream.specs.FirstRows.{AreFirstRowsAnswered, HasMoreRows, StopsAfterRows, StopsInRowAfter, HasStoppedAfter, IsStoppedAfter}
 use Rattle.cspf_stream.specs.RowAnswers.{AnswersOf, AreAnswered}
-use Rattle.cspf_stream.specs.StreamStops.{FailsOf}
-use Rattle.cspf_stream.specs.declared.error.StreamError.{StreamError}
+use Rattle.std.specs.declared.alloc.AllocError.{AllocError}
+use Rattle.cspf_stream.specs.StreamStops.{FailsOf, NeverFails}
 use Rattle.cspf_stream.specs.declared.error.StreamError.TheVariants as stream_error
+use Rattle.cspf_stream.specs.declared.error.StreamStop.{StreamStop}
+use Rattle.cspf_stream.specs.declared.error.StreamStop.TheVariants as stop
 use Rattle.cspf_solve.specs.declared.solver.Solver.{Solver}
 use Rattle.cspf_solve.specs.declared.summary.Summary.{Summary}
 use Rattle.cspf_solve.specs.declared.error.SolveError.{SolveError}
@@ -24,12 +27,13 @@ use Rattle.cspf_solve.proofs.RowCounts.{counted_rows}
 abbrev Rows : Type 0
 Rows = List (List (List ℕ))
 
--- how the solver answers the row at a place, and what holds if memory is refused there
+-- how the solver answers the row with the number `place`; `SolverFails` says what holds if memory
+-- is refused at this row
 abbrev pub SolverAnswers : AnswersOf Solver
 SolverAnswers place old fields = IsAnsweredBySolver old (row_of fields)
 
-abbrev pub SolverFails : FailsOf Solver
-SolverFails place old fields new = Unit {0}
+abbrev pub SolverFails : AllocError → FailsOf Solver
+SolverFails fault place old fields new = Unit {0}
 
 pub none_answered : (s : RunState) → AreRowsAnswered s [] [] s
 unfolding AreRowsAnswered
@@ -50,8 +54,8 @@ answered_more s t u (row ∷ done) fields out line before step = (
   answered_more before.1 t u done fields before.2 line before.5 step,
 )
 
--- rows that the solver answers one after the other: it keeps the state `s` before them, and afterwards it keeps
--- the state that the rows lead to
+-- Let the solver be in the state `s` of a run (`KeepsRun`), and let it answer rows. Then the run
+-- answers these rows with the same lines, and the solver is in the run's state after these rows.
 carried : (place : ℕ) (k k' : Solver) (s : RunState) (rows : Rows) (lines : List ℕ) → KeepsRun k s → AreAnswered SolverAnswers place k rows lines k'
     → (t : RunState) × KeepsRun k' t × AreRowsAnswered s rows lines t
 unfolding AreAnswered AreRowsAnswered
@@ -106,7 +110,8 @@ pub counted_run : (all : Option (List (List (List ℕ)))) (old new : Option (Lis
 counted_run all old new solver bytes false run = counted_rows solver run.state run.done run.out run.answered run.past.1 run.kept
 counted_run all old new solver bytes true run = counted_rows solver run.state run.done run.out run.answered (omega (arith, run.past.1)) run.kept
 
--- which rows are read, and whether there are more rows
+-- if a run has answered the rows `done`, they are the first 1,000,000 rows or all rows, and
+-- `too_many` says whether there are more
 pub rows_read : (too_many : Bool) (count : ℕ) (rows done rest : List (List (List ℕ))) → rows ≡ done ++ rest → length done ≡ count → IsPast too_many count rest
     → (take 1000000 rows ≡ done) × (is_too_many rows ≡ too_many)
 rows_read false count rows done rest split same past =
@@ -116,11 +121,11 @@ rows_read false count rows done rest split same past =
 rows_read true count rows done rest split same past =
     rw split (take_at done rest 1000000 (same ∙ past.1), lt-ltb 1000000 (length (done ++ rest)) (omega (arith, same, past.0, past.1, length-append done rest)))
 
--- the lines of all rows are written, and this is the summary of the run
+-- all lines of a run over these rows are written, and the run has this summary
 abbrev pub IsWritten : Option (List (List (List ℕ))) → Option (List ℕ) → Option (List ℕ) → Summary → Type 0
 IsWritten all old new summary = IfSome all (λ rows. (lines : List ℕ) × IsSolveRun rows lines summary × Appends old new lines)
 
--- the last line was written, and this is the summary
+-- the last line of a run is written, and the run has this summary
 abbrev pub IsEnded : Solver → Bool → Option (List ℕ) → Option (List ℕ) → Summary → Type 0
 IsEnded solver too_many old new summary =
     (s : RunState) → KeepsRun solver s → Appends old new (last_line too_many s.changes) × (summary ≡ summary_of s too_many)
@@ -201,37 +206,38 @@ module _ (all left : Option (List (List (List ℕ)))) (old new : Option (List �
       let c = carried 1 k k' start a.between.done a.between.lines fresh a.between.answered in
       by_rows all a.between.done a.between.rest old new c.0 a.between.lines a.between.split a.few c.2 a.between.written
 
-  stops_in_memory : (failed : Bool) → HasStoppedAfter SolverAnswers SolverFails 1000000 false bytes stream_error.Memory all left failed k k' old new → IsHalted all old new solve_error.Memory
-  stops_in_memory failed (inl a) = between a.1
-  stops_in_memory failed (inr a) =
+  stops_in_answer : (fault : AllocError) → StopsInRowAfter SolverAnswers (SolverFails fault) 1000000 false bytes stream_error.Memory all left k k' old new → IsHalted all old new solve_error.Memory
+  stops_in_answer fault a =
       let c = carried 1 k a.before start a.done a.lines fresh a.answered in
       by_rows all a.done (a.fields ∷ a.rest) old new c.0 a.lines (in_row_split all left a.done a.rest a.fields a.split) (omega (arith, a.stops.0)) c.2
       (Appends-kept old a.mid new a.lines a.written a.stops.1.1)
 
-  stops_at_write : (failed : Bool) → HasStoppedAfter SolverAnswers SolverFails 1000000 false bytes stream_error.Write all left failed k k' old new → IsHalted all old new (solve_error.Write bytes)
+  stops_at_write : (failed : Bool) → HasStoppedAfter SolverAnswers NeverFails 1000000 false bytes stream_error.Write all left failed k k' old new → IsHalted all old new (solve_error.Write bytes)
   stops_at_write failed a =
       let c = carried 1 k a.before start a.done a.lines fresh a.answered in
-      let stop = a.stops.1 in
-      let step = stop.2 c.0 c.1 in
-      cut_off all a.done (a.fields ∷ a.rest) old a.mid new c.0 a.lines stop.0 stop.1 (length a.lines) bytes (in_row_split all left a.done a.rest a.fields a.split)
-      (omega (arith, a.stops.0)) c.2 (inl (a.stops.0, step.0, step.2)) stop.3 a.written stop.4 refl stop.5
+      let cut = a.stops.1 in
+      let step = cut.2 c.0 c.1 in
+      cut_off all a.done (a.fields ∷ a.rest) old a.mid new c.0 a.lines cut.0 cut.1 (length a.lines) bytes (in_row_split all left a.done a.rest a.fields a.split)
+      (omega (arith, a.stops.0)) c.2 (inl (a.stops.0, step.0, step.2)) cut.3 a.written cut.4 refl cut.5
 
-  -- the run makes no flush, so it can't stop at a flush
-  no_flush : (failed : Bool) → HasStoppedAfter SolverAnswers SolverFails 1000000 false bytes stream_error.Flush all left failed k k' old new → ⊥
+  -- a run can't stop with a failed flush, because it makes no flush
+  no_flush : (failed : Bool) → HasStoppedAfter SolverAnswers NeverFails 1000000 false bytes stream_error.Flush all left failed k k' old new → ⊥
   no_flush failed a = false≢true a.stops.1.2
 
-  rows_end : (failed : Bool) (ended : Result (Unit {0}) StreamError) → OnOk ended (AreFirstRowsAnswered SolverAnswers 1000000 bytes all k k' old new)
-      → IfErr ended (λ e. HasStoppedAfter SolverAnswers SolverFails 1000000 false bytes e all left failed k k' old new) → IsRowsEnd all old new k' bytes failed (end_after_rows bytes ended)
+  rows_end : (failed : Bool) (ended : Result (Unit {0}) (StreamStop AllocError)) → OnOk ended (AreFirstRowsAnswered SolverAnswers 1000000 bytes all k k' old new)
+      → IfErr ended (λ e. IsStoppedAfter SolverAnswers SolverFails 1000000 false bytes e all left failed k k' old new) → IsRowsEnd all old new k' bytes failed (end_after_rows bytes ended)
   rows_end failed (Ok x) whole stopped = has_run all left old new k k' bytes fresh whole
-  rows_end failed (Err stream_error.TooManyRows) whole stopped = has_more all left old new k k' bytes fresh stopped
-  rows_end failed (Err stream_error.Memory) whole stopped = (stops_in_memory failed stopped, λ e. absurd (cc e))
-  rows_end failed (Err stream_error.Read) whole stopped = (between stopped.1, λ e. stopped.0)
-  rows_end failed (Err stream_error.Write) whole stopped = (stops_at_write failed stopped, λ e. absurd (cc e))
-  rows_end failed (Err stream_error.Flush) whole stopped = absurd (no_flush failed stopped)
+  rows_end failed (Err (stop.Answer refused)) whole stopped = (stops_in_answer refused stopped, λ e. absurd (cc e))
+  rows_end failed (Err (stop.Stream stream_error.TooManyRows)) whole stopped = has_more all left old new k k' bytes fresh stopped
+  rows_end failed (Err (stop.Stream stream_error.Memory)) whole (inl a) = (between a.1, λ e. absurd (cc e))
+  rows_end failed (Err (stop.Stream stream_error.Memory)) whole (inr a) = absurd a.stops.1.0
+  rows_end failed (Err (stop.Stream stream_error.Read)) whole stopped = (between stopped.1, λ e. stopped.0)
+  rows_end failed (Err (stop.Stream stream_error.Write)) whole stopped = (stops_at_write failed stopped, λ e. absurd (cc e))
+  rows_end failed (Err (stop.Stream stream_error.Flush)) whole stopped = absurd (no_flush failed stopped)
 
-  pub rows_end_at : (failed : Bool) (limit : ℕ) (ended : Result (Unit {0}) StreamError) (r : Result Bool SolveError) → limit ≡ 1000000
+  pub rows_end_at : (failed : Bool) (limit : ℕ) (ended : Result (Unit {0}) (StreamStop AllocError)) (r : Result Bool SolveError) → limit ≡ 1000000
       → OnOk ended (AreFirstRowsAnswered SolverAnswers limit bytes all k k' old new)
-      → IfErr ended (λ e. HasStoppedAfter SolverAnswers SolverFails limit false bytes e all left failed k k' old new) → end_after_rows bytes ended ≡ r → IsRowsEnd all old new k' bytes failed r
+      → IfErr ended (λ e. IsStoppedAfter SolverAnswers SolverFails limit false bytes e all left failed k k' old new) → end_after_rows bytes ended ≡ r → IsRowsEnd all old new k' bytes failed r
   rows_end_at failed limit ended r most whole stopped is =
       subst (λ (x : Result Bool SolveError). IsRowsEnd all old new k' bytes failed x) is (rows_end failed ended (rw most at whole) (rw most at stopped))
 
@@ -245,7 +251,8 @@ most_done : (done rest : Rows) (too_many : Bool) → IsPast too_many (length don
 most_done done rest false past = past.1
 most_done done rest true past = omega (arith, past.1)
 
--- the run stopped while it wrote the last line
+-- if a run stops while it writes its last line, its output is what `IsOutputAtError` defines for
+-- the error of the run
 stops_at_end : (all : Option Rows) (old mid new : Option (List ℕ)) (solver : Solver) (bytes : ℕ) (too_many : Bool) (error : SolveError)
     → HasRun all old mid solver bytes too_many → ((s : RunState) → KeepsRun solver s → IsEndCut (last_line too_many s.changes) mid new bytes error) → IsHalted all old new error
 stops_at_end all old mid new solver bytes too_many solve_error.Memory run cut =
@@ -263,7 +270,7 @@ pub run_stops : (all : Option (List (List (List ℕ)))) (old mid new : Option (L
 run_stops all old mid new solver bytes too_many (Ok summary) run cut = tt
 run_stops all old mid new solver bytes too_many (Err error) run cut = stops_at_end all old mid new solver bytes too_many error run cut
 
--- the last line is written without a read, so it can't stop with `Read`
+-- if a run stops while it writes its last line, the error isn't `Read`, because nothing is read
 end_not_read : (line : List ℕ) (old new : Option (List ℕ)) (written : ℕ) (error : SolveError) → IsEndCut line old new written error → error ≢ solve_error.Read
 end_not_read line old new written solve_error.Memory cut = λ e. cc e
 end_not_read line old new written solve_error.Read cut = absurd cut
@@ -276,7 +283,8 @@ not_read all old mid new solver bytes too_many (Ok summary) P run cut = tt
 not_read all old mid new solver bytes too_many (Err error) P run cut =
     λ e. absurd (end_not_read (last_line too_many run.state.changes) mid new bytes error (cut run.state run.kept) e)
 
--- at the start nothing is read and nothing written
+-- if a run stops before it reads a row of its stream, it has written nothing, because it has
+-- answered no rows
 pub halted_at_start : (bytes old : Option (List ℕ)) → IfSome bytes (λ text. (out : List ℕ) × IsBegunByRows (rows_of text) out × Appends old old out)
 halted_at_start None old = tt
 halted_at_start (Some text) old = (
@@ -290,7 +298,9 @@ halted_at_start (Some text) old = (
   Appends-nil old,
 )
 
--- what holds of the rows of a stream if its bytes are known
+-- Let `p` be the rows that `f` makes of the bytes `o` of a stream, if these bytes are known. If `Q`
+-- holds of the value of a result and of `p`, `Q` holds of this value and of the rows that `f` makes
+-- of the bytes. The next lemma says the same of a result's error.
 
 pub ok_of_rows : {T E A B : Type 0} (r : Result T E) (o : Option A) (p : Option B) (f : A → B) (Q : T → B → Type 0) → p ≡ option_map f o
     → IfOk r (λ x. IfSome p (Q x)) → IfOk r (λ x. IfSome o (λ a. Q x (f a)))

@@ -7,29 +7,30 @@ use Rattle.cspf_solve.specs.Script.{RunState, start, at_next_row, IsRowAnswered,
 use Rattle.cspf_solve.specs.declared.error.SolveError.{SolveError}
 use Rattle.cspf_solve.specs.declared.error.SolveError.TheVariants as error
 
--- the rows `done`, at most 1,000,000, are the first rows of a stream, and they are answered with these
--- lines
+-- the rows `done` are the first rows of a stream, at most 1,000,000, and a run answers them with
+-- the lines `lines`
 pub record AreFirstAnswered (rows done rest : List (List (List ℕ))) (lines : List ℕ) (after : RunState) : Type 0 where
   pub split : rows ≡ done ++ rest
   pub few : length done ≤ MOST_ROWS
   pub answered : AreRowsAnswered start done lines after
 
--- the output is the lines of a prefix of the rows, each of them whole
+-- the output consists of whole lines: those that answer a prefix of the rows
 pub record IsBegunByRows (rows : List (List (List ℕ))) (out : List ℕ) : Type 0 where
   pub done : List (List (List ℕ))
   pub rest : List (List (List ℕ))
   pub after : RunState
   pub first : AreFirstAnswered rows done rest out after
 
--- the text that is written next: the line of the next row, or the last line of the run
+-- the text that a run writes after the lines that answer the rows `done`: the line that answers the
+-- next row, or the last line of the run
 abbrev pub IsNextText : List (List (List ℕ)) → RunState → List (List (List ℕ)) → List ℕ → Type 0
 IsNextText done s [] text = text ≡ end_line s.changes
 IsNextText done s (fields ∷ rest) text =
     ((length done < MOST_ROWS) × (after : RunState) × IsRowAnswered (at_next_row s) (row_of fields) text after)
     ⊎ ((length done ≡ MOST_ROWS) × (text ≡ too_many_line))
 
--- the output is the lines of a prefix of the rows, and then a part of the next text that isn't the whole
--- text
+-- the output is the lines of a prefix of the rows, followed by the first bytes of the next text,
+-- though not by the whole text
 pub record IsCutOff (rows : List (List (List ℕ))) (out : List ℕ) : Type 0 where
   pub done : List (List (List ℕ))
   pub rest : List (List (List ℕ))
@@ -42,8 +43,8 @@ pub record IsCutOff (rows : List (List (List ℕ))) (out : List ℕ) : Type 0 wh
   pub part : size < length text
   pub whole : out ≡ lines ++ take size text
 
--- After `Memory` and `Read` the output has whole lines only. After `Write` it may end within a line, and
--- `written` is its length in bytes.
+-- After the errors `Memory` and `Read` the output has whole lines only. After the error `Write` the
+-- output may end within a line, and it has `written` bytes.
 abbrev pub IsOutputAtError : SolveError → List (List (List ℕ)) → List ℕ → Type 0
 IsOutputAtError error.Memory rows out = IsBegunByRows rows out
 IsOutputAtError error.Read rows out = IsBegunByRows rows out

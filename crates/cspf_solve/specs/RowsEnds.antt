@@ -1,4 +1,4 @@
--- Private: how reading the rows of a run ends.
+-- Private: how a run ends reading the rows of its stream.
 use Rattle.std.specs.Prelude.{◌≡◌, ℕ, Bool, true, List, ◌++◌, length, Option, IfSome, Result, MatchResult}
 use Rattle.std.specs.Io.KnownBytes.{Appends}
 use Rattle.cspf_solve.specs.Script.{RunState, start, AreRowsAnswered}
@@ -8,7 +8,8 @@ use Rattle.cspf_solve.specs.declared.solver.Solver.{Solver}
 use Rattle.cspf_solve.specs.declared.error.SolveError.{SolveError}
 use Rattle.cspf_solve.specs.declared.error.SolveError.TheVariants as solve_error
 
--- all rows that are read are answered, and `too_many` says whether there are more rows
+-- all rows are answered, or the first 1,000,000 if there are more; `too_many` says whether there
+-- are more
 pub record HasRun (all : Option (List (List (List ℕ)))) (old new : Option (List ℕ)) (solver : Solver) (bytes : ℕ) (too_many : Bool) : Type 0 where
   pub done : List (List (List ℕ))
   pub rest : List (List (List ℕ))
@@ -21,11 +22,12 @@ pub record HasRun (all : Option (List (List (List ℕ)))) (old new : Option (Lis
   pub split : IfSome all (λ rows. rows ≡ done ++ rest)
   pub past : IsPast too_many (length done) rest
 
--- the output where the run stops
+-- the run stops with this error, and it has written the output that `IsOutputAtError` defines
 abbrev pub IsHalted : Option (List (List (List ℕ))) → Option (List ℕ) → Option (List ℕ) → SolveError → Type 0
 IsHalted all old new error = IfSome all (λ rows. (out : List ℕ) × IsOutputAtError error rows out × Appends old new out)
 
--- All rows that are read are answered, or the run stops. It stops with `Read` only if a read failed.
+-- Either all rows are answered, or the first 1,000,000 if there are more, or the run stops with an
+-- error. The run stops with `Read` only if a read failed.
 abbrev pub IsRowsEnd : Option (List (List (List ℕ))) → Option (List ℕ) → Option (List ℕ) → Solver → ℕ → Bool → Result Bool SolveError → Type 0
 IsRowsEnd all old new solver bytes failed ended =
     MatchResult ended (HasRun all old new solver bytes) (λ error. IsHalted all old new error × (error ≡ solve_error.Read → failed ≡ true))

@@ -21,24 +21,24 @@ use Rattle.cspf_solve.specs.declared.summary.Summary.{Summary}
 use Rattle.cspf_stream.specs.RefusedRows.{refused_row_line}
 use Rattle.cspf_stream.specs.Lines.{version_line, refused_batch_line, too_many_line, end_line}
 
--- the state of a run between two rows
+-- the state of a run between two rows of its stream
 pub record RunState : Type 0 where
-  -- how many rows were read
+  -- how many rows of the stream were read
   pub rows : ℕ
   -- the batches that were accepted, in order
   pub accepted : List NumberedChanges
-  -- the open changes, which no end row has taken yet
+  -- the open changes, after which no `end` row has come yet
   pub changes : List Change
   -- how many requests were answered
   pub answers : ℕ
-  -- how many rows and batches were refused
+  -- how many rows and batches of the stream were refused
   pub refused : ℕ
 
--- the state before the first row: version 0, the empty database, and no open changes
+-- the state before the first row of the stream: version 0, the empty database, and no open changes
 abbrev pub start : RunState
 start = record { rows = 0; accepted = []; changes = []; answers = 0; refused = 0 }
 
--- the version is the count of accepted batches
+-- the version of a state: how many batches were accepted
 abbrev pub current_version : RunState → ℕ
 current_version s = length s.accepted
 
@@ -46,45 +46,50 @@ current_version s = length s.accepted
 abbrev pub current_database : RunState → Database
 current_database s = database_after s.accepted
 
--- the batch with this number that has the open changes
+-- the batch that has this number and the open changes
 abbrev pub open_batch : RunState → ℕ → NumberedChanges
 open_batch s number = record { number = number; changes = s.changes }
 
--- one more row is read
+-- the state after one more row of the stream is read, before this row is answered
 abbrev pub at_next_row : RunState → RunState
 at_next_row s = record s { rows = s.rows + 1 }
 
--- the row is refused: the database, the version and the open changes stay as they are
+-- the state after a refused row of the stream: the database, the version and the open changes stay
+-- as they are
 abbrev pub after_refused_row : RunState → RunState
 after_refused_row s = record s { refused = s.refused + 1 }
 
--- one more open change
+-- the state after the row of a change: one more change is open
 abbrev pub after_change_row : RunState → Change → RunState
 after_change_row s c = record s { changes = s.changes ++ c ∷ [] }
 
--- the open changes are applied as one batch, and then no changes are open
+-- the state after an accepted batch: the batch has the changes that were open, and no change is
+-- open any more
 abbrev pub after_batch : RunState → ℕ → RunState
 after_batch s number = record s { accepted = s.accepted ++ open_batch s number ∷ []; changes = [] }
 
--- the open changes are dropped: the database and the version stay as they are
+-- the state after a refused batch: the open changes are dropped, and the database and the version
+-- stay as they are
 abbrev pub after_refused_batch : RunState → RunState
 after_refused_batch s = record s { changes = []; refused = s.refused + 1 }
 
--- a request is answered: the database, the version and the open changes stay as they are
+-- the state after the reply to a request: the database, the version and the open changes stay as
+-- they are
 abbrev pub after_reply : RunState → RunState
 after_reply s = record s { answers = s.answers + 1 }
 
--- When the open changes are accepted as the batch with this number and this count. The version is below
--- 1,000,000, and the number is that of the next version. The count is that of the open changes, and the
--- batch fits the database.
+-- An `end` row with this number and count is accepted. The version is below 1,000,000, and the
+-- number is that of the next version. The count is how many changes are open, and these fit the
+-- database as a batch.
 pub record IsAccepted (s : RunState) (number count : ℕ) : Type 0 where
   pub room : current_version s < MOST_VERSIONS
   pub next : number ≡ current_version s + 1
   pub counted : count ≡ length s.changes
   pub fits : Fits (current_database s) (open_batch s number)
 
--- Why the open changes are refused as the batch with this number and this count: the first reason that
--- applies. `Stopped` never applies, since a run has no journal and ends if memory is refused.
+-- Why the batch of an `end` row with this number and count is refused: the first reason that
+-- applies. `Stopped`, `Journal` and `Memory` never apply: a run has no journal, and it ends if
+-- memory is refused.
 abbrev pub IsBatchRefusal : RunState → ℕ → ℕ → BatchRefusal → Type 0
 IsBatchRefusal s number count refusal.Stopped = ⊥
 IsBatchRefusal s number count refusal.Exhausted = MOST_VERSIONS ≤ current_version s
@@ -98,7 +103,7 @@ IsBatchRefusal s number count (refusal.Unfit why) =
 IsBatchRefusal s number count refusal.Memory = ⊥
 IsBatchRefusal s number count (refusal.Journal written) = ⊥
 
--- an end row is answered with the version that its batch makes, or with the refusal of the batch
+-- an `end` row is answered with the version that its batch makes, or with the refusal of its batch
 abbrev pub IsEndAnswered : RunState → ℕ → ℕ → List ℕ → RunState → Type 0
 IsEndAnswered s number count line after =
     (IsAccepted s number count × (line ≡ version_line number) × (after ≡ after_batch s number))
@@ -115,23 +120,25 @@ IsRowAnswered s (Ok (row.End number count)) line after = IsEndAnswered s number 
 IsRowAnswered s (Ok (row.Ask q)) line after =
     (answer : Answer) × IsBestAnswer (current_database s) q answer × IsReply q.id (current_version s) answer line × (after ≡ after_reply s)
 
--- rows are answered one after the other, from the state `s` to the state `after`
+-- rows of a stream are answered one after the other, from the state `s` to the state `after`
 unfoldable pub AreRowsAnswered : RunState → List (List (List ℕ)) → List ℕ → RunState → Type 0
 AreRowsAnswered s [] lines after = (lines ≡ []) × (after ≡ s)
 AreRowsAnswered s (fields ∷ rows) lines after =
     (line : List ℕ) × (next : RunState) × (more : List ℕ)
     × IsRowAnswered (at_next_row s) (row_of fields) line next × (lines ≡ line ++ more) × AreRowsAnswered next rows more after
 
--- there are more than 1,000,000 rows
+-- the stream has more than 1,000,000 rows
 abbrev pub is_too_many : List (List (List ℕ)) → Bool
 is_too_many rows = nat_lt MOST_ROWS (length rows)
 
--- the last line of a run: it says that there are too many rows, or else how many changes are still open
+-- the last line of a run: it says that there are too many rows, or else how many changes are still
+-- open
 abbrev pub last_line : Bool → List Change → List ℕ
 last_line true changes = too_many_line
 last_line false changes = end_line changes
 
--- changes that are still open after the last row count as one more refusal, if there aren't too many rows
+-- how much the open changes add to the count of refusals at the end: 1 if changes are open and
+-- there aren't too many rows, and otherwise 0
 abbrev pub unended_count : Bool → List Change → ℕ
 unended_count true changes = 0
 unended_count false changes = if nat_lt 0 (length changes) then 1 else 0
@@ -155,6 +162,6 @@ pub record IsSolveRun (rows : List (List (List ℕ))) (lines : List ℕ) (summar
   pub whole : lines ≡ replies ++ last_line (is_too_many rows) after.changes
   pub counts : summary ≡ summary_of after (is_too_many rows)
 
--- a run over the rows of a stream of bytes
+-- the run over the rows of a stream of bytes has these lines and this summary
 abbrev pub IsScript : List ℕ → List ℕ → Summary → Type 0
 IsScript bytes lines summary = IsSolveRun (rows_of bytes) lines summary

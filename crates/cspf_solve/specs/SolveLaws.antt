@@ -1,4 +1,4 @@
--- The laws of runs.
+-- The laws of runs of the solver.
 use Rattle.std.specs.Prelude.{◌≡◌, ◌≤◌, ◌+◌, ℕ, List, [], ◌∷◌, ◌++◌, length, Result}
 use Rattle.cspf_rows.specs.Rows.{row_of}
 use Rattle.cspf_rows.specs.declared.row.Row.{Row}
@@ -8,7 +8,8 @@ use Rattle.cspf_solve.specs.declared.error.SolveError.{SolveError}
 use Rattle.cspf_solve.specs.Script.{RunState, at_next_row, AreRowsAnswered, IsRowAnswered, IsSolveRun}
 use Rattle.cspf_solve.specs.OutputAtError.{IsOutputAtError}
 
--- each stream of rows has one output: two runs over the same rows have the same lines and the same summary
+-- each stream of rows has one output: two runs over the same rows have the same lines and the same
+-- summary
 abbrev pub HaveOneReply : Type 0
 HaveOneReply = (rows : List (List (List ℕ))) (first second : List ℕ) (a b : Summary) → IsSolveRun rows first a → IsSolveRun rows second b → (first ≡ second) × (a ≡ b)
 
@@ -17,19 +18,20 @@ abbrev pub StopsAtAPrefix : Type 0
 StopsAtAPrefix = (error : SolveError) (rows : List (List (List ℕ))) (out lines : List ℕ) (summary : Summary)
     → IsOutputAtError error rows out → IsSolveRun rows lines summary → (more : List ℕ) × (lines ≡ out ++ more)
 
--- if rows are answered and then one more row is answered, all these rows together are answered, with the
--- last row's line at the end
+-- if rows are answered, and then one more row is answered, the list of all these rows is answered,
+-- with the line of the last row at the end
 abbrev pub GoesOnByOneRow : Type 0
 GoesOnByOneRow = (s t u : RunState) (rows : List (List (List ℕ))) (fields : List (List ℕ)) (lines line : List ℕ) → AreRowsAnswered s rows lines t
     → IsRowAnswered (at_next_row t) (row_of fields) line u → AreRowsAnswered s (rows ++ (fields ∷ [])) (lines ++ line) u
 
--- The counts after `n` more rows: the count of rows grew by `n`, and every other count by at most `n`.
+-- Between the states `s` and `t` the count of rows grew by `n`, and every other count grew by at
+-- most `n`.
 pub record AreWithin (s t : RunState) (n : ℕ) : Type 0 where
   pub rows : t.rows ≡ s.rows + n
   pub changes : length t.changes ≤ length s.changes + n
   pub answers : t.answers ≤ s.answers + n
   pub refused : t.refused ≤ s.refused + n
 
--- each row adds at most one to each count
+-- the answer to a row adds at most one to each count of a run
 abbrev pub CountsByOne : Type 0
 CountsByOne = (s t : RunState) (row : Result Row RowError) (line : List ℕ) → IsRowAnswered (at_next_row s) row line t → AreWithin s t 1

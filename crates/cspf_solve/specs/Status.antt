@@ -1,7 +1,7 @@
--- The exit status of a run over rows.
+-- The exit status of a run over the rows of a stream.
 use Rattle.std.specs.Prelude.{ℕ, ◌||◌, nat_lt, if◌then◌else◌}
 use Rattle.cspf_solve.specs.declared.summary.Summary.{Summary}
 
--- the status is 2 if anything was refused or there were too many rows, and 0 otherwise
+-- the status is 2 if anything was refused or the stream had too many rows, and 0 otherwise
 abbrev pub status_of : Summary → ℕ
 status_of summary = if summary.too_many || nat_lt 0 summary.refused then 2 else 0

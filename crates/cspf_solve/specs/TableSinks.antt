@@ -1,4 +1,5 @@
--- Private: how a table with its version takes batches and answers requests.
+-- Private: which batches a table, together with its version, accepts or refuses, and how it answers
+-- requests.
 use Rattle.std.specs.Prelude.{◌≡◌, ◌+◌, false}
 use Rattle.cspf_model.specs.Best.{Answer, IsBestAnswer}
 use Rattle.cspf_model.specs.Changes.{Fits, after_changes}
@@ -9,7 +10,8 @@ use Rattle.cspf_stream.specs.Sinks.{SinkSpec}
 use Rattle.cspf_stream.specs.declared.batch_refusal.BatchRefusal.TheVariants as refusal
 use Rattle.cspf_solve.specs.declared.table_sink.TableSink.{TableSink}
 
--- what a table does as a sink: it accepts a batch that fits
+-- what a table does as a sink: it accepts the batches that fit its database, and answers requests
+-- with best answers
 abbrev pub table_spec : SinkSpec TableSink
 table_spec = record {
   version = λ sink. sink.version;

@@ -4,7 +4,7 @@ use cspf_rows::RecordError;
 use std::alloc::AllocError;
 use thiserror::Error;
 
-/// Why a run stops before the end of its rows.
+/// Why a run stops before the end of the rows of its stream.
 #[derive(Clone, Copy, Debug, PartialEq, Eq, Error)]
 pub enum SolveError {
     /// Memory was refused.

@@ -3,12 +3,13 @@ ghost use Rattle.cspf_solve.specs.SolveLaws.{CountsByOne, GoesOnByOneRow, HaveOn
 use cspf_ero::one_reply_line;
 use cspf_model::{one_best_answer, one_refusal};
 
-/// Law: each stream of rows has one output. Two runs over the same rows write the same lines and have the
-/// same summary.
+/// Law: each stream of rows has one output. Two runs over the same rows write the same lines and
+/// have the same summary.
 pub fn rows_have_one_reply()
     ensures { HaveOneReply }
 {
-    // Laws: a request has at most one best answer, an answer has one line, and a batch has one refusal.
+    // Laws: a request has at most one best answer, an answer has one line, and a batch is refused
+    // for at most one reason.
     one_best_answer();
     one_reply_line();
     one_refusal();
@@ -18,14 +19,16 @@ pub fn rows_have_one_reply()
 pub fn stops_at_a_prefix()
     ensures { StopsAtAPrefix }
 {
-    // Laws: a request has at most one best answer, an answer has one line, and a batch has one refusal.
+    // Laws: a request has at most one best answer, an answer has one line, and a batch is refused
+    // for at most one reason.
     one_best_answer();
     one_reply_line();
     one_refusal();
 }
 
-/// Law: a run goes on row by row. If rows are answered and then one more row is answered, all these rows
-/// together are answered, with the last row's line at the end. Each row adds at most one to each count.
+/// Law: a run answers its rows one by one. If rows are answered, and then one more row is answered,
+/// the list of all these rows is answered, with the line of the last row at the end. The answer to
+/// a row adds at most one to each count of the run.
 pub fn runs_go_on_row_by_row()
     ensures more { GoesOnByOneRow }
     ensures counts { CountsByOne }

@@ -1,8 +1,8 @@
-//! The solver reads one stream of rows and writes the line of each. It works in one thread and without
-//! a publisher.
+//! The solver reads one stream of rows and writes the line that answers each row. It works in one
+//! thread, and publishes the database to no other thread.
 //!
-//! `specs/Script.antt` defines the lines and the summary of a run as a function of its bytes.
-//! `specs/OutputAtError.antt` defines the output of a run that ends with an error, and
+//! `specs/Script.antt` defines the lines and the summary of a run as a function of the bytes of its
+//! rows. `specs/OutputAtError.antt` defines the output of a run that ends with an error, and
 //! `specs/SolveLaws.antt` has the laws of all runs.
 #![tactic(auto)]
 

@@ -1,4 +1,4 @@
-//! The run of `solve`: it reads one stream of rows and writes the line of each.
+//! The run of `solve`: it reads one stream of rows and writes the line that answers each row.
 
 ghost use Rattle.std.specs.Prelude.{◌≡◌, ℕ, ◌+◌, ◌*◌, ◌^◌, ◌≤◌, List, true, IfOk, IfErr, IfSome};
 ghost use Rattle.std.specs.Io.KnownBytes.{Appends};
@@ -12,19 +12,20 @@ ghost use Rattle.cspf_solve.specs.SolverStates.{KeepsRun, AreCounted, IsEndCut, 
 
 use crate::{RunOptions, SolveError, Solver, Summary};
 use cspf_rows::{MOST_ROWS, open_records, put_all};
-use cspf_stream::{StreamError, answer_first_rows};
+use cspf_stream::{StreamError, StreamStop, answer_first_rows};
 use csv::Reader;
-use std::alloc::Global;
+use std::alloc::{AllocError, Global};
 use std::io::{Read, Write};
 
-/// Reads a stream of rows and writes the line of each row as soon as it is known, in one write if the
-/// writer takes it whole. `IsScript` defines the lines, and when a row or a batch is refused. At most
-/// 1,000,000 rows are read. However many rows there are, memory is taken only for the longest row, the
-/// database, the open changes and the trees. `run_solve_with` says how many trees there are.
+/// Reads a stream of rows and writes the line of each row as soon as it is known, in one write if
+/// the writer takes it whole. `IsScript` defines the lines, and when a row or a batch is refused.
+/// At most 1,000,000 rows are answered. However many rows there are, memory is taken only for the
+/// longest row, the database, the open changes and the trees of lower bounds. `run_solve_with` says
+/// how many trees there are.
 ///
-/// After an error the writer has the lines of a prefix of the rows. After a failed write it may also have
-/// a part of the next line, but not all of it. `Read` means that a read failed, `Write` that a write
-/// failed or took no bytes. The writer isn't flushed.
+/// After an error the writer has the lines of a prefix of the rows. After a failed write it may
+/// also have a part of the next line, but not all of it. The error `Read` means that a read failed.
+/// The error `Write` means that a write failed or took no bytes. The writer isn't flushed.
 pub fn run_solve<R: Read + Drop, W: Write>(
     alloc: Global,
     reader: R,
@@ -40,8 +41,8 @@ pub fn run_solve<R: Read + Drop, W: Write>(
     run_solve_with(alloc, reader, writer, RunOptions::new())
 }
 
-/// As `run_solve`, but the table has at most `options.trees` trees, and never more than `MOST_TREES` of
-/// `cspf_trees`.
+/// Does the same as `run_solve`, but the table has at most `options.trees` trees of lower bounds,
+/// and never more than `MOST_TREES` of `cspf_trees`.
 pub fn run_solve_with<R: Read + Drop, W: Write>(
     alloc: Global,
     reader: R,
@@ -75,15 +76,15 @@ fn solve_rows<R: Read, W: Write>(
     ensures stopped { IfErr result (λ error. IfSome (rows_left R.remaining rows.old) (λ all.
         (out : List ℕ) × IsOutputAtError error all out
         × Appends (W.contents writer.old) (W.contents writer.new) out)) }
-    // The result is `Read` only if a read failed.
+    // The run ends with the error `Read` only if a read failed.
     ensures read { IfErr result (λ error. error ≡ IsRead → has_failed rows.new ≡ true) }
 {
     let (written, ended) = answer_most(alloc, rows, solver, writer);
     finish(alloc, solver, writer, written, ended?)
 }
 
-/// Answers the first 1,000,000 rows that the reader still has. Returns how many bytes were written, and
-/// whether there are more rows or why the run stops.
+/// Answers the rows that the reader still has, but at most 1,000,000 of them. Returns how many
+/// bytes were written, and whether there are more rows or why the run stops.
 fn answer_most<R: Read, W: Write>(
     alloc: Global,
     rows: &mut Reader<R>,
@@ -101,21 +102,28 @@ fn answer_most<R: Read, W: Write>(
     (written, end_after_rows(written, ended))
 }
 
-/// How the rows end, after `written` bytes: whether there are more than 1,000,000 rows, or the error that
-/// stops the run.
-fn end_after_rows(written: u128, ended: Result<(), StreamError>) -> Result<bool, SolveError>
+/// How the reading of the rows ends, after `written` bytes of output: whether there are more than
+/// 1,000,000 rows, or the error that stops the run.
+fn end_after_rows(
+    written: u128,
+    ended: Result<(), StreamStop<AllocError>>,
+) -> Result<bool, SolveError>
     ensures { result ≡ end_after_rows written ended }
 {
     match ended {
         Ok(()) => Ok(false),
-        Err(StreamError::TooManyRows) => Ok(true),
-        Err(StreamError::Memory) => Err(SolveError::Memory),
-        Err(StreamError::Read) => Err(SolveError::Read),
-        Err(StreamError::Write | StreamError::Flush) => Err(SolveError::Write { written }),
+        Err(StreamStop::Answer(_refused)) => Err(SolveError::Memory),
+        Err(StreamStop::Stream(StreamError::TooManyRows)) => Ok(true),
+        Err(StreamStop::Stream(StreamError::Memory)) => Err(SolveError::Memory),
+        Err(StreamStop::Stream(StreamError::Read)) => Err(SolveError::Read),
+        Err(StreamStop::Stream(StreamError::Write | StreamError::Flush)) => {
+            Err(SolveError::Write { written })
+        }
     }
 }
 
-/// Writes the last line, after `written` bytes, and returns the summary.
+/// Writes the last line of the run and returns the summary. `written` is how many bytes the run
+/// wrote before.
 fn finish<W: Write>(
     alloc: Global,
     solver: &Solver,

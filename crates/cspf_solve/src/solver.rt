@@ -1,5 +1,5 @@
-//! The solver answers one row after the other, over a table and its version, and keeps the counts of a
-//! run.
+//! The solver answers the rows of a stream one after the other. It has a table, the version of this
+//! table, and the counts of a run.
 
 ghost use Rattle.std.specs.Prelude.{◌≡◌, ◌+◌, ◌<◌, ◌≤◌, ◌^◌, IfOk, OnOk};
 
@@ -12,26 +12,30 @@ use cspf_trees::{MOST_TREES, TreeTable};
 use csv::ByteRecord;
 use std::alloc::{AllocError, Global};
 
-/// The state of a run between two rows. However long the stream is, it takes no more memory than the
-/// database, the open changes and the trees of the table.
+/// The state of a run between two rows of its stream. However long the stream is, this state takes
+/// no more memory than the database, the open changes and the trees of lower bounds that the table
+/// keeps.
 #[derive(Drop)]
 pub struct Solver {
     /// The database of the accepted batches, and the open changes.
     rows: Rows<TableSink>,
-    /// How many rows were read.
+    /// How many rows of the stream were read.
     read: u64,
 }
 
 impl Answering<()> for Solver {
+    type Fault = AllocError;
+
     ghost use Rattle.std.specs.Prelude.{◌<◌};
     ghost use Rattle.cspf_rows.specs.Rows.{row_of};
     ghost use Rattle.cspf_solve.specs.SolverStates.{IsAnsweredBySolver, AreBelow};
 
     ghost answers = { λ place old fields. IsAnsweredBySolver old (row_of fields) };
 
-    ghost fails = { λ place old fields new. Unit {0} };
+    ghost fails = { λ fault place old fields new. Unit {0} };
 
-    // Each row adds at most one to each count.
+    // The answer to a row adds at most one to each count of the solver, so each count stays below
+    // the number of the next row.
     ghost may_stand = { λ place solver. AreBelow place solver };
 
     fn answer(
@@ -50,8 +54,8 @@ impl Solver {
     ghost use Rattle.cspf_solve.specs.SolverStates.{KeepsRun, AreFew, AreWithinOne, AreCounted};
     ghost use Rattle.cspf_trees.specs.declared.limits.TheConstants.{MOST_TREES};
 
-    /// A solver before its first row: version 0, the empty database and no open changes. Its table keeps at
-    /// most `MOST_TREES` trees.
+    /// A solver before the first row of its stream: version 0, the empty database and no open
+    /// changes. Its table keeps at most `MOST_TREES` trees of lower bounds.
     pub fn new(alloc: Global) -> Result<Solver, AllocError>
         ensures start { IfOk result (λ solver. KeepsRun solver start) }
         ensures trees { IfOk result (λ solver. solver.rows.sink.table.most_trees ≡ MOST_TREES) }
@@ -59,8 +63,9 @@ impl Solver {
         Solver::with_trees(alloc, MOST_TREES)
     }
 
-    /// As `new`, but its table keeps at most `most` trees, and never more than `MOST_TREES`. With 0 it keeps
-    /// no trees. The answers don't depend on `most`.
+    /// A solver before the first row of its stream, like that of `new`, but whose table keeps at
+    /// most `most` trees of lower bounds, and never more than `MOST_TREES`. If `most` is 0, the
+    /// table keeps no trees. The answers don't depend on `most`.
     pub fn with_trees(alloc: Global, most: usize) -> Result<Solver, AllocError>
         ensures start { IfOk result (λ solver. KeepsRun solver start) }
         ensures trees { IfOk result (λ solver. solver.rows.sink.table.most_trees ≡ most) }
@@ -75,7 +80,8 @@ impl Solver {
         })
     }
 
-    /// Answers one more row, and returns its line. The line of a change is empty.
+    /// Answers one more row of the stream, and returns the line that answers it. The line of a
+    /// change is empty.
     pub fn answer(
         &mut self,
         alloc: Global,
@@ -86,15 +92,16 @@ impl Solver {
             × KeepsRun self.new after × IsRowAnswered (at_next_row s) row.now line.items after) }
         ensures counts { AreWithinOne self.old self.new }
     {
-        // Laws: one more batch makes its changes in the database of the batches before it, and a refused batch
-        // doesn't fit.
+        // Laws: one more batch changes the database that the batches before it made, and a batch
+        // that is refused for a reason doesn't fit the database.
         absorbing();
         one_refusal();
         self.read += 1;
         self.rows.answer(&(), alloc, self.read, row)
     }
 
-    /// The last line: it says that there are too many rows, or else how many changes are still open.
+    /// The last line: it says that there are too many rows, or else how many changes are still
+    /// open.
     pub fn last_line(&self, alloc: Global, too_many: bool) -> Result<Vec<u8>, AllocError>
         ensures { IfOk result (λ line. (s : RunState) → KeepsRun self.now s
             → line.items ≡ last_line too_many s.changes) }
@@ -106,7 +113,7 @@ impl Solver {
         }
     }
 
-    /// The summary of a run that ends here.
+    /// The summary of a run that ends in this state.
     pub(crate) fn summary(&self, too_many: bool) -> Summary
         requires { AreCounted self.now }
         ensures { (s : RunState) → KeepsRun self.now s → result ≡ summary_of s too_many }

@@ -1,4 +1,4 @@
--- A stream of rows of which the first were read and answered.
+-- What holds of a stream of rows after its first rows were read and answered.
 use Rattle.std.proofs.Common.{◌≡◌, ℕ, suc, ◌+◌, ◌<◌, ◌≤◌, Bool, true, false, List, [], ◌∷◌, ◌++◌, length, length-append, Option, Some, None, IfSome, Result, Ok, Err, OnOk, IfErr, inl, inr, refl, sym, ap, ◌∙◌, append_assoc, append-nil, arith}
 use Rattle.std.proofs.KnownBytes.{Appends-nil, Appends-trans}
 use Rattle.std.specs.Io.KnownBytes.{Appends}
@@ -7,20 +7,23 @@ use Rattle.cspf_rows.specs.Records.{Takes}
 use Rattle.cspf_rows.specs.declared.record_error.RecordError.{RecordError}
 use Rattle.cspf_rows.specs.declared.record_error.RecordError.TheVariants as fault
 use Rattle.cspf_stream.specs.RowAnswers.{AnswersOf, AreAnswered, AreAllAnswered}
-use Rattle.cspf_stream.specs.FirstRows.{AreFirstRowsAnswered, StopsAfterRows, StopsInRowAfter, IsRowStoppedAfter, IsLineStoppedAfter, HasStoppedAfter}
-use Rattle.cspf_stream.specs.StreamStops.{FailsOf, IsRowStopped, IsLineStopped, HasStopped, StopsInRow}
+use Rattle.cspf_stream.specs.FirstRows.{AreFirstRowsAnswered, StopsAfterRows, StopsInRowAfter, IsRowStoppedAfter, IsRowStop, IsLineStoppedAfter, HasStoppedAfter, IsStoppedAfter}
+use Rattle.cspf_stream.specs.StreamStops.{FailsOf, NeverFails, IsRowStopped, IsLineStopped, HasStopped, IsStreamStopped, StopsInRow, stream_error_of}
 use Rattle.cspf_stream.specs.declared.limits.TheConstants.{MOST_STREAM_ROWS}
 use Rattle.cspf_stream.specs.declared.error.StreamError.{StreamError}
 use Rattle.cspf_stream.specs.declared.error.StreamError.TheVariants as stream_error
+use Rattle.cspf_stream.specs.declared.error.StreamStop.{StreamStop}
+use Rattle.cspf_stream.specs.declared.error.StreamStop.TheVariants as stop
 
 abbrev Rows : Type 0
 Rows = List (List (List ℕ))
 
--- All rows of the stream are the rows that were read, and then the rows that are left.
+-- All rows of the stream are the rows that were read, followed by the rows that are left.
 abbrev pub IsReadUpTo : Option (List (List (List ℕ))) → List (List (List ℕ)) → Option (List (List (List ℕ))) → Type 0
 IsReadUpTo all done left = IfSome all (λ rows. (rest : List (List (List ℕ))) × (left ≡ Some rest) × (rows ≡ done ++ rest))
 
--- This many rows of a stream are answered, from the state `s` to the state `t`.
+-- The first `read` rows of a stream are answered, and their lines have `bytes` bytes. The answers
+-- begin in the state `s` and end in the state `t`.
 pub record IsGoing {S : Type 0} (answers : AnswersOf S) (all left : Option (List (List (List ℕ)))) (s t : S) (old new : Option (List ℕ)) (read bytes : ℕ) : Type 0 where
   pub done : List (List (List ℕ))
   pub lines : List ℕ
@@ -30,14 +33,14 @@ pub record IsGoing {S : Type 0} (answers : AnswersOf S) (all left : Option (List
   pub written : Appends old new lines
   pub size : length lines ≡ bytes
 
--- A row was read, so it is the first of the rows that were left.
+-- If a row was read, it was the first of the rows that were left.
 row_read : (left next : Option Rows) (rows : Rows) (fields : List (List ℕ)) → left ≡ Some rows → Takes left next true fields
     → (rest : Rows) × (next ≡ Some rest) × (rows ≡ fields ∷ rest)
 row_read None next rows fields is takes = absurd cc
 row_read (Some x) None rows fields is takes = absurd takes
 row_read (Some x) (Some rest) rows fields is takes = let same : x ≡ rows = cc in (rest, refl, sym same ∙ takes)
 
--- No row could be read, so no row was left.
+-- If no row could be read, no row was left.
 none_read : (left next : Option Rows) (rows : Rows) (fields : List (List ℕ)) → left ≡ Some rows → Takes left next false fields → rows ≡ []
 none_read None next rows fields is takes = absurd cc
 none_read (Some x) next rows fields is takes = let same : x ≡ rows = cc in sym same ∙ takes
@@ -118,7 +121,8 @@ module _ {S : Type 0} (answers : AnswersOf S) where
   }
 
   module _ (all left next : Option (List (List (List ℕ)))) (s t : S) (old mid : Option (List ℕ)) (read bytes : ℕ) (fields : List (List ℕ)) (going : IsGoing answers all left s t old mid read bytes) where
-    -- One more row is answered.
+    -- If one more row is read and answered, and its line is written, one row more of the stream is
+    -- answered.
     pub steps : (u : S) (new : Option (List ℕ)) (line : List ℕ) (after : ℕ) → Takes left next true fields → answers (read + 1) t fields line u → Appends mid new line
         → after ≡ bytes + length line → IsGoing answers all next s u old new (read + 1) after
     steps u new line after takes answered written size =
@@ -133,7 +137,7 @@ module _ {S : Type 0} (answers : AnswersOf S) where
           size = omega (arith, length-append going.lines line, going.size, size);
         }
 
-    -- No row is left.
+    -- If no row is left, all rows of the stream are answered.
     pub ends : (limit : ℕ) → read ≤ limit → Takes left next false fields → AreFirstRowsAnswered answers limit bytes all s t old mid
     ends limit few takes = record {
       whole = record {
@@ -162,46 +166,43 @@ module _ {S : Type 0} (answers : AnswersOf S) where
     }
 
     module _ (fails : FailsOf S) (limit : ℕ) (flush : Bool) where
-      -- A row can't be read.
+      -- If a row can't be read, the stream stops between two rows.
       pub stops_at_read : (why : RecordError) (error : StreamError) (after : Option (List (List (List ℕ)))) (failed : Bool) → failed ≡ true → read ≤ limit
           → error ≡ stream_fault_of stream_error.Memory stream_error.Read why → HasStoppedAfter answers fails limit flush bytes error all after failed s t old mid
       stops_at_read fault.Memory error after failed is few e = rw e (inl (is, between limit few))
       stops_at_read fault.Device error after failed is few e = rw e (is, between limit few)
 
-      -- The row was read, but its answer stops.
-      pub stops_in_row : (u : S) (new : Option (List ℕ)) (failed : Bool) (error : StreamError) (after : ℕ) → read < limit → Takes left next true fields
-          → IsRowStoppedAfter answers fails flush bytes after error (read + 1) fields t u mid new → HasStoppedAfter answers fails limit flush after error all next failed s u old new
-      stops_in_row u new failed error after few takes stops =
-          let split = split_rest all next going.done fields (split_next all left next going.done fields going.split takes) in
+      -- If a row was read, and its answer stops as `IsRowStoppedAfter` defines, the stream stops
+      -- while this row is answered.
+      stops_at_row : (u : S) (new : Option (List ℕ)) (error : StreamError) (after : ℕ) → read < limit → Takes left next true fields
+          → IsRowStoppedAfter answers fails flush bytes after error (read + 1) fields t u mid new → StopsInRowAfter answers fails limit flush after error all next s u old new
+      stops_at_row u new error after few takes stops =
           let place : read + 1 ≡ suc (length going.done) = omega (arith, going.count) in
           let before : bytes ≡ length going.lines = sym going.size in
-          go error (rw (place, before) at stops) split
-        where
-          here : (why : StreamError) → IsRowStoppedAfter answers fails flush (length going.lines) after why (suc (length going.done)) fields t u mid new
-              → IfSome all (λ rows. (rows ≡ going.done ++ (fields ∷ rest_of next)) × (next ≡ Some (rest_of next)))
-              → StopsInRowAfter answers fails limit flush after why all next s u old new
-          here why stops split = record {
+          let here : IsRowStoppedAfter answers fails flush (length going.lines) after error (suc (length going.done)) fields t u mid new = rw (place, before) at stops in
+          record {
             done = going.done;
             fields = fields;
             rest = rest_of next;
             lines = going.lines;
             before = t;
             mid = mid;
-            split = split;
+            split = split_rest all next going.done fields (split_next all left next going.done fields going.split takes);
             answered = going.answered;
             written = going.written;
-            stops = (omega (arith, going.count, few), stops);
+            stops = (omega (arith, going.count, few), here);
           }
 
-          go : (error : StreamError) → IsRowStoppedAfter answers fails flush (length going.lines) after error (suc (length going.done)) fields t u mid new
-              → IfSome all (λ rows. (rows ≡ going.done ++ (fields ∷ rest_of next)) × (next ≡ Some (rest_of next))) → HasStoppedAfter answers fails limit flush after error all next failed s u old new
-          go stream_error.Memory stops split = inr (here stream_error.Memory stops split)
-          go stream_error.Read stops split = absurd stops
-          go stream_error.Write stops split = here stream_error.Write stops split
-          go stream_error.Flush stops split = here stream_error.Flush stops split
-          go stream_error.TooManyRows stops split = absurd stops
+      stops_in_row : (u : S) (new : Option (List ℕ)) (failed : Bool) (error : StreamError) (after : ℕ) → read < limit → Takes left next true fields
+          → IsRowStoppedAfter answers fails flush bytes after error (read + 1) fields t u mid new → HasStoppedAfter answers fails limit flush after error all next failed s u old new
+      stops_in_row u new failed stream_error.Memory after few takes stops = inr (stops_at_row u new stream_error.Memory after few takes stops)
+      stops_in_row u new failed stream_error.Read after few takes stops = absurd stops
+      stops_in_row u new failed stream_error.Write after few takes stops = stops_at_row u new stream_error.Write after few takes stops
+      stops_in_row u new failed stream_error.Flush after few takes stops = stops_at_row u new stream_error.Flush after few takes stops
+      stops_in_row u new failed stream_error.TooManyRows after few takes stops = absurd stops
 
-      -- There is one more row than the limit allows.
+      -- If as many rows are answered as the limit allows, and one more row is read, the stream
+      -- stops with `TooManyRows`.
       pub too_many : (failed : Bool) → read ≡ limit → Takes left next true fields → HasStoppedAfter answers fails limit flush bytes stream_error.TooManyRows all next failed s t old mid
       too_many failed most takes = record {
         more = record {
@@ -216,6 +217,13 @@ module _ {S : Type 0} (answers : AnswersOf S) where
         };
         size = going.size;
       }
+
+    -- If a row was read, and its answer stops as `IsRowStop` defines, the stream stops while this
+    -- row is answered.
+    pub stops_with : {F : Type 0} (faults : F → FailsOf S) (limit : ℕ) (flush : Bool) (u : S) (new : Option (List ℕ)) (failed : Bool) (why : StreamStop F) (after : ℕ) → read < limit → Takes left next true fields
+        → IsRowStop answers faults flush bytes after why (read + 1) fields t u mid new → IsStoppedAfter answers faults limit flush after why all next failed s u old new
+    stops_with faults limit flush u new failed (stop.Stream error) after few takes stops = stops_in_row NeverFails limit flush u new failed error after few takes stops
+    stops_with faults limit flush u new failed (stop.Answer fault) after few takes stops = stops_at_row (faults fault) limit flush u new stream_error.Memory after few takes stops
 
 -- ---- a stream that is limited only by the count of its rows
 
@@ -251,14 +259,44 @@ module _ {S : Type 0} (answers : AnswersOf S) (fails : FailsOf S) (bytes : ℕ) 
   stopped flush stream_error.Flush a = in_row flush MOST_STREAM_ROWS stream_error.Flush a
   stopped flush stream_error.TooManyRows a = a.more
 
-  pub all_answered : {T : Type 0} (r : Result T StreamError) (limit : ℕ) → OnOk r (AreFirstRowsAnswered answers limit bytes all s t old new) → OnOk r (AreAllAnswered answers all s t old new)
+  pub all_answered : {T E : Type 0} (r : Result T E) (limit : ℕ) → OnOk r (AreFirstRowsAnswered answers limit bytes all s t old new) → OnOk r (AreAllAnswered answers all s t old new)
   all_answered (Ok x) limit a = a.whole
   all_answered (Err e) limit a = tt
 
-  pub all_stopped : {T : Type 0} (r : Result T StreamError) (flush : Bool) → IfErr r (λ why. HasStoppedAfter answers fails MOST_STREAM_ROWS flush bytes why all left failed s t old new)
-      → IfErr r (λ why. HasStopped answers fails why all left failed s t old new)
-  all_stopped (Ok x) flush a = tt
-  all_stopped (Err why) flush a = stopped flush why a
+pub all_stopped : {S F T : Type 0} (answers : AnswersOf S) (faults : F → FailsOf S) (bytes : ℕ) (all left : Option (List (List (List ℕ)))) (failed : Bool) (s t : S) (old new : Option (List ℕ)) (r : Result T (StreamStop F)) (flush : Bool)
+    → IfErr r (λ why. IsStoppedAfter answers faults MOST_STREAM_ROWS flush bytes why all left failed s t old new)
+    → IfErr r (λ why. IsStreamStopped answers faults why all left failed s t old new)
+all_stopped answers faults bytes all left failed s t old new (Ok x) flush a = tt
+all_stopped answers faults bytes all left failed s t old new (Err (stop.Stream why)) flush a = stopped answers NeverFails bytes all left failed s t old new flush why a
+all_stopped answers faults bytes all left failed s t old new (Err (stop.Answer fault)) flush a = in_row answers (faults fault) bytes all left failed s t old new flush MOST_STREAM_ROWS stream_error.Memory a
+
+-- ---- a stream whose answers can only fail because memory is refused
+
+module _ {S : Type 0} (answers : AnswersOf S) (fails : FailsOf S) (all left : Option (List (List (List ℕ)))) (failed : Bool) (s t : S) (old new : Option (List ℕ)) where
+  line_in_row : (why : StreamError) (is : (place : ℕ) (fields : List (List ℕ)) (b : S) (mid : Option (List ℕ)) → IsRowStopped answers NeverFails why place fields b t mid new → IsRowStopped answers fails why place fields b t mid new)
+      → StopsInRow answers NeverFails why all left s t old new → StopsInRow answers fails why all left s t old new
+  line_in_row why is a = record {
+    done = a.done;
+    fields = a.fields;
+    rest = a.rest;
+    lines = a.lines;
+    before = a.before;
+    mid = a.mid;
+    split = a.split;
+    answered = a.answered;
+    written = a.written;
+    stops = is (suc (length a.done)) a.fields a.before a.mid a.stops;
+  }
+
+  -- If each fault leaves the same state, the stream stops as with refused memory.
+  pub stopped_of : {F : Type 0} (why : StreamStop F) → IsStreamStopped answers (λ fault. fails) why all left failed s t old new → HasStopped answers fails (stream_error_of why) all left failed s t old new
+  stopped_of (stop.Answer fault) a = inr a
+  stopped_of (stop.Stream stream_error.Memory) (inl a) = inl a
+  stopped_of (stop.Stream stream_error.Memory) (inr a) = absurd a.stops.0
+  stopped_of (stop.Stream stream_error.Read) a = a
+  stopped_of (stop.Stream stream_error.Write) a = line_in_row stream_error.Write (λ place fields b mid x. x) a
+  stopped_of (stop.Stream stream_error.Flush) a = line_in_row stream_error.Flush (λ place fields b mid x. x) a
+  stopped_of (stop.Stream stream_error.TooManyRows) a = a
 
 -- ---- a line
 
@@ -273,20 +311,3 @@ pub line_stopped : {T : Type 0} (r : Result T StreamError) (size : ℕ) (flush :
     → IfErr r (λ why. IsLineStopped why line old new)
 line_stopped (Ok x) size flush line old new a = tt
 line_stopped (Err why) size flush line old new a = line_cut size flush why line old new a
-
--- The answer to a row stops while its line is written.
-row_cut : {S : Type 0} (answers : AnswersOf S) (fails : FailsOf S) (flush : Bool) (before size after : ℕ) (why : StreamError) (place : ℕ) (fields : List (List ℕ)) (s t : S) (line : List ℕ) (old new : Option (List ℕ))
-    → answers place s fields line t → after ≡ before + size → IsLineStoppedAfter flush size why line old new
-    → IsRowStoppedAfter answers fails flush before after why place fields s t old new
-row_cut answers fails flush before size after stream_error.Memory place fields s t line old new answered is a = absurd a
-row_cut answers fails flush before size after stream_error.Read place fields s t line old new answered is a = absurd a
-row_cut answers fails flush before size after stream_error.Write place fields s t line old new answered is a = (line, size, answered, a.0, a.1, is)
-row_cut answers fails flush before size after stream_error.Flush place fields s t line old new answered is a = (line, answered, a.0, a.2, is ∙ ap (λ n. before + n) a.1)
-row_cut answers fails flush before size after stream_error.TooManyRows place fields s t line old new answered is a = absurd a
-
-pub row_stops : {T : Type 0} (r : Result T StreamError) {S : Type 0} (answers : AnswersOf S) (fails : FailsOf S) (flush : Bool) (before size after place : ℕ) (fields : List (List ℕ)) (s t : S) (line : List ℕ) (old new : Option (List ℕ))
-    → answers place s fields line t → after ≡ before + size → IfErr r (λ why. IsLineStoppedAfter flush size why line old new)
-    → IfErr r (λ why. IsRowStoppedAfter answers fails flush before after why place fields s t old new)
-row_stops (Ok x) answers fails flush before size after place fields s t line old new answered is a = tt
-row_stops (Err why) answers fails flush before size after place fields s t line old new answered is a =
-    row_cut answers fails flush before size after why place fields s t line old new answered is a

@@ -1,4 +1,5 @@
--- The first 4,097 open changes are kept. If at most 4,096 are open, these are all.
+-- Only the first 4,097 open changes are kept. They fit a database as a batch exactly if all open
+-- changes do.
 use Rattle.std.proofs.Common.{◌≡◌, ℕ, zero, suc, ◌<◌, ◌≤◌, List, [], ◌∷◌, ◌++◌, take, length, refl, ap, ◌∙◌, sym, subst, arith}
 use Rattle.std.proofs.lemmas.List.{take_all}
 use Rattle.cspf_model.specs.declared.batch.Change.{Change}
@@ -13,19 +14,21 @@ take-nil : {A : Type 0} (n : ℕ) → take {A = A} n [] ≡ []
 take-nil zero = refl
 take-nil (suc n) = refl
 
--- If the first n elements are fewer than n, they are the whole list.
+-- If a list's first n elements are fewer than n, they are the whole list.
 take_short : {A : Type 0} (n : ℕ) (xs : List A) → length (take n xs) < n → take n xs ≡ xs
 take_short zero xs short = absurd (omega arith)
 take_short (suc n) [] short = refl
 take_short (suc n) (x ∷ xs) short = ap (λ ys. x ∷ ys) (take_short n xs (omega arith))
 
--- One more change is appended to a prefix that isn't full.
+-- Let a list's first n elements be fewer than n. If one more element is appended to the list, it is
+-- appended to these first elements, too.
 take-append-short : {A : Type 0} (n : ℕ) (xs : List A) (x : A) → length (take n xs) < n → take n xs ++ x ∷ [] ≡ take n (xs ++ x ∷ [])
 take-append-short zero xs x short = absurd (omega arith)
 take-append-short (suc n) [] x short = ap (λ ys. x ∷ ys) (sym (take-nil n))
 take-append-short (suc n) (y ∷ xs) x short = ap (λ ys. y ∷ ys) (take-append-short n xs x (omega arith))
 
--- If a prefix is full, one more change at the end of the list doesn't change the prefix.
+-- If a list has at least n elements, its first n elements stay the same when more elements are
+-- appended to it.
 take-append-full : {A : Type 0} (n : ℕ) (xs ys : List A) → n ≤ length (take n xs) → take n xs ≡ take n (xs ++ ys)
 take-append-full zero xs ys full = refl
 take-append-full (suc n) [] ys full = absurd (omega arith)
@@ -43,18 +46,18 @@ kept_full kept all c front full = front ∙ take-append-full 4097 all (c ∷ [])
 abbrev batch_of : ℕ → List Change → NumberedChanges
 batch_of number changes = record { number = number; changes = changes }
 
--- If the kept changes fit as a batch, so do all open changes.
+-- If the first 4,097 open changes fit a database as a batch, all open changes fit it as a batch.
 pub fits_whole : (d : Database) (number : ℕ) (kept all : List Change) → kept ≡ take 4097 all
     → Fits d (record { number = number; changes = kept }) → Fits d (record { number = number; changes = all })
 fits_whole d number kept all front fits = subst (λ cs. Fits d (batch_of number cs)) (kept_all kept all front fits.short) fits
 
--- A prefix is at most as long as the list.
+-- The list of a list's first n elements isn't longer than the list itself.
 length-take-most : {A : Type 0} (n : ℕ) (xs : List A) → length (take n xs) ≤ length xs
 length-take-most zero xs = omega arith
 length-take-most (suc n) [] = omega arith
 length-take-most (suc n) (x ∷ xs) = omega (arith, length-take-most n xs)
 
--- If all open changes fit as a batch, so do the kept changes.
+-- If all open changes fit a database as a batch, the first 4,097 of them fit it as a batch.
 pub fits_kept : (d : Database) (number : ℕ) (kept all : List Change) → kept ≡ take 4097 all
     → Fits d (record { number = number; changes = all }) → Fits d (record { number = number; changes = kept })
 fits_kept d number kept all front fits =
@@ -63,7 +66,8 @@ fits_kept d number kept all front fits =
 longer : (kept all : List Change) → kept ≡ take 4097 all → 4096 < length kept → 4096 < length all
 longer kept all front long = omega (arith, length-take-most 4097 all, ap length front)
 
--- The reason why the kept changes don't fit is also the reason why all open changes don't fit.
+-- If the first 4,097 open changes are refused as a batch for a reason, all open changes are refused
+-- as a batch for the same reason.
 pub refusal_whole : (d : Database) (number : ℕ) (kept all : List Change) (why : Refusal) → kept ≡ take 4097 all
     → IsRefusal d (record { number = number; changes = kept }) why → IsRefusal d (record { number = number; changes = all }) why
 refusal_whole d number kept all unfit.TooLong front h = longer kept all front h

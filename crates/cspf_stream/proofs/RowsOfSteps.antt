@@ -1,4 +1,5 @@
--- Only one row has a given step.
+-- If two rows of a stream ask for the same step (a change, the end of a batch, or an answer), they
+-- are the same row.
 use Rattle.std.proofs.Common.{◌≡◌, refl, subst}
 use Rattle.cspf_model.specs.declared.batch.Change.TheVariants as change
 use Rattle.cspf_rows.specs.declared.row.Row.{Row}
@@ -7,7 +8,8 @@ use Rattle.cspf_stream.specs.Steps.{step_of}
 use Rattle.cspf_stream.specs.declared.step.Step.{Step}
 use Rattle.cspf_stream.specs.declared.step.Step.TheVariants as step
 
--- the row with a step
+-- the row of a stream that asks for this step: a change, the end of a batch, or the answer to a
+-- request
 abbrev pub row_with : Step → Row
 row_with (step.Change (change.Put link)) = row.Put link
 row_with (step.Change (change.Remove from local)) = row.Remove from local

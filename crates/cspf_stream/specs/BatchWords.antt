@@ -1,4 +1,4 @@
--- The words for why a batch is refused.
+-- The words that say why a batch is refused.
 use Rattle.std.specs.Prelude.{ℕ, List, ◌++◌, codes}
 use Rattle.std.specs.Fmt.{decimal}
 use Rattle.cspf_model.specs.declared.refusal.Refusal.{Refusal}
@@ -6,7 +6,7 @@ use Rattle.cspf_model.specs.declared.refusal.Refusal.TheVariants as unfit
 use Rattle.cspf_stream.specs.declared.batch_refusal.BatchRefusal.{BatchRefusal}
 use Rattle.cspf_stream.specs.declared.batch_refusal.BatchRefusal.TheVariants as refusal
 
--- the words for why a batch doesn't fit the database
+-- the words that say why a batch doesn't fit the database
 abbrev pub unfit_words : Refusal → List ℕ
 unfit_words unfit.TooLong = codes "long"
 unfit_words (unfit.Duplicate at) = codes "duplicate " ++ decimal at
@@ -15,7 +15,7 @@ unfit_words unfit.Full = codes "full"
 unfit_words unfit.TooManyRouters = codes "routers"
 unfit_words unfit.TooManyMarks = codes "marks"
 
--- the words for a refusal
+-- the words for each reason why a batch is refused
 abbrev pub batch_words : BatchRefusal → List ℕ
 batch_words refusal.Stopped = codes "stopped"
 batch_words refusal.Exhausted = codes "exhausted"

@@ -1,5 +1,5 @@
--- The lines that answer rows, except replies and the lines of refused rows. Each ends with one line
--- feed.
+-- The lines that answer the rows of a stream, except replies and the lines of refused rows. Each
+-- ends with one line feed.
 use Rattle.std.specs.Prelude.{ℕ, nat_lt, if◌then◌else◌, List, [], ◌++◌, length, codes}
 use Rattle.std.specs.Fmt.{decimal}
 use Rattle.cspf_model.specs.declared.batch.Change.{Change}
@@ -14,14 +14,16 @@ version_line version = codes "version " ++ decimal version ++ codes "\n"
 abbrev pub refused_batch_line : ℕ → BatchRefusal → List ℕ
 refused_batch_line number refusal = codes "batch " ++ decimal number ++ codes " refused: " ++ batch_words refusal ++ codes "\n"
 
--- the line of changes that are in no batch: how many they are
+-- the line that says how many changes are in no batch
 abbrev pub unended_line : ℕ → List ℕ
 unended_line count = codes "unended " ++ decimal count ++ codes "\n"
 
--- the line in place of the rows past the limit, which aren't read
+-- The last line of a stream that has more rows than the limit allows. It comes after the answers to
+-- the rows up to the limit, and the further rows aren't answered.
 abbrev pub too_many_line : List ℕ
 too_many_line = codes "too many rows\n"
 
--- the last line, which says how many changes are still open after the last row; it is empty if no changes are open
+-- the last line, which says how many changes are still open after the last row; it is empty if no
+-- changes are open
 abbrev pub end_line : List Change → List ℕ
 end_line changes = if nat_lt 0 (length changes) then unended_line (length changes) else []

@@ -1,14 +1,15 @@
--- How much a row adds to the counts of a stream.
+-- How much one row of a stream adds to the counts of open changes, of answers and of refusals.
 use Rattle.std.specs.Prelude.{◌+◌, ◌<◌, ◌≤◌, ◌^◌}
 use Rattle.cspf_stream.specs.declared.rows.Rows.{Rows}
 
--- One more can be added to each count.
+-- The counts of open changes, of answers and of refusals can each grow by one and stay below 2^64.
 pub record CanCountOneMore {S : Type 0} (rows : Rows S) : Type 0 where
   pub count : rows.changes.count + 1 < 2 ^ 64
   pub answers : rows.answers + 1 < 2 ^ 64
   pub refused : rows.refused + 1 < 2 ^ 64
 
--- Each count grows by at most one.
+-- From `old` to `new`, the counts of open changes, of answers and of refusals grow by at most one
+-- each.
 pub record GrowsByOneAtMost {S : Type 0} (old new : Rows S) : Type 0 where
   pub count : new.changes.count ≤ old.changes.count + 1
   pub answers : new.answers ≤ old.answers + 1

@@ -14,67 +14,75 @@ use Rattle.cspf_stream.specs.declared.rows.Rows.{Rows}
 use Rattle.cspf_stream.specs.declared.step.Step.{Step}
 use Rattle.cspf_stream.specs.declared.step.Step.TheVariants as step
 
--- the state between two rows: the sink, the open changes, how many requests were answered, and how many rows and
--- batches were refused
+-- the state between two rows of a stream: the sink, the open changes, how many requests were
+-- answered, and how many rows and batches were refused
 pub record RowsState (S : Type 0) : Type 0 where
   pub sink : S
   pub changes : List Change
   pub answers : ℕ
   pub refused : ℕ
 
--- `rows` is the state of the code for the state `s`.
+-- The code's value `rows` is in the state `s`: it has the same sink and counts, and the first of
+-- the open changes.
 pub record KeepsRows {S : Type 0} (rows : Rows S) (s : RowsState S) : Type 0 where
   pub sink : rows.sink ≡ s.sink
   pub changes : AreOpen rows.changes s.changes
   pub answers : rows.answers ≡ s.answers
   pub refused : rows.refused ≡ s.refused
 
--- From a state before, the code goes to a state after, and the relation `Step` holds between these two.
+-- For each state `s` in which the code's value `old` is (`KeepsRows`), its value `new` is in some
+-- state `t` for which `Step s t` holds.
 abbrev pub RowsLead : {S : Type 0} → Rows S → Rows S → (RowsState S → RowsState S → Type 0) → Type 0
 RowsLead {S} old new Step = (s : RowsState S) → KeepsRows old s → (t : RowsState S) × KeepsRows new t × Step s t
 
 module _ {S : Type 0} (spec : SinkSpec S) where
-  -- The end row with this number and count is right for these open changes.
+  -- An `end` row of a stream with this number and count is right for this sink and these open
+  -- changes.
   abbrev pub IsRightFor : S → ℕ → ℕ → List Change → Type 0
   IsRightFor sink number count changes = IsRightEnd (spec.stopped sink) (spec.version sink) number count (length changes)
 
-  -- The end row is right, and the sink accepts its batch.
+  -- The `end` row is right, and the sink accepts the open changes as the batch of this row. The
+  -- sink then goes to the state `new`.
   abbrev pub IsBatchTaken : S → ℕ → ℕ → List Change → S → Type 0
   IsBatchTaken sink number count changes new =
       IsRightFor sink number count changes × spec.accepts sink (record { number = number; changes = changes }) new
 
-  -- Why no batch is accepted. If the end row is wrong, the sink stays as it is.
+  -- The batch of an `end` row is refused for the reason `why`. If the `end` row is wrong, the sink
+  -- doesn't change.
   abbrev pub IsBatchDropped : S → ℕ → ℕ → List Change → BatchRefusal → S → Type 0
   IsBatchDropped sink number count changes why new =
       (IsWrongEnd (spec.stopped sink) (spec.version sink) number count (length changes) why × (new ≡ sink))
       ⊎ (IsRightFor sink number count changes × spec.refuses sink (record { number = number; changes = changes }) why new)
 
-  -- The batch of an end row is accepted. Afterwards no change is open.
+  -- The batch of an `end` row is accepted. Afterwards no change is open.
   pub record IsEndAccepted (s : RowsState S) (number count : ℕ) (line : List ℕ) (t : RowsState S) : Type 0 where
     pub taken : IsBatchTaken s.sink number count s.changes t.sink
     pub line_is : line ≡ version_line number
     pub after : t ≡ record { sink = t.sink; changes = []; answers = s.answers; refused = s.refused }
 
-  -- The batch of an end row is refused. Afterwards no change is open.
+  -- The batch of an `end` row is refused. Afterwards no change is open.
   pub record IsEndRefused (s : RowsState S) (number count : ℕ) (line : List ℕ) (t : RowsState S) : Type 0 where
     pub why : BatchRefusal
     pub dropped : IsBatchDropped s.sink number count s.changes why t.sink
     pub line_is : line ≡ refused_batch_line number why
     pub after : t ≡ record { sink = t.sink; changes = []; answers = s.answers; refused = s.refused + 1 }
 
-  -- The row with this step is answered.
+  -- In the state `s` a row that asks for this step is answered with this line, and `t` is the state
+  -- afterwards.
   abbrev pub IsStepTaken : RowsState S → Step → List ℕ → RowsState S → Type 0
   IsStepTaken s (step.Change c) line t = (line ≡ []) × (t ≡ record s { changes = s.changes ++ c ∷ [] })
   IsStepTaken s (step.End number count) line t = IsEndAccepted s number count line t ⊎ IsEndRefused s number count line t
   IsStepTaken s (step.Ask q) line t = spec.replies s.sink q line × (t ≡ record s { answers = s.answers + 1 })
 
-  -- The row with this number is answered.
+  -- In the state `s` the row with this number is answered with this line, and `t` is the state
+  -- afterwards.
   abbrev pub IsRowTaken : ℕ → RowsState S → Result Row RowError → List ℕ → RowsState S → Type 0
   IsRowTaken place s (Err error) line t = (line ≡ refused_row_line place error) × (t ≡ record s { refused = s.refused + 1 })
   IsRowTaken place s (Ok row) line t = IsStepTaken s (step_of row) line t
 
-  -- Memory is refused while a row is answered. Then either nothing changes, or a batch is refused and only its
-  -- line is missing. No batch is accepted without its line.
+  -- Memory is refused while a row that asks for this step is answered. Then either the state
+  -- doesn't change, or a batch is refused and only its line is missing. No batch is accepted
+  -- without its line.
   abbrev pub IsStepLost : RowsState S → Step → RowsState S → Type 0
   IsStepLost s (step.Change c) t = t ≡ s
   IsStepLost s (step.End number count) t = (t ≡ s) ⊎ ((line : List ℕ) × IsEndRefused s number count line t)

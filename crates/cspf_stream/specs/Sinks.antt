@@ -1,17 +1,18 @@
--- The behaviour of a sink: its version, and how it takes batches and answers requests.
+-- The behaviour of a sink: its version, which batches it accepts or refuses, and how it answers
+-- requests.
 use Rattle.std.specs.Prelude.{ℕ, Bool, List}
 use Rattle.cspf_model.specs.Numbered.{NumberedChanges}
 use Rattle.cspf_model.specs.declared.request.Request.{Request}
 use Rattle.cspf_stream.specs.declared.batch_refusal.BatchRefusal.{BatchRefusal}
 
 pub record SinkSpec (S : Type 0) : Type 1 where
-  -- how many batches were accepted
+  -- how many batches the sink has accepted
   pub version : S → ℕ
-  -- whether no more batches are accepted
+  -- whether the sink is stopped, so that it accepts no more batches
   pub stopped : S → Bool
   -- In the first state the sink accepts the batch, and goes to the second state.
   pub accepts : S → NumberedChanges → S → Type 0
   -- In the first state the sink refuses the batch for this reason, and goes to the second state.
   pub refuses : S → NumberedChanges → BatchRefusal → S → Type 0
-  -- The line answers the request.
+  -- In this state of the sink, the line answers the request.
   pub replies : S → Request → List ℕ → Type 0

@@ -1,19 +1,24 @@
-ghost use Rattle.std.specs.Prelude.{◌+◌, ◌≤◌, ℕ, List, IfOk, OnOk, OnErr};
+ghost use Rattle.std.specs.Prelude.{◌+◌, ◌≤◌, ℕ, List, IfOk, IfErr, OnOk};
 ghost use Rattle.csv.specs.Records.{fields_of};
 
 use csv::ByteRecord;
-use std::alloc::{AllocError, Global};
+use std::alloc::Global;
 
 /// Answers the rows of a stream, one after the other. An implementation reads the fields of each
 /// row itself, so it decides which rows there are. `Row::read` reads the rows of a database.
-/// `context` is what answering needs but no answer depends on, such as the handle of a runtime.
+/// `context` is a value that is needed to answer a row, such as the handle of a runtime. No answer
+/// depends on this value.
 pub trait Answering<C> {
-    /// The relation between the row's number, counted from 1, the state before, the fields, the
-    /// line, and the state after.
+    /// Why a row isn't answered. It is `AllocError` if only memory can be refused to an answer.
+    type Fault;
+
+    /// A relation between the row's number, counted from 1, the state before the row, the row's
+    /// fields, its line, and the state after the row.
     ghost answers: { ℕ → Self → List (List ℕ) → List ℕ → Self → Type 0 };
 
-    /// The same relation, without a line, if memory is refused at the row.
-    ghost fails: { ℕ → Self → List (List ℕ) → Self → Type 0 };
+    /// A relation between the fault with which the answer to a row fails, the row's number, the
+    /// state before the row, the row's fields, and the state after the fault.
+    ghost fails: { Self.Fault → ℕ → Self → List (List ℕ) → Self → Type 0 };
 
     /// An invariant of the state before the row with this number, such as that a count is below the
     /// number.
@@ -26,11 +31,12 @@ pub trait Answering<C> {
         alloc: Global,
         place: u64,
         fields: &ByteRecord,
-    ) -> Result<Vec<u8>, AllocError>
+    ) -> Result<Vec<u8>, Self::Fault>
         requires place { 1 ≤ place }
         requires state { may_stand place self.old }
         ensures answered { IfOk result (λ line. answers place self.old (fields_of fields.now)
             line.items self.new) }
         ensures state { OnOk result (may_stand (place + 1) self.new) }
-        ensures failed { OnErr result (fails place self.old (fields_of fields.now) self.new) };
+        ensures failed { IfErr result (λ fault. fails fault place self.old (fields_of fields.now)
+            self.new) };
 }

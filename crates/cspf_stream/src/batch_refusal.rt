@@ -7,16 +7,16 @@ use std::fmt;
 pub enum BatchRefusal {
     /// The journal has failed, so no more batches are accepted.
     Stopped,
-    /// The version is 1,000,000.
+    /// The current version is 1,000,000, the greatest version.
     Exhausted,
-    /// The number isn't that of the next version.
+    /// The number in the `end` row, which ends a batch, isn't that of the next version.
     WrongNumber {
-        /// The next version.
+        /// The next version, which the number should be.
         expected: u32,
     },
-    /// The count isn't the number of open changes.
+    /// The count in the `end` row, which ends a batch, isn't how many changes are open.
     WrongCount {
-        /// How many changes are open.
+        /// How many changes are open: no `end` row before this one came after them.
         counted: u64,
     },
     /// The batch doesn't fit the database.

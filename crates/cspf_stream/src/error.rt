@@ -1,12 +1,15 @@
+//! Why the answers to a stream stop before the end of its rows.
+
 ghost use Rattle.std.specs.Prelude.{◌≡◌};
 ghost use Rattle.cspf_rows.specs.ReadFaults.{stream_fault_of};
 ghost use Rattle.cspf_stream.specs.declared.error.StreamError.TheVariants as stream_error;
+ghost use Rattle.cspf_stream.specs.declared.error.StreamStop.TheVariants as stream_stop;
 
 use cspf_rows::RecordError;
 use std::alloc::AllocError;
 use thiserror::Error;
 
-/// Why a stream stops before the end of its rows.
+/// Why the answers to a stream stop before the end of its rows.
 #[derive(Clone, Copy, Debug, PartialEq, Eq, Error)]
 pub enum StreamError {
     /// Memory was refused.
@@ -21,8 +24,8 @@ pub enum StreamError {
     /// A line was written, but the flush after it failed.
     #[error("a flush failed")]
     Flush,
-    /// There are more rows than the limit allows. `answer_rows` has the limit `MOST_STREAM_ROWS`,
-    /// which no run reaches.
+    /// The stream has more rows than the limit allows. `answer_rows` has the limit
+    /// `MOST_STREAM_ROWS`, which no run reaches.
     #[error("too many rows")]
     TooManyRows,
 }
@@ -32,6 +35,38 @@ impl From<AllocError> for StreamError {
 
     fn from(_refused: AllocError) -> StreamError {
         StreamError::Memory
+    }
+}
+
+/// Why the answers to a stream stop: the stream itself stops, or the answer to a row fails with a
+/// fault of the type `F`.
+#[derive(Drop)]
+pub enum StreamStop<F> {
+    /// Memory was refused for a row that was read, or a read or a write failed, or the stream has
+    /// too many rows.
+    Stream(StreamError),
+    /// The answer to a row failed.
+    Answer(F),
+}
+
+impl<F> From<RecordError> for StreamStop<F> {
+    ghost from_gives = { λ fault stop. stop ≡ stream_stop.Stream (stream_fault_of stream_error.Memory stream_error.Read fault) };
+
+    fn from(fault: RecordError) -> StreamStop<F> {
+        StreamStop::Stream(fault.of_stream(StreamError::Memory, StreamError::Read))
+    }
+}
+
+impl From<StreamStop<AllocError>> for StreamError {
+    ghost use Rattle.cspf_stream.specs.StreamStops.{stream_error_of};
+
+    ghost from_gives = { λ stop error. error ≡ stream_error_of stop };
+
+    fn from(stop: StreamStop<AllocError>) -> StreamError {
+        match stop {
+            StreamStop::Stream(why) => why,
+            StreamStop::Answer(_refused) => StreamError::Memory,
+        }
     }
 }
 

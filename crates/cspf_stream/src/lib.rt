@@ -9,9 +9,9 @@
 //! `Rows` answers each row with the help of a `Sink`, which accepts or refuses batches and answers
 //! requests. `specs/RowsTaken.antt` defines how, in terms of `specs/Sinks.antt`.
 //!
-//! This crate also has what all programs that answer rows share: the steps of rows, the open
-//! changes (`specs/OpenChanges.antt`), the reasons why a batch is refused, and the text of each
-//! line except replies (`specs/Lines.antt`, `specs/RefusedRows.antt`).
+//! This crate also has what all programs that answer rows share: the steps that rows ask for, the
+//! open changes (`specs/OpenChanges.antt`), the reasons why a batch is refused, and the text of
+//! each line except replies (`specs/Lines.antt`, `specs/RefusedRows.antt`).
 #![tactic(auto)]
 
 mod answering;
@@ -28,7 +28,7 @@ mod stream;
 
 pub use answering::Answering;
 pub use batch_refusal::BatchRefusal;
-pub use error::StreamError;
+pub use error::{StreamError, StreamStop};
 pub use limits::MOST_STREAM_ROWS;
 pub use line::StreamLine;
 pub use open_changes::OpenChanges;

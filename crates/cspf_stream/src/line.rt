@@ -2,16 +2,17 @@ use crate::BatchRefusal;
 use std::alloc::{AllocError, Global};
 use std::fmt;
 
-/// A line of a stream of rows, except replies and the lines of refused rows.
+/// A line that answers a row or ends a stream. Replies and the lines of refused rows aren't among
+/// these.
 #[derive(Clone, Copy)]
 pub enum StreamLine {
-    /// A batch is accepted. `version` is the version that it makes.
+    /// A batch is accepted. `version` is the version that this batch makes.
     Version { version: u32 },
     /// The batch with this number is refused.
     RefusedBatch { number: u32, refusal: BatchRefusal },
-    /// This many changes are still open after the last row, so they are in no batch.
+    /// This many changes are still open after the last row of the stream, so they are in no batch.
     Unended { count: u64 },
-    /// The line in place of the rows past the limit, which aren't read.
+    /// The stream has more rows than the limit allows. The rows past the limit aren't answered.
     TooManyRows,
 }
 

@@ -10,18 +10,18 @@ use crate::limits::KEPT_CHANGES;
 use cspf_model::{Batch, Change};
 use std::alloc::{AllocError, Global};
 
-/// The changes since the last `end` row. Only the first of them are kept, at most one more than a
-/// batch may have.
+/// The changes that the stream had since its last `end` row. Only the first of them are kept: at
+/// most one change more than a batch may have.
 #[derive(Drop)]
 pub struct OpenChanges {
-    /// The first of the open changes, as a batch. Its number means nothing.
+    /// The first of the open changes, as a batch. The number of this batch means nothing.
     pub batch: Batch,
     /// How many changes are open.
     pub count: u64,
 }
 
 impl OpenChanges {
-    /// No open changes.
+    /// The open changes before the first row of a stream: there are none.
     pub fn new(alloc: Global) -> OpenChanges
         ensures open { AreOpen result [] }
         ensures none { result.count ≡ 0 }
@@ -57,8 +57,8 @@ impl OpenChanges {
         self.count = 0;
     }
 
-    /// The last line if changes are still open after the last row. It is empty if no changes are
-    /// open.
+    /// The last line of a stream that ends with these open changes. It says how many they are, and
+    /// is empty if there are none.
     pub fn last_line(&self, alloc: Global) -> Result<Vec<u8>, AllocError>
         ensures { IfOk result (λ line. (all : List Changed) → AreOpen self.now all
             → line.items ≡ end_line all) }

@@ -1,5 +1,6 @@
-//! The rows of a stream, each answered by its kind. A change is kept open, an `end` row gives the
-//! open changes to a sink as a batch, and the sink answers a request.
+//! The rows of a stream, each answered according to its kind. A change stays open until an `end`
+//! row comes, which ends its batch. The `end` row gives the open changes to a sink as a batch. The
+//! sink also answers the requests.
 
 ghost use Rattle.std.specs.Prelude.{◌≡◌, ◌+◌, ◌<◌, ◌≤◌, ◌⊎◌, ◌^◌, ℕ, [], List, IfOk, IfErr, IfSome, IfNone, OnOk, OnErr};
 ghost use Rattle.cspf_model.specs.declared.batch.Change.{Change as Changed};
@@ -11,16 +12,17 @@ use cspf_model::MOST_VERSIONS;
 use cspf_rows::{Row, RowError};
 use std::alloc::{AllocError, Global};
 
-/// The state between two rows. It takes no more memory as rows are read.
+/// The state between two rows of a stream. However many rows are read, the state takes only the
+/// memory of the sink and of the open changes that are kept.
 #[derive(Drop)]
 pub struct Rows<S> {
     /// The sink, which accepts or refuses the batches and answers the requests.
     pub sink: S,
-    /// The open changes.
+    /// The open changes: those that the stream had since its last `end` row.
     pub changes: OpenChanges,
     /// How many requests were answered.
     pub answers: u64,
-    /// How many rows and batches were refused.
+    /// How many rows and batches of the stream were refused.
     pub refused: u64,
 }
 
@@ -28,7 +30,8 @@ impl<S> Rows<S> {
     ghost use Rattle.cspf_stream.specs.RowCounts.{CanCountOneMore, GrowsByOneAtMost};
     ghost use Rattle.cspf_stream.specs.RowsTaken.{RowsLead, IsBatchTaken, IsBatchDropped, IsEndAccepted, IsEndRefused, IsStepTaken, IsRowTaken, IsStepLost, IsRowLost};
 
-    /// The state before the first row: no change is open, and nothing was answered or refused.
+    /// The state before the first row of a stream: no change is open, and nothing was answered or
+    /// refused.
     pub fn new(alloc: Global, sink: S) -> Rows<S>
         ensures sink { result.sink ≡ sink }
         ensures open { AreOpen result.changes [] }
@@ -70,8 +73,8 @@ impl<S> Rows<S> {
         }
     }
 
-    /// Answers a row that was read elsewhere, by its step. So a caller can have other kinds of
-    /// rows, too, and answer these rows itself.
+    /// Answers a row that the caller has read, given the step that the row asks for, and returns
+    /// the row's line. The caller may have further kinds of rows, which it answers itself.
     pub fn take<C>(&mut self, context: &C, alloc: Global, step: Step) -> Result<Vec<u8>, AllocError>
     where
         S: Sink<C>,
@@ -96,9 +99,9 @@ impl<S> Rows<S> {
         }
     }
 
-    /// Gives the open changes to the sink as the batch with this number and count, or refuses the
-    /// batch, and returns the line. Afterwards no changes are open. The line of an accepted batch
-    /// is made before the sink gets the batch.
+    /// Gives the open changes to the sink as the batch of an `end` row with this number and count,
+    /// or refuses them. Returns the line of the `end` row. Afterwards no changes are open. The line
+    /// of an accepted batch is made before the sink gets the batch.
     fn end<C>(
         &mut self,
         context: &C,
@@ -130,8 +133,8 @@ impl<S> Rows<S> {
         }
     }
 
-    /// Gives the open changes to the sink as the batch with this number, if the number and this
-    /// count are right. The changes stay open.
+    /// Gives the open changes to the sink as the batch with this number, if the `end` row with this
+    /// number and count is right. The changes stay open.
     fn give<C>(
         &mut self,
         context: &C,
@@ -158,7 +161,7 @@ impl<S> Rows<S> {
     }
 }
 
-/// Why an end row is refused before the sink gets its batch. `None` if it isn't.
+/// Why an `end` row is refused before the sink gets its batch, or `None` if the `end` row is right.
 fn wrong_end(
     stopped: bool,
     version: u32,

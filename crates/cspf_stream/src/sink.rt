@@ -7,21 +7,23 @@ use crate::BatchRefusal;
 use cspf_model::{Batch, MOST_VERSIONS, Request};
 use std::alloc::{AllocError, Global};
 
-/// Takes the batches of a stream of rows and answers its requests. `context` is what taking a batch
-/// needs but no answer depends on, such as the handle of a runtime.
+/// Accepts or refuses the batches of a stream of rows, and answers the requests of the stream.
+/// `context` is a value that the sink needs to take a batch, such as the handle of a runtime. No
+/// answer depends on this value.
 pub trait Sink<C> {
-    /// The version of the sink, and how the sink takes batches and answers requests.
+    /// The version of the sink, which batches it accepts or refuses, and how it answers requests.
     ghost spec: { SinkSpec Self };
 
-    /// The version: how many batches were accepted.
+    /// The version of the sink: how many batches the sink has accepted.
     fn version(&self) -> u32
         ensures { result ≡ spec.version self.now };
 
-    /// Whether no more batches are accepted.
+    /// Whether the sink is stopped, so that it accepts no more batches.
     fn is_stopped(&self) -> bool
         ensures { result ≡ spec.stopped self.now };
 
-    /// Accepts a batch, or refuses it. The batch has the open changes that are kept.
+    /// Accepts or refuses a batch. The batch has only the first `KEPT_CHANGES` of the open changes:
+    /// at most one change more than a batch may have.
     fn accept(&mut self, context: &C, alloc: Global, batch: &Batch) -> Result<(), BatchRefusal>
         requires room { spec.version self.old < MOST_VERSIONS }
         requires next { batch.now.number ≡ spec.version self.old + 1 }
@@ -30,8 +32,8 @@ pub trait Sink<C> {
         ensures refused { IfErr result (λ why. (all : List Changed) → AreKeptChanges batch.now.changes all
             → spec.refuses self.old (record batch.now { changes = all }) why self.new) };
 
-    /// The line that answers a request at the current version. The sink may keep things for later
-    /// requests, but this doesn't change the value that callers see.
+    /// The line that answers a request at the current version. The sink may keep results for later
+    /// requests, but its value, as callers see it, stays the same.
     fn reply(&mut self, alloc: Global, request: &Request) -> Result<Vec<u8>, AllocError>
         ensures same { self.new ≡ self.old }
         ensures line { IfOk result (λ line. spec.replies self.old request.now line.items) };

@@ -1,10 +1,10 @@
 use cspf_model::{Change, Request};
 use cspf_rows::Row;
 
-/// What a row asks for.
+/// What a row of a stream asks for.
 #[derive(Clone, Copy)]
 pub enum Step {
-    /// A change, which stays open.
+    /// A change of the database, which stays open until an `end` row comes.
     Change(Change),
     /// The end of a batch: the open changes are the batch with this number and count.
     End { number: u32, count: u32 },
@@ -16,7 +16,8 @@ impl Step {
     ghost use Rattle.std.specs.Prelude.{◌≡◌};
     ghost use Rattle.cspf_stream.specs.Steps.{step_of};
 
-    /// The step of a row.
+    /// The step that a row of a stream asks for: a change, the end of a batch, or the answer to a
+    /// request.
     pub fn of(row: &Row) -> Step
         ensures { result ≡ step_of row.now }
     {

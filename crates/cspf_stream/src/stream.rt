@@ -7,17 +7,17 @@ ghost use Rattle.csv.specs.Records.{fields_of};
 ghost use Rattle.csv.specs.Reading.{has_failed};
 ghost use Rattle.cspf_rows.specs.Records.{rows_left, IsPlain};
 ghost use Rattle.cspf_stream.specs.RowAnswers.{AreAllAnswered};
-ghost use Rattle.cspf_stream.specs.StreamStops.{HasStopped, IsLineStopped};
-ghost use Rattle.cspf_stream.specs.FirstRows.{AreFirstRowsAnswered, HasStoppedAfter, IsRowStoppedAfter, IsLineStoppedAfter};
+ghost use Rattle.cspf_stream.specs.StreamStops.{IsStreamStopped, IsLineStopped};
+ghost use Rattle.cspf_stream.specs.FirstRows.{AreFirstRowsAnswered, IsStoppedAfter, IsRowStop, IsLineStoppedAfter};
 
-use crate::{Answering, MOST_STREAM_ROWS, StreamError};
+use crate::{Answering, MOST_STREAM_ROWS, StreamError, StreamStop};
 use cspf_rows::{next_record, put_all};
 use csv::{ByteRecord, Reader};
 use std::alloc::Global;
 use std::io::{Read, Write};
 
-/// How a stream is answered: how many rows at most, and whether the writer is flushed after each
-/// line.
+/// How a stream is answered: how many of its rows are answered at most, and whether the writer is
+/// flushed after each line.
 #[derive(Clone, Copy)]
 struct Manner {
     limit: u64,
@@ -29,20 +29,20 @@ struct Manner {
 /// empty line isn't written. Memory is taken only for the longest row, and for what the answers
 /// need.
 ///
-/// After an error no row was read after the row that stopped the stream. The lines of all rows
-/// before this row are written. `HasStopped` defines the rest of the state.
+/// If an error is returned, no row was read after the row at which the stream stopped. The lines of
+/// all rows before this row are written. `IsStreamStopped` defines the rest of the state.
 pub fn answer_rows<R: Read, W: Write, C, A: Answering<C>>(
     context: &C,
     alloc: Global,
     rows: &mut Reader<R>,
     writer: &mut W,
     answering: &mut A,
-) -> Result<(), StreamError>
+) -> Result<(), StreamStop<A::Fault>>
     requires plain { IsPlain rows.old }
     requires state { A.may_stand 1 answering.old }
     ensures whole { OnOk result (AreAllAnswered A.answers (rows_left R.remaining rows.old)
         answering.old answering.new (W.contents writer.old) (W.contents writer.new)) }
-    ensures stopped { IfErr result (λ error. HasStopped A.answers A.fails error
+    ensures stopped { IfErr result (λ stop. IsStreamStopped A.answers A.fails stop
         (rows_left R.remaining rows.old) (rows_left R.remaining rows.new) (has_failed rows.new)
         answering.old answering.new (W.contents writer.old) (W.contents writer.new)) }
 {
@@ -50,7 +50,7 @@ pub fn answer_rows<R: Read, W: Write, C, A: Answering<C>>(
     answer_first_rows(context, alloc, limit, true, rows, writer, answering).1
 }
 
-/// Answers the next `limit` rows of the reader at most, as `answer_rows` does, but flushes only if
+/// Answers at most the next `limit` rows of the reader, like `answer_rows`, but flushes only if
 /// `flush` is set. Returns how many bytes were written, and how the stream ended.
 pub fn answer_first_rows<R: Read, W: Write, C, A: Answering<C>>(
     context: &C,
@@ -60,13 +60,13 @@ pub fn answer_first_rows<R: Read, W: Write, C, A: Answering<C>>(
     rows: &mut Reader<R>,
     writer: &mut W,
     answering: &mut A,
-) -> (u128, Result<(), StreamError>)
+) -> (u128, Result<(), StreamStop<A::Fault>>)
     requires plain { IsPlain rows.old }
     requires state { A.may_stand 1 answering.old }
     ensures whole { OnOk result.1 (AreFirstRowsAnswered A.answers limit result.0
         (rows_left R.remaining rows.old)
         answering.old answering.new (W.contents writer.old) (W.contents writer.new)) }
-    ensures stopped { IfErr result.1 (λ error. HasStoppedAfter A.answers A.fails limit flush result.0 error
+    ensures stopped { IfErr result.1 (λ stop. IsStoppedAfter A.answers A.fails limit flush result.0 stop
         (rows_left R.remaining rows.old) (rows_left R.remaining rows.new) (has_failed rows.new)
         answering.old answering.new (W.contents writer.old) (W.contents writer.new)) }
     ensures small { result.0 ≤ limit * 2 ^ 64 }
@@ -98,15 +98,15 @@ fn answer_each<R: Read, W: Write, C, A: Answering<C>>(
     writer: &mut W,
     written: &mut u128,
     answering: &mut A,
-) -> Result<(), StreamError>
+) -> Result<(), StreamStop<A::Fault>>
     requires plain { IsPlain rows.old }
     requires state { A.may_stand 1 answering.old }
     requires none { written.old ≡ 0 }
     ensures whole { OnOk result (AreFirstRowsAnswered A.answers manner.limit written.new
         (rows_left R.remaining rows.old)
         answering.old answering.new (W.contents writer.old) (W.contents writer.new)) }
-    ensures stopped { IfErr result (λ error. HasStoppedAfter A.answers A.fails
-        manner.limit manner.flush written.new error
+    ensures stopped { IfErr result (λ stop. IsStoppedAfter A.answers A.fails
+        manner.limit manner.flush written.new stop
         (rows_left R.remaining rows.old) (rows_left R.remaining rows.new) (has_failed rows.new)
         answering.old answering.new (W.contents writer.old) (W.contents writer.new)) }
     ensures small { written.new ≤ manner.limit * 2 ^ 64 }
@@ -127,7 +127,7 @@ fn answer_each<R: Read, W: Write, C, A: Answering<C>>(
         )?;
     }
     if next_record(rows, fields)? {
-        return Err(StreamError::TooManyRows);
+        return Err(StreamStop::Stream(StreamError::TooManyRows));
     }
     Ok(())
 }
@@ -143,7 +143,7 @@ fn answer_row<W: Write, C, A: Answering<C>>(
     writer: &mut W,
     written: &mut u128,
     answering: &mut A,
-) -> Result<(), StreamError>
+) -> Result<(), StreamStop<A::Fault>>
     requires place { 1 ≤ place }
     requires state { A.may_stand place answering.old }
     requires room { written.old + 2 ^ 64 ≤ place * 2 ^ 64 }
@@ -152,20 +152,26 @@ fn answer_row<W: Write, C, A: Answering<C>>(
         × Appends (W.contents writer.old) (W.contents writer.new) line
         × (written.new ≡ written.old + length line)) }
     ensures state { OnOk result (A.may_stand (place + 1) answering.new) }
-    ensures stopped { IfErr result (λ error. IsRowStoppedAfter A.answers A.fails
-        flush written.old written.new error
+    ensures stopped { IfErr result (λ stop. IsRowStop A.answers A.fails
+        flush written.old written.new stop
         place (fields_of fields.now) answering.old answering.new
         (W.contents writer.old) (W.contents writer.new)) }
     ensures small { written.new ≤ place * 2 ^ 64 }
 {
-    let line = answering.answer(context, alloc, place, fields)?;
+    let line = match answering.answer(context, alloc, place, fields) {
+        Ok(line) => line,
+        Err(fault) => return Err(StreamStop::Answer(fault)),
+    };
     let (size, put) = put_counted(line.as_slice(), flush, writer);
     *written += size as u128;
-    put
+    match put {
+        Ok(()) => Ok(()),
+        Err(why) => Err(StreamStop::Stream(why)),
+    }
 }
 
-/// Writes a line, unless it is empty, and then flushes the writer if `flush` is set. Also returns
-/// how many bytes of the line were written.
+/// Writes a line, and then flushes the writer if `flush` is set. If the line is empty, it does
+/// neither. Also returns how many bytes of the line were written.
 fn put_counted<W: Write>(
     line: &[u8],
     flush: bool,

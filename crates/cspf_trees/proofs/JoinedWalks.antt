@@ -1,4 +1,4 @@
--- Walks, and legs, that are put one after the other.
+-- Lemmas on walks, and on legs, that are put one after the other.
 use Rattle.std.proofs.Common.{◌≡◌, inl, inr, ℕ, suc, ◌+◌, List, [], ◌∷◌, ◌++◌, ◌⊎◌, length, map, refl, sym, ap, subst, ◌∙◌, arith, append-nil}
 use Rattle.std.specs.List.{AllByRecursion, flat_map}
 use Rattle.std.proofs.lemmas.List.Concat.{flat_map-append}
@@ -33,7 +33,7 @@ module _ (d : Database) where
   abbrev BeginAtTransit : List Link → Type 0
   BeginAtTransit links = AllByRecursion (HasTransit d) (map (λ m. m.from) links)
 
-  -- links pass only through routers with transit
+  -- the links pass only through routers with transit
   abbrev pub PassTransit : List Link → Type 0
   PassTransit links = AllByRecursion (HasTransit d) (routers_passed links)
 
@@ -45,30 +45,34 @@ module _ (d : Database) where
   begin_in_parts [] w all = (tt, all)
   begin_in_parts (l ∷ v) w all = let parts = begin_in_parts v w all.1 in ((all.0, parts.0), parts.1)
 
-  -- links that all begin at routers with transit pass only through routers with transit
+  -- if all links begin at routers with transit, they pass only through routers with transit
   pass_after : (w : List Link) → BeginAtTransit w → PassTransit w
   pass_after [] all = tt
   pass_after (l ∷ w) all = all.1
 
-  -- links that pass only through routers with transit begin at such routers, if the first link does
+  -- if links pass only through routers with transit, and the first link begins at such a router, so
+  -- does each link
   begin_from : (a : ℕ) (w : List Link) → AreJoined a w → HasTransit d a → PassTransit w → BeginAtTransit w
   begin_from a [] joined here passed = tt
   begin_from a (l ∷ w) joined here passed = (subst (HasTransit d) (sym joined.0) here, passed)
 
-  -- Two walks, one after the other, pass only through routers with transit if each walk does. The
-  -- router between them needs transit as well, unless the first walk has no links.
+  -- Two walks, one after the other, pass only through routers with transit if each walk does so by
+  -- itself. The router between the two walks needs transit as well, unless the first walk has no
+  -- links.
   pub pass_both : (a : ℕ) (v w : List Link) → AreJoined a w → (HasTransit d a ⊎ (v ≡ [])) → PassTransit v → PassTransit w → PassTransit (v ++ w)
   pass_both a [] w joined joint first second = second
   pass_both a (l ∷ v) w joined (inl transit) first second = begin_both v w first (begin_from a w joined transit second)
   pass_both a (l ∷ v) w joined (inr none) first second = absurd (cc)
 
-  -- if two walks together pass only through routers with transit, so does each walk
+  -- if a walk followed by another passes only through routers with transit, so does each of the two
+  -- walks
   pub pass_in_parts : (v w : List Link) → PassTransit (v ++ w) → PassTransit v × PassTransit w
   pass_in_parts [] w all = (tt, all)
   pass_in_parts (l ∷ v) w all = let parts = begin_in_parts v w all in (parts.0, pass_after w parts.1)
 
 module _ (d : Database) (q : Request) where
-  -- The first legs of a request with the next leg after them are legs of the request.
+  -- If some links are the first legs of a request, and more links are its next leg, then all of
+  -- them are legs of the request.
   pub one_more_leg : (first a : ℕ) (legs : List (List Link)) (leg : List Link) → AreLegs d q first a legs
       → IsLeg d q (first + length legs) (end_of a (flat_map (λ links. links) legs)) leg → AreLegs d q first a (legs ++ (leg ∷ []))
   one_more_leg first a [] leg are is = (let here : first + 0 ≡ first = omega arith in subst (λ k. IsLeg d q k a leg) here is, tt)
@@ -81,7 +85,8 @@ module _ (d : Database) (q : Request) where
         (subst (λ r. IsLeg d q (first + length (links ∷ legs)) r leg) end is)),
   )
 
--- the links of some legs with one more leg are their links and then the links of that leg
+-- if one more leg follows some legs, the links of all these legs are those of the first legs, and
+-- then those of the last one
 pub links_and_leg : (legs : List (List Link)) (leg : List Link) → flat_map (λ links. links) (legs ++ (leg ∷ [])) ≡ flat_map (λ links. links) legs ++ leg
 links_and_leg legs leg =
     flat_map-append (λ (links : List Link). links) legs (leg ∷ []) ∙ ap (λ last. flat_map (λ links. links) legs ++ last) (append-nil leg)

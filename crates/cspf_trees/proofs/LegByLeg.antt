@@ -1,5 +1,5 @@
--- If each leg has only one target, the best routes of the legs, one after the other, are the best
--- route.
+-- If each leg has only one target, the best routes of the legs, put one after the other, are the
+-- best route of the request. A leg's targets are the routers where it may end.
 use Rattle.std.proofs.Common.{◌≡◌, ◌≢◌, inl, ℕ, suc, ◌+◌, ◌<◌, ◌≤◌, List, [], ◌∷◌, ◌++◌, ◌⊎◌, length, slice_get, slice_index, refl, sym, ap, subst, ◌∙◌, arith, append-nil, append_assoc, length-append, bit_and, bit_xor}
 use Rattle.std.specs.List.{AllByRecursion, flat_map}
 use Rattle.std.specs.declared.cmp.Ordering.TheVariants.{Less}
@@ -19,7 +19,8 @@ use Rattle.cspf_trees.specs.LegsInTurn.{AsksForLeg, GoesOnInLegs, IsLeastSoFar, 
 use Rattle.cspf_trees.proofs.JoinedOrders.{joined_no_earlier, none_earlier}
 use Rattle.cspf_trees.proofs.JoinedWalks.{both_hold, end_of_both, hold_in_parts, joined_both, joined_in_parts, links_and_leg, one_more_leg, pass_both, pass_in_parts}
 
--- requests with the same setup priority, bandwidth and affinities have the same admissible links
+-- two requests with the same setup priority, bandwidth and affinities have the same admissible
+-- links
 
 affinity_too : (q p : Request) (l : Link) → q.exclude_any ≡ p.exclude_any → q.include_any ≡ p.include_any → q.include_all ≡ p.include_all → HasAffinity q l → HasAffinity p l
 affinity_too q p l exclude any all is = record {
@@ -47,13 +48,13 @@ all_admissible d q p setup bandwidth exclude any all [] are = tt
 all_admissible d q p setup bandwidth exclude any all (l ∷ links) are =
     (admissible_too d q p l setup bandwidth exclude any all are.0, all_admissible d q p setup bandwidth exclude any all links are.1)
 
--- a loose leg may visit all routers
+-- a loose leg may visit each router
 stays_in_loose : (d : Database) (q : Request) (at : ℕ) → IsLoose (slice_get q.hops at) → (routers : List ℕ) → AllByRecursion (IsInside d q (suc at)) routers
 stays_in_loose d q at loose [] = tt
 stays_in_loose d q at loose (router ∷ routers) = (inl loose, stays_in_loose d q at loose routers)
 
 module _ (d : Database) (q : Request) where
-  -- before the first leg, each route goes on in legs from the walk without links
+  -- before the first leg, each route begins with the walk without links, and all its legs follow
   begins : (route : List Link) → IsRoute d q route → GoesOnInLegs d q 0 q.from [] route
   begins route is = record {
     front = [];
@@ -77,7 +78,8 @@ module _ (d : Database) (q : Request) where
     least = begins;
   }
 
-  -- How a route goes on: with a leg to the only target, and then with the other legs.
+  -- After the links `front`, the route takes the links `leg` to the router `target`, the only
+  -- target of that leg (a router where it may end). Then it takes its other legs `rest`.
   record TakesLeg (count router target : ℕ) (walk route : List Link) : Type 0 where
     front : List Link
     leg : List Link
@@ -110,8 +112,8 @@ module _ (d : Database) (q : Request) where
     takes_leg : (route : List Link) → GoesOnInLegs d q count router walk route → TakesLeg count router target walk route
     takes_leg route g = next_leg route g.front g.legs g.whole g.number g.each g.arrives g.order
 
-    -- The route up to the end of its next leg isn't before the walk with these links, if that leg isn't
-    -- before these links.
+    -- If the leg that the route takes doesn't come before the links `links`, the route up to this
+    -- leg's end doesn't come before the walk followed by these links.
     goes_on_after : (route : List Link) (t : TakesLeg count router target walk route) (links : List Link) → walk_cmp t.leg links ≢ Less
         → GoesOnInLegs d q (suc count) target (walk ++ links) route
     goes_on_after route t links least = record {
@@ -124,7 +126,9 @@ module _ (d : Database) (q : Request) where
       order = joined_no_earlier t.front walk t.leg links t.order least;
     }
 
-    -- the walk with these links is the least walk so far, if no route is before it up to there
+    -- Suppose that each route begins with links to the next leg's target (a router where the leg
+    -- may end) that don't come before the walk followed by `links`. Then this longer walk is the
+    -- least walk through all legs up to that one.
     one_more : IsLeastSoFar d q count router walk → (links : List Link) → IsWalk d q (walk ++ links) → end_of router links ≡ target
         → ((route : List Link) → IsRoute d q route → GoesOnInLegs d q (suc count) target (walk ++ links) route)
         → IsLeastSoFar d q (suc count) target (walk ++ links)
@@ -148,7 +152,8 @@ module _ (d : Database) (q : Request) where
           least = least;
         }
 
-    -- if the walk already ends at the target, it is the least walk to the target
+    -- if the walk already ends at the target of the next leg (a router where this leg may end), it
+    -- is also the least walk through that leg
     pub least_after_none : IsLeastSoFar d q count router walk → target ≡ router → IsLeastSoFar d q (suc count) target walk
     least_after_none before same =
         subst (IsLeastSoFar d q (suc count) target) (append-nil walk)
@@ -156,7 +161,7 @@ module _ (d : Database) (q : Request) where
         (λ route is. let t = takes_leg route (before.least route is) in goes_on_after route t [] (none_earlier t.leg)))
 
     module _ (law : AreRoutesWithoutHops) (p : Request) (asks : AsksForLeg q p router target) where
-      -- the leg that a route takes is a route of the leg's request
+      -- the leg that a route takes is a route of the request for this leg
       leg_is_route : (route : List Link) → IsRoute d q route → (t : TakesLeg count router target walk route) → IsRoute d p t.leg
       leg_is_route route is t =
           let tail = flat_map (λ links. links) t.rest in
@@ -173,13 +178,14 @@ module _ (d : Database) (q : Request) where
             arrives = ap (λ r. end_of r t.leg) asks.from ∙ t.arrives ∙ sym asks.to;
           })
 
-      -- if a leg has no route, the request has no route
+      -- if the request for the next leg has no route, the whole request has no route
       pub no_route_without_leg : IsLeastSoFar d q count router walk → ((links : List Link) → ¬ IsRoute d p links) → (route : List Link) → ¬ IsRoute d q route
       no_route_without_leg before none route is =
           let t = takes_leg route (before.least route is) in
           none t.leg (leg_is_route route is t)
 
-      -- the walk so far, with the best route of the next leg, is the least walk so far
+      -- the walk so far, followed by the best route of the next leg, is the least walk through that
+      -- leg
       pub least_after_leg : IsLeastSoFar d q count router walk → (HasTransit d router ⊎ (walk ≡ [])) → (links : List Link) → IsBestRoute d p links
           → IsLeastSoFar d q (suc count) target (walk ++ links)
       least_after_leg before joint links best =
@@ -197,20 +203,20 @@ module _ (d : Database) (q : Request) where
           arrives
           (λ route is. let t = takes_leg route (before.least route is) in goes_on_after route t links (best.least t.leg (leg_is_route route is t)))
 
-  -- after the last leg a route has no more links, so it isn't before the walk
+  -- a route has no more links after its last leg, so it doesn't come before the walk
   all_taken : (walk route front : List Link) (legs : List (List Link)) → front ++ flat_map (λ links. links) legs ≡ route
       → suc (length q.hops) + length legs ≡ suc (length q.hops) → walk_cmp front walk ≢ Less → walk_cmp route walk ≢ Less
   all_taken walk route front [] whole number order = subst (λ w. walk_cmp w walk ≢ Less) (sym (append-nil front) ∙ whole) order
   all_taken walk route front (leg ∷ legs) whole number order = absurd (omega arith)
 
-  -- the least walk through all legs is the best route
+  -- the least walk through all legs is the best route of the request
   pub best_of_legs : (router : ℕ) (walk : List Link) → IsLeastSoFar d q (suc (length q.hops)) router walk → IsBestRoute d q walk
   best_of_legs router walk is = record {
     is_route = record { is_walk = is.is_walk; cut = (is.legs, record { number = is.number; whole = is.whole; each = is.each }) };
     least = λ other route. let g = is.least other route in all_taken walk other g.front g.legs g.whole g.number g.order;
   }
 
-  -- the walk through all legs ends at the tail-end, so it has links
+  -- the walk through all legs ends at the tail-end, so it has at least one link
   ends_at_tail : (router : ℕ) → IsTarget d q (suc (length q.hops)) router → router ≡ q.to
   ends_at_tail router target = subst (λ hop. IsTargetOf d q.to hop router) (slice_get_past q.hops (length q.hops) (omega arith)) target
 

@@ -1,5 +1,5 @@
--- A tree of a database is also a tree of each database with the same shape. The only owner of a prefix
--- is also its only owner there.
+-- A tree of a database is also a tree of each database that differs from it only in unreserved
+-- bandwidths. The only owner of a prefix is also its only owner in such a database.
 use Rattle.std.proofs.Common.{◌≡◌, ℕ, ◌+◌, ◌<◌, ◌⊎◌, IsTrue, Option, Some, None, IfSome, length, slice_index, slice_index_or, refl, sym, ap, subst, inl, inr, ◌∙◌}
 use Rattle.std.specs.Prelude.{◌≢◌, bit_and, bit_xor}
 use Rattle.std.specs.Option.{option_map}
@@ -25,13 +25,14 @@ use Rattle.cspf_trees.specs.LegsInTurn.{IsSoleOwner}
 use Rattle.cspf_trees.specs.Trees.{AreTreesOf}
 use Rattle.cspf_trees.specs.Laws.{TreesOutlastBandwidth}
 
--- the database has a link with the shape of another link
+-- the database has a link that differs from the link `l` at most in its unreserved bandwidth
 record HasShapeOf (d : Database) (l : Link) : Type 0 where
   link : Link
   is_link : IsLinkOf d link
   shape : shape_of link ≡ shape_of l
 
--- the link at the key of `l` has the shape of `l`, so the database has such a link
+-- if the link at the key of `l` in the database differs from `l` at most in its unreserved
+-- bandwidth, `HasShapeOf` holds of the database and `l`
 at_key : (d : Database) (l : Link) (o : Option Link) → link_at d (key_of l) ≡ o → option_map shape_of o ≡ Some (shape_of l) → HasShapeOf d l
 at_key d l None at is = absurd (cc)
 at_key d l (Some m) at is =
@@ -42,7 +43,8 @@ at_key d l (Some m) at is =
       shape = same;
     }
 
--- Two links that have the shapes of a link and its reverse are each other's reverse.
+-- Links of one shape differ at most in their unreserved bandwidths. If two links have the shapes of
+-- a link and of its reverse, they are reverses of each other too.
 reversed : (l m r s : Link) → shape_of m ≡ shape_of l → shape_of s ≡ shape_of r → IsReverse l r → IsReverse m s
 reversed l m r s there back is = record {
   from = ap (λ t. t.from) back ∙ is.from ∙ sym (ap (λ t. t.to) there);
@@ -51,12 +53,12 @@ reversed l m r s there back is = record {
   remote = ap (λ t. t.remote) back ∙ is.remote ∙ sym (ap (λ t. t.local) there);
 }
 
--- links of one shape end at the same routers
+-- two links that differ at most in their unreserved bandwidths begin and end at the same routers
 ends_alike : (router : ℕ) (l m : Link) → shape_of m ≡ shape_of l → EndsAt router l → EndsAt router m
 ends_alike router l m same (inl from) = inl (ap (λ s. s.from) same ∙ from)
 ends_alike router l m same (inr to) = inr (ap (λ s. s.to) same ∙ to)
 
--- links of the same groups pass the same affinities
+-- two links with the same groups pass the same affinities
 passes : (q : Request) (l m : Link) → l.group ≡ m.group → HasAffinity q l → HasAffinity q m
 passes q l m same is = record {
   exclude_any = subst (λ g. bit_and g q.exclude_any ≡ 0) same is.exclude_any;
@@ -65,17 +67,20 @@ passes q l m same is = record {
 }
 
 module _ (d e : Database) (one : HaveOneShape d e) where
-  -- the database `d` has a link with the shape of each link of `e`
+  -- for each link of `e`, the database `d` has a link that differs from it at most in its
+  -- unreserved bandwidth
   there_too : (l : Link) → IsLinkOf e l → HasShapeOf d l
   there_too l at = at_key d l (link_at d (key_of l)) refl (sym (one.links (key_of l)) ∙ ap (option_map shape_of) at)
 
-  -- each router of `e` is a router of `d`
+  -- each router of the database `e` is a router of `d`, which differs from `e` only in unreserved
+  -- bandwidths
   router_too : (router : ℕ) → IsRouterOf e router → IsRouterOf d router
   router_too router is =
       let m = there_too is.0 is.1 in
       (m.link, m.is_link, ends_alike router is.0 m.link m.shape is.2)
 
-  -- a prefix that covers an address of a router in `e` covers an address of that router in `d`
+  -- if a prefix covers an address of a router in the database `e`, it covers an address of that
+  -- router in `d`
   covered_too : (prefix : PrefixParts) (router : ℕ) → CoversAddressOf e prefix router → CoversAddressOf d prefix router
   covered_too prefix router (inl own) = inl own
   covered_too prefix router (inr by) =
@@ -89,15 +94,16 @@ module _ (d e : Database) (one : HaveOneShape d e) where
         },
       )
 
-  -- a router owns the same prefixes in `d` as in `e`
+  -- if a router owns a prefix in the database `e`, it owns this prefix in `d`
   owns_too : (prefix : PrefixParts) (router : ℕ) → Owns e prefix router → Owns d prefix router
   owns_too prefix router is = record { known = router_too router is.known; covered = covered_too prefix router is.covered }
 
--- if `d` has the shape of `e`, then `e` has the shape of `d`
+-- if `d` differs from `e` only in unreserved bandwidths, then `e` differs from `d` only in these
 in_turn : (d e : Database) → HaveOneShape d e → HaveOneShape e d
 in_turn d e one = record { marks = sym one.marks; links = λ k. sym (one.links k) }
 
--- the only owner of a prefix is its only owner in each database with the same shape
+-- the only owner of a prefix in a database is also its only owner in each database that differs
+-- from it only in unreserved bandwidths
 owner_kept : (d e : Database) (prefix : PrefixParts) (router : ℕ) → HaveOneShape d e → IsSoleOwner d prefix router → IsSoleOwner e prefix router
 owner_kept d e prefix router one is = record {
   owns = owns_too e d (in_turn d e one) prefix router is.owns;
@@ -105,7 +111,9 @@ owner_kept d e prefix router one is = record {
 }
 
 module _ (d e : Database) (one : HaveOneShape d e) (routers : router_list e ≡ router_list d) where
-  -- for a link in the class of a request in `e`, the link of its shape in `d` is in that class, too
+  -- Links of one shape differ at most in their unreserved bandwidths. If a link is in a request's
+  -- class in the database `e`, the link of its shape in `d` is also in that class. A link is in a
+  -- request's class if it has a reverse and passes the request's affinities.
   in_class_too : (q : Request) (l : Link) → IsInClass e q l → (m : HasShapeOf d l) → IsInClass d q m.link
   in_class_too q l is m =
       let back = there_too d e one is.reverse.0 is.reverse.1 in
@@ -115,19 +123,21 @@ module _ (d e : Database) (one : HaveOneShape d e) (routers : router_list e ≡ 
         affinity = passes q l m.link (sym (ap (λ t. t.group) m.shape)) is.affinity;
       }
 
-  -- a router has the same index in `d` as in `e`
+  -- a router that has an index in the list of routers of the database `e` has the same index in
+  -- that of `d`
   index_too : (router there place : ℕ) → there ≡ router → IsIndexOf e router place → IsIndexOf d there place
   index_too router there place same is = record {
     within = subst (λ rs. place < length rs) routers is.within;
     is = sym (ap (λ rs. slice_index rs place) routers) ∙ is.is ∙ sym same;
   }
 
-  -- if a way may lead over a router in `e`, it may lead over the router in `d`
+  -- if a way may lead over a router in the database `e`, it may lead over this router in `d`
   over_too : (q : Request) (router there : ℕ) → there ≡ router → MayLeadOver e q router → MayLeadOver d q there
   over_too q router there same (inl transit) = inl (λ marked. transit (subst (λ r. IsTrue (set.contains e.marks r)) same (subst (λ s. IsTrue (set.contains s there)) (sym one.marks) marked)))
   over_too q router there same (inr end) = inr (same ∙ end)
 
-  -- a tree of `d` is a tree of `e`
+  -- a tree of the database `d` is a tree of `e`, which differs from `d` only in unreserved
+  -- bandwidths
   tree_too : (q : Request) (tree : Tree) → IsTree d q tree → IsTree e q tree
   tree_too q tree is = record {
     links = λ u w l in_class over from to.
@@ -147,12 +157,14 @@ module _ (d e : Database) (one : HaveOneShape d e) (routers : router_list e ≡ 
 pub trees_outlast : ShapesTellRouters → TreesOutlastBandwidth
 trees_outlast tells d e q tree one is = tree_too d e one (tells d e one) q tree is
 
--- the tree of a row is also a tree of each database with the same shape
+-- if the tree of a row is a tree of a database, it is also a tree of each database that differs
+-- from it only in unreserved bandwidths
 row_kept : (d e : Database) (row : TreeRow) → TreesOutlastBandwidth → HaveOneShape d e → (o : Option Tree) → IfSome o (λ tree. (q : Request) → HasClass q row.class → IsTree d q tree) → IfSome o (λ tree. (q : Request) → HasClass q row.class → IsTree e q tree)
 row_kept d e row law one None is = tt
 row_kept d e row law one (Some tree) is = λ q class. law d e q tree one (is q class)
 
--- trees of a database are also trees of each database with the same shape
+-- if kept trees are trees of a database, they are also trees of each database that differs from it
+-- only in unreserved bandwidths
 pub trees_kept : (d e : Database) (trees : Trees) → TreesOutlastBandwidth → HaveOneShape d e → AreTreesOf d trees → AreTreesOf e trees
 unfolding AreTreesOf
 trees_kept d e trees law one are = (

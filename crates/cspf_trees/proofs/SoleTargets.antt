@@ -1,4 +1,5 @@
--- Prefixes that only one router owns, and legs with only one target.
+-- Lemmas on prefixes that only one router owns, and on legs with only one target (a router where a
+-- leg may end).
 use Rattle.std.proofs.Common.{◌≡◌, inl, inr, ℕ, zero, suc, ◌<◌, ◌↔◌, Some, None, List, [], ◌∷◌, ◌++◌, Contains, length, slice_get, slice_index, slice_index_or, refl, sym, ap, subst, ◌∙◌, arith, lit<}
 use Rattle.std.proofs.lemmas.Bool.{cases_lt}
 use Rattle.std.proofs.lemmas.List.{get_or_append_left, get_or_push, length_push}
@@ -13,12 +14,12 @@ use Rattle.cspf_db.specs.Index.{router_list}
 use Rattle.cspf_db.specs.Owners.{AreOwners}
 use Rattle.cspf_trees.specs.LegsInTurn.{IsSoleOwner, IsSoleTarget}
 
--- each item of a list with one item is that item
+-- if a list has only one item, the item that is read at any index of the list is this item
 one_item : (x y k : ℕ) → k < length (x ∷ []) → slice_index_or (x ∷ []) k y ≡ y → y ≡ x
 one_item x y zero h e = sym e
 one_item x y (suc k) h e = absurd (omega arith)
 
--- a list of length 1 has only its first item
+-- a list of length 1 is the list of its first item
 alone : (xs : List ℕ) → length xs ≡ 1 → xs ≡ slice_index xs 0 ∷ []
 alone [] one = absurd (omega arith)
 alone (x ∷ []) one = refl
@@ -38,13 +39,14 @@ sole_owner_at d prefix places one are known =
           sym (at.2 0) ∙ ap (slice_index (router_list d)) (one_item place at.0 there.0 there.1 there.2);
     }
 
--- a hop that is read from a list is the hop at that index
+-- a hop that is read from the list of hops at an index is the request's hop at this index
 pub hop_at : (hops items : List Hop) (at count : ℕ) (hop : Hop) → items ≡ hops → count ≡ at → at < length items → hop ≡ slice_index_or items at hop → slice_get hops count ≡ Some hop
 hop_at hops items at count hop same here within is =
     rw (here, ← same) (slice_get-get_or items at hop within ∙ ap Some (sym is))
 
 module _ (d : Database) (q : Request) where
-  -- the only owner of a loose hop is the only target of the leg to that hop
+  -- if a router is the only owner of a loose hop's prefix, it is the only target of the leg to that
+  -- hop
   pub hop_target : (at : ℕ) (hop : Hop) (router : ℕ) → slice_get q.hops at ≡ Some hop → IsLoose (slice_get q.hops at) → IsSoleOwner d hop.prefix router → IsSoleTarget d q at router
   hop_target at hop router is loose owner = record {
     loose = loose;
@@ -52,7 +54,7 @@ module _ (d : Database) (q : Request) where
     sole = λ other target. owner.sole other (subst (λ o. IsTargetOf d q.to o other) is target);
   }
 
-  -- the tail-end is the only target of the last leg
+  -- the tail-end is the only target of the last leg (the only router where it may end)
   pub tail_target : (at : ℕ) → at ≡ length q.hops → IsSoleTarget d q at q.to
   tail_target at last =
       let past : slice_get q.hops at ≡ None = slice_get_past q.hops at (omega arith) in
@@ -62,7 +64,9 @@ module _ (d : Database) (q : Request) where
         sole = λ other target. subst (λ o. IsTargetOf d q.to o other) past target;
       }
 
-  -- the targets of the first legs, with the target of the next leg, are right
+  -- Suppose that `targets` has the only target of each of the first legs, and that `router` is the
+  -- only target of the next leg. Then `targets` with `router` added has the only target of each leg
+  -- up to that one. A leg's targets are the routers where it may end.
   pub targets_push : (targets : List ℕ) (router : ℕ) → ((at : ℕ) → at < length targets → IsSoleTarget d q at (slice_index targets at)) → IsSoleTarget d q (length targets) router
       → (at : ℕ) → at < length (targets ++ (router ∷ [])) → IsSoleTarget d q at (slice_index (targets ++ (router ∷ [])) at)
   targets_push targets router each last at within =

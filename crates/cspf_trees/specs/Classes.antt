@@ -1,4 +1,4 @@
--- Private: the class of a request.
+-- Private: a request is of a class if it has the tail-end and the affinities of the class.
 use Rattle.std.specs.Prelude.{◌≡◌}
 use Rattle.cspf_model.specs.declared.request.Request.{Request}
 use Rattle.cspf_trees.specs.declared.class.Class.{Class}

@@ -1,5 +1,5 @@
--- Private: requests whose legs have only one target each, and how their legs are answered one after the
--- other.
+-- Private: requests whose legs each have only one target (a router where the leg may end), and how
+-- these legs are answered one after the other.
 use Rattle.std.specs.Prelude.{◌≡◌, ◌≢◌, ℕ, suc, ◌+◌, ◌<◌, List, [], ◌++◌, length, slice_get, slice_index}
 use Rattle.std.specs.List.{flat_map}
 use Rattle.std.specs.declared.cmp.Ordering.TheVariants.{Less}
@@ -18,14 +18,15 @@ pub record IsSoleOwner (d : Database) (prefix : PrefixParts) (router : ℕ) : Ty
   pub owns : Owns d prefix router
   pub sole : (other : ℕ) → Owns d prefix other → other ≡ router
 
--- The leg to the hop at this index is loose, and the router is its only target. After the last hop the
--- leg to the tail-end is meant.
+-- The leg to the hop at this index is loose, and the router is its only target (a router where the
+-- leg may end). The index after that of the last hop stands for the leg to the tail-end.
 pub record IsSoleTarget (d : Database) (q : Request) (at router : ℕ) : Type 0 where
   pub loose : IsLoose (slice_get q.hops at)
   pub target : IsTarget d q (suc at) router
   pub sole : (other : ℕ) → IsTarget d q (suc at) other → other ≡ router
 
--- each leg of the request has only one target: these routers, in the order of the legs
+-- each leg of the request has only one target (a router where the leg may end), and `targets` are
+-- these targets in the order of the legs
 pub record AreSoleTargets (d : Database) (q : Request) (targets : List ℕ) : Type 0 where
   pub number : length targets ≡ suc (length q.hops)
   pub each : (at : ℕ) → at < length targets → IsSoleTarget d q at (slice_index targets at)
@@ -42,14 +43,15 @@ pub record AsksForLeg (q leg : Request) (start target : ℕ) : Type 0 where
   pub include_all : leg.include_all ≡ q.include_all
   pub hops : leg.hops ≡ []
 
--- this is the best answer to the request for a leg of `q`
+-- the answer is the best one to a request for one leg of `q`, from the router `start` to the router
+-- `target`
 pub record IsLegAnswer (d : Database) (q : Request) (start target : ℕ) (answer : Answer) : Type 0 where
   pub leg : Request
   pub asks : AsksForLeg q leg start target
   pub best : IsBestAnswer d leg answer
 
--- The route begins with links that end at the router and aren't better than the walk. These links take
--- the place of the first `count` legs. The other legs of the route follow.
+-- The route begins with some links that end at the router, and these links don't come before the
+-- walk. They take the place of the first `count` legs. After them come the other legs of the route.
 pub record GoesOnInLegs (d : Database) (q : Request) (count router : ℕ) (walk route : List Link) : Type 0 where
   pub front : List Link
   pub legs : List (List Link)
@@ -59,8 +61,8 @@ pub record GoesOnInLegs (d : Database) (q : Request) (count router : ℕ) (walk 
   pub arrives : end_of q.from front ≡ router
   pub order : walk_cmp front walk ≢ Less
 
--- The walk consists of the first `count` legs of the request, and ends at the router. Each route begins
--- with links that end at the router and aren't better than the walk.
+-- The walk consists of the first `count` legs of the request, and ends at the router. Each route
+-- begins with some links that end at the router and don't come before the walk.
 pub record IsLeastSoFar (d : Database) (q : Request) (count router : ℕ) (walk : List Link) : Type 0 where
   pub is_walk : IsWalk d q walk
   pub legs : List (List Link)

@@ -1,15 +1,15 @@
--- How clauses see a table with trees.
+-- How contracts see a table with trees.
 use Rattle.std.specs.Prelude.{ℕ, refl}
 use Rattle.std.specs.Coded.{Coded, code_by, coded×, coded_ℕ}
 use Rattle.cspf_model.specs.Database.{Database}
 use Rattle.cspf_model.specs.DatabaseCode.{database_code}
 
--- the database of the table, and how many trees there are at most
+-- the database of the table, and the most trees that it may have
 pub record TreeTableState : Type 0 where
   pub database : Database
   pub most_trees : ℕ
 
--- a table with trees is coded as the pair of its database and its number of trees
+-- contracts see a table with trees as the pair of its database and the most trees that it may have
 abbrev pub tree_table_code : Coded TreeTableState
 tree_table_code =
     code_by (Database × ℕ) (coded× database_code coded_ℕ) (λ s. (s.database, s.most_trees))

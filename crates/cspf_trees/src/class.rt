@@ -6,21 +6,21 @@ use crate::limits::{MOST_TREES, WAYS};
 use cspf_addr::{Addr, Mask};
 use cspf_model::Request;
 
-/// A class of requests: all requests with this tail-end and these affinities. The requests of a class
-/// share one tree.
+/// A class of requests: all requests with the same tail-end and the same affinities. The requests
+/// of a class share one tree.
 #[derive(Clone, Copy, Debug, PartialEq, Eq)]
 pub(crate) struct Class {
     /// The tail-end.
     pub(crate) to: Addr,
-    /// The groups whose links are excluded.
+    /// The groups of which a link must have none.
     pub(crate) exclude_any: Mask,
-    /// The groups of which a link needs at least one, if there are any.
+    /// The groups of which a link must have at least one, unless there are no such groups.
     pub(crate) include_any: Mask,
-    /// The groups of which a link needs all.
+    /// The groups of which a link must have all.
     pub(crate) include_all: Mask,
 }
 
-/// The class of a request.
+/// The class of a request: all requests with its tail-end and its affinities.
 pub(crate) fn class_of(request: &Request) -> Class
     ensures { HasClass request.now result }
 {
@@ -37,7 +37,8 @@ fn mixed(hash: u64, number: u32) -> u64 {
     (hash ^ u64::from(number)).wrapping_mul(0x9e37_79b9_7f4a_7c15)
 }
 
-/// The index of the first of the `WAYS` rows that a class may be in.
+/// The index of the first of the `WAYS` consecutive rows among which the row of a class (the
+/// requests with one tail-end and the same affinities) may be.
 pub(crate) fn first_row(class: &Class) -> usize
     ensures { result + WAYS ≤ MOST_TREES }
 {

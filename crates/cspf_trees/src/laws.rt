@@ -2,8 +2,8 @@ ghost use Rattle.cspf_trees.specs.Laws.{TreesOutlastBandwidth};
 
 use cspf_db::shapes_tell_routers;
 
-/// Law: a tree of a database is also a tree of each database that differs from it only in unreserved
-/// bandwidths.
+/// Law: a tree of a database is also a tree of each database that differs from it only in
+/// unreserved bandwidths.
 pub fn trees_outlast_bandwidth()
     ensures { TreesOutlastBandwidth }
 {

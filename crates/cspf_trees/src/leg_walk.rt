@@ -1,4 +1,4 @@
-//! The walk through the first legs of a request.
+//! The walk along the answers of the first legs of a request.
 
 ghost use Rattle.std.specs.Prelude.{◌≡◌, ◌+◌, ◌<◌, ◌≤◌, ◌^◌, ◌↔◌, ◌⊎◌, true, false, IfOk, IsTrue, [], length};
 ghost use Rattle.cspf_model.specs.Walks.{cost_of};
@@ -37,7 +37,7 @@ impl LegWalk {
     ghost use Rattle.cspf_model.specs.RouteLinks.{AreLinked};
     ghost use Rattle.cspf_trees.specs.LegSteps.{IsLonger};
 
-    /// A walk without links, at a router.
+    /// A walk without links that begins at a router.
     pub(crate) fn begin(alloc: Global, at: Addr) -> LegWalk
         ensures at { result.at ≡ at }
         ensures links { result.links.items ≡ [] }
@@ -48,7 +48,8 @@ impl LegWalk {
         }
     }
 
-    /// Whether links may follow: the router has transit, or there are no links yet.
+    /// Whether links may follow the walk: the router at its end has transit, or the walk has no
+    /// links yet.
     pub(crate) fn may_go_on(&self, table: &Table) -> bool
         ensures { IsTrue result
             ↔ (HasTransit table.now self.now.at ⊎ (self.now.links.items ≡ [])) }
@@ -56,8 +57,8 @@ impl LegWalk {
         self.links.is_empty() || table.transit(self.at)
     }
 
-    /// Appends the links of a route that ends at the router `to`, unless the walk would have more than
-    /// `MOST_ROUTE_LINKS` links. Returns whether the links were appended.
+    /// Appends the links of a route that ends at the router `to`, unless the walk would then have
+    /// more than `MOST_ROUTE_LINKS` links. Returns whether it has appended the links.
     pub(crate) fn append(&mut self, route: &Route, to: Addr) -> Result<bool, AllocError>
         ensures longer { IfOk result (λ fits.
             fits ≡ true → IsLonger route.now to self.old self.new) }
@@ -73,13 +74,14 @@ impl LegWalk {
         Ok(true)
     }
 
-    /// The walk as a route.
+    /// The links of the walk as a route.
     pub(crate) fn route(&self, alloc: Global) -> Result<Route, AllocError>
         requires some { 0 < length self.now.links.items }
         requires linked { AreLinked self.now.links.items }
         ensures { IfOk result (λ route. route ≡ self.now.links.items) }
     {
-        // A route may be kept for a long time, so it has no room for more links.
+        // A route may be kept for a long time, so this copy takes no memory for more links than it
+        // has.
         let links = Vec::from_slice(alloc, self.links.as_slice())?;
         let cost = cost_along(&self.links);
         Ok(Route::new(links, cost))

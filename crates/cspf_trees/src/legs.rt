@@ -1,6 +1,7 @@
-//! Answers requests whose hops are all loose, each owned by only one router. The legs are answered one
-//! after the other, each as a request without hops, by the tree of the leg's class. The best routes of
-//! the legs, one after the other, are the best route of the request.
+//! Answers requests whose hops are all loose and each have only one owner of their prefix. The legs
+//! are answered one after the other. Each leg is answered as a request without hops, by the tree of
+//! this request's class (the requests with one tail-end and the same affinities). The best routes
+//! of the legs, one after the other, are the best route of the request.
 
 ghost use Rattle.std.specs.Prelude.{◌≡◌, ◌≢◌, ◌+◌, ◌<◌, ℕ, true, IfOk, IfSome, length, slice_get};
 ghost use Rattle.cspf_model.specs.Best.{IsBestAnswer};
@@ -17,13 +18,14 @@ use cspf_db::Table;
 use cspf_model::{MOST_LEGS, Outcome, Request, route_without_hops};
 use std::alloc::{AllocError, Global};
 
-/// What the answer to one more leg shows of the request's routes.
+/// What the answer to one more leg shows about the request's routes.
 enum LegStep {
-    /// The walk goes on to the target of the leg. No route is better than the walk up to there.
+    /// The walk now leads to the target of the leg (a router where it may end). No route leads to
+    /// this target over links that come before the walk in the order of routes.
     On,
     /// The request has no route.
     NoRoute,
-    /// Nothing is known of the routes.
+    /// The answers to the legs don't tell whether the request has a route.
     Unknown,
 }
 
@@ -34,8 +36,8 @@ fn has_loose_hops(request: &Request) -> bool
     !request.hops.is_empty() && request.hops.as_slice().iter().all(|hop| hop.loose)
 }
 
-/// The target of each leg, if the request has hops, all of them are loose, and each leg has only one
-/// target.
+/// The target of each leg (a router where it may end), if the request has hops, all of them are
+/// loose, and each leg has only one target. Otherwise the result is `None`.
 fn sole_targets(
     trees: &mut Trees,
     alloc: Global,
@@ -80,7 +82,8 @@ fn leg_request(request: &Request, from: Addr, to: Addr) -> Request
     }
 }
 
-/// The best answer to the request for one leg of another request.
+/// The best answer to the request for one leg of another request, from the router `from` to the
+/// router `to`.
 fn answer_leg(
     trees: &mut Trees,
     alloc: Global,
@@ -100,7 +103,8 @@ fn answer_leg(
     trees.best_by_row(alloc, table, &leg)
 }
 
-/// Goes on by one leg, from the end of the walk to the target of the leg.
+/// Answers one more leg, from the end of the walk to the leg's target `to` (a router where the leg
+/// may end), and appends its route to the walk.
 fn go_on(
     trees: &mut Trees,
     alloc: Global,
@@ -139,10 +143,10 @@ fn go_on(
     }
 }
 
-/// The best answer to a request whose hops are all loose, each owned by only one router. The answer is
-/// found leg by leg. The result is `None` for other requests, and if the head-end or the tail-end is
-/// unknown. The result is also `None` if the walk would pass a router without transit between two legs,
-/// or would have more than `MOST_ROUTE_LINKS` links.
+/// The best answer to a request whose hops are all loose and each have only one owner. The answer
+/// is found leg by leg. The result is `None` for other requests, and if the head-end or the
+/// tail-end is unknown. The result is also `None` if the walk would pass a router without transit
+/// between two legs, or would have more than `MOST_ROUTE_LINKS` links.
 pub(crate) fn best_by_legs(
     trees: &mut Trees,
     alloc: Global,

@@ -1,4 +1,4 @@
-//! A row: a prefix, and the only router that owns it.
+//! A row for a prefix, and for the only router that owns this prefix.
 
 ghost use Rattle.std.specs.Prelude.{◌≡◌, ◌<◌, All, IfOk, IfSome, length};
 ghost use Rattle.cspf_model.specs.Database.{Database};
@@ -10,18 +10,20 @@ use crate::limits::OWNER_ROWS;
 use cspf_addr::{Addr, Prefix};
 use std::alloc::{AllocError, Global};
 
-/// A prefix, and the only router that owns it.
+/// A prefix, and the only router that owns it. A row may also have no owner.
 #[derive(Clone, Copy)]
 pub(crate) struct OwnerRow {
-    /// The generation of owners that the row belongs to, or 0 if the row has no owner.
+    /// The number of the generation of owners in which the row was set. The next generation begins
+    /// each time that all owners are forgotten. The number is 0 if the row has no owner.
     pub(crate) generation: u64,
     /// The prefix.
     pub(crate) prefix: Prefix,
-    /// The router.
+    /// The only router that owns the prefix.
     pub(crate) router: Addr,
 }
 
-/// All rows, without owners. The rows are made with this prefix and this router, which are never read.
+/// All rows for prefixes, without owners. Each row is made with this prefix and this router, which
+/// are never read from it.
 pub(crate) fn empty_owners(
     alloc: Global,
     prefix: Prefix,
@@ -41,7 +43,7 @@ pub(crate) fn empty_owners(
     Ok(rows)
 }
 
-/// The index of the row that a prefix may be in.
+/// The index of the only row in which a prefix may be.
 pub(crate) fn owner_index(prefix: Prefix) -> usize
     ensures { result < OWNER_ROWS }
 {
@@ -50,7 +52,8 @@ pub(crate) fn owner_index(prefix: Prefix) -> usize
     (hash >> 53) as usize % OWNER_ROWS
 }
 
-/// The router of a row, if the row is of this generation and prefix.
+/// The router of the row, if the row was set in this generation and for this prefix. A new
+/// generation begins when all owners are forgotten.
 pub(crate) fn owner_in(row: &OwnerRow, generation: u64, prefix: Prefix) -> Option<Addr>
     ensures { (d : Database) → HasOwnerOf d generation row.now
         → IfSome result (IsSoleOwner d prefix) }

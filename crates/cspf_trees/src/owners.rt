@@ -1,4 +1,4 @@
-//! Keeps which router is the only owner of a prefix in one database.
+//! Keeps, for each of many prefixes, the router that is its only owner in one database.
 
 ghost use Rattle.std.specs.Prelude.{◌<◌, ◌≤◌, All, IfOk, IfSome};
 ghost use Rattle.cspf_trees.specs.LegsInTurn.{IsSoleOwner};
@@ -10,23 +10,24 @@ use cspf_db::Table;
 use cspf_model::MOST_ROUTERS;
 use std::alloc::{AllocError, Global};
 
-/// Prefixes that were asked for, each with the only router that owns it in one database. A row keeps
-/// the last prefix that was put in it.
+/// Prefixes of earlier hops, each with the only router that owns it in one database. A row keeps
+/// the prefix that was put in it last.
 #[derive(Drop)]
 pub(crate) struct Owners {
-    /// The rows: either none or `OWNER_ROWS`.
+    /// The rows, each of which keeps at most one prefix with its only owner: either none or
+    /// `OWNER_ROWS` rows.
     rows: Vec<OwnerRow>,
-    /// The generation of the owners in the database, 1 or later. Rows of earlier generations count as
-    /// empty.
+    /// The number of the present generation of owners, 1 or later. A new generation begins when all
+    /// owners are forgotten. A row of an earlier generation counts as empty.
     generation: u64,
-    /// Whether rows may be made.
+    /// Whether this set may make rows, and so keep owners.
     keeps: bool,
     ghost begun: { 0 < generation },
     ghost past: { All (λ row. row.generation ≤ generation) rows.items },
 }
 
 /// The only router that owns a prefix, found by a look at each router. The result is `None` if no
-/// router or several routers own the prefix.
+/// router owns the prefix, or more than one.
 fn read_owner(alloc: Global, table: &Table, prefix: Prefix) -> Result<Option<Addr>, AllocError>
     ensures { IfOk result (λ found. IfSome found (IsSoleOwner table.now prefix)) }
 {
@@ -44,8 +45,8 @@ impl Owners {
     ghost use Rattle.cspf_trees.specs.Owners.{AreOwnersOf};
     ghost use Rattle.cspf_trees.specs.declared.limits.TheConstants.{OWNER_ROWS};
 
-    /// An empty set of owners, which is right for each database. Later owners are kept if `keeps` is
-    /// true. The call takes no memory.
+    /// A set without owners, so it can be used with any database. If `keeps` is true, the set keeps
+    /// the owners that are found later. The call takes no memory.
     pub(crate) fn new(alloc: Global, keeps: bool) -> Owners
         ensures { (d : Database) → AreOwnersOf d result }
     {
@@ -56,7 +57,8 @@ impl Owners {
         }
     }
 
-    /// Forgets all owners, which is right for each database. The memory is kept for later owners.
+    /// Forgets all owners, so that the set can be used with any database. The memory of the rows is
+    /// kept for later owners.
     pub(crate) fn clear(&mut self)
         ensures { (d : Database) → AreOwnersOf d self.new }
     {
@@ -67,8 +69,9 @@ impl Owners {
         }
     }
 
-    /// Makes the rows if there are none yet and rows may be made. Returns whether there are rows. The
-    /// empty rows are made with this prefix and this router.
+    /// Makes the rows that keep prefixes and their owners, if there are none yet and this set may
+    /// keep owners. Returns whether there are rows. Each new row counts as empty, although it has
+    /// this prefix and this router.
     fn fill(&mut self, alloc: Global, prefix: Prefix, router: Addr) -> bool
         ensures owners { (d : Database) → AreOwnersOf d self.old → AreOwnersOf d self.new }
         ensures many { result ≡ true → length self.new.rows.items ≡ OWNER_ROWS }
@@ -88,7 +91,7 @@ impl Owners {
         }
     }
 
-    /// Keeps the only owner of a prefix, if there are rows or they can be made.
+    /// Keeps the router as the only owner of the prefix, if this set has rows or can make them.
     fn keep(&mut self, alloc: Global, prefix: Prefix, router: Addr)
         ensures { (d : Database) → IsSoleOwner d prefix router
             → AreOwnersOf d self.old → AreOwnersOf d self.new }
@@ -103,7 +106,7 @@ impl Owners {
         }
     }
 
-    /// The only owner of a prefix, if it is kept.
+    /// The only owner of the prefix, if it is kept. Otherwise the result is `None`.
     fn kept(&self, prefix: Prefix) -> Option<Addr>
         ensures { (d : Database) → AreOwnersOf d self.now
             → IfSome result (IsSoleOwner d prefix) }
@@ -114,8 +117,8 @@ impl Owners {
         owner_in(&self.rows[owner_index(prefix)], self.generation, prefix)
     }
 
-    /// The only owner of a prefix. The result is `None` if no router or several routers own the prefix.
-    /// If the owner isn't kept yet, it is found by a look at each router, and then kept.
+    /// The only owner of a prefix. The result is `None` if no router owns the prefix, or more than
+    /// one. If the owner isn't kept yet, it is found by a look at each router, and then kept.
     pub(crate) fn sole_owner(
         &mut self,
         alloc: Global,

@@ -1,4 +1,5 @@
-//! A row: a class of requests, and the class's tree once the class is asked for often.
+//! A row for a class: all requests with one tail-end and the same affinities. The row gets a tree
+//! for the class once enough requests of the class were counted.
 
 ghost use Rattle.std.specs.Prelude.{◌≡◌, ◌+◌, ◌<◌, ◌≤◌, true, false, All, None, IfOk, IfSome, length};
 ghost use Rattle.cspf_model.specs.declared.request.Request.{Request as Asked};
@@ -15,20 +16,24 @@ use cspf_model::Request;
 use cspf_search::Tree;
 use std::alloc::{AllocError, Global};
 
-/// A class, how often it was asked for recently, and its tree if it has one.
+/// A class (the requests with one tail-end and the same affinities), and the tree of the class if
+/// it has one. Also how often the class was asked for recently.
 #[derive(Drop)]
 pub(crate) struct TreeRow {
-    /// The generation of trees that the row belongs to.
+    /// The number of the generation of trees in which the row was set. The next generation begins
+    /// each time that all trees are forgotten.
     pub(crate) generation: u64,
-    /// The class.
+    /// The class of the row: all requests with one tail-end and the same affinities.
     pub(crate) class: Class,
-    /// How often the class was asked for, less the asks for other classes that came to this row.
+    /// How many requests of the class (the requests with one tail-end and the same affinities) were
+    /// counted, less one for each request of another class that took one away.
     pub(crate) asks: u32,
-    /// The tree of the class, if one was grown.
+    /// The tree of the class (the requests with one tail-end and the same affinities), if one was
+    /// grown.
     pub(crate) tree: Option<Tree>,
 }
 
-/// All rows, without trees.
+/// All rows for classes of requests, none of which has a tree yet.
 pub(crate) fn empty_rows(alloc: Global) -> Result<Vec<TreeRow>, AllocError>
     ensures many { IfOk result (λ rows. length rows.items ≡ MOST_TREES) }
     ensures empty { IfOk result (λ rows. All IsEmptyTreeRow rows.items) }
@@ -52,8 +57,8 @@ pub(crate) fn empty_rows(alloc: Global) -> Result<Vec<TreeRow>, AllocError>
     Ok(rows)
 }
 
-/// Grows a tree for the class of a request. The result is `None` if memory is refused or the tail-end
-/// is unknown.
+/// Grows a tree for the class of a request. The result is `None` if memory is refused or the
+/// tail-end is unknown. A class is all requests with one tail-end and the same affinities.
 fn grown(alloc: Global, table: &Table, request: &Request) -> Option<Tree>
     ensures { IfSome result (λ tree. (r : Asked)
         → ShareTrees request.now r → IsTree table.now r tree) }
@@ -64,8 +69,9 @@ fn grown(alloc: Global, table: &Table, request: &Request) -> Option<Tree>
     }
 }
 
-/// Whether a tree is due after this many asks. `due` is how many are needed, or `None` if no tree may
-/// be grown.
+/// Whether a tree is to be grown for a class (the requests with one tail-end and the same
+/// affinities) after `asks` requests of the class were counted. `due` is the number of requests
+/// that this takes, or `None` if no tree may be grown.
 fn is_due(due: Option<u32>, asks: u32) -> bool
     ensures { due ≡ None → result ≡ false }
 {
@@ -75,8 +81,9 @@ fn is_due(due: Option<u32>, asks: u32) -> bool
     }
 }
 
-/// Counts one more ask for the class of a request. The tree of the class is grown when the asks reach
-/// `due`. If `due` is `None`, no tree is grown.
+/// Counts one more request in the row of its class (the requests with one tail-end and the same
+/// affinities). The tree of the class is grown when the number of counted requests reaches `due`.
+/// If `due` is `None`, no tree is grown.
 fn count(alloc: Global, table: &Table, request: &Request, due: Option<u32>, row: &mut TreeRow)
     requires class { HasClass request.now row.old.class }
     requires row { HasTreeOf table.now row.old.generation row.old }
@@ -93,10 +100,11 @@ fn count(alloc: Global, table: &Table, request: &Request, due: Option<u32>, row:
     }
 }
 
-/// Asks a row for the class of a request. Returns whether the row is of that class then. An ask without
-/// hops counts down a row of another class, or takes it over if no asks are left there. A request with
-/// hops changes no row, since a tree helps only with its last leg. If `due` is `None`, no tree is
-/// grown.
+/// Counts a request in a row, and returns whether the row is then of the request's class (the
+/// requests with one tail-end and the same affinities). Suppose that the row is of another class. A
+/// request without hops then takes away one of the requests that the row has counted. If none is
+/// left, the row becomes one of the request's class. A request with hops changes no row, because a
+/// tree helps only in its last leg. If `due` is `None`, no tree is grown.
 pub(crate) fn ask(
     alloc: Global,
     table: &Table,
@@ -134,7 +142,7 @@ pub(crate) fn ask(
     true
 }
 
-/// How many trees a row has.
+/// How many trees the row of a class has: 0 or 1.
 pub(crate) fn trees_of(row: &TreeRow) -> usize
     ensures { result ≡ row_count row.now }
 {
@@ -144,8 +152,10 @@ pub(crate) fn trees_of(row: &TreeRow) -> usize
     }
 }
 
-/// How many asks a row has left before another class may take it over. A row of an earlier generation
-/// has none.
+/// How many of the requests that were counted for the row's class (the requests with one tail-end
+/// and the same affinities) are left. A request of another class takes one away, or takes over the
+/// row if none is left. A row of an earlier generation has none left. A new generation begins when
+/// all trees are forgotten.
 fn asks_left(row: &TreeRow, generation: u64) -> u32 {
     if row.generation == generation {
         row.asks
@@ -154,8 +164,10 @@ fn asks_left(row: &TreeRow, generation: u64) -> u32 {
     }
 }
 
-/// The index of the row of a class, among `WAYS` rows from the index `first` on. If no row is of the
-/// class, it is the row with the fewest asks.
+/// The index of the row for a class (the requests with one tail-end and the same affinities), among
+/// the `WAYS` rows from the index `first` on. This is the row of this generation and this class, if
+/// there is one. Otherwise it is the row with the fewest requests left, as `asks_left` counts them.
+/// A new generation begins when all trees are forgotten.
 pub(crate) fn find(rows: &[TreeRow], first: usize, class: &Class, generation: u64) -> usize
     requires { first + WAYS ≤ length rows.now }
     ensures { result < length rows.now }

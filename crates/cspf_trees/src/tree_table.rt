@@ -14,8 +14,8 @@ use cspf_model::{Batch, Outcome, Refusal, Request};
 use std::alloc::{AllocError, Global};
 use std::marker::Model;
 
-/// A table that answers requests. It keeps trees of its database for tail-ends and affinities that are
-/// asked for often.
+/// A table that answers requests. It keeps trees of its database for pairs of a tail-end and
+/// affinities that are asked for often.
 #[derive(Drop)]
 pub struct TreeTable {
     /// The table.
@@ -47,7 +47,7 @@ impl TreeTable {
         TreeTable::with_trees(alloc, MOST_TREES)
     }
 
-    /// Makes a table as `new` does, with at most `most` trees.
+    /// An empty table without trees, which will have at most `most` trees.
     pub fn with_trees(alloc: Global, most: usize) -> Result<TreeTable, AllocError>
         ensures { IfOk result (λ table.
             table ≡ record { database = no_links; most_trees = most }) }
@@ -58,14 +58,15 @@ impl TreeTable {
         })
     }
 
-    /// The table.
+    /// The table, without its trees.
     pub fn table(&self) -> &Table
         ensures { result.now ≡ self.now.database }
     {
         &self.table
     }
 
-    /// The best answer to a request, by a tree if its tail-end and affinities are asked for often.
+    /// The best answer to a request. It is found with a tree if the request's tail-end and
+    /// affinities are asked for often.
     pub fn best(&mut self, alloc: Global, request: &Request) -> Result<Outcome, AllocError>
         ensures same { self.new ≡ self.old }
         ensures best { IfOk result (λ outcome.
@@ -74,8 +75,8 @@ impl TreeTable {
         self.trees.best(alloc, &self.table, request)
     }
 
-    /// Absorbs a batch as `Table::try_absorb` does. The trees are kept if an absorbed batch changes
-    /// only unreserved bandwidths. After any other absorbed batch they are forgotten.
+    /// Absorbs a batch as `Table::try_absorb` does. If an absorbed batch changes only unreserved
+    /// bandwidths, the trees are kept. After any other absorbed batch the trees are forgotten.
     pub fn try_absorb(&mut self, batch: &Batch) -> Result<(), Refusal>
         ensures ok { OnOk result (Fits self.old.database batch.now) }
         ensures changed { OnOk result (self.new ≡ record self.old {

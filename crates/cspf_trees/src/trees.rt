@@ -1,4 +1,4 @@
-//! The trees of one database.
+//! Trees of one database, and the answers that are found with them.
 
 ghost use Rattle.std.specs.Prelude.{◌≡◌, ◌≤◌, All};
 ghost use Rattle.cspf_trees.specs.TreeRows.{tree_count};
@@ -15,27 +15,32 @@ use cspf_model::{Batch, Outcome, Request};
 use cspf_search::{best, best_by_tree};
 use std::alloc::{AllocError, Global};
 
-/// Trees of one database. There are at most as many trees as `new` was given, and at most `MOST_TREES`.
-/// The bounds of each tree take `TREE_BYTES` bytes. A tree is grown at the sixth ask for its tail-end
-/// and affinities without hops. If there are as many trees already, or memory is refused, requests are
-/// searched without a tree.
+/// Trees of one database. There are at most `MOST_TREES` trees, and at most as many as the limit
+/// that `new` was given. The bounds of each tree take `TREE_BYTES` bytes. A tree is grown at the
+/// sixth request without hops for its tail-end and affinities. If there are already as many trees
+/// as allowed, or memory is refused, requests are searched without a tree.
 ///
-/// The rows that count asks take 393,216 bytes from the first ask on. The rows of prefixes with only
-/// one owner take 49,152 bytes from the first such prefix on. If no trees are allowed, there are no
-/// rows.
+/// Each row for a class counts the requests of this class: those with one tail-end and the same
+/// affinities. These rows take 393,216 bytes from the first request on. The rows for prefixes with
+/// only one owner take 49,152 bytes from the first such prefix on. If no trees are allowed, there
+/// are no rows.
 #[derive(Drop)]
 pub struct Trees {
-    /// The rows: either none or `MOST_TREES`.
+    /// The rows, each of which keeps at most the tree of one class: either none or `MOST_TREES`
+    /// rows. A class is all requests with one tail-end and the same affinities.
     rows: Vec<TreeRow>,
-    /// The generation of the trees of the database. Rows of earlier generations count as empty.
+    /// The number of the present generation of trees. A new generation begins when all trees are
+    /// forgotten. A row of an earlier generation counts as empty.
     generation: u64,
     /// How many trees there are at most.
     most: usize,
-    /// A tree is grown at this ask for its class, counted from 1.
+    /// A tree is grown once this many requests without hops were counted for its class (the
+    /// requests with one tail-end and the same affinities).
     due: u32,
-    /// How many trees there are, of any generation.
+    /// How many trees the rows have, those of earlier generations included. A new generation begins
+    /// when all trees are forgotten.
     count: usize,
-    /// The only owners of the prefixes of hops.
+    /// The only router that owns the prefix, for prefixes of earlier hops that have only one owner.
     owners: Owners,
     ghost past: { All (λ row. row.generation ≤ generation) rows.items },
     ghost counted: { tree_count rows.items ≡ count },
@@ -54,7 +59,7 @@ impl Trees {
     ghost use Rattle.cspf_trees.specs.TreeRows.{IsAskedOf};
     ghost use Rattle.cspf_trees.specs.Trees.{AreTreesOf};
 
-    /// An empty set of trees, which is right for each database. Later there are at most `most` trees.
+    /// A set without trees, so it can be used with any database. It will have at most `most` trees.
     /// The call takes no memory.
     pub fn new(alloc: Global, most: usize) -> Trees
         ensures trees { (d : Database) → AreTreesOf d result }
@@ -63,8 +68,8 @@ impl Trees {
         Trees::from_ask(alloc, most, ASKS_FOR_A_TREE)
     }
 
-    /// Does what `new` does, but a tree is grown at the ask `due` for its tail-end and affinities
-    /// without hops. A `due` above 64 counts as 64.
+    /// Does what `new` does, but a tree is grown at the `due`-th request without hops for its
+    /// tail-end and affinities. A `due` above 64 counts as 64.
     pub fn from_ask(alloc: Global, most: usize, due: u32) -> Trees
         ensures trees { (d : Database) → AreTreesOf d result }
         ensures most { result.most ≡ most }
@@ -79,8 +84,8 @@ impl Trees {
         }
     }
 
-    /// Forgets all trees and owners, which is right for each database. The memory is kept for later
-    /// trees and owners.
+    /// Forgets all trees and owners, so that the set can be used with any database. The memory of
+    /// the rows is kept for later trees and owners.
     pub fn clear(&mut self)
         ensures trees { (d : Database) → AreTreesOf d self.new }
         ensures most { self.new.most ≡ self.old.most }
@@ -94,15 +99,16 @@ impl Trees {
         }
     }
 
-    /// Keeps the trees and the owners for the database after a batch, if the batch changes only
-    /// unreserved bandwidths. Otherwise the call forgets the trees and the owners. The table has the
-    /// database before the batch.
+    /// If the batch changes only unreserved bandwidths, keeps the trees and the owners for the
+    /// database after the batch. Otherwise the call forgets the trees and the owners. The table has
+    /// the database before the batch.
     pub(crate) fn keep_over(&mut self, table: &Table, batch: &Batch)
         requires { AreTreesOf table.now self.old }
         ensures trees { AreTreesOf (after_changes table.now batch.now.changes) self.new }
         ensures most { self.new.most ≡ self.old.most }
     {
-        // Law: a tree of a database is also a tree of each database with the same shape.
+        // Law: a tree of a database is also a tree of each database that differs from it only in
+        // unreserved bandwidths.
         trees_outlast_bandwidth();
         if !table.changes_shape(batch) {
             return;
@@ -110,7 +116,8 @@ impl Trees {
         self.clear();
     }
 
-    /// Makes the rows if there are none yet and there may be trees. Returns whether there are rows.
+    /// Makes the rows that count requests and keep trees, if there are none yet and trees are
+    /// allowed. Returns whether there are rows.
     #[tactic(auto, unfolding(crate::specs::Trees::AreTreesOf))]
     fn fill(&mut self, alloc: Global) -> bool
         ensures trees { (d : Database) → AreTreesOf d self.old → AreTreesOf d self.new }
@@ -133,9 +140,10 @@ impl Trees {
         }
     }
 
-    /// Counts an ask for the class of a request, and returns the index of its row. The result is `None`
-    /// if other classes have all rows that the class may be in. The result is also `None` if no trees
-    /// are allowed, or if memory for the rows is refused.
+    /// Counts a request for its class (the requests with one tail-end and the same affinities), and
+    /// returns the index of the class's row. The result is `None` if the class still has no row:
+    /// either other classes have all rows that it may get, or the request has hops. The result is
+    /// also `None` if no trees are allowed, or if memory for the rows is refused.
     fn ask_row(&mut self, alloc: Global, table: &Table, request: &Request) -> Option<usize>
         requires { AreTreesOf table.now self.old }
         ensures trees { AreTreesOf table.now self.new }
@@ -163,7 +171,8 @@ impl Trees {
         if asked { Some(at) } else { None }
     }
 
-    /// The best answer to a request, by the tree of its class if there is one.
+    /// The best answer to a request, found with the tree of its class (the requests with one
+    /// tail-end and the same affinities) if there is one.
     #[tactic(auto, unfolding(crate::specs::Trees::AreTreesOf))]
     pub(crate) fn best_by_row(
         &mut self,
@@ -186,8 +195,8 @@ impl Trees {
         }
     }
 
-    /// The only owner of a prefix. The result is `None` if no router or several routers own the prefix.
-    /// An owner is kept for later hops.
+    /// The only owner of a prefix. The result is `None` if no router owns the prefix, or more than
+    /// one. An owner that is found is kept for later hops.
     #[tactic(auto, unfolding(crate::specs::Trees::AreTreesOf))]
     pub(crate) fn sole_owner(
         &mut self,
@@ -203,9 +212,10 @@ impl Trees {
         self.owners.sole_owner(alloc, table, prefix)
     }
 
-    /// The best answer to a request in the table's database, which is the database of the trees. The
-    /// answer is that of `best` of `cspf_search`. If all hops are loose, each owned by only one router,
-    /// each leg is answered by the tree of its class.
+    /// The best answer to a request in the table's database, which is the database of the trees.
+    /// The answer is that of `best` of `cspf_search`. If all hops are loose and each have only one
+    /// owner, each leg is answered with the tree of its class. A class is all requests with one
+    /// tail-end and the same affinities.
     pub fn best(
         &mut self,
         alloc: Global,

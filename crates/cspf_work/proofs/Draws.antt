@@ -1,4 +1,5 @@
--- If all workers have drawn until the indexes ran out, each request is answered exactly once.
+-- Workers draw the indexes of requests from a counter. If each worker has drawn until it got a
+-- number that is no request's index, each request is answered exactly once.
 use Rattle.std.proofs.Common.{◌≡◌, ℕ, zero, suc, ◌+◌, ◌<◌, ◌≤◌, cond, eqb, List, [], ◌∷◌, ◌++◌, length, map, All, IsNone, Vec, get_or, inl, inr, refl, sym, ap, ◌∙◌, subst, arith, length-append}
 use Rattle.std.specs.Global.{Global}
 use Rattle.std.specs.List.Sorted.{IsStrictlyIncreasing}
@@ -29,14 +30,15 @@ at_least xs rising (suc k) less =
     let same : get_or xs (suc k) 0 ≡ get_or xs (k + 1) 0 = ap (λ n. get_or xs n 0) (let e : suc k ≡ k + 1 = omega arith in e) in
     omega arith
 
--- so the numbers of a rising list of `bound + 1` numbers can't all be below the bound
+-- the numbers of a rising list of `bound + 1` numbers can't all be below `bound`
 pub too_many : (xs : List ℕ) (bound : ℕ) → IsStrictlyIncreasing xs → All (λ x. x < bound) xs → length xs ≡ bound + 1 → ⊥
 too_many xs bound rising below long =
     let least = at_least xs rising bound (omega arith) in
     let less = below bound 0 (omega arith) in
     omega arith
 
--- if the index of each reply is below a bound, so are the indexes in the list of indexes
+-- if the index of each reply is below a bound, all numbers in the list of these indexes are below
+-- the bound
 pub below_indexes : (bound : ℕ) (done : List Reply) → All (λ r. r.index < bound) done → All (λ x. x < bound) (indexes done)
 below_indexes bound done inside = All-map (λ x. x < bound) (λ (r : Reply). r.index) done inside
 
@@ -57,12 +59,13 @@ times-above (y ∷ ys) bound x below above =
     let step : times x (y ∷ ys) ≡ cond (eqb y x) 1 0 + times x ys = sum_by-cons (λ z. cond (eqb z x) 1 0) y ys in
     grind (arith, nat_tests)
 
--- a worker drew until it got a number that is no request's, and answered only requests
+-- a worker drew until it got a number that is no request's index, and all its replies are to
+-- requests
 pub record IsDrawnOut (bound : ℕ) (w : Worker) : Type 0 where
   pub inside : All (λ r. r.index < bound) w.done.items
   pub drawn : HasDrawnAll bound w
 
--- if no asker had a fault, each worker did so
+-- if no worker had a fault, each worker drew until it got a number that is no request's index
 pub drawn_out : (id : CounterId) (requests : List Request) (before : List AskerState) (workers : List Worker) → AreRun id requests before workers
     → All (λ (w : Worker). IsNone w.fault) workers → All (IsDrawnOut (length requests)) workers
 drawn_out id requests before workers run none i d less = record {
@@ -70,7 +73,7 @@ drawn_out id requests before workers run none i d less = record {
   drawn = run_drawn id requests before workers run none i d less;
 }
 
--- each request was drawn by a worker as often as the worker answered it
+-- a worker answered each request as often as it drew the request's index from the counter
 times-drawn : (bound : ℕ) (w : Worker) → IsDrawnOut bound w → (x : ℕ) → x < bound → times x w.drawer.drawn ≡ times x (indexes w.done.items)
 times-drawn bound w is x less =
     let last = is.drawn.0 in
@@ -95,7 +98,8 @@ times_in-past bound (w ∷ ws) all x past =
     let sum = sum_by-cons (λ (l : Vec Reply Global). times x (indexes l.items)) w.done (map (λ (v : Worker). v.done) ws) in
     omega arith
 
--- the counter is above the last number that each worker drew, and so above the bound
+-- the counter's last value `word` is above the last number that each worker drew, and therefore
+-- above `bound`
 word_past : (bound word : ℕ) (workers : List Worker) → 0 < length workers → All (IsDrawnOut bound) workers → HoldsEachOnce word (all_drawn workers) → bound < word
 word_past bound word [] some all once = absurd (omega arith)
 word_past bound word (w ∷ ws) some all once =
@@ -119,7 +123,8 @@ drawn_once bound word workers some all once x = elim (cases_lt x bound) [
   | inr past ↦ let none = times_in-past bound workers all x past in grind (arith, nat_tests)
 ]
 
--- so each request has exactly one answer, and refused memory is the only error of collecting
+-- since each request has exactly one answer, refused memory is the only error of collecting the
+-- answers
 pub only_memory : (bound word : ℕ) (workers : List Worker) (lists : List (Vec Reply Global)) (e : ServeError) → 0 < length workers → All (IsDrawnOut bound) workers
     → HoldsEachOnce word (all_drawn workers) → lists ≡ map (λ w. w.done) workers → IsCollectError bound lists e → e ≡ Memory
 only_memory bound word workers lists e some all once same (inl memory) = memory
@@ -133,7 +138,7 @@ only_memory bound word workers lists e some all once same (inr (inr twice)) =
     let more = twice.2 in
     absurd (grind (arith, nat_tests))
 
--- the indexes that each worker answered are rising
+-- the indexes of the requests that a worker answered rise in the order of its answers
 pub rising_lists : (bound : ℕ) (drawn : List (Vec ℕ Global)) (workers : List Worker) → map (λ (v : Vec ℕ Global). v.items) drawn ≡ map (λ (w : Worker). indexes w.done.items) workers
     → All (IsDrawnOut bound) workers → All (λ (d : DrawnNumbers). IsStrictlyIncreasing d.drawn) (map (λ (w : Worker). w.drawer) workers)
     → All (λ (v : Vec ℕ Global). IsStrictlyIncreasing v.items) drawn

@@ -1,4 +1,4 @@
--- How the answers are put into the places of their requests.
+-- How the workers' answers are stored in the places of their requests.
 use Rattle.std.proofs.Common.{◌≡◌, ◌≢◌, ℕ, zero, suc, ◌+◌, ◌<◌, ◌⊎◌, true, false, cond, eqb, List, [], ◌∷◌, ◌++◌, length, map, Option, Some, None, get_or, All, Vec, inl, inr, refl, sym, ap, ◌∙◌, subst, arith, rules, IsSome, is_some, append-nil, append_assoc, slice_get, slice_set, sum_by, flat_map}
 use Rattle.std.specs.Global.{Global}
 use Rattle.std.specs.Option.{option_map}
@@ -36,14 +36,15 @@ indexes-append (x ∷ xs) ys = ap (λ l. x.index ∷ l) (indexes-append xs ys)
 pub times-append : (x : ℕ) (xs ys : List ℕ) → times x (xs ++ ys) ≡ times x xs + times x ys
 times-append x xs ys = sum_by-append (λ y. cond (eqb y x) 1 0) xs ys
 
--- a number is in a list with one more item once more, if this item is the number
+-- if the number `y` is added to a list, `y` is in the list once more, and all other numbers are in
+-- the list as often as before
 pub times-push : (x : ℕ) (xs : List ℕ) (y : ℕ) → times x (xs ++ y ∷ []) ≡ times x xs + cond (eqb y x) 1 0
 times-push x xs y = sum_by_push (λ z. cond (eqb z x) 1 0) xs y
 
 times-indexes-push : (x : ℕ) (done : List Reply) (r : Reply) → times x (indexes (done ++ r ∷ [])) ≡ times x (indexes done) + cond (eqb r.index x) 1 0
 times-indexes-push x done r = ap (times x) (indexes-append done (r ∷ [])) ∙ times-push x (indexes done) r.index
 
--- if all places are empty, they hold no replies
+-- if all places are empty, they hold the replies of an empty list
 pub filled_none : (slots : List (Option Answer)) → All (λ slot. slot ≡ None) slots → AreFilled slots []
 filled_none slots none = record {
   placed = λ k d less. absurd (omega arith);
@@ -56,7 +57,8 @@ filled_none slots none = record {
   past = λ x at. refl;
 }
 
--- one more reply is put into its place
+-- if the place of a reply is empty and the reply's answer is stored there, the places hold the
+-- earlier replies and this one
 pub filled_more : (slots : List (Option Answer)) (done : List Reply) (r : Reply)
     → slice_get slots r.index ≡ Some None → AreFilled slots done → AreFilled (slice_set slots r.index (Some r.answer)) (done ++ r ∷ [])
 filled_more slots done r free is =
@@ -96,7 +98,7 @@ filled_more slots done r free is =
       ];
     }
 
--- the place of a reply already holds an answer, so its index is there twice
+-- if the place of a reply already holds an answer, two replies have this reply's index
 pub filled_twice : (slots : List (Option Answer)) (done : List Reply) (r : Reply) (a : Answer)
     → slice_get slots r.index ≡ Some (Some a) → AreFilled slots done → IsTwice (done ++ r ∷ []) (Twice r.index)
 filled_twice slots done r a at is = (
@@ -116,13 +118,14 @@ twice_more done more e t = (
       omega arith,
 )
 
--- the place of a reply is tested, and it holds an answer
+-- if a test finds an answer in the place of a reply, two replies have this reply's index
 pub put_twice : (slots : List (Option Answer)) (done : List Reply) (r : Reply) (o : Option Answer)
     → o ≡ get_or slots r.index o → r.index < length slots → is_some o ≡ true → AreFilled slots done → IsTwice (done ++ r ∷ []) (Twice r.index)
 put_twice slots done r (Some a) at inside full is = filled_twice slots done r a (slice_get_read slots (length slots) r.index (Some a) refl inside at) is
 put_twice slots done r None at inside full is = absurd (false≢true full)
 
--- the place of a reply is tested, and it is empty
+-- if a test finds the place of a reply empty and the reply's answer is stored there, the places
+-- hold this reply too
 pub put_free : (slots : List (Option Answer)) (done : List Reply) (r : Reply) (o : Option Answer)
     → o ≡ get_or slots r.index o → r.index < length slots → is_some o ≡ false → AreFilled slots done → AreFilled (slice_set slots r.index (Some r.answer)) (done ++ r ∷ [])
 put_free slots done r (Some a) at inside free is = absurd (false≢true (sym free))
@@ -137,7 +140,8 @@ from_some : (o : Option Answer) (a : Answer) → option_map (λ (b : Answer). So
 from_some (Some b) a e = cc e
 from_some None a e = absurd (cc e)
 
--- if each place holds an answer, the answer of each reply is in the list at its index
+-- if each place holds an answer, the list of these answers has each reply's answer at the reply's
+-- index
 pub filled_placed : (slots : List (Option Answer)) (list : List Answer) (done : List Reply)
     → map (λ a. Some a) list ≡ slots → AreFilled slots done → All (IsPlaced list) done
 filled_placed slots list done same is k d inside =
@@ -190,7 +194,7 @@ all_lists P [] all = All-nil (λ (l : Vec Reply Global). All P l.items)
 all_lists P (l ∷ ls) all =
     All-cons (λ (v : Vec Reply Global). All P v.items) l ls (all_front P l.items (replies ls) all) (all_lists P ls (all_back P l.items (replies ls) all))
 
--- the number of times that an index is in all lists is the sum of the numbers for each list
+-- how often an index is in all lists together is the sum of how often it is in each list
 pub times-replies : (x : ℕ) (lists : List (Vec Reply Global)) → times x (indexes (replies lists)) ≡ times_in x lists
 times-replies x [] = refl
 times-replies x (l ∷ ls) =
@@ -198,7 +202,7 @@ times-replies x (l ∷ ls) =
     ∙ ap (λ n. times x (indexes l.items) + n) (times-replies x ls)
     ∙ sym (sum_by-cons (λ (v : Vec Reply Global). times x (indexes v.items)) l ls)
 
--- an index is in the lists of indexes as often as in the lists of replies
+-- an index is in the workers' lists of indexes as often as in their lists of replies
 pub times_in-indexes : (x : ℕ) (drawn : List (Vec ℕ Global)) (lists : List (Vec Reply Global))
     → map (λ (v : Vec ℕ Global). v.items) drawn ≡ map (λ (l : Vec Reply Global). indexes l.items) lists
     → sum_by (λ (v : Vec ℕ Global). times x v.items) drawn ≡ times_in x lists
@@ -216,7 +220,8 @@ times_in-indexes x (v ∷ vs) (l ∷ ls) same =
 pub replies-push : (lists : List (Vec Reply Global)) (l : Vec Reply Global) → replies (lists ++ l ∷ []) ≡ replies lists ++ l.items
 replies-push lists l = flat_map-append (λ (v : Vec Reply Global). v.items) lists (l ∷ []) ∙ ap (λ rest. replies lists ++ rest) (append-nil l.items)
 
--- an index that is twice in some of the lists is an error of collecting
+-- The replies of some of the lists are stored in the places of their requests. If memory is refused
+-- then, or two of these replies have the same index, this is an error of collecting the answers.
 pub twice_collected : (count : ℕ) (first rest lists : List (Vec Reply Global)) (l : Vec Reply Global) (e : ServeError)
     → (first ++ l ∷ []) ++ rest ≡ lists → (e ≡ Memory) ⊎ IsTwice (replies first ++ l.items) e → IsCollectError count lists e
 twice_collected count first rest lists l e whole (inl memory) = inl memory
@@ -229,7 +234,8 @@ twice_collected count first rest lists l e whole (inr twice) =
     ap (times_in index) (sym whole) ∙ sum_by-append (λ (v : Vec Reply Global). times index (indexes v.items)) (first ++ l ∷ []) rest in
     inr (inr (index, twice.1, omega arith))
 
--- a place that is empty after all lists is an error of collecting
+-- The replies of all lists are stored in the places of their requests. If memory is refused then,
+-- or a place is empty afterwards, this is an error of collecting the answers.
 pub missing_collected : (count : ℕ) (slots : List (Option Answer)) (lists : List (Vec Reply Global)) (e : ServeError)
     → length slots ≡ count → AreFilled slots (replies lists) → (e ≡ Memory) ⊎ ((index : ℕ) × (e ≡ Missing index) × (slice_get slots index ≡ Some None)) → IsCollectError count lists e
 missing_collected count slots lists e long is (inl memory) = inl memory
@@ -237,27 +243,31 @@ missing_collected count slots lists e long is (inr missing) =
     let less = slice_get_within slots missing.0 None missing.2 in
     inr (inl (missing.0, missing.1, omega arith, sym (times-replies missing.0 lists) ∙ is.none missing.0 missing.2))
 
--- the next item is taken from those that are left
+-- if the list `all` is `before` and then `left`, and `left` is `x` and then `after`, then `all` is
+-- `before`, `x` and `after` in this order
 pub left_step : {X : Type 0} (before : List X) (x : X) (left after all : List X) → before ++ left ≡ all → left ≡ x ∷ after → (before ++ x ∷ []) ++ after ≡ all
 left_step before x left after all whole next = append_assoc before (x ∷ []) after ∙ ap (λ l. before ++ l) (sym next) ∙ whole
 
--- if no item is left, all items were taken
+-- if the list `all` is `before` and then `left`, and `left` is empty, `all` is `before`
 pub left_none : {X : Type 0} (before left all : List X) → before ++ left ≡ all → length left ≡ 0 → before ≡ all
 left_none before [] all whole none = sym (append-nil before) ∙ whole
 left_none before (x ∷ left) all whole none = absurd (omega arith)
 
--- what holds of all items holds of the next one
+-- what holds of all items holds of `x`, the first of the items `left` that come after the items
+-- `before`
 pub left_next : {X : Type 0} (P : X → Type 0) (before : List X) (x : X) (left after all : List X) → before ++ left ≡ all → left ≡ x ∷ after → All P all → P x
 left_next P before x left after all whole next holds =
     let same : before ++ x ∷ after ≡ all = ap (λ l. before ++ l) (sym next) ∙ whole in
     let here : All P (before ++ x ∷ after) = subst (All P) (sym same) holds in
     All-head P x after (all_back P before (x ∷ after) here)
 
--- mapping a list with one more item gives one more image
+-- if one more item is added at the end of a list, one more result is added at the end of the list
+-- of the results of `f`
 pub map_push : {X Y : Type 0} (f : X → Y) (xs ys : List X) (x : X) → ys ≡ xs ++ x ∷ [] → map f ys ≡ map f xs ++ f x ∷ []
 map_push f xs ys x pushed = ap (map f) pushed ∙ map-append f xs (x ∷ [])
 
--- an index that is twice in some of the replies is twice in all of them
+-- if the error names an index that two of the replies up to `r` have, two replies of the whole list
+-- have this index
 pub twice_whole : (done before : List Reply) (r : Reply) (after all : List Reply) (e : ServeError)
     → (before ++ r ∷ []) ++ after ≡ all → IsTwice ((done ++ before) ++ r ∷ []) e → IsTwice (done ++ all) e
 twice_whole done before r after all e whole twice =

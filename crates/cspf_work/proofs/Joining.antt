@@ -58,7 +58,8 @@ map-map : {A B C : Type 0} (f : A → B) (g : B → C) (xs : List A) → map g (
 map-map f g [] = refl
 map-map f g (x ∷ xs) = ap (λ l. g (f x) ∷ l) (map-map f g xs)
 
--- the answers and the indexes that were collected from workers
+-- the lists of replies `lists`, the answers `list` and the lists of indexes `drawn` are those that
+-- were collected from these workers
 pub record AreCollected (workers : List Worker) (lists : List (Vec Reply Global)) (list : List Answer) (drawn : List (Vec ℕ Global)) : Type 0 where
   pub lists_are : lists ≡ map (λ w. w.done) workers
   pub drawn_are : map (λ v. v.items) drawn ≡ map (λ l. indexes l.items) lists

@@ -40,7 +40,7 @@ run_each counter requests old new some same run = record {
   each = λ i known after at there. run_at counter requests old new run i known after (slice_get old i) refl (sym (slice_get-map (λ (w : Worker). w.asker) old i) ∙ at) there;
 }
 
--- what the worker at an index has done
+-- if all workers have run, the worker at each index has run
 run_of : (counter : CounterId) (requests : List Request) (before : List AskerState) (workers : List Worker) → AreRun counter requests before workers → (i : ℕ) (d : Worker) → i < length workers
     → (known : AskerState) × IsWorkerRun counter requests known (get_or workers i d)
 run_of counter requests before workers run i d less =
@@ -54,18 +54,19 @@ pub run_inside : (counter : CounterId) (requests : List Request) (before : List 
     → All (λ (w : Worker). All (λ (r : Reply). r.index < length requests) w.done.items) workers
 run_inside counter requests before workers run i d less k e inside = ((run_of counter requests before workers run i d less).1.done.done k e inside).inside
 
--- all workers drew from this counter
+-- all workers drew the indexes of their requests from the counter `counter`
 pub run_counters : (counter : CounterId) (requests : List Request) (before : List AskerState) (workers : List Worker) → AreRun counter requests before workers
     → All (λ (d : DrawnNumbers). d.counter ≡ counter) (map (λ (w : Worker). w.drawer) workers)
 run_counters counter requests before workers run =
     All-map (λ (d : DrawnNumbers). d.counter ≡ counter) (λ (w : Worker). w.drawer) workers (λ i d less. (run_of counter requests before workers run i d less).1.counter)
 
--- if no worker has a fault, all have drawn until the indexes ran out
+-- if no worker has a fault, each worker has drawn from the counter until it got a number that is no
+-- request's index
 pub run_drawn : (counter : CounterId) (requests : List Request) (before : List AskerState) (workers : List Worker) → AreRun counter requests before workers
     → All (λ (w : Worker). IsNone w.fault) workers → All (λ (w : Worker). HasDrawnAll (length requests) w) workers
 run_drawn counter requests before workers run none i d less = (run_of counter requests before workers run i d less).1.drawn (none i d less)
 
--- each asker knows at least the batches that it knew before
+-- each asker (which computes a worker's answers) knows at least the batches that it knew before
 pub run_askers : (counter : CounterId) (requests : List Request) (before : List AskerState) (workers : List Worker) (after : List AskerState)
     → after ≡ map (λ w. w.asker) workers → AreRun counter requests before workers → AreSameAskers before after
 run_askers counter requests before workers after askers run = record {
@@ -78,11 +79,13 @@ run_askers counter requests before workers after askers run = record {
     asker_at i old new (Some w) here at there = subst (λ (k : AskerState). KnowsNoLess old k) (cc there) ((run.each i old w at here).done.asker)
     asker_at i old new None here at there = absurd (cc there)
 
--- if a slice is written back to a list, the first `n` items of the list are the items of the slice
+-- if a slice of `n` items is written back to a list, the first `n` items of the list are those of
+-- the slice
 written_back : {X : Type 0} (new rest : List X) (n : ℕ) → n ≡ length new → take n (new ++ rest) ≡ new
 written_back new rest n long = ap (λ m. take m (new ++ rest)) long ∙ take-append_seam new rest
 
--- the workers after they were lent as a slice
+-- If workers run while they are lent as a slice, and the slice is then written back to the list of
+-- workers, the workers of this list have run.
 pub run_written_back : (counter : CounterId) (requests : List Request) (before : List AskerState) (workers lent new rest : List Worker) (n : ℕ)
     → lent ≡ workers → n ≡ length workers → AreReady counter requests before workers
     → (AreReady counter requests before lent → AreRun counter requests before new) → AreRun counter requests before (take n (new ++ rest))
@@ -91,7 +94,7 @@ run_written_back counter requests before workers lent new rest n same long ready
     let count : n ≡ length new = (let each = of_all.count in let all = ap length ready.askers in let map_long = length-map workers (λ (w : Worker). w.asker) in omega arith) in
     subst (λ (all : List Worker). AreRun counter requests before all) (sym (written_back new rest n count)) of_all
 
--- the results of workers that drew from this counter
+-- these are the results of workers that were ready at first and drew from the counter `id`
 pub results_of : (own id : CounterId) (requests : List Request) (before : List AskerState) (idle : List Worker) (numbers : List ℕ) (results : Results)
     → own ≡ id → AreReady id requests before idle → AreLeft own requests idle numbers results
     → (workers : List Worker) × AreResults id requests before numbers results workers
@@ -99,7 +102,8 @@ results_of own id requests before idle numbers results same ready run =
     subst (λ (k : CounterId). (workers : List Worker) × AreResults k requests before numbers results workers) same
     (run before (subst (λ (k : CounterId). AreReady k requests before idle) (sym same) ready))
 
--- what the askers of these workers know
+-- these are the results of some workers whose askers (which compute their answers) knew some
+-- batches at first
 pub left_of : (own id : CounterId) (requests : List Request) (before : List AskerState) (idle : List Worker) (numbers : List ℕ) (results : Results)
     → own ≡ id → AreReady id requests before idle → AreLeft own requests idle numbers results
     → (known : List AskerState) × (workers : List Worker) × AreResults id requests known numbers results workers
@@ -107,7 +111,9 @@ left_of own id requests before idle numbers results same ready run =
     let is = results_of own id requests before idle numbers results same ready run in
     (before, is.0, is.1)
 
--- what holds of all results that these workers may have holds of what their askers know
+-- Take workers that are done now, and that were ready when their askers (which compute their
+-- answers) knew `before`. If `P` holds of each list `known` for which `AreResults` holds of the
+-- workers' results, `P` holds of `before`.
 pub of_results : (P : List AskerState → Type 0) (own id : CounterId) (requests : List Request) (before : List AskerState) (idle : List Worker) (numbers : List ℕ) (results : Results)
     → own ≡ id → AreReady id requests before idle → AreLeft own requests idle numbers results
     → ((known : List AskerState) (workers : List Worker) → AreResults id requests known numbers results workers → P known)

@@ -7,7 +7,7 @@ use Rattle.cspf_work.specs.declared.serve_error.ServeError.{ServeError}
 use Rattle.cspf_work.specs.Served.{IsUnaccounted}
 use Rattle.cspf_work.specs.Strays.{IsFirstStray}
 
--- the index is that of a request, and the version is above the published ones
+-- the error names the index of a request, and a version above the published ones
 pub unaccounted_of : (list : List Answer) (requests published : ℕ) (e : ServeError) → length list ≡ requests
     → IsFirstStray list (λ v. (0 ≤ v) × (v ≤ published)) e → IsUnaccounted requests published e
 unaccounted_of list requests published e count is =

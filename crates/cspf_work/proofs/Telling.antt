@@ -1,5 +1,5 @@
--- The workers' answers while a publisher applies batches, after each asker has learnt the published
--- batches.
+-- What holds of the workers' answers, if a publisher applied batches meanwhile. Afterwards each
+-- asker (which computes a worker's answers) learnt the published batches.
 use Rattle.std.proofs.Common.{◌≡◌, ℕ, zero, suc, ◌+◌, ◌<◌, ◌≤◌, cond, eqb, List, [], ◌∷◌, length, length-append, Option, Some, get_or, All, Vec, inl, inr, refl, sym, ap, ◌∙◌, subst, arith, slice_get, slice_set, sum_by, unwrap_or, option_map}
 use Rattle.std.specs.Global.{Global}
 use Rattle.std.proofs.lemmas.Bool.{cases_Bool, cases_lt, eqb-true, eqb-false}
@@ -34,7 +34,8 @@ served_later requests list before mid after indexes more is = record {
   versions = is.versions;
 }
 
--- the answers stay right if the askers learn more afterwards
+-- answers stay right if the askers (which compute the workers' answers) learn more batches
+-- afterwards
 pub answered_later : (requests : List Request) (before mid after : List AskerState) (list : List Answer) (drawn : List (Vec ℕ Global))
     → length mid ≡ length before → AreSameAskers mid after → AreAnsweredByWorkers requests before mid list drawn → AreAnsweredByWorkers requests before after list drawn
 answered_later requests before mid after list drawn count same is = record {
@@ -64,7 +65,9 @@ served_before requests list before mid after indexes more is = record {
   versions = is.versions;
 }
 
--- the answers stay right if the askers knew less before
+-- Take answers that are right if the askers (which compute the workers' answers) knew `mid` at
+-- first. The answers are also right for an earlier state `before` of these askers, in which each
+-- asker knew no more batches.
 pub answered_before : (requests : List Request) (before mid after : List AskerState) (list : List Answer) (drawn : List (Vec ℕ Global))
     → AreSameAskers before mid → AreAnsweredByWorkers requests mid after list drawn → AreAnsweredByWorkers requests before after list drawn
 answered_before requests before mid after list drawn same is = record {
@@ -88,7 +91,7 @@ same_through before mid after p q = record {
       knows_through old known.0 new (p.each i old known.0 at known.1) (q.each i known.0 new known.1 there);
 }
 
--- some list has the number
+-- if a number is at least once in some lists, one of the lists has it
 list_with : (x : ℕ) (lists : List (Vec ℕ Global)) → 0 < sum_by (λ (l : Vec ℕ Global). times x l.items) lists
     → (i : ℕ) × (l : Vec ℕ Global) × (slice_get lists i ≡ Some l) × (0 < times x l.items)
 list_with x [] some = absurd (omega arith)
@@ -103,7 +106,7 @@ list_with x (l ∷ ls) some = elim (cases_lt 0 (times x l.items)) [
 times-cons : (x y : ℕ) (ys : List ℕ) → times x (y ∷ ys) ≡ cond (eqb y x) 1 0 + times x ys
 times-cons x y ys = sum_by-cons (λ z. cond (eqb z x) 1 0) y ys
 
--- the index at which a list has the number
+-- if a number is at least once in a list, the list has it at some index
 place_of : (x : ℕ) (xs : List ℕ) → 0 < times x xs → (k : ℕ) × (k < length xs) × (get_or xs k 0 ≡ x)
 place_of x [] some = absurd (omega arith)
 place_of x (y ∷ ys) some = elim (cases_Bool (eqb y x)) [
@@ -116,7 +119,9 @@ place_of x (y ∷ ys) some = elim (cases_Bool (eqb y x)) [
       (suc rest.0, omega arith, rest.2)
 ]
 
--- what holds of the worker that answered the request
+-- Each request was answered by some worker. The answer is computed from a prefix of the batches
+-- that the worker's asker (which computes its answers) knew in the end. The prefix has at least as
+-- many batches as the asker knew at first.
 served_there : (requests : List Request) (before after : List AskerState) (list : List Answer) (drawn : List (Vec ℕ Global))
     → length after ≡ length before → AreAnsweredByWorkers requests before after list drawn → (i : ℕ) → i < length requests
     → (worker : ℕ) × (old : AskerState) × (new : AskerState) × (slice_get before worker ≡ Some old) × (slice_get after worker ≡ Some new)
@@ -138,7 +143,8 @@ served_there requests before after list drawn count is i inside =
       subst (λ n. IsServedAt requests list old.0.batches new.0.batches n) place.2 (served.answers place.0 0 place.1),
     )
 
--- each answer is computed from at least the batches that all askers knew before
+-- if all askers (which compute the workers' answers) knew the batches `published` before the
+-- workers began, each answer's version is at least the number of these batches
 pub no_earlier : (requests : List Request) (before after : List AskerState) (list : List Answer) (drawn : List (Vec ℕ Global)) (published : List NumberedChanges)
     → length after ≡ length before → All (λ (k : AskerState). BeginsWith k.batches published) before → AreAnsweredByWorkers requests before after list drawn
     → (i : ℕ) (a : Answer) → slice_get list i ≡ Some a → length published ≤ a.version
@@ -155,14 +161,16 @@ no_earlier requests before after list drawn published count told is i a there =
     let version : version_at list i ≡ a.version = ap (λ (o : Option Answer). unwrap_or (option_map (λ (b : Answer). b.version) o) 0) there in
     omega (arith, later, version, long)
 
--- an answer that is computed from a prefix of the batches is right for each list with this prefix
+-- Let `first` be a prefix of `all` with at least as many batches as the answer's version says. If
+-- the answer is computed from a prefix of `all`, it is computed from a prefix of `first`.
 within_front : (all first : List NumberedChanges) (q : Request) (a : Answer) → BeginsWith all first → a.version ≤ length first → IsAnswerWithin all q a → IsAnswerWithin first q a
 within_front all first q a more within is = record {
   version = within;
   answer = subst (λ (bs : List NumberedChanges). IsAnswerAfter bs q a) (take_begins a.version all first more within) is.answer;
 }
 
--- each answer is computed from a prefix of the published batches
+-- each answer is computed from a prefix of the published batches, if its version isn't above their
+-- number
 within_published_at : (requests : List Request) (before after : List AskerState) (list : List Answer) (drawn : List (Vec ℕ Global)) (published : List NumberedChanges)
     → length after ≡ length before → All (λ (k : AskerState). BeginsWith k.batches published) after → All (λ (a : Answer). a.version ≤ length published) list
     → AreAnsweredByWorkers requests before after list drawn → (i : ℕ) (q : Request) (a : Answer) → slice_get requests i ≡ Some q → slice_get list i ≡ Some a → IsAnswerWithin published q a
@@ -182,7 +190,8 @@ pub within_published : (requests : List Request) (before after : List AskerState
 within_published requests before after list drawn published count told accounted is =
     record { each = within_published_at requests before after list drawn published count told accounted is }
 
--- what the askers know after the first `n` of them have learnt the published batches
+-- the first `n` askers (which compute the workers' answers) have learnt the published batches, and
+-- each asker knows at least what it knew before
 pub record AreTold (published : List NumberedChanges) (before after : List AskerState) (n : ℕ) : Type 0 where
   pub each : (i : ℕ) (d : AskerState) → i < length before → KnowsNoLess (get_or before i d) (get_or after i d)
   pub told : (i : ℕ) (d : AskerState) → i < n → BeginsWith (get_or after i d).batches published
@@ -230,7 +239,8 @@ same_askers before after count each = record {
       (subst (λ (x : AskerState). KnowsNoLess (get_or before i old) x) (get_or_from_slice_get after i new old there) (each i old (slice_get_within before i old at)));
 }
 
--- all askers still have the publisher's source
+-- all askers (which compute the workers' answers) are still bound to the publisher's journal (its
+-- source)
 pub sources_kept : (source next : Book) (before after : List AskerState) → next ≡ source → All (λ (k : AskerState). k.source ≡ source) before → AreSameAskers before after
     → All (λ (k : AskerState). k.source ≡ next) after
 sources_kept source next before after kept all same i d less =

@@ -36,14 +36,15 @@ pub record IsAppliedUpTo {W : Type 0} (contents : W → Option (List ℕ)) (befo
   pub stop : IsEndOfApplying contents between after batches applied fault
 
 -- Nothing happened, or batches were applied up to the first that was refused. The journal grew by
--- the texts of the published batches. After a fault of the journal it also has a prefix of the next
--- batch's text, and the publisher is stopped.
+-- the texts of the published batches. After a fault of the journal, the journal also has a prefix
+-- of the next batch's text, and the publisher is stopped.
 abbrev pub IsAppliedInPart : {W : Type 0} → (W → Option (List ℕ)) → PublisherState W → PublisherState W → List NumberedChanges → Type 0
 IsAppliedInPart contents before after batches =
     (after ≡ before)
     ⊎ ((applied : ℕ) × (fault : Option ApplyError) × IsAppliedUpTo contents before after batches applied fault)
 
--- The publisher and the askers are as before, or each asker knows the published batches.
+-- The publisher and the askers (which compute the workers' answers) are as before, or each asker
+-- knows the published batches.
 abbrev pub AreUntouchedOrTold : {W : Type 0} → PublisherState W → PublisherState W → List AskerState → List AskerState → Type 0
 AreUntouchedOrTold before after askers back =
     ((after ≡ before) × (back ≡ askers)) ⊎ All (λ (a : AskerState). BeginsWith a.batches after.batches) back

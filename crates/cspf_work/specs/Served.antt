@@ -12,8 +12,8 @@ use Rattle.cspf_publish.specs.AskerStates.{AskerState}
 use Rattle.cspf_work.specs.declared.serve_error.ServeError.{ServeError}
 use Rattle.cspf_work.specs.declared.serve_error.ServeError.TheVariants.{Memory, NoEntry, Unaccounted}
 
--- The answer is the best one in the database after a prefix of these batches. Its version is the
--- number of batches in the prefix.
+-- The answer is the best one in the database after a prefix of these batches. The answer's version
+-- is the number of batches in the prefix.
 pub record IsAnswerWithin (batches : List NumberedChanges) (q : Request) (a : Answer) : Type 0 where
   pub version : a.version ≤ length batches
   pub answer : IsAnswerAfter (take a.version batches) q a
@@ -22,47 +22,52 @@ pub record IsAnswerWithin (batches : List NumberedChanges) (q : Request) (a : An
 abbrev pub version_at : List Answer → ℕ → ℕ
 version_at list index = unwrap_or (option_map (λ a. a.version) (slice_get list index)) 0
 
--- The answer to the request at this index is computed from a prefix of the batches that the asker
--- knows after it. The prefix has at least as many batches as the asker knew before.
+-- The answer to the request at this index is computed from a prefix of the batches `after`. The
+-- worker's asker (which computes its answers) knows these batches in the end. The prefix has at
+-- least as many batches as the asker knew at first.
 pub record IsServedAt (requests : List Request) (list : List Answer) (before after : List NumberedChanges) (index : ℕ) : Type 0 where
   pub later : length before ≤ version_at list index
   pub answer : (q : Request) (a : Answer) → slice_get requests index ≡ Some q → slice_get list index ≡ Some a → IsAnswerWithin after q a
 
--- A worker answered the requests at these indexes, in this order. Its asker knew the batches
--- `before` at first and knows the batches `after` in the end. The versions of its answers never
--- fall.
+-- A worker answered the requests at these indexes, in this order. Its asker (which computes its
+-- answers) knew the batches `before` at first and knows the batches `after` in the end. In this
+-- order the versions of the answers never fall.
 pub record IsServed (requests : List Request) (list : List Answer) (before after : List NumberedChanges) (indexes : List ℕ) : Type 0 where
   pub answers : All (IsServedAt requests list before after) indexes
   pub versions : IsNonDecreasingBy (version_at list) indexes
 
--- each worker answered the requests at the indexes that it drew, given what its asker knew before
--- and knows after
+-- Each worker answered the requests whose indexes it drew from the counter. `before` has the states
+-- of the workers' askers (which compute their answers) at first, and `after` their states in the
+-- end.
 abbrev pub AreServed : List Request → List Answer → List AskerState → List AskerState → List (Vec ℕ Global) → Type 0
 AreServed requests list before after drawn =
     (worker : ℕ) (old new : AskerState) (indexes : Vec ℕ Global)
     → slice_get before worker ≡ Some old → slice_get after worker ≡ Some new → slice_get drawn worker ≡ Some indexes
     → IsServed requests list old.batches new.batches indexes.items
 
--- the asker has the same source, and knows all batches that it knew before
+-- the asker (which computes a worker's answers) is still bound to the same journal (its source),
+-- and knows all batches that it knew before
 pub record KnowsNoLess (old new : AskerState) : Type 0 where
   pub source : new.source ≡ old.source
   pub later : BeginsWith new.batches old.batches
 
--- these are the same askers in the same order, and each of them knows at least what it knew before
+-- these are the same askers (which compute the workers' answers) in the same order, and each of
+-- them knows at least the batches that it knew before
 pub record AreSameAskers (before after : List AskerState) : Type 0 where
   pub count : length after ≡ length before
   pub each : (worker : ℕ) (old new : AskerState) → slice_get before worker ≡ Some old → slice_get after worker ≡ Some new → KnowsNoLess old new
 
--- together the lists have each number below the bound once, and no other number
+-- together the lists have each number below `bound` once, and no other number
 abbrev pub HoldEachOnce : ℕ → List (Vec ℕ Global) → Type 0
 HoldEachOnce bound lists = (x : ℕ) → sum_by (λ (list : Vec ℕ Global). times x list.items) lists ≡ once_below bound x
 
--- why a worker stopped: memory was refused, or it couldn't enter the published replica
+-- why a worker stopped: memory was refused, or the worker couldn't enter (begin to read) the
+-- published replica, a copy of the database
 abbrev pub IsFaultOfWorker : ServeError → Type 0
 IsFaultOfWorker e = (e ≡ Memory) ⊎ (e ≡ NoEntry)
 
 -- Workers answered all requests: the index of each request is once in the lists of the indexes that
--- workers drew.
+-- workers drew from the counter.
 pub record AreAnsweredByWorkers (requests : List Request) (before after : List AskerState) (list : List Answer) (drawn : List (Vec ℕ Global)) : Type 0 where
   pub count : length list ≡ length requests
   pub lists : length drawn ≡ length before

@@ -1,11 +1,11 @@
--- Private: the first answer with a version that it may not have.
+-- Private: the error that names the first answer whose version isn't allowed.
 use Rattle.std.specs.Prelude.{◌≡◌, ℕ, List, take, Some, slice_get, All}
 use Rattle.cspf_publish.specs.declared.answer.Answer.{Answer}
 use Rattle.cspf_work.specs.declared.serve_error.ServeError.{ServeError}
 use Rattle.cspf_work.specs.declared.serve_error.ServeError.TheVariants.{Unaccounted}
 
--- The error names the first answer in the list whose version `MayBe` doesn't allow, by its index
--- and its version.
+-- The error gives the index and the version of the first answer in the list whose version `MayBe`
+-- doesn't allow.
 pub record IsFirstStray (list : List Answer) (MayBe : ℕ → Type 0) (e : ServeError) : Type 0 where
   pub index : ℕ
   pub answer : Answer

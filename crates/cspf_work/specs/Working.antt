@@ -17,63 +17,67 @@ use Rattle.cspf_work.specs.Served.{IsAnswerWithin, KnowsNoLess, IsFaultOfWorker}
 abbrev pub indexes : List Reply → List ℕ
 indexes done = map (λ r. r.index) done
 
--- the reply is right, for an asker that knew `before` at first and now knows `known`
+-- the reply is right, for a worker whose asker (which computes its answers) knew `before` at first
+-- and now knows `known`
 pub record IsDone (requests : List Request) (before known : List NumberedChanges) (r : Reply) : Type 0 where
   pub inside : r.index < length requests
   pub later : length before ≤ r.answer.version
   pub version : r.answer.version ≤ length known
   pub answer : (q : Request) → slice_get requests r.index ≡ Some q → IsAnswerWithin known q r.answer
 
--- what a worker has done since its asker knew the batches in `before`
+-- what a worker has done since the time when its asker (which computes its answers) knew the
+-- batches in `before`
 pub record HasDone (requests : List Request) (before : AskerState) (w : Worker) : Type 0 where
   pub asker : KnowsNoLess before w.asker
   pub done : All (IsDone requests before.batches w.asker.batches) w.done.items
   pub versions : IsNonDecreasingBy (λ r. r.answer.version) w.done.items
 
--- the worker drew the indexes of the requests that it answered, and one last number that is at
--- least the bound
+-- the worker drew from the counter the indexes of the requests that it answered, and then one last
+-- number that is at least the bound
 abbrev pub HasDrawnAll : ℕ → Worker → Type 0
 HasDrawnAll bound w = (last : ℕ) × (bound ≤ last) × (w.drawer.drawn ≡ indexes w.done.items ++ last ∷ [])
 
--- the worker has drawn nothing from this counter, and has asked nothing
+-- the worker has drawn nothing from the counter `id`, and has answered no request
 pub record IsIdle (id : CounterId) (w : Worker) : Type 0 where
   pub done : w.done.items ≡ []
   pub fault : w.fault ≡ None
   pub drawn : w.drawer.drawn ≡ []
   pub counter : w.drawer.counter ≡ id
 
--- There is at least one worker, all workers are idle, and the counter is for these requests.
--- `before` is what the askers know.
+-- There is at least one worker, all workers are idle, and the counter from which they draw is for
+-- these requests. `before` has the states of their askers (which compute the answers).
 pub record AreReady (id : CounterId) (requests : List Request) (before : List AskerState) (workers : List Worker) : Type 0 where
   pub count : id.requests ≡ length requests
   pub some : 0 < length workers
   pub askers : map (λ w. w.asker) workers ≡ before
   pub idle : All (IsIdle id) workers
 
--- what a worker has done in its run, if its asker knew `before` at first
+-- what a worker has done once its loop has ended, if its asker (which computes its answers) knew
+-- `before` at first
 pub record IsWorkerRun (id : CounterId) (requests : List Request) (before : AskerState) (after : Worker) : Type 0 where
   pub done : HasDone requests before after
   pub counter : after.drawer.counter ≡ id
   pub drawn : IsNone after.fault → HasDrawnAll (length requests) after
   pub fault : IfSome after.fault IsFaultOfWorker
 
--- what all workers have done in their run, if their askers knew `before` at first; there is at
--- least one worker
+-- What all workers have done once their loops have ended, if their askers (which compute the
+-- answers) knew `before` at first. There is at least one worker.
 pub record AreRun (id : CounterId) (requests : List Request) (before : List AskerState) (workers : List Worker) : Type 0 where
   pub some : 0 < length workers
   pub count : length workers ≡ length before
   pub each : (worker : ℕ) (known : AskerState) (after : Worker) → slice_get before worker ≡ Some known → slice_get workers worker ≡ Some after → IsWorkerRun id requests known after
 
--- all numbers that workers drew
+-- all numbers that workers drew from the counter
 abbrev pub all_drawn : List Worker → List ℕ
 all_drawn workers = flat_map (λ (d : DrawnNumbers). d.drawn) (map (λ w. w.drawer) workers)
 
--- the fault of the first worker that has one
+-- the fault of the first worker that has a fault
 abbrev pub first_fault : List Worker → Option ServeError
 first_fault [] = None
 first_fault (w ∷ ws) = option_or w.fault (first_fault ws)
 
--- the results of these workers, which drew these numbers and whose askers knew `before` at first
+-- the results of these workers, which drew `numbers` from the counter, and whose askers (which
+-- compute the answers) knew `before` at first
 pub record AreResults (id : CounterId) (requests : List Request) (before : List AskerState) (numbers : List ℕ) (results : Results) (workers : List Worker) : Type 0 where
   pub run : AreRun id requests before workers
   pub askers : results.askers.items ≡ map (λ w. w.asker) workers
@@ -84,7 +88,7 @@ pub record AreResults (id : CounterId) (requests : List Request) (before : List 
   pub none : IsNone results.fault → All (λ w. IsNone w.fault) workers
   pub first : results.fault ≡ first_fault workers
 
--- the workers are ready, whatever batches their askers know
+-- the workers are ready, whatever batches their askers (which compute the answers) know
 abbrev pub CanBegin : CounterId → List Request → List Worker → Type 0
 CanBegin id requests workers = (before : List AskerState) × AreReady id requests before workers
 
@@ -94,7 +98,7 @@ AreLeft id requests idle numbers results =
     (before : List AskerState) → AreReady id requests before idle
     → (workers : List Worker) × AreResults id requests before numbers results workers
 
--- there is empty room for the results of `count` workers
+-- there is unused memory for the results of `count` workers
 pub record IsRoomFor (count : ℕ) (room : Room) : Type 0 where
   pub no_askers : room.askers.items ≡ []
   pub no_drawers : room.drawers.items ≡ []

@@ -158,13 +158,15 @@ fn run_lent<W: Write, G: Gate + Sync, R: Threads + Wait + Sync>(
 }
 
 /// Answers requests as `answer_all` does, while this thread applies batches in order, up to the
-/// first that is refused. Afterwards each asker learns the published batches. An answer with a
-/// version that isn't published is the error `Unaccounted`.
+/// first that is refused. Afterwards each asker (the object that computes a worker's answers)
+/// learns the published batches. An answer with a version that isn't published is the error
+/// `Unaccounted`.
 ///
-/// The askers are those that `open` made for this publisher. All of them are handed back in order,
-/// and so is the publisher, after an error too. After an error either nothing has happened, or the
-/// batches were applied up to the first that was refused. In the second case a fault of the journal
-/// may have stopped the publisher, and each asker has learnt the published batches.
+/// The askers (the objects that compute the workers' answers) are those that `open` made for this
+/// publisher. After an error too, all askers are returned in order, and so is the publisher. After
+/// an error either nothing has happened, or the batches were applied up to the first that was
+/// refused. In the second case a fault of the journal may have stopped the publisher, and each
+/// asker has learnt the published batches.
 pub fn run_live<W: Write, G: Gate + Sync, R: Threads + Wait + Sync>(
     rt: &R,
     alloc: Global,

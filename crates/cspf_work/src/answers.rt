@@ -5,8 +5,10 @@ use cspf_publish::{Answer, Asker};
 pub struct Answers {
     /// The answers, in the order of the requests.
     pub list: Vec<Answer>,
-    /// For each worker, the indexes of the requests that it answered, in the order of its asks.
+    /// For each worker, the indexes of the requests that it answered, in the order in which it
+    /// answered them.
     pub drawn: Vec<Vec<usize>>,
-    /// The askers, in the order in which they were given.
+    /// The askers (the objects that compute the workers' answers), in the order in which the caller
+    /// gave them.
     pub askers: Vec<Asker>,
 }

@@ -1,5 +1,5 @@
-//! Puts the answers of all workers into the order of the requests. A request without an answer, or
-//! with two answers, is an error.
+//! Collects the answers of all workers in the order of the requests. A request without an answer,
+//! or with two answers, is an error.
 
 ghost use Rattle.std.specs.Prelude.{◌≡◌, ℕ, ◌+◌, ◌<◌, ◌⊎◌, ◌++◌, List, [], ◌∷◌, Some, None, map, All, IfOk, OnOk, IfErr, slice_get, vec_len};
 ghost use Rattle.cspf_work.specs.declared.worker.Reply.{Reply as Done};
@@ -24,7 +24,7 @@ fn empty_slots(alloc: Global, count: usize) -> Result<Vec<Option<Answer>>, Alloc
     Ok(slots)
 }
 
-/// Puts an answer into its request's place.
+/// Stores the reply's answer in the place of its request.
 fn put(reply: Reply, slots: &mut Vec<Option<Answer>>) -> Result<(), ServeError>
     requires { reply.index < vec_len slots.old }
     ensures count { vec_len slots.new ≡ vec_len slots.old }
@@ -41,7 +41,7 @@ fn put(reply: Reply, slots: &mut Vec<Option<Answer>>) -> Result<(), ServeError>
     Ok(())
 }
 
-/// Puts the answers of a worker into their requests' places.
+/// Stores the answers of a worker in the places of their requests.
 fn put_list(list: Vec<Reply>, slots: &mut Vec<Option<Answer>>) -> Result<(), ServeError>
     requires { All (λ r. r.index < vec_len slots.old) list.items }
     ensures count { vec_len slots.new ≡ vec_len slots.old }
@@ -69,7 +69,8 @@ fn indexes_of(alloc: Global, list: &[Reply]) -> Result<Vec<usize>, AllocError>
     Ok(all)
 }
 
-/// Moves a worker's answers into the places of their requests, and adds their indexes to `drawn`.
+/// Moves a worker's answers into the places of their requests, and adds the requests' indexes to
+/// `drawn`.
 fn take_over(
     alloc: Global,
     list: Vec<Reply>,
@@ -94,7 +95,7 @@ fn take_over(
     put_list(list, slots)
 }
 
-/// The answers in the places, if each place has one.
+/// Returns the answers that are in the places of the requests, if each place has an answer.
 fn answers_of(alloc: Global, slots: Vec<Option<Answer>>) -> Result<Vec<Answer>, ServeError>
     ensures ok { IfOk result (λ list. map (λ a. Some a) list.items ≡ slots.items) }
     ensures error { IfErr result (λ e. (e ≡ ServeError.Memory)
@@ -114,8 +115,9 @@ fn answers_of(alloc: Global, slots: Vec<Option<Answer>>) -> Result<Vec<Answer>, 
     Ok(list)
 }
 
-/// The answers to `count` requests in the order of the requests, and for each worker the indexes
-/// that it answered, in the order of its asks. A request must have exactly one answer.
+/// Returns the answers to `count` requests in the order of the requests. For each worker also
+/// returns the indexes of the requests that it answered, in the order in which it answered them. A
+/// request must have exactly one answer.
 pub(crate) fn collect(
     alloc: Global,
     lists: Vec<Vec<Reply>>,

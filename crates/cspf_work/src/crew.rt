@@ -1,4 +1,6 @@
-//! Workers: their seats at the counter from which they draw, their memory, and their results.
+//! The group of workers that answers one call's requests. Each worker draws the indexes of its
+//! requests from a shared counter. Also the memory that is taken before the workers begin, and
+//! their results.
 ghost use Rattle.std.specs.Prelude.{◌≡◌, ◌+◌, ◌<◌, ◌≤◌, [], List, length, map, All, IfOk, IfErr, IfSome, IsNone, vec_len, vec_capacity};
 ghost use Rattle.cspf_model.specs.declared.request.Request.{Request as OneRequest};
 ghost use Rattle.cspf_draw.specs.declared.limits.TheConstants.{MOST_DRAWERS};
@@ -11,8 +13,8 @@ use cspf_draw::{Counter, Drawer, FirstSeat, LastSeat};
 use cspf_publish::Asker;
 use std::alloc::{AllocError, Global};
 
-/// Memory for the results of workers. It is taken before any work begins, so that all askers can be
-/// handed back after every error.
+/// Memory for the results of workers. It is taken before any work begins, so that all askers (the
+/// objects that compute the answers) can be returned after every error.
 #[derive(Drop)]
 pub(crate) struct Room<'a> {
     pub(crate) askers: Vec<Asker>,
@@ -20,8 +22,9 @@ pub(crate) struct Room<'a> {
     pub(crate) lists: Vec<Vec<Reply>>,
 }
 
-/// The workers, the counter from which they draw, and the memory for their results. `first` is the
-/// counter's seat with the draws that no worker was given.
+/// The workers of one call, the counter from which they draw the indexes of requests, and the
+/// memory for their results. `first` is the counter's first seat, which records the draws that were
+/// given to no worker.
 #[derive(Drop)]
 pub(crate) struct Crew<'a> {
     pub(crate) counter: &'a Counter,
@@ -52,7 +55,7 @@ fn room_for<'a>(alloc: Global, count: usize) -> Result<(Vec<Worker<'a>>, Room<'a
     ))
 }
 
-/// Makes an idle worker for each asker.
+/// Makes an idle worker for each asker (the object that computes a worker's answers).
 fn workers_of<'a>(
     alloc: Global,
     counter: &'a Counter,
@@ -83,8 +86,9 @@ fn workers_of<'a>(
     workers
 }
 
-/// Makes an idle worker for each asker, with all memory that the workers take before they ask. If
-/// memory is refused, the askers are handed back.
+/// Makes an idle worker for each asker (the object that computes a worker's answers). Takes all
+/// memory that the workers need before their first request. If memory is refused, the askers are
+/// returned.
 pub(crate) fn employ<'a>(
     alloc: Global,
     counter: &'a Counter,
@@ -112,7 +116,9 @@ pub(crate) fn employ<'a>(
     })
 }
 
-/// Splits workers that are done into their askers, replies and drawers, and finds the first fault.
+/// Splits workers that are done into three lists, and finds the first fault. The lists are their
+/// askers (which computed the answers), their replies, and their drawers (with which they drew from
+/// the counter).
 fn part<'a>(workers: Vec<Worker<'a>>, room: Room<'a>) -> (Results, Vec<Drawer<'a>>)
     requires room { IsRoomFor (vec_len workers) room }
     requires faults { All (λ w. IfSome w.fault IsFaultOfWorker) workers.items }
@@ -149,8 +155,8 @@ fn part<'a>(workers: Vec<Worker<'a>>, room: Room<'a>) -> (Results, Vec<Drawer<'a
     (results, drawers)
 }
 
-/// The results of workers that are done, and the counter's last seat after it has merged their
-/// draws.
+/// Returns the results of workers that are done, and the counter's last seat. In proofs this seat
+/// records the numbers that all workers drew.
 pub(crate) fn dismiss(crew: Crew<'_>) -> (Results, LastSeat)
     requires { (requests : List OneRequest) × (before : List AskerState)
         × AreRun crew.counter.now requests before crew.workers.items }

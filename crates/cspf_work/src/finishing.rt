@@ -1,4 +1,5 @@
-//! Ends the work: merges the workers' draws, closes the counter, and collects the answers.
+//! Ends the work: merges the records of what the workers drew, closes the counter, and collects the
+//! answers.
 
 ghost use Rattle.std.specs.Prelude.{◌≡◌, ◌⊎◌, List, Some, All, IfOk, IfErr, IsNone};
 ghost use Rattle.std.specs.List.Sorted.{IsStrictlyIncreasing};
@@ -15,14 +16,16 @@ use cspf_model::Request;
 use cspf_publish::{Answer, Asker};
 use std::alloc::Global;
 
-/// The answers in the order of the requests, and for each worker the indexes that it answered.
+/// The answers in the order of the requests, and for each worker the indexes of the requests that
+/// it answered.
 #[derive(Drop)]
 pub(crate) struct Collected {
     pub(crate) list: Vec<Answer>,
     pub(crate) drawn: Vec<Vec<usize>>,
 }
 
-/// The askers of workers that are done, and the collected answers. Closes the counter.
+/// Closes the counter from which the workers drew. Returns the askers of workers that are done (the
+/// objects that computed their answers), and the answers that are collected from these workers.
 pub(crate) fn finish(
     alloc: Global,
     counter: Counter,
@@ -41,7 +44,8 @@ pub(crate) fn finish(
         → AreAnsweredByWorkers requests.now before result.0.items all.list.items all.drawn.items) }
     ensures rising { IfOk result.1 (λ all. All (λ v. IsStrictlyIncreasing v.items) all.drawn.items) }
     ensures error { IfErr result.1 IsFaultOfWorker }
-    // A worker's fault keeps its name. If no worker has a fault, memory was refused.
+    // If a worker had a fault, the error is the first such fault. If no worker had a fault, memory
+    // was refused.
     ensures fault { IfErr result.1 (λ e. (results.fault ≡ Some e)
         ⊎ (IsNone results.fault × (e ≡ ServeError.Memory))) }
 {

@@ -1,14 +1,14 @@
-/// Callbacks before and after each request of a worker. All workers share them.
+/// A gate: callbacks before and after each request of a worker. All workers share these callbacks.
 pub trait Gate {
-    /// The worker has drawn the request with this index, and hasn't asked it yet. Indexes count
-    /// from 0.
+    /// Is called when the worker has drawn the index of this request from the counter, before the
+    /// answer is computed. Indexes count from 0.
     fn reached(&self, worker: usize, index: usize);
 
-    /// The worker has got the answer to the request with this index.
+    /// Is called when the worker has the answer to the request with this index.
     fn answered(&self, worker: usize, index: usize);
 }
 
-/// A gate that does nothing.
+/// A gate (callbacks before and after each request of a worker) that does nothing.
 #[derive(Clone, Copy, Debug)]
 pub struct NoGate;
 

@@ -1,11 +1,13 @@
-//! Workers answer many requests at once. Meanwhile a publisher may apply batches. Each worker has
-//! an asker and a thread.
+//! Workers answer many requests at once. Meanwhile a publisher may apply batches. Each worker has a
+//! thread and an asker (the object that computes its answers).
 //!
-//! The workers draw the indexes of their requests from one counter, which `cspf_draw` defines.
+//! The workers draw the indexes of their requests from one counter, which `cspf_draw` defines. A
+//! draw reads the counter and adds 1 to it in one step.
 //!
 //! `specs/Served.antt` defines which answers are right, and which worker answered which request.
 //! `specs/Applied.antt` defines the state after batches are applied up to the first that is
-//! refused. `specs/AskingErrors.antt` has the error of a worker for each error of an ask.
+//! refused. `specs/AskingErrors.antt` says which error a worker reports if its asker can't compute
+//! an answer.
 #![tactic(auto)]
 
 mod answering;

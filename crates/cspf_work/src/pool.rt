@@ -16,8 +16,8 @@ use std::alloc::Global;
 use std::thread;
 use std::thread::Threads;
 
-/// Each worker answers the requests that it draws. All workers run at once, each in a thread. If
-/// threads can't be made, they run one after the other.
+/// Each worker answers the requests whose indexes it draws from the counter. All workers run at
+/// once, each in a thread. If threads can't be made, they run one after the other.
 pub(crate) fn run_all<G: Gate + Sync, R: Threads + Sync>(
     rt: &R,
     alloc: Global,

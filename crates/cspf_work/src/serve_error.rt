@@ -12,7 +12,7 @@ pub enum ServeError {
     /// Out of memory.
     #[error("out of memory")]
     Memory,
-    /// A worker couldn't enter the published replica.
+    /// A worker couldn't enter (begin to read) the published replica, a copy of the database.
     #[error("no entry")]
     NoEntry,
     /// A worker couldn't be started.

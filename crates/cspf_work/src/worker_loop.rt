@@ -1,4 +1,5 @@
-//! The loop of one worker: it draws the index of a request, asks it, and keeps the answer.
+//! The loop of one worker: it draws the index of a request from the counter, computes the answer,
+//! and keeps the answer.
 
 ghost use Rattle.std.specs.Prelude.{◌≡◌, ◌+◌, ◌<◌, ◌≤◌, ◌++◌, [], ◌∷◌, length, OnOk, IfErr, IfSome, IsNone};
 ghost use Rattle.cspf_publish.specs.AskerStates.{AskerState};
@@ -10,7 +11,8 @@ use crate::{Gate, ServeError};
 use cspf_model::Request;
 use std::alloc::Global;
 
-/// Asks one request, and keeps its answer.
+/// Lets the worker's asker (the object that computes its answers) answer one request, and keeps the
+/// answer.
 fn serve_one<G: Gate>(
     alloc: Global,
     number: usize,
@@ -27,7 +29,8 @@ fn serve_one<G: Gate>(
     ensures next { OnOk result (indexes worker.new.done.items
         ≡ indexes worker.old.done.items ++ index ∷ []) }
     ensures error { IfErr result IsFaultOfWorker }
-    // If memory is refused, the asker may have learnt more batches.
+    // If memory is refused, the worker's asker (which computes its answers) may have learnt more
+    // batches.
     ensures no_entry { IfErr result (λ e. e ≡ ServeError.NoEntry → worker.new ≡ worker.old) }
 {
     gate.reached(number, index);
@@ -39,8 +42,8 @@ fn serve_one<G: Gate>(
     Ok(())
 }
 
-/// Answers the requests at the indexes that the worker draws, until it draws a number that is no
-/// request's index, or until its first fault.
+/// Answers the requests whose indexes the worker draws from the counter. The worker stops when it
+/// draws a number that is no request's index, or at its first fault.
 pub(crate) fn serve<G: Gate>(
     alloc: Global,
     number: usize,

@@ -1,5 +1,6 @@
-//! Tests of links, requests and the table: the table's rows, routers, reverses, marks and owners of
-//! prefixes. Batches come in any order, fill the table, or are refused.
+//! Tests of links, requests and the table: the table's rows (its links), routers, reverses, owners
+//! of prefixes, and marks of routers without transit. Batches come in any order. Some fill the
+//! table, and some are refused.
 #![tactic(auto)]
 
 #[cfg(test)]

@@ -1,4 +1,5 @@
-//! Tests of drawing numbers: by two drawers in turn, and by drawers in several threads.
+//! Tests how workers draw numbers from a counter: two workers in turn, and workers in several
+//! threads. A draw reads the counter and adds 1 to it in one step.
 #![tactic(auto)]
 
 #[cfg(test)]

@@ -1,4 +1,5 @@
-//! Drawing numbers: by two drawers in turn, and by drawers in several threads.
+//! Tests how workers draw numbers from a counter: two workers in turn, and workers in several
+//! threads. A draw reads the counter and adds 1 to it in one step.
 
 ghost use Rattle.std.specs.Prelude.{◌≡◌, ◌+◌, ◌<◌, ◌≤◌, length, IfOk, vec_len};
 
@@ -10,8 +11,9 @@ use std::test::Fail;
 use std::thread;
 use std::thread::Threads;
 
-/// How often the drawer may draw, the number that it draws, and how often it may draw afterwards. All are 0
-/// if it may not draw.
+/// Draws one number from the counter. Returns how many draws the worker has left before, the number
+/// that is drawn, and how many draws the worker has left afterwards. All three are 0 if the worker
+/// has no draws left.
 fn drawn(drawer: &mut Drawer<'_>) -> [u64; 3]
     ensures { drawer.new.counter ≡ drawer.old.counter }
 {
@@ -21,7 +23,7 @@ fn drawn(drawer: &mut Drawer<'_>) -> [u64; 3]
     [drawer.left(), drawer.draw(), drawer.left()]
 }
 
-/// Two drawers draw in turn, and the counter is closed.
+/// Two workers draw numbers from a counter in turn, and then the counter is closed.
 #[test]
 fn in_turn(rt: HostRuntime) -> Result<(), Fail> {
     let (counter, mut first) = Counter::open(rt.alloc(), 2)?;
@@ -35,7 +37,8 @@ fn in_turn(rt: HostRuntime) -> Result<(), Fail> {
     Ok(())
 }
 
-/// Without requests a drawer draws once, and its number belongs to no request.
+/// Without requests a worker draws once from the counter, and the number that it draws is no
+/// request's index.
 #[test]
 fn no_requests(rt: HostRuntime) -> Result<(), Fail> {
     let (counter, mut first) = Counter::open(rt.alloc(), 0)?;
@@ -49,7 +52,8 @@ fn no_requests(rt: HostRuntime) -> Result<(), Fail> {
     Ok(())
 }
 
-/// This many new drawers.
+/// Makes `count` new drawers, with which workers draw numbers from the counter. The draws that they
+/// may make come from the first seat, which records the draws that no drawer has yet.
 fn drawers_of<'a>(
     alloc: Global,
     counter: &'a Counter,
@@ -67,7 +71,8 @@ fn drawers_of<'a>(
     Ok(all)
 }
 
-/// Draws until a number belongs to no request, and counts each number before.
+/// Draws from the counter until it gets a number that is no request's index. Counts each number
+/// before this one.
 fn count_drawn(counts: &[AtomicU64], drawer: &mut Drawer<'_>) {
     while drawer.left() != 0 {
         let number = drawer.draw();
@@ -78,7 +83,7 @@ fn count_drawn(counts: &[AtomicU64], drawer: &mut Drawer<'_>) {
     }
 }
 
-/// Drawers in several threads draw the number of each request once.
+/// Workers in several threads draw the number of each request from the counter once.
 fn each_is_drawn_once<R: Threads + Abort + Sync>(
     rt: &R,
     alloc: Global,
@@ -104,13 +109,13 @@ fn each_is_drawn_once<R: Threads + Abort + Sync>(
     Ok(())
 }
 
-/// Eight threads draw the numbers of 1,000 requests.
+/// Eight threads draw the numbers of 1,000 requests from one counter.
 #[test]
 fn from_eight_threads(rt: HostRuntime) -> Result<(), Fail> {
     each_is_drawn_once(&rt, rt.alloc(), 1000, 8)
 }
 
-/// There are one request and as many drawers as a counter can have.
+/// As many workers as a counter allows draw the number of the only request.
 #[test]
 fn one_request_and_all_drawers(rt: HostRuntime) -> Result<(), Fail> {
     each_is_drawn_once(&rt, rt.alloc(), 1, MOST_DRAWERS)

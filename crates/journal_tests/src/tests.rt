@@ -1,5 +1,5 @@
-//! What the tests share: the assertion, and a reader that gives a text in pieces or many times over,
-//! and may fail at its end.
+//! What the tests share: an assertion, and a reader. The reader gives a text in pieces, or several
+//! times, and may fail after the text.
 
 mod audits;
 mod batches;
@@ -39,8 +39,8 @@ fn has_text(alloc: Global, batch: &Batch, text: &[u8]) -> Result<bool, AllocErro
     Ok(batch_text(alloc, batch)?.as_slice() == text)
 }
 
-/// A reader that gives a text `times` times over, at most `width` bytes in each read. Then it ends, or
-/// fails if `fails` is set.
+/// A reader that gives a text `times` times, at most `width` bytes in each read. After the text the
+/// reader ends, or fails if `fails` is set.
 #[derive(Drop)]
 struct Pieces<'a> {
     text: &'a [u8],
@@ -92,7 +92,7 @@ fn repeated(row: &[u8], times: u32) -> Pieces<'_> {
     }
 }
 
-/// A reader that gives the text, and then fails.
+/// A reader that gives the text, and fails after its last byte.
 fn failing(text: &[u8]) -> Pieces<'_> {
     Pieces {
         text,

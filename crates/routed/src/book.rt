@@ -65,8 +65,8 @@ Status:
 /// to a new file. Lines that were written before a fault stay written.
 pub(crate) fn answer(call: &Call<'_, '_>) -> Ran {
     if call.gives(KEEP) {
-        // The closed standard streams are held by other files, so the new file isn't taken for one of
-        // them.
+        // Other files take the descriptors of closed standard streams, so that the new file isn't
+        // taken for a standard stream.
         let _held = held_places(call.rt);
         let mut keep = created(call, KEEP)?;
         let ran = answer_rows(call.rt, &mut keep);

@@ -1,5 +1,5 @@
-//! Reads a client's rows within bounds: no line is too long, and none has a quotation mark. After a
-//! quotation mark a line feed wouldn't end the row.
+//! Reads a client's rows within bounds: no line may be too long, and no line may have a quotation
+//! mark. After a quotation mark a line feed wouldn't end the row.
 ghost use Rattle.std.specs.Prelude.{◌≤◌, length};
 
 use std::alloc::{AllocError, Global};
@@ -29,7 +29,8 @@ impl fmt::Display for Unfit {
     }
 }
 
-/// Why a reader stopped, if it did. The thread that reads sets the cause, and another thread reads it.
+/// Why a reader stopped, or `NO_CAUSE`. The thread that reads the rows sets the cause, and another
+/// thread looks at the cause.
 pub type Cause = Arc<AtomicU8, Global>;
 
 /// The reader didn't stop.
@@ -55,13 +56,14 @@ pub(crate) fn unfit_of(cause: &Cause) -> Option<Unfit> {
 #[derive(Drop)]
 pub struct Bounded<R> {
     rows: R,
-    /// How many bytes of the last line were passed on.
+    /// How many bytes of the present line were passed on.
     length: usize,
     cause: Cause,
 }
 
 impl<R: Drop> Bounded<R> {
-    /// A reader that has read nothing yet, and the cause at which another thread sees why the rows end.
+    /// Returns a reader that has read nothing yet, and the cause by which another thread sees why
+    /// the reader stopped.
     pub(crate) fn new(alloc: Global, rows: R) -> Result<(Bounded<R>, Cause), AllocError> {
         let cause = Arc::new(alloc, AtomicU8::new(NO_CAUSE))?;
         let bounded = Bounded {
@@ -74,8 +76,8 @@ impl<R: Drop> Bounded<R> {
 }
 
 impl<R> Bounded<R> {
-    /// Counts a byte that may be passed on, and returns `NO_CAUSE`. Otherwise it returns why the byte
-    /// isn't passed on.
+    /// If the byte may be passed on, counts it and returns `NO_CAUSE`. Otherwise returns why the
+    /// byte isn't passed on.
     fn take(&mut self, byte: u8) -> u8 {
         match byte {
             b'"' => return QUOTE,
@@ -86,7 +88,8 @@ impl<R> Bounded<R> {
         NO_CAUSE
     }
 
-    /// How many of these bytes may be passed on.
+    /// Returns how many of these bytes may be passed on. If one of them may not be passed on, sets
+    /// the cause for which the reader stops.
     fn take_all(&mut self, bytes: &[u8]) -> usize
         ensures { result ≤ length bytes.now }
     {

@@ -88,7 +88,8 @@ fn add_client<'a>(
     add(rt, all, names.replies, true)
 }
 
-/// Adds a file, or refuses it if an earlier name leads to the same file.
+/// Adds a file to the files that a run names. The file is refused if it has the same name as an
+/// earlier file, or is the same file and the run writes it (`is_shared`).
 fn add<'a>(
     rt: &HostRuntime,
     all: &mut Vec<Named<'a>>,
@@ -132,7 +133,8 @@ struct Place<'a> {
 }
 
 impl<'a> Place<'a> {
-    /// The place of an existing file, if the system gives it.
+    /// The device and inode of an existing file or folder, with the name `new`. `None` if the
+    /// system doesn't give them.
     fn read(rt: &HostRuntime, path: &str, new: Option<&'a str>) -> Option<Place<'a>> {
         match fs::metadata(rt, path) {
             Ok(found) => Some(Place {
@@ -144,13 +146,14 @@ impl<'a> Place<'a> {
         }
     }
 
-    /// Whether both places are the same.
+    /// Whether both places are the same existing file, or the same new name in one folder.
     fn is(self, other: Place<'_>) -> bool {
         self.device == other.device && self.inode == other.inode && self.new == other.new
     }
 }
 
-/// Where the file of this name is, or will be made, if the system gives it.
+/// The place of the file with this name, or the place where the file will be made. `None` if the
+/// system doesn't give it.
 fn place_of<'a>(rt: &HostRuntime, path: &'a str) -> Option<Place<'a>> {
     let found = Place::read(rt, path, None);
     if found.is_some() {
@@ -191,7 +194,7 @@ impl<'a> Named<'a> {
         }
     }
 
-    /// Whether some file of the list is shared with this one.
+    /// Whether this file is one of the other files in the sense of `is_shared`.
     fn is_among(&self, others: &[Named<'a>]) -> bool {
         for other in others {
             if self.is_shared(other) {

@@ -17,8 +17,8 @@ const VERSION: &str = "0.9.0";
 /// What help says of the program.
 const ABOUT: &str = "A path computation server over a traffic engineering database";
 
-/// The commands, in the order of help. No other function names their texts, since a proof over these
-/// texts takes long.
+/// The commands, in the order in which help lists them. No other function names the commands'
+/// texts, because a proof over these texts takes long.
 fn texts() -> &'static [CommandText] {
     &[
         solve::COMMAND,
@@ -78,8 +78,8 @@ fn run<T: Threads + Wait + Sync>(call: &Call<'_, '_>, handle: &T, text: &Command
         Asked::Book => book::answer(call),
         Asked::Serve => serve::answer(call, handle),
         Asked::Live => {
-            // The closed standard streams are held by other files, so the new journal isn't taken for
-            // one of them.
+            // Other files take the descriptors of closed standard streams, so that the new journal
+            // isn't taken for a standard stream.
             let _held = held_places(call.rt);
             run_buffered(call, handle, Asked::Live)
         }

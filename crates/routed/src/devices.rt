@@ -45,7 +45,7 @@ pub(crate) struct HeldPlaces {
     _error: Option<File>,
 }
 
-/// Opens the three files.
+/// Opens three files that take the descriptors of closed standard streams.
 pub(crate) fn held_places(rt: &HostRuntime) -> HeldPlaces {
     HeldPlaces {
         _input: held_place(rt),
@@ -54,7 +54,7 @@ pub(crate) fn held_places(rt: &HostRuntime) -> HeldPlaces {
     }
 }
 
-/// Opens the file that an option gives for reading.
+/// Opens for reading the file that an option gives.
 pub(crate) fn opened(call: &Call<'_, '_>, option: &'static str) -> Result<Noted<File>, Stopped> {
     match File::open(call.rt, call.value(option)) {
         Ok(file) => Ok(Noted::new(option, file)),
@@ -74,8 +74,8 @@ pub(crate) fn created(call: &Call<'_, '_>, option: &'static str) -> Result<NewFi
     }
 }
 
-/// Flushes a writer, and returns what the run answered. If the flush fails, its error takes the place
-/// of the run's error.
+/// Flushes a writer, and returns the result of the run. If the flush fails, the error of the flush
+/// is returned instead.
 pub(crate) fn flushed<W: Write>(writer: &mut Noted<W>, ran: Ran) -> Ran {
     match writer.flush() {
         Ok(()) => ran,
@@ -83,8 +83,9 @@ pub(crate) fn flushed<W: Write>(writer: &mut Noted<W>, ran: Ran) -> Ran {
     }
 }
 
-/// Flushes standard output, and returns what the run answered. If the run stopped for a device without
-/// a name, that device is standard output.
+/// Flushes standard output, and returns the result of the run. If the run stopped because a device
+/// failed, the result may not name this device yet. If a call on standard output failed, the result
+/// then names standard output.
 pub(crate) fn finish(out: &mut Output<'_>, ran: Ran) -> Ran {
     match flushed(out, ran) {
         Ok(status) => Ok(status),

@@ -11,12 +11,13 @@ pub(crate) fn say<W: fmt::Display>(rt: &HostRuntime, what: &W) {
     let _ = eprintln!(rt; "routed: {what}");
 }
 
-/// Writes a line about the device or file with this name.
+/// Writes a line on standard error about the device or file with this name.
 pub(crate) fn say_of<W: fmt::Display>(rt: &HostRuntime, name: &str, what: &W) {
     let _ = eprintln!(rt; "routed: {name}: {what}");
 }
 
-/// Writes a line about a file: its option or its use, and its path.
+/// Writes a line on standard error about a file. `word` is the file's option or use, and `path` is
+/// its path.
 pub(crate) fn say_at<W: fmt::Display>(rt: &HostRuntime, word: &str, path: &str, what: &W) {
     let _ = eprintln!(rt; "routed: {word} {path}: {what}");
 }

@@ -7,8 +7,8 @@ use std::{fs, io};
 /// The file in which the system lists the limits of a process (proc(5)).
 const LIMITS: &str = "/proc/self/limits";
 
-/// The text that begins the line of the limit of file size. After it comes the limit in force, in bytes
-/// or `unlimited`.
+/// The text at the start of the line that gives the limit of file size. After it comes the limit in
+/// force, in bytes or `unlimited`.
 const FILE_SIZE: &str = "Max file size";
 
 /// The most bytes that a file of this process may have, if the system gives that limit.

@@ -11,6 +11,7 @@ mod batch;
 mod book;
 mod bounded;
 mod client_files;
+mod client_list;
 mod command_line;
 mod devices;
 mod ends;

@@ -4,7 +4,7 @@ ghost use Rattle.std.specs.Prelude.{◌≡◌};
 use std::io::{Read, Write};
 use std::{fmt, io};
 
-/// A call on a file or a stream that failed.
+/// A failed call on a file or a stream.
 #[derive(Clone, Copy)]
 pub struct Fault {
     /// The device's name: the option that gives a file, or the name of a standard stream.
@@ -51,7 +51,7 @@ impl<D> Noted<D> {
         self.fault
     }
 
-    /// Notes the call if it failed, and returns its answer unchanged.
+    /// Notes the call if it failed, and returns the call's result unchanged.
     fn note<T>(&mut self, action: &'static str, answer: io::Result<T>) -> io::Result<T>
         ensures device { self.new.device ≡ self.old.device }
         ensures answer { result ≡ answer }

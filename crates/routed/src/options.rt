@@ -30,10 +30,14 @@ pub const EXPLAIN: &str = "explain";
 /// The option that names the two files of a client.
 pub const CLIENT: &str = "client";
 
+/// The option that names a file of clients.
+pub const CLIENTS_FROM: &str = "clients-from";
+
 /// The option that gives the number of workers.
 const WORKERS: &str = "workers";
 
-/// The option that bounds the memory of trees, in megabytes of 2^20 bytes.
+/// The option that bounds the memory of the trees that the search keeps, in megabytes of 2^20
+/// bytes.
 const TREES: &str = "trees";
 
 /// An option of a command.
@@ -53,9 +57,11 @@ pub enum CommandOption {
     Keep,
     /// The two files of each client.
     Clients,
+    /// A file that names the two files of each client.
+    ClientsFrom,
     /// The number of workers.
     Workers,
-    /// The most megabytes of memory that trees may take.
+    /// The most megabytes of memory that the trees of the search may take.
     Trees,
     /// Whether to skip the rows after the last whole batch of a journal.
     AcceptTorn,
@@ -73,6 +79,7 @@ impl CommandOption {
             CommandOption::Replies => REPLIES,
             CommandOption::Keep => KEEP,
             CommandOption::Clients => CLIENT,
+            CommandOption::ClientsFrom => CLIENTS_FROM,
             CommandOption::Workers => WORKERS,
             CommandOption::Trees => TREES,
             CommandOption::AcceptTorn => ACCEPT_TORN,
@@ -92,6 +99,7 @@ impl CommandOption {
             CommandOption::Clients => {
                 "The files of a client's requests and replies; once for each client"
             }
+            CommandOption::ClientsFrom => "A file with a line IN=OUT for each further client",
             CommandOption::Workers => "How many workers answer, 1 to 64",
             CommandOption::Trees => {
                 "The megabytes that trees of the search may take, 0 to 1024; no answer depends on them"
@@ -115,8 +123,8 @@ impl CommandOption {
     fn arg<'a>(self, alloc: Global) -> Arg<'a> {
         let arg = named(alloc, self.name(), self.help());
         match self {
-            CommandOption::Clients => required(arg, "IN=OUT").action(ArgAction::Append),
-            CommandOption::Keep => arg.value_name("FILE"),
+            CommandOption::Clients => arg.value_name("IN=OUT").action(ArgAction::Append),
+            CommandOption::ClientsFrom | CommandOption::Keep => arg.value_name("FILE"),
             CommandOption::Workers => workers(arg),
             CommandOption::Trees => trees(arg),
             CommandOption::AcceptTorn | CommandOption::Explain => arg.action(ArgAction::SetTrue),
@@ -161,7 +169,7 @@ pub enum Asked {
     Book,
 }
 
-/// A command's texts of help, and its options.
+/// The texts of help and the options of a command.
 #[derive(Clone, Copy)]
 pub struct CommandText {
     pub asked: Asked,
@@ -208,7 +216,8 @@ impl<'m, 'a> Call<'m, 'a> {
         self.words.get_flag(flag)
     }
 
-    /// How many workers answer. `clap` itself refuses a number outside these bounds.
+    /// How many workers answer requests. `clap` refuses a number that is outside 1 to
+    /// `MOST_ASKERS`.
     pub(crate) fn workers(&self) -> usize
         ensures { (0 < result) × (result ≤ MOST_ASKERS) }
     {
@@ -216,12 +225,12 @@ impl<'m, 'a> Call<'m, 'a> {
         count.clamp(1, MOST_ASKERS)
     }
 
-    /// How many trees the run may keep.
+    /// How many trees of the search the run may keep.
     pub(crate) fn trees(&self) -> usize {
         trees_in(self.words.get_one::<u16>(TREES).unwrap_or(TREE_MEGABYTES))
     }
 
-    /// The options of the run: how many trees it may keep.
+    /// The options of the run: how many trees of the search the run may keep.
     pub(crate) fn run_options(&self) -> RunOptions {
         RunOptions {
             trees: self.trees(),

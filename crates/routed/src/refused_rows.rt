@@ -12,15 +12,15 @@ use std::{fmt, fs};
 /// Why a row is refused.
 #[derive(Clone, Copy)]
 enum Why {
-    /// The row can't be read, or this kind of file has no such row.
+    /// The row can't be read, or a file of this kind may not have such a row.
     Row(RowError),
-    /// The row ends a batch, but not by the next number.
+    /// The row ends a batch, but its number isn't the number of the next batch.
     Number { expected: u32 },
     /// The row ends a batch, but its count isn't the number of the batch's changes.
     Count { counted: u32 },
     /// The row is the last row, and no `end` row follows this many changes.
     Unended { changes: u32 },
-    /// The file already has the most rows that a file may have.
+    /// Before this row the file already has the most rows that a file may have.
     TooMany,
 }
 
@@ -49,7 +49,8 @@ impl fmt::Display for RefusedRow {
     }
 }
 
-/// The state after some rows of a file, which is a journal or a file of requests.
+/// What is known after some rows of a journal or of a file of requests: how many whole batches and
+/// later changes there were, and the first refused row.
 #[derive(Clone, Copy)]
 struct Progress {
     is_journal: bool,
@@ -99,8 +100,9 @@ impl Progress {
         None
     }
 
-    /// The refused row of a file that ends with row `row`, if any. That last row is refused if changes
-    /// are left without an `end` row.
+    /// The refused row of a file whose last row has the number `row`. If no row was refused so far,
+    /// but changes follow the last `end` row, it is the last row. Otherwise it is the row refused
+    /// so far, if any.
     fn last(&self, row: u32) -> Option<RefusedRow> {
         if self.refused.is_some() || self.changes == 0 {
             return self.refused;
@@ -144,8 +146,8 @@ fn refused_of<R: Read>(
             return progress.last(row - 1);
         }
         progress.take(row, fields);
-        // A journal is read on after a refused row: if it has too many rows, the row that is too many
-        // is the refused one.
+        // After a refused row a journal is still read on. If the journal has too many rows, the
+        // first row that is too many is reported instead.
         if !is_journal && progress.refused.is_some() {
             return progress.refused;
         }
@@ -167,8 +169,8 @@ fn again(rt: &HostRuntime, path: &str) -> Option<File> {
     File::open(rt, path).ok()
 }
 
-/// Finds the first refused file of a run, and writes which of its rows is refused. The options are
-/// those of the command.
+/// Finds the first refused file of a run, and writes which of its rows is refused. `options` are
+/// the options of the command.
 pub(crate) fn explain_rows(call: &Call<'_, '_>, options: &[CommandOption]) {
     for option in options {
         if option.has_rows() && !is_accepted(call, option.name()) {

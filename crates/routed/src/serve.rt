@@ -4,6 +4,7 @@ ghost use Rattle.std.specs.Prelude.{◌<◌, ◌≤◌, length, vec_len};
 
 use crate::bounded::unfit_of;
 use crate::client_files::{ClientNames, Closing, OpenClient, check_clients, open_clients};
+use crate::client_list::{client_words, list_bytes, list_text};
 use crate::devices::{INPUT, NewFile, OUTPUT, created, flushed, held_places};
 use crate::noted::Noted;
 use crate::options::{Asked, CLIENT, Call, CommandOption, CommandText, EXPLAIN, JOURNAL};
@@ -23,6 +24,7 @@ pub const COMMAND: CommandText = CommandText {
     options: &[
         CommandOption::NewJournal,
         CommandOption::Clients,
+        CommandOption::ClientsFrom,
         CommandOption::Trees,
         CommandOption::Explain,
     ],
@@ -33,9 +35,10 @@ const HELP: &str = "\
 Standard input has put, drop, node, end and ask rows as in solve, and any number of them. Each batch is
 written whole to the new journal, then it takes effect, and then its line is written. There are 1 to
 64 clients. --client IN=OUT reads the ask rows of one from IN, and writes the line of each to OUT
-before the next row is read. No client waits for another, nor for a batch. Once a program has read
-version V on standard output, every request that it sends after that is answered at V or later, by
-any client.
+before the next row is read. Each line of --clients-from FILE is an IN=OUT too, and a blank line is
+refused. FILE is read to its end first, and its clients come after those of --client. No client waits
+for another, nor for a batch. Once a program has read version V on standard output, every request
+that it sends after that is answered at V or later, by any client.
 
 Lines of standard output, as in solve, and of a client's OUT:
   version V                  a batch is in effect
@@ -65,7 +68,11 @@ With --explain a line says of each client that ended before its rows did why it 
 
 /// Serves the clients if their files can be used.
 pub(crate) fn answer<T: Threads + Wait + Sync>(call: &Call<'_, '_>, handle: &T) -> Ran {
-    let words = call.words.get_strs(CLIENT).unwrap_or(&[]);
+    let bytes = list_bytes(call)?;
+    let text = list_text(call, &bytes)?;
+    let given = call.words.get_strs(CLIENT).unwrap_or(&[]);
+    let all = client_words(call.rt.alloc(), given, text)?;
+    let words = all.as_slice();
     check_clients(call, words)?;
     if !grow_stack(u8::from(call.has(EXPLAIN))) {
         return Err(Stopped::Memory);
@@ -139,8 +146,8 @@ fn explain_ends(rt: &HostRuntime, words: &[&str], clients: &[ServedClient<Closin
     }
 }
 
-/// If a client ended before its rows did, writes why: its rows aren't fit, or there was an error. An
-/// error of a file is written with the file's name.
+/// If a client ended before its rows did, writes why: a line was too long, a row had a quotation
+/// mark, or there was an error. An error of a file is written with the file's name.
 fn explain_end(rt: &HostRuntime, number: usize, word: &str, client: &ServedClient<Closing>) {
     let Err(error) = client.end else {
         return;
@@ -160,7 +167,7 @@ fn explain_end(rt: &HostRuntime, number: usize, word: &str, client: &ServedClien
     }
 }
 
-/// Writes why a client ended, with the name of the file at which it ended.
+/// Writes why a client ended, with the path of the file whose read or write ended it.
 fn say_end<W: fmt::Display>(rt: &HostRuntime, number: usize, path: &str, why: &W) {
     let _ = eprintln!(rt; "routed: client {number}: {path}: {why}");
 }

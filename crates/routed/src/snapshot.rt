@@ -1,5 +1,5 @@
-//! `routed snapshot` writes a few batches. From an empty database they make the database after the last
-//! batch of a journal.
+//! `routed snapshot` writes a few batches. These batches make, from an empty database, the database
+//! after the last batch of a journal.
 
 use crate::devices::{Output, opened};
 use crate::options::{ACCEPT_TORN, Asked, Call, CommandOption, CommandText, JOURNAL};

@@ -9,9 +9,9 @@ fn have_all(bytes: &[u8], value: u8) -> bool {
     bytes.iter().all(|byte| *byte == value)
 }
 
-/// Grows the stack, and returns whether the stack holds the bytes that were written there. Threads may
-/// take all of the address space that a limit leaves. If the stack can't grow then, the program ends by
-/// a signal.
+/// Grows the stack, and returns whether the stack holds the bytes that were written there. Threads
+/// may take all address space that the limit of the process allows. If the stack had to grow after
+/// that, a signal would end the program.
 #[inline(never)]
 pub(crate) fn grow_stack(value: u8) -> bool {
     let room = [value; STACK_BYTES];

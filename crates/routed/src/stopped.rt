@@ -17,17 +17,17 @@ pub enum Stopped {
     Solve(SolveError),
     /// Another error of `book`.
     Book(BookError),
-    /// An error of the updates of `serve`.
+    /// An error of `serve` in reading the updates, or in writing the lines that answer them.
     Stream(StreamError),
     /// An error of `batch`, `live`, `snapshot` or `audit`.
     Run(RunError),
-    /// An error of `serve` before it began.
+    /// An error of `serve` before it began to read updates.
     Serve(ServedError),
     /// All lines have been written, and this is the status.
     Said(u8),
 }
 
-/// What a run answers: a status, or why the program stops.
+/// The result of a run: a status, or why the program stops.
 pub type Ran = Result<u8, Stopped>;
 
 impl Stopped {
@@ -59,8 +59,8 @@ impl Stopped {
     }
 }
 
-/// The answer of a run of `batch`, `live`, `snapshot` or `audit`. `read` is the last call that failed
-/// on its inputs, if any.
+/// The result of a run of `batch`, `live`, `snapshot` or `audit`. `read` is the last call that
+/// failed on an input of the run, if any.
 pub(crate) fn ended(ran: Result<u8, RunError>, read: Option<Fault>) -> Ran {
     match ran {
         Ok(status) => Ok(status),

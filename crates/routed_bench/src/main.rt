@@ -1,5 +1,6 @@
-//! `routed_bench JOURNAL REQUESTS LOAD` times a publisher and its askers. `routed_bench JOURNAL REQUESTS
-//! LOAD ROUNDS` times the table and both searches.
+//! `routed_bench JOURNAL REQUESTS LOAD` times requests in a table without trees of lower bounds,
+//! and then a publisher and its askers. `routed_bench JOURNAL REQUESTS LOAD ROUNDS` times two
+//! searches, `best` and the search by rounds, and then the changes of a table.
 //!
 //! The first LOAD batches of the journal make the network. `runs.rt` and `searches.rt` say what is timed.
 //! `bench/run` makes the files and reads the lines.
@@ -28,7 +29,7 @@ fn refused() -> io::Error {
     io::Error::from(ErrorKind::InvalidInput)
 }
 
-/// The batches of the journal, and the requests of the other file.
+/// The batches of the journal `journal`, and the requests of the file `requests`.
 fn read(rt: &HostRuntime, journal: &str, requests: &str) -> io::Result<(Vec<Batch>, Vec<Request>)> {
     let Ok(journal) = read_journal(rt.alloc(), File::open(rt, journal)?) else {
         return Err(refused());
@@ -39,7 +40,7 @@ fn read(rt: &HostRuntime, journal: &str, requests: &str) -> io::Result<(Vec<Batc
     Ok((journal.batches, requests))
 }
 
-/// The table after these batches.
+/// A table that has absorbed these batches.
 fn loaded(alloc: Global, load: &[Batch]) -> Result<Table, AllocError> {
     let mut table = Table::new(alloc)?;
     for batch in load {
@@ -48,8 +49,9 @@ fn loaded(alloc: Global, load: &[Batch]) -> Result<Table, AllocError> {
     Ok(table)
 }
 
-/// Makes the network of the batches `load`, and times the searches on it and then the batches `more`. Without
-/// a number of rounds it times the requests alone, and then a publisher.
+/// Makes the network of the batches `load`. If `rounds` is given, times `best` on all requests and
+/// the search by rounds on the first `rounds` requests, and then the batches `more`. Otherwise
+/// times the requests in the table without trees of lower bounds, and then a publisher.
 fn time<R: AllocGlobal + Clock + Print + Threads + Wait + Sync>(
     rt: &R,
     (load, more): (&[Batch], &[Batch]),
@@ -70,12 +72,13 @@ fn time<R: AllocGlobal + Clock + Print + Threads + Wait + Sync>(
     }
 }
 
-/// The number in an argument.
+/// The number that an argument gives.
 fn number(word: &str) -> io::Result<usize> {
     word.parse().map_err(|_| refused())
 }
 
-/// How many batches make the network, and how many requests are answered by rounds, from the last arguments.
+/// Reads the last arguments, LOAD and perhaps ROUNDS: how many batches make the network, and how
+/// many requests the search by rounds answers.
 fn numbers(words: &[String]) -> io::Result<(usize, Option<usize>)> {
     match words {
         [load] => Ok((number(load.as_str())?, None)),

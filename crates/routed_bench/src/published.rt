@@ -1,4 +1,4 @@
-//! A publisher whose journal keeps no bytes, and how long its batches take.
+//! A publisher whose journal keeps nothing, and how long the publisher's batches take.
 
 use cspf_model::Batch;
 use cspf_publish::Publisher;

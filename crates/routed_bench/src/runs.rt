@@ -1,8 +1,9 @@
 //! The timed runs of publishers.
 //!
-//! First each batch after those of the network is published and timed. Then 1, 2 and 4 askers at once each ask all
-//! requests while these batches are published. Last the requests are divided among 1, 2 and 4 workers. In
-//! fixed shares each of n workers asks every nth request. By draws each worker draws its next request.
+//! First each batch after those of the network is published and timed. Then 1, 2 and 4 askers at
+//! once ask all requests each, while these batches are published. Last the requests are divided
+//! among 1, 2 and 4 workers, in two ways. In fixed shares, each of n workers asks every nth
+//! request. By draws, each worker draws its next request.
 
 use crate::published::{Nothing, apply_all, time_batches};
 use crate::workers::{time_askers, time_draws, time_shares};
@@ -14,7 +15,7 @@ use std::rt::Clock;
 use std::sync::Wait;
 use std::thread::Threads;
 
-/// What is timed.
+/// What one of the timed runs measures.
 #[derive(Clone, Copy)]
 enum Timed {
     Batches,
@@ -23,7 +24,7 @@ enum Timed {
     Draws,
 }
 
-/// What is timed, in order, and with how many askers.
+/// What the runs time, in order, and with how many askers.
 const ALL: [(Timed, usize); 10] = [
     (Timed::Batches, 1),
     (Timed::Askers, 1),
@@ -59,7 +60,7 @@ fn time_one<R: AllocGlobal + Clock + Print + Threads + Wait + Sync>(
     printed
 }
 
-/// Times all runs.
+/// Times all runs of the list `ALL`.
 pub(crate) fn time_publisher<R: AllocGlobal + Clock + Print + Threads + Wait + Sync>(
     rt: &R,
     load: &[Batch],

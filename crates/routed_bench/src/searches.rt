@@ -1,9 +1,10 @@
-//! Times the table and both searches.
+//! Times the changes of a table, and its two searches: `best` and the search by rounds.
 //!
-//! `best` answers all requests several times, and prints `best ANSWERS COST MICROSECONDS`. COST is the sum of
-//! the routes' costs. The search by rounds answers the first ROUNDS requests: `rounds ANSWERS COST
-//! MICROSECONDS`. `agreed ANSWERS` is the number of these requests on which both searches agree. Then each
-//! batch after those of the network is checked, absorbed and timed: `absorb CHANGES MICROSECONDS`.
+//! `best` answers all requests several times, and prints `best ANSWERS COST MICROSECONDS`. COST is
+//! the sum of the routes' costs. The search by rounds answers the first ROUNDS requests, and prints
+//! `rounds ANSWERS COST MICROSECONDS`. `agreed ANSWERS` is the number of these requests on which
+//! both searches agree. Then each batch after those of the network is checked, absorbed and timed:
+//! `absorb CHANGES MICROSECONDS`.
 
 use cspf_db::Table;
 use cspf_model::{Batch, Outcome, Request};
@@ -36,7 +37,7 @@ fn agree(one: &Outcome, other: &Outcome) -> bool {
     }
 }
 
-/// The answer to a request, by `best` or by rounds.
+/// The answer to a request, found by `best` or by the search by rounds.
 fn answer(
     alloc: Global,
     table: &Table,
@@ -50,7 +51,7 @@ fn answer(
     }
 }
 
-/// Answers each request. Returns how many are answered, and the sum of the costs.
+/// Answers each request. Returns how many requests are answered, and the sum of the routes' costs.
 fn answer_each(
     alloc: Global,
     table: &Table,
@@ -78,7 +79,8 @@ fn is_agreed(alloc: Global, table: &Table, request: &Request) -> bool {
     }
 }
 
-/// Times all requests. Returns how many are answered, the sum of the costs, and the microseconds.
+/// Times all requests. Returns how many are answered, the sum of the routes' costs, and the
+/// microseconds.
 fn timed<R: AllocGlobal + Clock + Print>(
     rt: &R,
     table: &Table,
@@ -90,7 +92,8 @@ fn timed<R: AllocGlobal + Clock + Print>(
     Ok((answers, sum, start.elapsed(rt)?.as_micros()))
 }
 
-/// Prints how long the requests take in a table without trees: `plain ANSWERS MICROSECONDS`.
+/// Times all requests in a table without trees of lower bounds, and prints `plain ANSWERS
+/// MICROSECONDS`.
 pub(crate) fn time_plain<R: AllocGlobal + Clock + Print>(
     rt: &R,
     table: &Table,
@@ -119,7 +122,7 @@ pub(crate) fn time_searches<R: AllocGlobal + Clock + Print>(
     println!(rt; "agreed {}", agreed.count())
 }
 
-/// Times each batch: the check that it fits, and its changes.
+/// For each batch, times the check whether it fits, and the making of its changes in the table.
 pub(crate) fn time_batches<R: AllocGlobal + Clock + Print>(
     rt: &R,
     table: &mut Table,

@@ -1,5 +1,5 @@
-//! Times askers beside a publisher, workers that ask fixed shares of the requests, and workers that draw their
-//! requests.
+//! Times askers beside a publisher, workers that each ask a fixed share of the requests, and
+//! workers that draw their requests.
 
 ghost use Rattle.std.specs.Prelude.{◌<◌};
 
@@ -25,7 +25,8 @@ struct Seat {
     answers: usize,
 }
 
-/// A seat for each asker, with no request answered yet.
+/// Makes a seat for each asker: the asker, and a count of its answered requests, which is 0 at
+/// first.
 fn seats_of(alloc: Global, askers: Vec<Asker>) -> Result<Vec<Seat>, AllocError> {
     let mut seats = Vec::with_capacity(alloc, askers.len())?;
     for asker in askers {
@@ -34,7 +35,7 @@ fn seats_of(alloc: Global, askers: Vec<Asker>) -> Result<Vec<Seat>, AllocError> 
     Ok(seats)
 }
 
-/// How many requests all seats have answered.
+/// How many requests the askers of all seats have answered.
 fn answers_of(seats: &[Seat]) -> usize {
     let mut answers = 0usize;
     for seat in seats {
@@ -59,7 +60,8 @@ fn ask_all(alloc: Global, requests: &[Request], seat: &mut Seat) {
     ask_share(alloc, 0, 1, requests, seat);
 }
 
-/// Publishes batches while each seat asks every request. Returns how many were published.
+/// Publishes batches while the asker of each seat asks every request. Returns how many batches were
+/// published.
 fn ask_and_publish<R: AllocGlobal + Threads + Wait + Sync>(
     rt: &R,
     batches: &[Batch],
@@ -80,8 +82,8 @@ fn ask_and_publish<R: AllocGlobal + Threads + Wait + Sync>(
     thread::join_mut(rt, &mut asking, &mut publishing).1
 }
 
-/// Times askers that ask while a publisher publishes batches: `askers COUNT ANSWERS PUBLISHED
-/// MICROSECONDS`.
+/// Times askers that ask while a publisher publishes batches, and prints `askers COUNT ANSWERS
+/// PUBLISHED MICROSECONDS`.
 pub(crate) fn time_askers<R: AllocGlobal + Clock + Print + Threads + Wait + Sync>(
     rt: &R,
     more: &[Batch],
@@ -100,7 +102,7 @@ pub(crate) fn time_askers<R: AllocGlobal + Clock + Print + Threads + Wait + Sync
     )
 }
 
-/// Each seat asks its fixed share of the requests.
+/// Lets the asker of each seat ask its fixed share of the requests.
 fn ask_shares<R: AllocGlobal + Threads + Sync>(rt: &R, requests: &[Request], seats: &mut [Seat]) {
     let (alloc, count) = (rt.alloc(), seats.len());
     if count == 0 {
@@ -116,8 +118,8 @@ fn ask_shares<R: AllocGlobal + Threads + Sync>(rt: &R, requests: &[Request], sea
     );
 }
 
-/// Times the requests in fixed shares, where each of n askers asks every nth request: `shares COUNT ANSWERS
-/// MICROSECONDS`.
+/// Times the requests in fixed shares, where each of n askers asks every nth request, and prints
+/// `shares COUNT ANSWERS MICROSECONDS`.
 pub(crate) fn time_shares<R: AllocGlobal + Clock + Print + Threads + Sync>(
     rt: &R,
     requests: &[Request],
@@ -130,7 +132,8 @@ pub(crate) fn time_shares<R: AllocGlobal + Clock + Print + Threads + Sync>(
     println!(rt; "shares {} {} {took}", seats.len(), answers_of(&seats))
 }
 
-/// Times the requests by workers that draw them as `answer_all` does: `draws COUNT ANSWERS MICROSECONDS`.
+/// Times the requests with workers that draw them as `answer_all` does, and prints `draws COUNT
+/// ANSWERS MICROSECONDS`.
 pub(crate) fn time_draws<R: AllocGlobal + Clock + Print + Threads + Sync>(
     rt: &R,
     requests: &[Request],

@@ -1,5 +1,5 @@
-//! Answers of both searches and of trees, in small networks and in drawn ones: ties, reverses, unknown
-//! head-ends and tail-ends, and hops.
+//! Answers of both searches and of trees, in small networks and in drawn networks: ties, reverses,
+//! unknown head-ends and tail-ends, and hops.
 
 mod drawn;
 mod legs;
@@ -17,7 +17,7 @@ use std::alloc::{AllocError, Global};
 use std::process::Abort;
 use std::test::Fail;
 
-// Four routers: 1.1.1.1 to 4.4.4.4.
+// The four routers 1.1.1.1 to 4.4.4.4.
 const ONE: u32 = 0x0101_0101;
 
 const TWO: u32 = 0x0202_0202;
@@ -26,8 +26,9 @@ const THREE: u32 = 0x0303_0303;
 
 const FOUR: u32 = 0x0404_0404;
 
-// A link: its two routers, each followed by its interface address, the metric, and the unreserved bandwidth
-// at all priorities but 7. At priority 7 none is unreserved. The groups are 0x6.
+// A link: each of its two routers followed by its interface address, then the metric, and the
+// unreserved bandwidth at all priorities but 7. At priority 7 no bandwidth is unreserved. The
+// groups are 0x6.
 type Row = (u32, u32, u32, u32, u32, u64);
 
 fn link(row: &Row) -> Result<Link, Fail> {
@@ -38,14 +39,14 @@ fn link(row: &Row) -> Result<Link, Fail> {
     Ok(Link::new(from, local, to, remote, metric, Mask::new(0x6), free)?)
 }
 
-// A table after these changes.
+// A table that has absorbed these changes.
 fn table_of(alloc: Global, changes: &[Change]) -> Result<Table, AllocError> {
     let mut table = Table::new(alloc)?;
     change(alloc, &mut table, changes)?;
     Ok(table)
 }
 
-// Applies changes, all of which fit, as one batch.
+// Applies changes as one batch. All of them fit.
 fn change(alloc: Global, table: &mut Table, changes: &[Change]) -> Result<(), AllocError> {
     let changes = Vec::from_slice(alloc, changes)?;
     table.absorb(&Batch { number: 1, changes });
@@ -67,7 +68,7 @@ fn reverse(row: &Row) -> Row {
     (to, remote, from, local, metric, 0)
 }
 
-// Whether `rows` has a link between the same routers over the same interfaces, in the same direction.
+// Whether `rows` has a link in the direction of `other` between the two interfaces of `other`.
 fn runs(rows: &[Row], other: &Row) -> bool {
     let mut found = false;
     for row in rows {
@@ -90,7 +91,7 @@ fn table(alloc: Global, rows: &[Row]) -> Result<Table, Fail> {
     one_way(alloc, &both)
 }
 
-// A change that marks a router as without transit, or removes its mark.
+// A change that marks a router as without transit, or gives it transit again.
 fn node(router: u32, transit: bool) -> Change {
     Change::Node {
         router: Addr::new(router),
@@ -98,7 +99,7 @@ fn node(router: u32, transit: bool) -> Change {
     }
 }
 
-// Marks these routers as without transit.
+// Marks the routers as without transit.
 fn mark(alloc: Global, table: &mut Table, routers: &[u32]) -> Result<(), AllocError> {
     let mut changes = Vec::new(alloc);
     for router in routers {
@@ -107,7 +108,8 @@ fn mark(alloc: Global, table: &mut Table, routers: &[u32]) -> Result<(), AllocEr
     change(alloc, table, &changes)
 }
 
-// A request for 1,000 bytes per second with this setup priority, these three affinity masks and hops.
+// A request for 1,000 bytes per second with this setup priority, these three affinity masks and
+// these hops.
 fn request(
     ends: (u32, u32),
     setup: u8,
@@ -154,7 +156,7 @@ fn check_same(outcome: &Outcome, other: &Outcome) -> Result<(), Fail> {
     }
 }
 
-// The answer by a tree, or `None` if the tail-end is unknown.
+// The answer by a tree, or `None` if no link begins or ends at the tail-end.
 fn by_tree(alloc: Global, table: &Table, request: &Request) -> Result<Option<Outcome>, Fail> {
     match Tree::grow(alloc, table, request)? {
         Some(tree) => Ok(Some(best_by_tree(alloc, table, request, &tree)?)),
@@ -190,7 +192,8 @@ fn is_same(a: &Outcome, b: &Outcome) -> bool {
 enum Wanted {
     // The route of this cost along the links with these remote addresses.
     Route(u64, &'static [u32]),
-    // The route of this cost along these links. It reaches the tail-end, leaves it and comes back.
+    // The route of this cost along the links with these remote addresses. It visits some router
+    // twice.
     Again(u64, &'static [u32]),
     NoRoute,
     UnknownFrom,
@@ -198,6 +201,7 @@ enum Wanted {
 }
 
 // Whether the outcome is the route of this cost along the links with these remote addresses.
+// `again` says whether the route visits some router twice.
 fn is_route(outcome: &Outcome, cost: u64, again: bool, remotes: &[u32]) -> bool {
     let Outcome::Route(route) = outcome else {
         return false;
@@ -209,7 +213,7 @@ fn is_route(outcome: &Outcome, cost: u64, again: bool, remotes: &[u32]) -> bool 
     same && route.cost() == cost && route.again() == again
 }
 
-// Whether the outcome is as wanted.
+// Whether the outcome is the answer that is wanted.
 fn is_wanted(outcome: &Outcome, wanted: Wanted) -> bool {
     match wanted {
         Wanted::Route(cost, remotes) => is_route(outcome, cost, false, remotes),
@@ -220,13 +224,15 @@ fn is_wanted(outcome: &Outcome, wanted: Wanted) -> bool {
     }
 }
 
-// A case: the marked routers, the head-end and the tail-end, the hops, and the answer that is wanted.
+// A case: the routers that are marked as without transit, the head-end and the tail-end, the hops,
+// and the answer that is wanted.
 type Case = (&'static [u32], (u32, u32), &'static [u8], Wanted);
 
-// A network: its links, whether it has their reverses too, and its cases.
+// A network: its links, whether the table has the links' reverses too, and its cases.
 type Network = (&'static [Row], bool, &'static [Case]);
 
-// The answer to a case's request in a network of these links.
+// The answer to the request of a case in a network of these links. `both` says whether the table
+// has the links' reverses too.
 fn answer_of(alloc: Global, rows: &[Row], both: bool, case: &Case) -> Result<Outcome, Fail> {
     let (marks, ends, hops, _) = *case;
     let mut table = if both {
@@ -238,7 +244,7 @@ fn answer_of(alloc: Global, rows: &[Row], both: bool, case: &Case) -> Result<Out
     answered(alloc, &table, &request(ends, 0, (0, 0, 0), hops)?)
 }
 
-// Each case of each network is answered as wanted.
+// Fails unless each case of each network gets the answer that it wants.
 fn assert_networks(rt: &impl Abort, alloc: Global, networks: &[Network]) -> Result<(), Fail> {
     for (rows, both, cases) in networks {
         for case in *cases {

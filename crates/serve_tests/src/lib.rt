@@ -1,6 +1,7 @@
-//! Tests of the runs over rows, of workers and of clients. The tests cover scripts, batch runs and live
-//! runs, the limits of a run, and which worker answers in which order. They also cover what is written
-//! when a read, a write or an allocation fails.
+//! Tests runs over rows, workers and clients. The tests cover scripts (streams of rows with
+//! changes, ends of batches and requests), runs over a journal, and runs that publish batches
+//! meanwhile. They also cover the limits of a run, and which worker answers in which order. Reads,
+//! writes and allocations also fail, and then the tests look at what is written.
 #![tactic(auto)]
 
 #[cfg(test)]

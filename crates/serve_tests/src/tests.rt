@@ -1,5 +1,5 @@
-//! What the tests of runs share: scripts and tables, readers in pieces, and writers that take a given
-//! number of bytes.
+//! Defines what the tests of runs over rows share: scripts (rows of changes, batches and requests),
+//! tables, readers in pieces, and writers that take a given number of bytes.
 
 mod batches;
 mod clients;
@@ -13,11 +13,11 @@ use std::alloc::{AllocError, Global};
 use std::io;
 use std::io::{ErrorKind, Read, Write};
 
-/// What a byte of a script stands for. `P` is the row that puts the link from 1.1.1.1 to 2.2.2.2, and
-/// `Q` the row that puts its reverse, with no bandwidth. `F` is eight bandwidths of 1000, and `O` eight
-/// of 0. `Z` is three masks without a group, `H` seven hops, and `B` a byte order mark. `X` and `Y` are
-/// bytes that aren't UTF-8, and `N` is the byte 0. `R` is a carriage return, `|` a line feed, and `_`
-/// nothing.
+/// What a byte of a script (rows of changes, batches and requests) stands for. `P` is the row that
+/// sets the link from 1.1.1.1 to 2.2.2.2 (a `put` change), and `Q` the row that sets its reverse,
+/// with no bandwidth. `F` is eight bandwidths of 1000, and `O` eight of 0. `Z` is three masks
+/// without a group, `H` seven hops, and `B` a byte order mark. `X` and `Y` are bytes that aren't
+/// UTF-8, and `N` is the byte 0. `R` is a carriage return, `|` a line feed, and `_` nothing.
 fn spelled(byte: &u8) -> &[u8] {
     match *byte {
         b'P' => {
@@ -39,7 +39,7 @@ fn spelled(byte: &u8) -> &[u8] {
     }
 }
 
-/// The bytes of a script.
+/// The bytes of a script, which is rows of changes, batches and requests in a short spelling.
 fn bytes_of(alloc: Global, script: &[u8]) -> Result<Vec<u8>, AllocError> {
     let mut bytes = Vec::new(alloc);
     for byte in script {

@@ -2,7 +2,7 @@
 from __future__ import annotations
 
 import re
-from collections.abc import Callable, Container, Iterator
+from collections.abc import Callable, Container
 
 from ..model.database import Database
 from ..model.rows import MOST_CHANGES, Batch, Change, Drop, Key, Row, rank, removal_of
@@ -12,10 +12,6 @@ MOST_VAIN = 8  # refusals in a row from which nothing followed
 REFUSED_ROW = re.compile(r"row \d+ refused: .+")
 OTHERS = "another program has published, and the feed has to be the only one: end that program, and start the feed again"
 UNKNOWN = "the program's database isn't the one that the feed began with: start the feed again"
-
-
-class Ended(Stopped):
-    """Why no more batches can be written."""
 
 
 def named(change: Change) -> str:
@@ -28,6 +24,7 @@ class Batches:
 
     def __init__(self, database: Database, say: Callable[[str], None], count: Callable[[str], None]) -> None:
         self.database, self.say, self.count = database, say, count  # the last is called with the first word of each refusal of a batch
+        self.given = database.rows  # the links and marks that the program has at its version
         self.barred: dict[Key, Row] = {}  # those that the program refused
         self.sent: list[Change] = []  # the changes of the batch whose line hasn't come
         self.before, self.behind = 0, 0  # asks whose lines haven't come: sent before that batch, and behind it
@@ -35,11 +32,6 @@ class Batches:
         self.size = MOST_CHANGES
         self.is_cut = False  # whether there is more to do than that batch
         self.vain = 0  # refusals in a row from which nothing followed
-
-    @property
-    def given(self) -> dict[Key, Row]:
-        """The links and marks that the program has at its version."""
-        return self.database.rows
 
     @property
     def version(self) -> int:
@@ -52,9 +44,10 @@ class Batches:
     def next(self, wanted: dict[Key, Row], held: Container[Key] = ()) -> str:
         """The text of the next batch towards the wanted rows, drops first; empty where there is none.
         Links that are held aren't dropped, and marks that are held aren't taken away."""
-        wanted = {key: row for key, row in wanted.items() if self.barred.get(key) != row}
+        if self.barred:
+            wanted = {key: row for key, row in wanted.items() if self.barred.get(key) != row}
         gone = [key for key in self.given if key not in wanted and key not in held]
-        puts = [key for key, row in wanted.items() if self.given.get(key) != row]
+        puts = [key for key, row in wanted.items() if (had := self.given.get(key)) is not row and had != row]
         changes = [*map(removal_of, sorted(gone, key=rank)), *(wanted[key] for key in sorted(puts, key=rank))]
         self.sent, self.is_cut, self.row = changes[:self.size], len(changes) > self.size, ""
         return self.batch().text() if self.sent else ""
@@ -73,7 +66,7 @@ class Batches:
     def read(self, line: str) -> bool:
         """Takes a line of the program; whether it was about batches and their rows."""
         if line == "too many rows":
-            raise Ended("the program takes no more rows")
+            raise Stopped("the program takes no more rows")
         is_row = REFUSED_ROW.fullmatch(line)
         if re.match(r"ask \d+ v", line) or is_row and (self.before or not self.sent):
             self.before = max(0, self.before - 1)
@@ -85,7 +78,7 @@ class Batches:
         if not found:
             return False
         if not self.sent or (found[1] or found[2]) != str(self.version + 1):
-            raise Ended(f"{line}: {OTHERS}")
+            raise Stopped(f"{line}: {OTHERS}")
         self.before, self.behind = self.behind, 0
         if found[1]:
             self.accepted(line)
@@ -95,7 +88,7 @@ class Batches:
 
     def accepted(self, line: str) -> None:
         if self.row:  # a change that was left open made up for it
-            raise Ended(f"{self.row}, and then {line}: {UNKNOWN}")
+            raise Stopped(f"{self.row}, and then {line}: {UNKNOWN}")
         self.database.apply(self.batch())
         if any(change.is_removal for change in self.sent):  # there is room again
             self.is_cut |= bool(self.barred)
@@ -108,9 +101,9 @@ class Batches:
         changes, self.sent, self.is_cut = self.sent, [], True
         self.count(why[0])
         if why[0] in ("exhausted", "journal", "stopped"):  # no batch is taken any more
-            raise Ended(line)
+            raise Stopped(line)
         if why[0] in ("expected", "absent"):
-            raise Ended(f"{line}: {OTHERS if why[0] == 'expected' else UNKNOWN}")
+            raise Stopped(f"{line}: {OTHERS if why[0] == 'expected' else UNKNOWN}")
         self.vain += 1
         if why[0] == "counted" and not self.row:
             self.say(f"{line}: changes were left open, which are dropped with this batch; trying again")
@@ -121,12 +114,4 @@ class Batches:
             self.barred[first.key] = first
             self.vain = 0
         if self.vain > MOST_VAIN:
-            raise Ended(f"{line}: {named(changes[0])}: for the {self.vain}th time in a row")
-
-
-def journal(rows: dict[Key, Row]) -> Iterator[str]:
-    """The rows as the batches of a journal from nothing."""
-    batches = Batches(Database(), print, print)
-    while text := batches.next(rows):
-        yield text
-        batches.accepted("")
+            raise Stopped(f"{line}: {named(changes[0])}: for the {self.vain}th time in a row")

@@ -9,9 +9,11 @@ import sys
 from ..model.database import Database
 from ..model.journals import batches
 from ..model.rows import Refused
-from .batches import Ended
+from ..net.endpoints import tried
+from ..net.loop import Stopped
 from .program import Program
 
+RUN = re.compile(r"run [0-9]{1,20}")  # listen --run
 EARLIER = re.compile(r"(?:version|batch|row|ask) \d+( .*)?")  # lines of rows that an earlier feed sent, which it didn't read
 
 
@@ -27,13 +29,10 @@ def after(data: bytes) -> tuple[Database, int]:
 
 def from_journal(path: str, version: int) -> Database:
     """That of the program that writes this journal, in which there may be the beginning of a batch behind the last."""
-    try:
-        with open(path, "rb") as journal:
-            database, _ = after(journal.read())
-    except OSError as fault:
-        raise Ended(f"--journal {path}: {fault.strerror or fault}") from None
+    with tried(f"--journal {path}"), open(path, "rb") as journal:
+        database, _ = after(journal.read())
     if database.version != version:
-        raise Ended(f"--journal {path}: it has {database.version} batches, and the program is at version {version}: "
+        raise Stopped(f"--journal {path}: it has {database.version} batches, and the program is at version {version}: "
                     "give the journal of its run")
     return database
 
@@ -41,15 +40,24 @@ def from_journal(path: str, version: int) -> Database:
 def from_front(program: Program, version: int, line: str) -> Database:
     """That which `routed-tools listen` tells. This line came first."""
     if line != f"version {version}":
-        raise Ended(f"{program.name}: it is at version {version}, and its database isn't known, for it answered: {line}")
+        raise Stopped(f"{program.name}: it is at version {version}, and its database isn't known, for it answered: {line}")
     lines = []
     while (line := program.line()) != "snapshot end":
         lines.append(line)
+    if lines and RUN.fullmatch(lines[0]):
+        del lines[0]
     database, count = after("\n".join(lines).encode())
     if count != len(lines):
-        raise Ended(f"{program.name}: its snapshot has a line that is part of no batch: {lines[count]}")
+        raise Stopped(f"{program.name}: its snapshot has a line that is part of no batch: {lines[count]}")
     database.version = version
     return database
+
+
+def run_of(program: Program) -> str | None:
+    """The name of the program's run, if it has one: `routed-tools listen` does."""
+    program.write("run\n")
+    found = re.fullmatch("run ([0-9a-f]{1,64})", program.line())
+    return found[1] if found else None
 
 
 def begun(program: Program, path: str | None) -> Database:
@@ -58,7 +66,7 @@ def begun(program: Program, path: str | None) -> Database:
     program.write(f"ask,{number},0.0.0.0,0.0.0.1,0,0,0x0,0x0,0x0,\n")
     while not (found := re.match(rf"ask {number} v([0-9]{{1,20}}) ", line := program.line())):
         if not EARLIER.fullmatch(line):
-            raise Ended(f"{program.name}: its version was asked for, and it answered: {line}")
+            raise Stopped(f"{program.name}: its version was asked for, and it answered: {line}")
     version = int(found[1])
     if not version:
         return Database()
@@ -67,6 +75,6 @@ def begun(program: Program, path: str | None) -> Database:
     if not re.fullmatch(r"row \d+ refused: kind", line):
         return from_front(program, version, line)
     if path is None:
-        raise Ended(f"{program.name}: it is at version {version}, and its database isn't known: "
+        raise Stopped(f"{program.name}: it is at version {version}, and its database isn't known: "
                     "give --journal FILE, the journal of its run, or start the program again, too")
     return from_journal(path, version)

@@ -1,28 +1,34 @@
 """What every feed does: batches towards a network as a router tells it, for a program that answers each.
 
-A feed has a session with the router, and a network that the session makes of what it was told."""
+A feed has a session with the router, and a network that the session makes of what it was told. The session calls `up` of its feed once
+the router tells the network, `heard` for what comes, `complete` if the router says that all has come, and `lose` once it can't go on."""
 from __future__ import annotations
 
 import argparse
 import contextlib
+import math
 import os
 import re
 import selectors
 import signal
 import sys
 import time
-from collections.abc import Callable, Container
-from typing import NamedTuple, Protocol
+from collections.abc import Callable
+from typing import Protocol
 
-from ..model.rows import Key, Link, Row
-from ..net.endpoints import Endpoint
+from ..model.journals import in_batches
+from ..model.rows import Key, rank
+from ..net.endpoints import Endpoint, tried
 from ..net.loop import Loop, Owner, Stopped
-from ..net.stream import Stream
-from .batches import Batches, Ended, journal
-from .database import begun
+from ..net.notify import Supervised
+from ..net.stream import Stream, write_all
+from ..program import number
+from .batches import Batches
+from .database import begun, run_of
 from .figures import FeedFigures
-from .program import Program, naming
-from .sids import SidFile
+from .links import Network, grouped
+from .program import Program
+from .sids import SidFile, Values
 
 TOGETHER = 0.02  # seconds: what comes so close together isn't cut, as a removal and its new instance
 LONGEST = 1.0  # seconds that such a run of events may put a batch off
@@ -34,46 +40,18 @@ class Lost(Exception):
     """Why the session with the router can't go on."""
 
 
-class Network(NamedTuple):
-    """The network that a session was told of."""
-
-    rows: dict[Key, Row]
-    left: dict[str, list[Key]]  # links that are left out, by the reason
-    notes: dict[Key, str]  # what is said once of a link
-    sids: dict[Key, int]  # labels of adjacency SIDs
-
-
 class Session(Owner, Protocol):
-    """A session with a router. It calls `heard` of its feed for what comes, and `lose` once it can't go on."""
-
-    def network(self) -> Network: ...
-
-    def without_sid(self, link: Link) -> Link:
-        """A link that is held without a SID."""
+    """A session with a router, and the network that the router told of."""
 
     def close(self) -> None: ...
 
-
-class Listener(Protocol):
-    """What a session calls."""
-
-    loop: Loop
-
-    def heard(self, events: int, has_changed: bool) -> None:
-        """Something came from the router, so many events among it, by which the network may be another one."""
-
-    def lose(self, why: object) -> None:
-        """The session has ended."""
-
-
-Connect = Callable[[argparse.Namespace, Listener], Session]
+    def network(self) -> Network: ...
 
 
 def put_out(data: bytes) -> None:
     """Writes all of it to standard output."""
-    with naming("standard output"):
-        while data:
-            data = data[os.write(1, data):]
+    with tried("standard output"):
+        write_all(1, data)
 
 
 class Feed:
@@ -83,17 +61,19 @@ class Feed:
         self.asked, self.open = asked, connect
         self.figures = FeedFigures(self, asked.say)
         self.loop = Loop(self.figures.failed, selectors.PollSelector())  # standard input may be a regular file
-        self.sids = SidFile(asked.sids) if asked.sids else None
+        self.supervised = Supervised(self.loop, lambda: self.figures.told(self))
+        self.files = {name: SidFile(name, path) for name, path in (("sids", asked.sids), ("srlgs", asked.srlgs)) if path}
         self.program = Program(self.loop, asked.command, asked.to)
         self.batches: Batches | None = None  # once it is known what the program has
-        self.session: Session | None = None  # the last one
-        self.is_connected, self.was_lost, self.try_at = False, False, 0.0
+        self.opened: Session | None = None  # the last one
+        self.session: Session | None = None  # the last one that was up
+        self.is_connected, self.was_lost = False, False
         self.asks = Stream(self.loop, 0, is_shared=True) if asked.command or asked.to else None
-        self.look_at: float | None = None  # when the network is looked at next
-        self.event_at = 0.0
-        self.hold_until: float | None = None
+        self.try_at, self.event_at = 0.0, 0.0  # when a connection is tried, and when the last event came
+        self.look_at = self.hold_until = math.inf  # when the network is looked at next, and links aren't held any longer
+        self.hold_end = math.inf  # until then links are held at most
         self.awaited: set[Key] = set()  # links that the program has, and the router didn't tell of yet
-        self.awaited_sids: dict[Key, int] = {}
+        self.awaited_values: dict[str, Values] = {}  # the same of their lines in the files
         self.left: dict[str, list[Key]] | None = None  # what was said
         self.told: set[Key] = set()
 
@@ -101,7 +81,12 @@ class Feed:
         if self.asked.metrics:
             self.figures.serve(self.asked.metrics)
         database = begun(self.program, self.asked.journal)
+        if self.files:
+            run = run_of(self.program)
+            for file in self.files.values():
+                file.begin(run)
         self.batches = Batches(database, self.asked.say, self.refused)
+        self.supervised.ready()
         if database.version:
             marks = len(database.marks())
             self.asked.say(f"going on from version {database.version}, of {len(database.rows) - marks} links and {marks} marks; "
@@ -111,81 +96,89 @@ class Feed:
             self.asks.give(None, self.take_asks)
         while True:
             now = time.monotonic()
-            if not self.is_connected and now >= self.try_at:
+            if now >= self.try_at:
                 self.connect()
-            due = self.due()
-            if due is not None and now >= due:
+            if now >= self.due():
                 self.look(now)
             if self.asks:
                 self.asks.wait(not self.program.is_full())
-            times = [self.try_at] * (not self.is_connected) + [due for due in [self.due()] if due is not None]
-            self.loop.turn(max(0.0, min(times) - time.monotonic()) if times else None)
+            following = min(self.try_at, self.due())
+            self.loop.turn(following - time.monotonic() if following < math.inf else None)
 
-    def due(self) -> float | None:
-        """When the network is looked at next; None where nothing is to be done, or a batch is on its way."""
+    def due(self) -> float:
+        """When the network is looked at next; never where nothing is to be done, or a batch is on its way."""
         if self.batches is None or self.batches.sent:
-            return None
-        times = [] if self.look_at is None else [max(self.look_at, min(self.event_at + TOGETHER, self.look_at + LONGEST))]
-        times += [] if self.hold_until is None else [self.hold_until]  # it is waited for by no event
-        return min(times, default=None)
+            return math.inf
+        return min(self.hold_until, max(self.look_at, min(self.event_at + TOGETHER, self.look_at + LONGEST)))
 
     def connect(self) -> None:
-        assert self.batches is not None
+        self.try_at = math.inf
         try:
-            self.session = self.open(self.asked, self)
+            self.opened = self.open(self.asked, self)
         except Lost as fault:
             self.lose(fault)
-            return
-        self.is_connected, self.figures.heard_at = True, time.monotonic()
-        self.awaited = self.batches.links()
-        self.awaited_sids = dict(self.sids.labels) if self.sids else {}
-        self.hold_until = self.figures.heard_at + self.asked.hold if self.awaited else None
-        self.soon(self.figures.heard_at, self.asked.collect)
+
+    def up(self, session: Session) -> None:
+        assert self.batches is not None
+        self.session, self.is_connected, self.awaited = session, True, self.batches.links()
+        self.figures.heard_at = now = time.monotonic()
+        self.awaited_values = {name: dict(file.labels) for name, file in self.files.items()}
+        self.hold_end = now + self.asked.hold
+        self.hold_until = min(self.hold_end, now + self.asked.quiet) if self.awaited else math.inf
+        self.soon(now, self.asked.collect)
         if self.was_lost:
             self.asked.say(f"connected again; links that were there are held for {self.asked.hold:g} s")
 
-    def lose(self, why: object) -> None:
-        """The links that were put stay, until a router tells again what there is."""
-        if self.is_connected and self.session:
-            self.session.close()
+    def lose(self, why: object, again: float = AGAIN) -> None:
+        """The links that were put stay, until a router tells again what there is. It is tried again after so many seconds."""
+        if self.opened:
+            self.opened.close()
         if self.is_connected or not self.was_lost:
             self.asked.say(f"{unreachable(self.asked, why)}; what was put stays")
-        self.is_connected, self.was_lost, self.try_at = False, True, time.monotonic() + AGAIN
-        self.look_at, self.hold_until = None, None
+        self.is_connected, self.was_lost, self.try_at = False, True, time.monotonic() + again
+        self.look_at = self.hold_until = math.inf
 
     def soon(self, now: float, after: float) -> None:
-        self.look_at = min(self.look_at or now + after, now + after)
+        self.look_at = min(self.look_at, now + after)
 
     def heard(self, events: int, has_changed: bool) -> None:
         self.figures.heard_at = now = time.monotonic()
         if events:
             self.event_at = now
+            if self.hold_until < math.inf:
+                self.hold_until = min(self.hold_end, now + self.asked.quiet)
         if has_changed:
             self.soon(now, self.asked.collect)
+
+    def complete(self) -> None:
+        """Links that the router didn't tell of aren't held any longer."""
+        if self.hold_until < math.inf:
+            self.hold_until = self.hold_end = time.monotonic()
 
     def take_lines(self) -> None:
         assert self.batches is not None
         while self.program.lines:
             line = self.program.lines.popleft()
             if self.batches.read(line.decode(errors="replace")):
-                if self.sids and not self.batches.sent:
-                    self.sids.accepted()
+                for file in self.files.values():
+                    if not self.batches.sent:
+                        file.accepted()
                 if self.batches.is_cut:
                     self.soon(time.monotonic(), 0.0)
             elif self.asks:
                 put_out(line + b"\n")
 
     def refused(self, word: str) -> None:
-        self.figures.refused(word)
-        if self.sids:
-            self.sids.refused()
+        self.figures.add("routed_feed_refused_batches_total", 1, word)
+        for file in self.files.values():
+            file.refused()
 
     def take_asks(self, _: int) -> None:
         assert self.asks is not None and self.batches is not None
         rows = self.asks.lines()
         if self.asks.is_ended:
             if self.asks.fault:
-                raise Ended(f"standard input: {self.asks.why()}")
+                raise Stopped(f"standard input: {self.asks.why()}")
             rows += [self.asks.unread] if self.asks.unread else []
         for row in rows:
             if ASK.fullmatch(row):
@@ -196,71 +189,65 @@ class Feed:
 
     def close(self) -> None:
         """Ends the program, and takes the lines that it still writes."""
-        if self.sids:
-            self.sids.close()
-        if self.session:
-            self.session.close()
+        for file in self.files.values():
+            file.close()
+        if self.opened:
+            self.opened.close()
         if self.asks:
             self.asks.wait(False)
         self.program.end(is_read=self.batches is not None)
 
-    def network(self) -> Network | None:
-        """The network of the session; None where that ends it."""
-        if self.session is None:
-            return None
-        try:
-            return self.session.network()
-        except Lost as fault:
-            self.lose(fault)
-        except Exception as fault:
-            self.loop.end(self.session, fault)
-        return None
-
     def look(self, now: float) -> None:
         """Writes the next batch towards the network as it is."""
-        self.look_at = None
-        network = self.network()
-        if network is None or self.batches is None or self.session is None:
+        self.look_at = math.inf
+        assert self.batches is not None
+        if self.session is None:
             return
-        self.awaited -= network.rows.keys()
-        self.awaited_sids = {key: label for key, label in self.awaited_sids.items() if key not in network.sids}
-        if self.hold_until is not None and now >= self.hold_until:
-            self.hold_until, self.awaited, self.awaited_sids = None, set(), {}
-        sids, given = network.sids | self.awaited_sids, self.batches.given
-        held = [row for key, row in given.items() if key in self.awaited and key not in sids and isinstance(row, Link)]
-        wanted = network.rows | {link.key: left for link in held if (left := self.session.without_sid(link)) != link}
+        try:
+            network = self.session.network()
+        except Exception as fault:
+            self.loop.end(self.session, fault)
+            return
+        self.awaited.difference_update(network.rows if self.awaited else (), network.told)
+        if now >= self.hold_until:
+            if self.awaited and not network.rows and self.asked.quiet < math.inf:
+                self.asked.say(f"the router tells of no link: {len(self.awaited)} links and marks are dropped")
+                self.figures.add("routed_feed_emptied_total")
+            self.hold_until, self.awaited, self.awaited_values = math.inf, set(), {}
+        values: dict[str, Values] = {"sids": network.sids, "srlgs": network.srlgs}
+        for name, held in self.awaited_values.items():
+            self.awaited_values[name] = {key: held[key] for key in held.keys() - values[name].keys() - network.told}
+            values[name] = {**values[name], **self.awaited_values[name]}
+        given = self.batches.given
+        bare = {key: grouped(given[key], self.asked.sid_group, False) for key in self.awaited if key in given and key not in values["sids"]}
+        wanted = {**network.rows, **bare}
         text = self.batches.next(wanted, self.awaited)
-        if self.sids:
-            self.sids.write(self.batches, sids, wanted)
+        for name, file in self.files.items():
+            file.write(self.batches, values[name], wanted)
         self.program.write(text)
         self.figures.looked(network.rows, network.left)
-        self.tell(network)
-
-    def tell(self, network: Network) -> None:
-        tell_notes(self.asked, network, self.told)
-        self.told |= network.notes.keys()
-        if self.asked.verbose and network.left != self.left:
-            tell_left(self.asked, network, self.left or {})
+        tell(self.asked, network, self.told, self.left)
         self.left = network.left
 
 
 def unreachable(asked: argparse.Namespace, why: object) -> str:
-    return f"no connection to {asked.router} port {asked.port}: {why}"
+    return f"no connection to {asked.where}: {why}"
 
 
-def tell_notes(asked: argparse.Namespace, network: Network, told: Container[Key]) -> None:
+def tell(asked: argparse.Namespace, network: Network, told: set[Key], before: dict[str, list[Key]] | None = None) -> None:
+    """Says the notes of links that weren't told; and with --verbose, where it has changed, how many links are left out for each reason,
+    and which are new there."""
     for key, note in sorted(network.notes.items()):
         if key not in told:
             asked.say(note)
-
-
-def tell_left(asked: argparse.Namespace, network: Network, before: dict[str, list[Key]]) -> None:
-    """Says how many links are left out for each reason, and names those that are new there."""
+    told.update(network.notes)
+    if not asked.verbose or network.left == before:
+        return
     counts = ", ".join(f"{why} {len(names)}" for why, names in sorted(network.left.items()))
     marked = sum(len(key) == 1 for key in network.rows)
     asked.say(f"{len(network.rows) - marked} links; {f'{marked} without transit; ' * (marked > 0)}left out: {counts or 'none'}")
     for why, names in sorted(network.left.items()):
-        for name in sorted(set(names) - set(before.get(why, []))):
+        for name in sorted(set(names) - set((before or {}).get(why, []))):
             asked.say(f"left out, {why}: {' '.join(name)}")
 
 
@@ -268,41 +255,38 @@ class Once:
     """A session whose network is written once nothing has come for a while."""
 
     def __init__(self, asked: argparse.Namespace, connect: Connect) -> None:
-        self.asked, self.loop = asked, Loop(selector=selectors.PollSelector())
-        self.heard(0, False)
+        self.asked, self.loop, self.until, self.end = asked, Loop(selector=selectors.PollSelector()), math.inf, math.inf
+        self.quiet, self.most = (asked.quiet, asked.hold) if asked.quiet < math.inf else (max(asked.collect, 1.0), math.inf)
         try:
             self.session = connect(asked, self)
         except Lost as fault:
             self.lose(fault)
 
-    def heard(self, events: int, has_changed: bool) -> None:
-        self.until = time.monotonic() + max(self.asked.collect, 1.0)
+    def up(self, _: Session) -> None:
+        self.end = time.monotonic() + self.most
+        self.heard(1, False)
 
-    def lose(self, why: object) -> None:
-        raise Ended(unreachable(self.asked, why))
+    def heard(self, events: int, _: bool) -> None:
+        if events:
+            self.until = min(self.end, time.monotonic() + self.quiet)
+
+    def complete(self) -> None:
+        self.until = time.monotonic()
+
+    def lose(self, why: object, _: float = AGAIN) -> None:
+        raise Stopped(unreachable(self.asked, why))
 
     def run(self) -> None:
         while (left := self.until - time.monotonic()) > 0:
-            self.loop.turn(left)
+            self.loop.turn(left if left < math.inf else None)
         self.session.close()
         network = self.session.network()
-        for text in journal(network.rows):
-            put_out(text.encode())
-        tell_notes(self.asked, network, ())
-        if self.asked.verbose:
-            tell_left(self.asked, network, {})
+        rows, _ = in_batches([network.rows[key].text() for key in sorted(network.rows, key=rank)])
+        put_out("".join(f"{row}\n" for row in rows).encode())
+        tell(self.asked, network, set())
 
 
-def number(low: float, high: float, form: Callable = float) -> Callable:
-    """A number from `low` to `high`."""
-    def read(text: str) -> float:
-        value = form(text)
-        if not low <= value <= high:
-            raise ValueError
-        return value
-
-    read.__name__ = "seconds" if form is float else "number"
-    return read
+Connect = Callable[[argparse.Namespace, Feed | Once], Session]  # raises Lost where there can't be a session
 
 
 def host(text: str) -> str:
@@ -312,9 +296,9 @@ def host(text: str) -> str:
     return text
 
 
-def options(asked: argparse.ArgumentParser) -> None:
-    """What every feed takes."""
-    seconds = number(0, 86400)
+def options(asked: argparse.ArgumentParser, **defaults: object) -> None:
+    """What every feed takes. `where` among these defaults says where the router is, and `quiet` when it has told all."""
+    seconds = number("seconds", 0, 86400, float)
     asked.add_argument("--collect", type=seconds, default=0.2, metavar="S", help="seconds that changes are collected")
     asked.add_argument("--hold", type=seconds, default=20.0, metavar="S",
                        help="seconds after a connection is there that links of before are held, of which the router doesn't tell")
@@ -323,8 +307,9 @@ def options(asked: argparse.ArgumentParser) -> None:
     asked.add_argument("--metrics", type=Endpoint, metavar="PLACE", help="where figures are read, by HTTP at /metrics")
     asked.add_argument("--sids", metavar="FILE",
                        help="where adjacency SIDs are told, as lines sid,VERSION,ROUTER,LOCAL,LABEL; it is made anew")
-    asked.add_argument("--sid-group", type=number(0, 31, int), metavar="N",
+    asked.add_argument("--sid-group", type=number("number", 0, 31), metavar="N",
                        help="the administrative group, 0 to 31, of exactly the links that have an adjacency SID")
+    asked.set_defaults(**{"quiet": math.inf, "srlgs": None} | defaults)
     asked.add_argument("--once", action="store_true", help="write the present network as one journal, and end")
     asked.add_argument("--verbose", action="store_true", help="say which links are left out, and why")
     asked.add_argument("command", nargs=argparse.REMAINDER, help="what takes the rows, as: routed solve")
@@ -336,15 +321,13 @@ def run(name: str, parser: argparse.ArgumentParser, words: list[str] | None, con
         with contextlib.suppress(OSError):  # there is nobody to tell it to
             os.write(2, f"{name}: {text}\n".encode(errors="backslashreplace"))
 
-    for file in (0, 1, 2):  # one that is closed would become a file of the feed's own
-        try:
-            os.fstat(file)
-        except OSError:
-            os.open(os.devnull, os.O_RDWR)
+    while (file := os.open(os.devnull, os.O_RDWR)) < 3:  # one of the first three that is closed would become a file of the feed's own
+        pass
+    os.close(file)
     asked = parser.parse_args(words)
-    asked.say = say
-    if asked.once and asked.sids:
-        parser.error("argument --sids: it tells of changes, and --once ends before any")
+    asked.say, asked.where = say, asked.where.format(asked)
+    if asked.once and (asked.sids or asked.srlgs):
+        parser.error(f"argument --{'sids' if asked.sids else 'srlgs'}: it tells of changes, and --once ends before any")
     if asked.command[:1] == ["--"]:
         asked.command = asked.command[1:]
     if asked.to and (asked.command or asked.once):
@@ -365,5 +348,4 @@ def run(name: str, parser: argparse.ArgumentParser, words: list[str] | None, con
     finally:
         if feed:
             feed.close()
-            feed.figures.stop()
     return 0

@@ -7,25 +7,15 @@ import os
 import shlex
 import subprocess
 import time
-from collections.abc import Callable, Iterator
+from collections.abc import Callable
 
-from ..net.loop import READ, WRITE, Loop
-from ..net.endpoints import Endpoint
+from ..net.endpoints import Endpoint, tried
+from ..net.loop import READ, WRITE, Loop, Stopped
 from ..net.stream import Stream
-from .batches import Ended
 
 ANSWER = 60.0  # seconds that the program has for each line by which it tells what it has
 PATIENCE = 5.0  # seconds that the program has to end, or to say why, once it takes no more rows
 FULL = 1 << 20  # bytes that wait for the program before asks wait too
-
-
-@contextlib.contextmanager
-def naming(what: str) -> Iterator[None]:
-    """Ends the feed by what was tried, where the system refuses it."""
-    try:
-        yield
-    except OSError as fault:
-        raise Ended(f"{what}: {fault.strerror or fault}") from None
 
 
 class Program:
@@ -39,7 +29,7 @@ class Program:
         self.is_broken, self.heard_at = False, 0.0  # it takes no more rows
         if endpoint:
             self.name = endpoint.text
-            with naming(f"can't connect to {self.name}"):
+            with tried(f"can't connect to {self.name}"):
                 self.stream = Stream(loop, endpoint.connect())
         elif command:
             self.name = " ".join(shlex.join(command).split())  # one line
@@ -48,20 +38,17 @@ class Program:
             self.name = "standard input and output"
             self.stream = Stream(loop, 0, 1, is_shared=True)
         self.stream.give(None, self.go_on)
-        self.want()
+        self.stream.wait(True)
 
     def started(self, command: list[str]) -> Stream:
         (rows_out, rows_in), (lines_out, lines_in) = os.pipe(), os.pipe()
         try:
-            with naming(f"can't start {self.name}"):
+            with tried(f"can't start {self.name}"):
                 self.child = subprocess.Popen(command, stdin=rows_out, stdout=lines_in)
         finally:
             os.close(rows_out)
             os.close(lines_in)
         return Stream(self.loop, lines_out, rows_in)
-
-    def want(self) -> None:
-        self.stream.wait(True)
 
     def is_full(self) -> bool:
         return len(self.stream.waiting) >= FULL
@@ -70,7 +57,7 @@ class Program:
         """Writes rows. Where they aren't taken any more the program's last lines say why, or the error does."""
         self.stream.write(text.encode() if isinstance(text, str) else text)
         self.look()
-        self.want()
+        self.stream.wait(True)
 
     def look(self) -> None:
         """Sees whether rows are still taken."""
@@ -81,7 +68,7 @@ class Program:
             self.loop.after(PATIENCE, self.give_up)
 
     def give_up(self) -> None:
-        raise Ended(f"{self.name}: rows can't be written: {self.stream.why()}")
+        raise Stopped(f"{self.name}: rows can't be written: {self.stream.why()}")
 
     def go_on(self, events: int) -> None:
         if events & WRITE:
@@ -94,16 +81,16 @@ class Program:
                 self.take()
             if self.stream.is_ended:
                 if self.stream.fault and not self.is_broken:
-                    raise Ended(f"{self.name}: lines can't be read: {self.stream.why()}")
-                raise Ended(f"{self.name}: the program ended")
-        self.want()
+                    raise Stopped(f"{self.name}: lines can't be read: {self.stream.why()}")
+                raise Stopped(f"{self.name}: the program ended")
+        self.stream.wait(True)
 
     def line(self) -> str:
         """The next line, by itself: nothing else is done before it comes."""
         end = time.monotonic() + ANSWER
         while not self.lines:
             if time.monotonic() >= end:
-                raise Ended(f"{self.name}: no line came for {ANSWER:g} s, by which the feed learns what is there")
+                raise Stopped(f"{self.name}: no line came for {ANSWER:g} s, by which the feed learns what is there")
             self.loop.turn(end - time.monotonic())
         return self.lines.popleft().decode(errors="replace")
 
@@ -113,7 +100,7 @@ class Program:
             return
         self.stream.shut()
         self.heard_at = time.monotonic()
-        with contextlib.suppress(Ended):
+        with contextlib.suppress(Stopped):
             while is_read and (left := self.heard_at + PATIENCE - time.monotonic()) > 0:
                 self.loop.turn(left)
         self.stream.close()

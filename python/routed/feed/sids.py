@@ -1,43 +1,41 @@
 """The file of adjacency SIDs (`feed --sids FILE`): lines `sid,VERSION,ROUTER,LOCAL,LABEL`, without a label where the SID is gone.
+The first line is `run,NAME` where the program says the name of its run, as `routed-tools listen` does: versions are of that run.
 
 A reply at version V goes by the last line of each link whose version isn't above V. Each line is written before the batch
-of its number is sent.
+of its number is sent. The file of SRLGs (`--srlgs FILE`) is the same, of lines `srlg,VERSION,ROUTER,LOCAL,GROUP GROUP ..`.
 """
 from __future__ import annotations
 
 import contextlib
 import os
-from collections.abc import Iterator
+from collections.abc import Mapping
 
 from ..model.rows import Key, Row, rank
-from .batches import Batches, Ended
+from ..net.endpoints import tried
+from ..net.loop import Stopped
+from .batches import Batches
 
-
-@contextlib.contextmanager
-def naming(path: str) -> Iterator[None]:
-    try:
-        yield
-    except OSError as fault:
-        raise Ended(f"--sids {path}: {fault.strerror or fault}") from None
+Values = Mapping[Key, int | frozenset[int]]  # what is told of links: labels, or SRLGs
 
 
 class SidFile:
     """It is made anew beside FILE, and takes its place by a rename once the first SIDs are in it. So a reader has the file of
     before until then, never one that lacks SIDs, and sees by the inode that it is another one."""
 
-    def __init__(self, path: str) -> None:
-        self.path, self.length = path, 0
+    def __init__(self, name: str, path: str) -> None:
+        self.path, self.length, self.head = path, 0, ""
+        self.word, self.option = name[:-1], f"--{name} {path}"
         self.beside: str | None = f"{path}.new"
-        self.labels: dict[Key, int] = {}  # by link: what the last lines say
-        self.settled: dict[Key, int] = {}  # the same at the program's version
+        self.labels: Values = {}  # by link: what the last lines say
+        self.settled: Values = {}  # the same at the program's version
         self.open: set[Key] = set()  # the links of lines whose batch is on its way
         self.again: set[Key] = set()  # those whose batch was refused
-        with naming(path):
+        with tried(self.option):
             if os.path.exists(path) and not os.path.isfile(path):
-                raise Ended(f"--sids {path}: it is no regular file")
+                raise Stopped(f"{self.option}: it is no regular file")
             self.file = os.open(self.beside, os.O_WRONLY | os.O_CREAT | os.O_TRUNC, 0o644)
 
-    def write(self, batches: Batches, known: dict[Key, int], rows: dict[Key, Row]) -> None:
+    def write(self, batches: Batches, known: Values, rows: dict[Key, Row]) -> None:
         """Writes what changes, before the batch that `batches` has made or, where there is none, for the present version."""
         wanted = {**known, **self.put_off(batches, known, rows)}
         number = batches.version + bool(batches.sent)
@@ -48,7 +46,9 @@ class SidFile:
         for key in sorted(keys, key=rank):
             # a link that the program had before the feed came has the label at the program's version, too
             since = batches.version if self.beside and key in batches.given else number
-            lines.append(f"sid,{since},{','.join(key)},{wanted.get(key, '')}\n")
+            value = wanted.get(key, "")
+            text = " ".join(map(str, sorted(value))) if isinstance(value, frozenset) else value
+            lines.append(f"{self.word},{since},{','.join(key)},{text}\n")
         self.append("".join(lines))
         self.labels = wanted
         if batches.sent:
@@ -56,21 +56,25 @@ class SidFile:
         else:
             self.settled = dict(wanted)
 
-    def put_off(self, batches: Batches, known: dict[Key, int], rows: dict[Key, Row]) -> dict[Key, int]:
+    def put_off(self, batches: Batches, known: Values, rows: dict[Key, Row]) -> Values:
         """The labels of links whose SID is gone, if a later batch changes the link."""
         sent = {change.key for change in batches.sent}
         return {key: label for key, label in self.settled.items()
                 if key not in known and key in batches.given and key not in sent and batches.given[key] != rows.get(key)}
 
+    def begin(self, run: str | None) -> None:
+        """The lines are of this run of the program."""
+        self.head = f"run,{run}\n" if run else ""
+
     def append(self, text: str) -> None:
         """Writes whole lines by one write; what is cut is taken back."""
-        data = text.encode()
-        with naming(self.path):
+        data = (self.head * (not self.length) + text).encode()
+        with tried(self.option):
             try:
                 if data and os.write(self.file, data) != len(data):
                     os.write(self.file, data[-1:])  # it says why
-                    raise Ended(f"--sids {self.path}: a write was cut")
-            except (OSError, Ended):
+                    raise Stopped(f"{self.option}: a write was cut")
+            except (OSError, Stopped):
                 os.ftruncate(self.file, self.length)
                 raise
             self.length += len(data)
@@ -80,11 +84,8 @@ class SidFile:
 
     def accepted(self) -> None:
         """The batch that was on its way is the program's version."""
-        for key in self.open:
-            if key in self.labels:
-                self.settled[key] = self.labels[key]
-            else:
-                self.settled.pop(key, None)
+        others = {key: label for key, label in self.settled.items() if key not in self.open}
+        self.settled = others | {key: self.labels[key] for key in self.open if key in self.labels}
         self.open = set()
 
     def refused(self) -> None:

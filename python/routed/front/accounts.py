@@ -1,9 +1,11 @@
 """What the connections of routed-tools listen bring and read: their figures, and the lines of the log."""
 from __future__ import annotations
 
+import array
 import collections
 import os
 import re
+import secrets
 import time
 from bisect import bisect_left
 from collections.abc import Callable
@@ -13,20 +15,23 @@ from ..net.log import Log
 from .metrics import TIMES, Figures
 
 VERSIONS = JOURNAL_ROWS = 1_000_000  # the most that a run publishes, and that the commands read of a journal
-AT_ONCE = 1 << 24  # bytes of the journal that are read for one reading of the figures
+AT_ONCE = 1 << 18  # bytes of the journal that are read at once
 ROW = re.compile(rb"[^\r\n]+")  # a carriage return ends one, too
-END = re.compile(rb"(?m)^end,")
+END = re.compile(rb"(?m)^end,.*\n")
 OUTCOMES = [(b" route cost=", "route"), (b" none\n", "none"), (b" unknown-from\n", "unknown-from"), (b" unknown-to\n", "unknown-to")]
 OTHER = re.compile(rb"(?m)^(?:(version) (\d+)|((row|batch) \d+ refused: ([^ \n]+)[^\n]*))$")
 CUT_OFF = {"line": "refused, for a line that isn't passed on", "idle": "idle for too long"}
-PLACES = ("ask", "updates", "watch", "metrics")
+PLACES = ("ask", "updates", "watch", "show", "metrics")
 
 
 class Account:
     """Counts what the connections bring and read."""
 
-    def __init__(self, log: Log, journal: str) -> None:
-        self.log, self.journal, self.version = log, Journal(journal), 0
+    def __init__(self, log: Log, journal: str, number: int | None = None) -> None:
+        self.log, self.journal, self.version, self.number = log, Journal(journal), 0, number
+        self.run = str(number) if number else secrets.token_hex(8)  # the name of this run of the server
+        self.journal_failed: Callable[[], object] = lambda: None
+        self.fault = ""  # why nothing is published any more
         self.published_at: float | None = None
         self.open: collections.Counter[str] = collections.Counter()
         self.numbers: collections.Counter[str] = collections.Counter()
@@ -34,11 +39,13 @@ class Account:
         self.figures = figures = Figures()
         begun = time.time()
         figures.gauge("routed_start_time_seconds", "When the server began, in seconds since 1970.", lambda: begun)
+        if number is not None:
+            figures.gauge("routed_run", "The number of the run, which its journal has.", lambda: number)
         figures.gauge("routed_version", "The newest version.", lambda: self.version)
         figures.gauge("routed_versions_left", "How many versions the run may still publish.", lambda: VERSIONS - self.version)
         figures.age("routed_last_batch_age_seconds", "Seconds since a batch was published; absent where none was.",
                     lambda: self.published_at)
-        figures.total("routed_changes_total", "Changes in the batches of the journal.", self.journal.changes)
+        figures.total("routed_changes_total", "Changes in the batches of the journal.", lambda: self.journal.rows - self.journal.ends)
         figures.gauge("routed_journal_bytes", "Bytes of the journal.", self.journal.size)
         figures.gauge("routed_journal_rows_left", "How many rows the journal may still have, so that the commands read it.",
                       lambda: JOURNAL_ROWS - self.journal.rows)
@@ -94,10 +101,6 @@ class Account:
         self.figures.add("routed_cut_off_total", 1, reason)
         self.log.say("info", f"{place} {number}: {CUT_OFF[reason]}")
 
-    def lineless(self, use: Use, rows: int) -> None:
-        """The server has answered all rows, and so many had no line."""
-        self.log.say("info", f"{use.place} {use.number}: {rows} rows without a line")
-
     # ---- rows and lines
 
     def rows(self, use: Use, data: bytes) -> int:
@@ -149,6 +152,9 @@ class Account:
             else:
                 batch = kind == b"batch"
                 self.figures.add(f"routed_refused_{'batches' if batch else 'rows'}_total", 1, word.decode(errors="backslashreplace"))
+                if batch and word in (b"journal", b"stopped"):
+                    self.fault = self.fault or line.decode(errors="backslashreplace")
+                    self.journal_failed()
                 if use.number:  # else it is of what the run begins with, and ends it
                     self.log.say("warning" if batch else "info", f"{use.place} {use.number}: {line.decode(errors='backslashreplace')}")
         if version is not None:
@@ -172,21 +178,28 @@ class Journal:
     """What the journal has so far. Each part of it is read once, as it grows."""
 
     def __init__(self, path: str) -> None:
-        self.path, self.read, self.rows, self.ends = path, 0, 0, 0
+        self.path, self.read, self.rows = path, 0, 0
+        self.offsets = array.array("Q")  # bytes up to the end of each batch
 
-    def changes(self) -> int:
-        """How many rows of the journal are changes."""
+    @property
+    def ends(self) -> int:
+        """How many batches have ended."""
+        return len(self.offsets)
+
+    def read_on(self) -> bool:
+        """Counts the rows of the next part, and whether they are changes. Whether it is read to its end."""
         try:
             with open(self.path, "rb") as file:
                 file.seek(self.read)
                 data = file.read(AT_ONCE)
         except OSError:  # it isn't there yet
-            data = b""
+            return True
+        is_all = len(data) < AT_ONCE
         data = data[:data.rfind(b"\n") + 1]
-        self.read += len(data)
         self.rows += data.count(b"\n")
-        self.ends += len(END.findall(data))
-        return self.rows - self.ends
+        self.offsets.extend(self.read + end.end() for end in END.finditer(data))
+        self.read += len(data)
+        return is_all
 
     def size(self) -> int:
         try:

@@ -6,7 +6,6 @@ from __future__ import annotations
 
 import collections
 import contextlib
-import enum
 import re
 import secrets
 import socket
@@ -22,25 +21,17 @@ from .turns import SILENCE, Turns, first_rows
 
 MARK = b"\xef\xbb\xbf"  # the byte order mark, which the server's reader skips at the beginning of a stream alone
 SNAPSHOT = (b"snapshot\n", b"snapshot\r\n")
+RUN = (b"run\n", b"run\r\n")
 # Rows of the updates. A carriage return ends one, too.
 UPDATES = re.compile(rb'(?:(?:(?:put|drop|node|end|ask)(?:,[^"\r\n]*)?)?[\r\n])*+')
 
 
-class State(enum.IntEnum):
-    """What a channel does. Up to TAKING it reads the rows of its connection, and up to ENDING the server's lines are that connection's."""
-
-    NEW = 1  # the connection's first line isn't there yet
-    TAKING = 2
-    PAUSED = 3  # for a snapshot
-    ENDING = 4  # the connection has ended its rows: lines come up to the reply to our own request
-    UNHEARD = 5  # the same, and nobody has these lines
-    DROPPING = 6  # of updates: the changes that were left open are dropped, of which nobody hears, nor are the lines counted
-    OVER = 7  # all lines were read, and wait for the connection
-    FREE = 8
-    ENDED = 9  # the server has ended the stream, or it isn't used again
-
-
-NEW, TAKING, PAUSED, ENDING, UNHEARD, DROPPING, OVER, FREE, ENDED = list(State)  # a name of the module is found faster than a member
+# What a channel does. Up to TAKING it reads the rows of its connection, and up to ENDING the server's lines are that connection's.
+# NEW: the connection's first line isn't there yet. PAUSED: for a snapshot.
+# ENDING: the connection has ended its rows, and lines come up to the reply to our own request. UNHEARD: nobody has these lines.
+# DROPPING: of updates, the changes that were left open are dropped, of which nobody hears, nor are the lines counted.
+# OVER: all lines were read, and wait for the connection. ENDED: the server has ended the stream, or it isn't used again.
+NEW, TAKING, PAUSED, ENDING, UNHEARD, DROPPING, OVER, FREE, ENDED = range(9)
 
 
 class Listener:
@@ -104,7 +95,7 @@ class Channel:
         self.free: collections.deque[Channel] = collections.deque()
         self.use = Use(account, self.place, "")  # nobody's
         self.peer: int | str | None = None
-        self.state: State = FREE
+        self.state = FREE
         self.waited: tuple[object, ...] | None = None
         self.unread, self.last, self.moved = b"", b"", 0.0  # of the connection: rows, its last line, and when it sent or took anything
         self.to_server = b""  # rows that aren't passed on yet
@@ -286,7 +277,7 @@ class Channel:
             self.unanswered = left if left > 0 else 0
         if self.probe and (at := said.find(self.probe)) >= 0:
             if self.unanswered:
-                self.account.lineless(self.use, self.unanswered)
+                self.account.log.say("info", f"{self.named()}: {self.unanswered} rows without a line")
             said, self.probe, self.unanswered = said[:at] + said[said.index(b"\n", at) + 1:], b"", 0
         if self.awaited and (at := said.find(self.awaited[0])) >= 0:
             version, said = int(said[at + len(self.awaited[0]):].split(b" ", 1)[0]), said[:at]
@@ -346,7 +337,7 @@ class Channel:
 
 
 class Updates(Channel):
-    """The stream of the updates: changes that a connection leaves open are dropped, and its row `snapshot` is answered."""
+    """The stream of the updates: changes that a connection leaves open are dropped, and its rows `snapshot` and `run` are answered."""
 
     place = "updates"
 
@@ -376,11 +367,14 @@ class Updates(Channel):
         self.ask(self.finish)
 
     def meet(self, line: bytes) -> None:
-        if line not in SNAPSHOT:
+        if line not in SNAPSHOT + RUN:
             super().meet(line)
             return
         self.unread, self.state = self.unread[len(line):], PAUSED
-        self.ask(lambda version: self.snapshots.begin(version, self.go_on))
+        if line in RUN:
+            self.ask(lambda version: self.go_on(f"run {self.account.run}\n".encode()))
+        else:
+            self.ask(lambda version: self.snapshots.begin(version, self.go_on))
 
     def go_on(self, text: bytes) -> None:
         """Passes the text of a snapshot on, and then the rows behind its row."""
@@ -391,7 +385,7 @@ class Updates(Channel):
             self.settle()
 
     def fail(self) -> None:
-        self.snapshots.stop()
+        self.snapshots.drop()
         super().fail()
 
     def retire(self) -> None:

@@ -13,18 +13,26 @@ request publishes nothing. A connection that doesn't read keeps its place and de
 that neither sends nor reads for the time of --idle is ended.
 
 Where updates come in, the line `snapshot` asks for the database as it is. Behind the lines of earlier rows come
-`version V`, the rows of `routed snapshot` on the journal, which are batches from 1 on, and `snapshot end`; or else the one
-line `snapshot refused: WORDS`. Rows behind it wait for that.
+`version V`, with --run `run N`, the rows of `routed snapshot` on the journal, which are batches from 1 on, and
+`snapshot end`; or else the one line `snapshot refused: WORDS`. Rows behind it wait for that. The line `run` is answered
+by `run NAME`, the name of this run: the number of --run, or else a name that no other run has.
+
+With --show there is a place for those who may look at the network and not change it. The line `snapshot` is answered there as
+where updates come in, at the newest version. Nothing else is taken there: any other line is answered by `refused` and the end.
 
 With --begin the batches of a file, as `routed snapshot` makes them, are published before any connection is taken.
 
 The server outlives connections: what one has published is there for the next, and N in `row N refused` counts rows of
 earlier ones and of this front too. Changes that a connection leaves open are dropped.
 
-`ready` is printed once rows are taken, and standard error has what `routed serve --explain` says. SIGTERM or SIGINT ends
-the server and this front. The status is the server's (128 and the signal's number where one ended it), 2 where a word of
-the command line is refused, 3 where a socket or the program can't be had. Where this front is killed the server ends by
-itself. The journal has whole batches then, and after a signal to the server maybe a beginning of one more.
+`ready` is printed once rows are taken, behind `run N` with --run, and standard error has what `routed serve --explain` says.
+SIGTERM or SIGINT ends the server and this front. The status is the server's (128 and the signal's number where one ended it), 2
+where a word of the command line is refused, 3 where a socket or the program can't be had, and after --renew. Where this front
+is killed the server ends by itself. The journal has whole batches then, and after a signal to the server maybe a beginning of
+one more.
+
+A unit of systemd may have Type=notify and WatchdogSec=. That of the package is started by
+`systemctl enable --now routed-serve` (docs/run/OPERATORS.md).
 
 Example: routed-tools listen --journal day.journal --ask ./ask --updates ./updates
 and in other shells: nc -N -U ./updates < examples/abilene.rows, or nc -U ./ask
@@ -43,14 +51,19 @@ from ..net.endpoints import Endpoint, say, tried
 from ..net.http import Page
 from ..net.log import LEVELS, Log
 from ..net.loop import Loop, Stopped
+from ..net.notify import Supervised
 from ..net.signals import take_signals
+from . import processes
 from .accounts import Account
 from .channels import Channel, Listener, Updates
+from .renewal import Renewal
+from .showing import Showing
 from .snapshots import Snapshots
 from .turns import Turns
 from .watch import Watch
 
 IDLE = 300  # seconds, at a port
+MOST_RUNS = 999_999  # the greatest number of a run
 
 
 class Front:
@@ -58,27 +71,53 @@ class Front:
 
     def __init__(self, options: argparse.Namespace) -> None:
         self.log = Log("listen", options.log_level)
-        self.account = Account(self.log, options.journal)
+        self.account = Account(self.log, options.journal, options.run)
         self.loop, self.options, self.is_stopped = Loop(self.account.failed), options, False
-        self.snapshots, self.turns = Snapshots(options.program, options.journal), Turns(len(os.sched_getaffinity(0)))
+        self.snapshots, self.turns = Snapshots(self.loop, options.program, self.account), Turns(len(os.sched_getaffinity(0)))
         self.listeners: dict[str, socket.socket] = {}
         self.server: subprocess.Popen[bytes] | None = None
         self.status: int | None = None  # of the server, once it has ended
+        self.is_renewed = False  # it ends for a run that can be written
         self.channels: list[Channel] = []  # that of the updates first
         self.theirs: list[int] = []  # the server's ends of their pipes
+        program.build_info(self.account.figures, options.program)
+        processes.add(self.account.figures, self.processes)
+        self.supervised = Supervised(self.loop, self.told)
+        if options.renew:
+            self.account.journal_failed = Renewal(self.loop, options.journal, self.renew).begin
         take_signals(self.loop, (signal.SIGTERM, signal.SIGINT, signal.SIGCHLD), self.signalled)
+
+    def processes(self) -> dict[str, int]:
+        return {"front": os.getpid(), **({"program": self.server.pid} if self.server else {})}
+
+    def told(self) -> str:
+        """The status line of the unit."""
+        if not self.supervised.is_ready:
+            return f"publishing the batches of {self.options.begin}" if self.options.begin else "starting"
+        run = "" if self.options.run is None else f"run {self.options.run}, "
+        asking = self.account.open["ask"]
+        return f"{run}version {self.account.version}, {asking} asking{f'; {self.account.fault}' if self.account.fault else ''}"
+
+    def renew(self) -> None:
+        """Ends the run, since nothing can be published in it any more, and the next one has room."""
+        if self.server and not self.is_stopped:
+            self.log.say("error", f"{self.account.fault}: there is room again, and this run ends")
+            self.is_stopped = self.is_renewed = True
+            self.server.terminate()
 
     def begin(self) -> None:
         """Starts the server, and brings what it begins with. Rows are taken once it has answered one: all files are open then."""
         batches = beginning(self.options.begin)
-        words = [self.options.program, "serve", "--explain", "--journal", self.options.journal]
+        words, clients = [self.options.program, "serve", "--explain", "--journal", self.options.journal], []
         for number in range(self.options.clients + 1):
             (rows_out, rows_in), (lines_out, lines_in) = os.pipe(), os.pipe()
             ours = self.loop, rows_in, lines_out, self.account, self.turns
             self.channels.append(Channel(*ours) if number else Updates(*ours, self.snapshots))
             self.theirs += [rows_out, lines_in]
             if number:  # inherited, an end of a pipe would stay open in the server whatever it closes: it opens its own
-                words += ["--client", "=".join(f"/proc/{os.getpid()}/fd/{end}" for end in self.theirs[-2:])]
+                clients.append("=".join(f"/proc/{os.getpid()}/fd/{end}" for end in self.theirs[-2:]))
+        self.theirs.append(pipe_of("".join(f"{client}\n" for client in clients)))
+        words += ["--clients-from", f"/proc/{os.getpid()}/fd/{self.theirs[-1]}"]
         with tried(self.options.program, program.hint(self.options.program)):
             self.server = subprocess.Popen(words, stdin=self.theirs[0], stdout=self.theirs[1])
         os.close(self.theirs.pop(1))
@@ -101,14 +140,18 @@ class Front:
             if place.port == 0:
                 host, port = listener.getsockname()[:2]
                 told.append(f"{kind} {f'[{host}]' if ':' in host else host}:{port}")
-        say(*told, "ready")
+        say(*told, *([] if self.options.run is None else [f"run {self.options.run}"]), "ready")
+        self.supervised.ready()
 
     def serve(self, kind: str, listener: socket.socket) -> None:
         """Takes the connections of a place."""
         if kind == "metrics":
-            Page(self.loop, listener, self.account.figures.text, lambda change: self.account.change("metrics", change))
+            Page(self.loop, listener, self.account.figures.text, lambda change: self.account.change("metrics", change),
+                 self.account.journal.read_on)
         elif kind == "watch":
             Watch(self.loop, listener, self.account)
+        elif kind == "show":
+            Showing(self.loop, listener, self.account, self.snapshots)
         elif kind == "updates":
             Listener(self.loop, listener, self.channels[:1], 0)
         else:
@@ -137,7 +180,15 @@ class Front:
         if status and not self.is_stopped:
             what = f"ended with status {status}" if status > 0 else f"was ended by signal {-status}"
             self.log.say("error", f"{self.options.program} {what}")
-        return status if status >= 0 else 128 - status
+        return 3 if self.is_renewed else status if status >= 0 else 128 - status
+
+
+def pipe_of(text: str) -> int:
+    """The reading end of a pipe that has this text and its end. The text of 64 clients is shorter than the least pipe, 4096 bytes."""
+    reading, writing = os.pipe()
+    with open(writing, "wb") as file:
+        file.write(text.encode())
+    return reading
 
 
 def beginning(path: str | None) -> list[str]:
@@ -166,6 +217,14 @@ def mode(text: str) -> int:
     return value
 
 
+def run(text: str) -> int:
+    """The number of a run."""
+    value = int(text)
+    if not 0 < value <= MOST_RUNS:
+        raise ValueError
+    return value
+
+
 def seconds(text: str) -> float:
     """A time that can be waited for."""
     value = float(text)
@@ -180,6 +239,8 @@ def main(given: list[str] | None = None) -> int:
     words.add_argument("--journal", required=True, metavar="FILE", help="a new file, for the batches of this run")
     words.add_argument("--begin", metavar="FILE",
                        help="batches that are published before any connection is taken: a snapshot of the run before")
+    words.add_argument("--run", type=run, metavar="N", help="the number of this run, which it tells")
+    words.add_argument("--renew", action="store_true", help="once the journal has failed and there is room again, end with status 3")
     words.add_argument("--ask", required=True, type=Endpoint, metavar="PLACE", help="where clients ask")
     words.add_argument("--updates", required=True, type=Endpoint, metavar="PLACE", help="where updates come in")
     words.add_argument("--clients", type=int, choices=range(1, 65), default=64, metavar="N", help="how many ask at once, 1 to 64 (64)")
@@ -189,6 +250,8 @@ def main(given: list[str] | None = None) -> int:
     words.add_argument("--each", type=int, choices=range(0, 65), default=0, metavar="N",
                        help="how many asking connections one user has at once at a path, or one address at a port, 0 for any number (0)")
     words.add_argument("--watch", type=Endpoint, metavar="PLACE", help="where the line of each version is read")
+    words.add_argument("--show", type=Endpoint, metavar="PLACE", help="where the line `snapshot` shows the network, and no line changes it")
+    words.add_argument("--show-mode", type=mode, metavar="MODE", help="that of the socket of --show (that of --ask-mode)")
     words.add_argument("--metrics", type=Endpoint, metavar="PLACE", help="where figures are read, by HTTP at /metrics")
     words.add_argument("--log-level", choices=LEVELS, default="warning", help="which lines of the log are written (warning)")
     words.add_argument("--idle", type=seconds, metavar="SECONDS", help=f"after which an idle asking connection is ended, 0 for never "
@@ -198,7 +261,8 @@ def main(given: list[str] | None = None) -> int:
     options.program = program.find(options.program)
     front = Front(options)
     try:
-        modes = {"updates": options.updates_mode, "ask": options.ask_mode, "watch": options.ask_mode, "metrics": None}
+        modes = {"updates": options.updates_mode, "ask": options.ask_mode, "watch": options.ask_mode, "metrics": None,
+                 "show": options.ask_mode if options.show_mode is None else options.show_mode}
         for kind, given in modes.items():
             if place := getattr(options, kind):
                 front.listeners[kind] = place.bind(options.mode if given is None else given)

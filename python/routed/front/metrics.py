@@ -2,7 +2,7 @@
 from __future__ import annotations
 
 import time
-from collections.abc import Callable, Iterable
+from collections.abc import Callable, Iterable, Mapping
 from typing import Any
 
 TIMES = (0.0001, 0.00025, 0.0005, 0.001, 0.0025, 0.005, 0.01, 0.025, 0.05, 0.1, 0.25, 0.5, 1, 2.5, 10)  # seconds
@@ -15,6 +15,7 @@ class Figures:
         self.kinds: dict[str, tuple[str, str, str | None]] = {}
         self.values: dict[str, Any] = {}
         self.asked: dict[str, Callable[[], Any]] = {}
+        self.infos: dict[str, str] = {}
 
     def counter(self, name: str, text: str, label: str | None = None, values: Iterable[str] = ()) -> None:
         self.kinds[name] = "counter", text, label
@@ -29,10 +30,15 @@ class Figures:
         """The seconds since a time of `time.monotonic` that `read` gives when it is asked for; None leaves it out."""
         self.gauge(name, text, lambda: None if (at := read()) is None else time.monotonic() - at)
 
-    def total(self, name: str, text: str, read: Callable[[], float]) -> None:
+    def total(self, name: str, text: str, read: Callable[[], Any], label: str | None = None) -> None:
         """A counter that `read` gives when it is asked for."""
-        self.gauge(name, text, read)
-        self.kinds[name] = "counter", text, None
+        self.gauge(name, text, read, label)
+        self.kinds[name] = "counter", text, label
+
+    def info(self, name: str, text: str, labels: Mapping[str, str]) -> None:
+        """The number 1 with labels whose values say something."""
+        self.kinds[name] = "gauge", text, None
+        self.infos[name] = name + "{" + ",".join(labelled(label, value)[1:-1] for label, value in labels.items()) + "} 1"
 
     def times(self, name: str, text: str) -> None:
         """A histogram of seconds: a count for each edge of TIMES and one above, and the sum."""
@@ -48,6 +54,9 @@ class Figures:
         lines = []
         for name, (kind, text, label) in self.kinds.items():
             lines += [f"# HELP {name} {text}", f"# TYPE {name} {kind}"]
+            if name in self.infos:
+                lines.append(self.infos[name])
+                continue
             if kind == "histogram":
                 lines += self.histogram(name)
                 continue

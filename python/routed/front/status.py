@@ -1,8 +1,9 @@
-"""Prints one screen of the figures of a running `routed-tools listen`, or of a feed.
+"""Prints one screen of the figures of a running `routed-tools listen`, `routed-tools pcep` or feed.
 
     routed-tools status PLACE [--watch SECONDS]
 
-PLACE is that of --metrics. The status is 0, or 1 where the figures can't be read, with a line that says why.
+PLACE is that of --metrics. The status is 0, or 1 where the figures can't be read, with a line that says why. With --watch this
+line is printed in place of the figures, and they are read again after the time of --watch.
 """
 from __future__ import annotations
 
@@ -10,10 +11,11 @@ import argparse
 import re
 import sys
 import time
-from collections.abc import Iterator, Mapping
+from collections.abc import Iterator
 
 from ..net.endpoints import Endpoint
 from ..net.http import Unread, get
+from ..program import failed, number
 
 Figures = dict[tuple[str, "str | None"], float]
 SAMPLE = re.compile(r'(\w+)(?:\{(\w+)="((?:[^"\\]|\\.)*)"\})? (\S+)')
@@ -28,13 +30,10 @@ def read(place: Endpoint) -> Figures:
         raise Unread(f"a figure is no number: {fault}") from None
 
 
-def labelled(figures: Figures, name: str) -> dict[str, float]:
-    """The numbers of a name by its label's values that aren't 0."""
-    return {value: number for (found, value), number in figures.items() if found == name and value is not None and number}
-
-
-def listed(found: Mapping[str, float]) -> str:
-    return ", ".join(f"{value} {number:,.0f}" for value, number in sorted(found.items())) or "none"
+def listed(figures: Figures, name: str) -> str:
+    """The numbers of a name that aren't 0, each behind its label's value."""
+    found = sorted((value, number) for (each, value), number in figures.items() if each == name and value is not None and number)
+    return ", ".join(f"{value} {number:,.0f}" for value, number in found) or "none"
 
 
 def share(figures: Figures, part: float) -> str:
@@ -61,20 +60,38 @@ def screen(figures: Figures) -> Iterator[tuple[str, str]]:
         yield "heard", age("routed_feed_heard_age_seconds")
         yield "version", number("routed_feed_version")
         yield "links", f"{number('routed_feed_links')}, and {number('routed_feed_marks')} routers without transit"
-        yield "left out", listed(labelled(figures, "routed_feed_left_out"))
-        yield "refused batches", listed(labelled(figures, "routed_feed_refused_batches_total"))
+        yield "left out", listed(figures, "routed_feed_left_out")
+        yield "refused batches", listed(figures, "routed_feed_refused_batches_total")
+    if one("routed_pcep_sessions") is not None:
+        yield "server", "connected" if one("routed_pcep_connected") else "not connected"
+        yield "journal", "followed" if one("routed_pcep_journal_followed") else "not followed"
+        if one("routed_pcep_run") is not None:
+            yield "run", number("routed_pcep_run")
+        yield "version", number("routed_pcep_version")
+        yield "sessions", f"{number('routed_pcep_sessions')} up, {number('routed_pcep_sessions_ended_total')} ended"
+        yield "LSPs", f"{number('routed_pcep_lsps')} delegated, {number('routed_pcep_lsps_without_route')} without a route"
+        yield "LSPs at fault", listed(figures, "routed_pcep_lsps_at_fault")
+        yield "requests", listed(figures, "routed_pcep_requests_total")
+        yield "moves", listed(figures, "routed_pcep_moves_total")
+        yield "updates", listed(figures, "routed_pcep_updates_total")
+        yield "errors sent", listed(figures, "routed_pcep_errors_total")
+        yield "errors of PCCs", listed(figures, "routed_pcep_refused_by_pccs_total")
+        yield "turned away", listed(figures, "routed_pcep_turned_away_total")
+        yield "lost replies", number("routed_pcep_replies_lost")
     if one("routed_version") is not None:
+        if one("routed_run") is not None:
+            yield "run", number("routed_run")
         yield "version", f"{number('routed_version')}, {number('routed_versions_left')} left"
         yield "last batch", age("routed_last_batch_age_seconds")
         yield "journal", (f"{number('routed_journal_bytes')} bytes, {number('routed_changes_total')} changes, "
                           f"{number('routed_journal_rows_left')} rows left")
-        yield "asks", listed(labelled(figures, "routed_asks_total"))
+        yield "asks", listed(figures, "routed_asks_total")
         yield "time of a row", f"half within {share(figures, 0.5)}, 99 of 100 within {share(figures, 0.99)}"
-        yield "refused rows", listed(labelled(figures, "routed_refused_rows_total"))
-        yield "refused batches", listed(labelled(figures, "routed_refused_batches_total"))
-        yield "connections", listed(labelled(figures, "routed_connections"))
-        yield "busy", listed(labelled(figures, "routed_busy_total"))
-        yield "cut off", listed(labelled(figures, "routed_cut_off_total"))
+        yield "refused rows", listed(figures, "routed_refused_rows_total")
+        yield "refused batches", listed(figures, "routed_refused_batches_total")
+        yield "connections", listed(figures, "routed_connections")
+        yield "busy", listed(figures, "routed_busy_total")
+        yield "cut off", listed(figures, "routed_cut_off_total")
         yield "dropped log lines", number("routed_log_dropped_total")
 
 
@@ -82,19 +99,32 @@ def main(words: list[str] | None = None) -> int:
     """Takes the words of a command line, and answers the status."""
     asked = argparse.ArgumentParser(prog="routed-tools status", description=__doc__, formatter_class=argparse.RawDescriptionHelpFormatter)
     asked.add_argument("place", type=Endpoint, metavar="PLACE", help="a path, a port, ADDRESS:PORT or [ADDRESS]:PORT, as of --metrics")
-    asked.add_argument("--watch", type=float, metavar="SECONDS", help="print it again and again, after so many seconds each")
+    asked.add_argument("--watch", type=number("number of seconds", 0.1, 86400, float), metavar="SECONDS",
+                       help="print it again and again, after so many seconds each")
     given = asked.parse_args(words)
+    while True:
+        status = show(given.place, bool(given.watch))
+        if not given.watch:
+            return status
+        time.sleep(given.watch)
+
+
+def show(place: Endpoint, is_watched: bool) -> int:
+    """Prints the screen, or why there is none."""
+    begin = CLEAR if is_watched and sys.stdout.isatty() else ""
     try:
-        while True:
-            text = "".join(f"{name:18} {what}\n" for name, what in screen(read(given.place)))
-            if not text:
-                raise Unread("no figures of routed are there")
-            print((CLEAR if given.watch and sys.stdout.isatty() else "") + text, end="", flush=True)
-            if not given.watch:
-                return 0
-            time.sleep(given.watch)
+        text = "".join(f"{name:18} {what}\n" for name, what in screen(read(place)))
+        if not text:
+            raise Unread("no figures of routed are there")
     except Unread as fault:
-        print(f"status: {given.place.text}: {fault}", file=sys.stderr)
-        return 1
-    except KeyboardInterrupt:
-        return 130
+        print(begin, end="", flush=True)
+        return failed("status", f"{place.text}: {fault}", advice=advice_of(str(fault)))
+    print(begin + text, end="", flush=True)
+    return 0
+
+
+def advice_of(why: str) -> str:
+    """What to do where the figures can't be read."""
+    if "No such file" in why:
+        return "start the server with --metrics, or give the place that it was given"
+    return "" if "refused" in why or "Permission" in why else "give the place of --metrics of listen, pcep or a feed"

@@ -1,9 +1,13 @@
-"""The place that tells versions: a connection reads the line of the newest version at once, and each from then on.
+"""The place that tells versions: a connection reads the line of the run, if the run has a number, and the line of the newest version at
+once, and each from then on.
 
-A connection that doesn't read is told the newest version alone once it reads again, and delays nobody. What it sends is
-dropped. It ends with the server, or where it closes."""
+A connection that doesn't read is told the newest version alone once it reads again, and delays nobody. The line `run` is
+answered by `run NAME`, the name of the server's run; what else it sends is dropped. It ends with the server, or where it closes.
+One that has ended its sending side may still read. At a path its close is noticed all the same; TCP says nothing of it, so at a
+port such a connection gives way where the place is full."""
 from __future__ import annotations
 
+import select
 import socket
 import time
 
@@ -13,6 +17,7 @@ from ..net.stream import Stream
 from .accounts import Account
 
 MOST = 256  # connections
+ASKED = b"run"  # the line that asks for the name of the run
 
 
 class Watch:
@@ -21,17 +26,48 @@ class Watch:
     def __init__(self, loop: Loop, listener: socket.socket, account: Account) -> None:
         self.account = account
         self.watchers: set[Watcher] = set()
+        self.silent: dict[int, Watcher] = {}  # by their files, those that have ended their sending side
+        self.ends = select.epoll()  # which tells of the end of both sides alone
+        loop.want(self.ends.fileno(), READ, self.look)
         account.told.append(self.tell)
         Door(loop, listener, self.take)
 
+    def look(self, _: int) -> None:
+        """Some that have ended their sending side are gone."""
+        for file, _ in self.ends.poll(0):
+            watcher = self.silent[file]
+            watcher.stream.loop.call(watcher.close)
+
+    def fall_silent(self, watcher: Watcher) -> None:
+        file = watcher.stream.source
+        if file not in self.silent:
+            self.silent[file] = watcher
+            self.ends.register(file, 0)
+
+    def leave(self, watcher: Watcher) -> None:
+        self.watchers.remove(watcher)
+        if self.silent.pop(watcher.stream.source, None):
+            self.ends.unregister(watcher.stream.source)
+
+    def make_room(self) -> None:
+        """The first connection of TCP that has ended its sending side gives way."""
+        for watcher in self.silent.values():
+            if watcher.stream.socket and watcher.stream.socket.family != socket.AF_UNIX:
+                watcher.close()
+                return
+
     def take(self, stream: Stream) -> None:
         _, named = stream.peer()
+        if len(self.watchers) >= MOST:
+            self.make_room()
         if len(self.watchers) >= MOST:
             self.account.busy("watch", named)
             stream.hang_up(b"busy\n")
             return
         watcher = Watcher(self, stream, self.account.begin("watch", named))
         self.watchers.add(watcher)
+        if self.account.number is not None:
+            stream.write(f"run {self.account.number}\n".encode())
         stream.loop.call(watcher.tell)
 
     def tell(self) -> None:
@@ -64,14 +100,19 @@ class Watcher:
 
     def go_on(self, events: int) -> None:
         if events & READ:
-            self.stream.read()
+            lines = self.stream.lines()
+            self.stream.unread = self.stream.unread[-len(ASKED):]  # a longer line is dropped
+            if asked := lines.count(ASKED) * (not self.stream.is_full):
+                self.stream.write(f"run {self.watch.account.run}\n".encode() * asked)
         if events & WRITE:
             self.stream.flush()
         self.tell()
+        if self.stream.is_ended and self in self.watch.watchers:
+            self.watch.fall_silent(self)
 
     def close(self) -> None:
         if self in self.watch.watchers:
-            self.watch.watchers.remove(self)
+            self.watch.leave(self)
             self.stream.close()
             self.watch.account.end("watch", self.number, f"{self.lines} lines, {time.monotonic() - self.begun_at:.1f} s")
 

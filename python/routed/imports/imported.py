@@ -2,7 +2,9 @@
 from __future__ import annotations
 
 import collections
-from typing import NamedTuple
+import contextlib
+import math
+from typing import NamedTuple, TypeVar
 
 
 class Site(NamedTuple):
@@ -33,6 +35,17 @@ class Demand(NamedTuple):
     bandwidth: float
 
 
+Between = TypeVar("Between", Circuit, Demand)
+
+
+def number(text: str, fault: str) -> float:
+    """The number of a text; the fault says what is wrong where it has none."""
+    with contextlib.suppress(ValueError):
+        if math.isfinite(value := float(text)):
+            return value
+    raise ValueError(fault)
+
+
 class Found:
     """The sites by their names in the file, the circuits, the demands; and how often what had no place in a row was there."""
 
@@ -40,7 +53,8 @@ class Found:
         self.sites: dict[str, Site] = {}
         self.circuits: list[Circuit] = []
         self.demands: list[Demand] = []
-        self.left: dict[str, int] = collections.Counter()
+        self.left: collections.Counter[str] = collections.Counter()
+        self.said: list[str] = []  # how the numbers of the file were read
 
     def linked(self) -> set[str]:
         """The sites that have a circuit."""
@@ -51,18 +65,12 @@ class Found:
             raise ValueError(f"{where}: the site {name} is there twice")
         self.sites[name] = Site(" ".join(label.split()) or name, place)
 
-    def add_circuit(self, where: str, circuit: Circuit) -> None:
-        if self.has_ends(where, "link", circuit.one, circuit.other):
-            self.circuits.append(circuit)
-
-    def add_demand(self, where: str, demand: Demand) -> None:
-        if self.has_ends(where, "demand", demand.one, demand.other):
-            self.demands.append(demand)
-
-    def has_ends(self, where: str, what: str, *ends: str) -> bool:
-        """Whether it is between two sites, which are there; one from a site to itself is counted."""
-        for name in ends:
+    def add(self, where: str, what: str, those: list[Between], new: Between) -> None:
+        """Adds to the circuits or to the demands one between two sites, which are there; one from a site to itself is counted."""
+        for name in (new.one, new.other):
             if name not in self.sites:
                 raise ValueError(f"{where}: there is no site {name}")
-        self.left[f"{what} from a site to itself"] += ends[0] == ends[1]
-        return ends[0] != ends[1]
+        if new.one == new.other:
+            self.left[f"{what} from a site to itself"] += 1
+        else:
+            those.append(new)

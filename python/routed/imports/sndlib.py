@@ -1,67 +1,62 @@
-"""Reads SNDlib's native format: the sections NODES, LINKS and DEMANDS. The others have no place in a row, and are counted."""
+"""Reads SNDlib's native format: the sections NODES, LINKS and DEMANDS, and the unit that META names. What else the file has has no place in
+a row, and is counted."""
 from __future__ import annotations
 
-import math
+import collections
 import re
 
-from .imported import Circuit, Demand, Found
+from .imported import Circuit, Demand, Found, number
+from .speeds import unit_of
 
 HEAD = "?SNDlib native format"
+MBIT = 125_000  # bytes per second
 
 
 class Tokens:
     """The words and the brackets of a text, each with the number of its line."""
 
     def __init__(self, text: str) -> None:
-        self.tokens = [(number, token) for number, line in enumerate(text.splitlines(), 1)
-                       for token in re.findall(r"[()]|[^\s(),]+", line.partition("#")[0])]
-        self.at = 0
+        tokens = [(number, token) for number, line in enumerate(text.splitlines(), 1)
+                  for token in re.findall(r"[()]|[^\s(),]+", line.partition("#")[0])]
+        self.left = collections.deque([*tokens, (tokens[-1][0] if tokens else 1, "")])  # the last is the end
 
     @property
     def where(self) -> str:
-        number = self.tokens[min(self.at, len(self.tokens) - 1)][0] if self.tokens else 1
-        return f"line {number}"
+        return f"line {self.left[0][0]}"
 
-    def is_next(self, *wanted: str) -> bool:
-        return self.at < len(self.tokens) and self.tokens[self.at][1] in wanted
+    @property
+    def next(self) -> str:
+        """The next word or bracket, empty at the end."""
+        return self.left[0][1]
 
-    def is_end(self) -> bool:
-        return self.at == len(self.tokens)
+    def take(self, is_wanted: bool, what: str) -> str:
+        """The next word or bracket, where it is what is wanted."""
+        if not self.next or not is_wanted:
+            raise ValueError(f"{self.where}: {what} is wanted")
+        return self.left.popleft()[1]
 
     def word(self, what: str) -> str:
         """The next word, which is no bracket."""
-        if self.is_end() or self.is_next("(", ")"):
-            raise ValueError(f"{self.where}: {what} is wanted")
-        self.at += 1
-        return self.tokens[self.at - 1][1]
+        return self.take(self.next not in "()", what)
+
+    def bracket(self, bracket: str) -> None:
+        self.take(self.next == bracket, bracket)
 
     def number(self, what: str) -> float:
         where, word = self.where, self.word(what)
-        try:
-            number = float(word)
-        except ValueError:
-            number = math.nan
-        if not math.isfinite(number):
-            raise ValueError(f"{where}: {what} is wanted, not {word}")
-        return number
+        return number(word, f"{where}: {what} is wanted, not {word}")
 
-    def take(self, bracket: str) -> None:
-        if not self.is_next(bracket):
-            raise ValueError(f"{self.where}: {bracket} is wanted")
-        self.at += 1
-
-    def pass_over(self) -> None:
-        """Goes on after the bracket that closes the last open one."""
-        depth = 1
+    def pass_over(self) -> list[str]:
+        """Goes on after the bracket that closes the last open one, and returns the words before it."""
+        depth, words = 1, []
         while depth:
-            if self.is_end():
-                raise ValueError(f"{self.where}: ) is wanted")
-            depth += {"(": 1, ")": -1}.get(self.tokens[self.at][1], 0)
-            self.at += 1
+            words.append(self.take(True, ")"))
+            depth += {"(": 1, ")": -1}.get(words[-1], 0)
+        return words[:-1]
 
 
-def read(data: bytes, unit: float) -> Found:
-    """What a network's file has. The unit is the bytes per second of one unit of capacity and of demand."""
+def read(data: bytes, unit: float | None) -> Found:
+    """What a network's file has. The unit is the bytes per second of one unit of capacity and of demand; None where the file says it."""
     try:
         text = data.decode("utf-8-sig")
     except UnicodeDecodeError as fault:
@@ -71,69 +66,95 @@ def read(data: bytes, unit: float) -> Found:
     if kind and kind[1] != "network":
         raise ValueError(f"line 1: a network is wanted, not a {kind[1]}")
     tokens, found = Tokens("\n" + rest), Found()
-    sections = {"NODES": site, "LINKS": circuit, "DEMANDS": demand}
-    while not tokens.is_end():
+    sections, named = {"NODES": site, "LINKS": circuit, "DEMANDS": demand}, ""
+    while tokens.next:
         where, name = tokens.where, tokens.word("a section")
-        tokens.take("(")
+        tokens.bracket("(")
         if name in sections:
-            while not tokens.is_next(")"):
-                sections[name](tokens, found, unit)
-            tokens.take(")")
+            while tokens.next != ")":
+                sections[name](tokens, found)
+            tokens.bracket(")")
         elif name in ("META", "ADMISSIBLE_PATHS"):
-            if not tokens.is_next(")"):
-                found.left[f"section {name}"] += 1
-            tokens.pass_over()
+            words = " ".join(tokens.pass_over())
+            if name == "META" and (said := re.search(r"(?:^|\s)unit\s*=\s*(.*?)(?=\s+\w+\s*=|$)", words)):
+                named, words = said[1].strip(), (words[:said.start()] + words[said.end():]).strip()
+            found.left[f"section {name}"] += bool(words)
         else:
             raise ValueError(f"{where}: there is no section {name}")
+    measure(found, named, unit)
+    price(found)
     return found
+
+
+def measure(found: Found, named: str, asked: float | None) -> None:
+    """Turns units into bytes per second: by what is asked for, else by the unit that the file names, else by Mbit/s."""
+    if asked is not None:
+        unit = asked
+        if named:
+            found.said.append(f"unit {named} of the file isn't used: by --unit one unit is {asked:,g} bytes per second")
+    elif named:
+        try:
+            unit = unit_of(named)
+        except ValueError as fault:
+            raise ValueError(f"{fault}, or give --unit BYTES") from None
+        found.said.append(f"unit {named} of the file: one unit is {unit:,.15g} bytes per second")
+    else:
+        unit = MBIT
+        found.said.append("no unit: one unit is taken as 1 Mbit/s, 125,000 bytes per second; --unit says another")
+    found.circuits = [it._replace(capacity=it.capacity and it.capacity * unit, back=it.back and it.back * unit) for it in found.circuits]
+    found.demands = [it._replace(bandwidth=it.bandwidth * unit) for it in found.demands]
+
+
+def price(found: Found) -> None:
+    """A file in which all routing costs are 0 has none. In another file a routing cost of 0 is one."""
+    if found.circuits and not any(circuit.cost for circuit in found.circuits):
+        found.circuits = [circuit._replace(cost=None) for circuit in found.circuits]
+        found.said.append("no routing cost: it is 0 for each link")
 
 
 def ends(tokens: Tokens) -> tuple[str, str]:
     """The two sites in brackets."""
-    tokens.take("(")
+    tokens.bracket("(")
     one, other = tokens.word("a source"), tokens.word("a target")
-    tokens.take(")")
+    tokens.bracket(")")
     return one, other
 
 
-def site(tokens: Tokens, found: Found, _: float) -> None:
+def site(tokens: Tokens, found: Found) -> None:
     where, name = tokens.where, tokens.word("a site")
     place = None
-    if tokens.is_next("("):
-        tokens.take("(")
+    if tokens.next == "(":
+        tokens.bracket("(")
         place = tokens.number("a longitude"), tokens.number("a latitude")
-        tokens.take(")")
+        tokens.bracket(")")
     found.add_site(where, name, name.replace("_", " "), place)
 
 
-def circuit(tokens: Tokens, found: Found, unit: float) -> None:
+def circuit(tokens: Tokens, found: Found) -> None:
     """What is installed is the capacity; where nothing is, the largest module."""
     where, _, (one, other) = tokens.where, tokens.word("a link"), ends(tokens)
     installed, price, cost, setup = (tokens.number(what) for what in (
         "a pre-installed capacity", "its cost", "a routing cost", "a setup cost"))
-    tokens.take("(")
+    tokens.bracket("(")
     modules = []
-    while not tokens.is_next(")"):
-        modules.append((tokens.number("a module's capacity"), tokens.number("a module's cost")))
-    tokens.take(")")
-    capacity = installed or max((capacity for capacity, _ in modules), default=0)
-    if min(installed, cost, *(capacity for capacity, _ in modules)) < 0:
+    while tokens.next != ")":
+        modules.append(tokens.number("a module's capacity"))
+        tokens.number("a module's cost")
+    tokens.bracket(")")
+    if min(installed, cost, *modules) < 0:
         raise ValueError(f"{where}: a number is below 0")
-    found.left["id of a link"] += 1
-    found.left["link with nothing installed, whose largest module is taken"] += not installed and bool(modules)
-    found.left["cost of what is installed"] += price != 0
-    found.left["setup cost"] += setup != 0
-    found.left["module of a link"] += len(modules)
-    each = capacity * unit or None
-    found.add_circuit(where, Circuit(one, other, True, each, each, cost or None))
+    found.left.update({"id of a link": 1, "cost of what is installed": price != 0, "setup cost": setup != 0,
+                       "module of a link": len(modules),
+                       "link with nothing installed, whose largest module is taken": not installed and bool(modules)})
+    each = installed or max(modules, default=0) or None
+    found.add(where, "link", found.circuits, Circuit(one, other, True, each, each, cost))
 
 
-def demand(tokens: Tokens, found: Found, unit: float) -> None:
+def demand(tokens: Tokens, found: Found) -> None:
     where, _, (one, other) = tokens.where, tokens.word("a demand"), ends(tokens)
     routing_unit, value, longest = tokens.number("a routing unit"), tokens.number("a demand's value"), tokens.word("a longest path")
     if value < 0 or routing_unit < 0:
         raise ValueError(f"{where}: a number is below 0")
-    found.left["id of a demand"] += 1
-    found.left["routing unit other than 1, by which the value is multiplied"] += routing_unit != 1
-    found.left["longest path of a demand"] += longest != "UNLIMITED"
-    found.add_demand(where, Demand(one, other, value * routing_unit * unit))
+    found.left.update({"id of a demand": 1, "longest path of a demand": longest != "UNLIMITED",
+                       "routing unit other than 1, by which the value is multiplied": routing_unit != 1})
+    found.add(where, "demand", found.demands, Demand(one, other, value * routing_unit))

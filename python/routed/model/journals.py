@@ -4,6 +4,7 @@ from __future__ import annotations
 import csv
 import io
 import os
+import re
 import sys
 from collections.abc import Iterator
 
@@ -12,6 +13,8 @@ from .rows import MOST_CHANGES, Batch, Refused, refusal
 
 MARK = b"\xef\xbb\xbf"  # the byte order mark
 MOST_ROWS = 1_000_000
+# What listen says: the lines before the rows, the rows, and the line behind them. Each is empty where it isn't there.
+ROUND = re.compile(rb"(?:version ([0-9]{1,20})\n(?:run [0-9]{1,20}\n)?)?(.*?)(snapshot end\n?)?", re.S)
 
 csv.field_size_limit(sys.maxsize)
 
@@ -30,15 +33,13 @@ def batches(data: bytes, has_asks: bool = False, most: int = MOST_ROWS) -> Itera
     for place, fields in enumerate(records(data), 1):
         if place > most:
             raise Refused("too many rows")
-        why = refusal(fields) or ("kind" if fields[0] == "ask" and not has_asks else None)
-        if why:
+        if why := refusal(fields) or ("kind" if fields[0] == "ask" and not has_asks else None):
             raise Refused(f"row {place} refused: {why}")
         if fields[0] != "ask":
             rows.append(fields)
         if fields[0] == "end":
             batch = Batch.parse(rows)
-            why = batch.refusal(number, int(fields[2]))
-            if why:
+            if why := batch.refusal(number, int(fields[2])):
                 raise Refused(f"batch {batch.number} refused: {why}")
             yield batch
             number, rows = number + 1, []
@@ -47,8 +48,7 @@ def batches(data: bytes, has_asks: bool = False, most: int = MOST_ROWS) -> Itera
 def read_journal(path: str | os.PathLike[str]) -> Iterator[Batch]:
     """The batches of a journal's file, one after the other; Refused says what `routed` takes no batch for."""
     with open(path, "rb") as file:
-        data = file.read()
-    return batches(data)
+        return batches(file.read())
 
 
 def read_database(data: bytes, until: int | None = None, has_asks: bool = False) -> Database:
@@ -61,11 +61,22 @@ def read_database(data: bytes, until: int | None = None, has_asks: bool = False)
     return database
 
 
+def read_snapshot(data: bytes) -> Database:
+    """The database of a snapshot: of `routed snapshot`, or of `routed-tools listen` with the lines round its rows, of which the first
+    has the version."""
+    head, rows, tail = ROUND.fullmatch(data).groups()  # type: ignore[union-attr]
+    if head and not tail:
+        raise Refused("the snapshot has no line `snapshot end`, so it isn't whole")
+    database = read_database(rows)
+    if head:
+        database.version = int(head)
+    return database
+
+
 def texts(data: bytes) -> list[str]:
     """The text of each batch of a journal, which has nothing else."""
     found = list(batches(data))
-    left = sum(1 for _ in records(data)) - sum(len(batch.changes) + 1 for batch in found)
-    if left:
+    if left := sum(1 for _ in records(data)) - sum(len(batch.changes) + 1 for batch in found):
         raise Refused(f"unended {left}")
     return [batch.text() for batch in found]
 

@@ -4,7 +4,7 @@ from __future__ import annotations
 import re
 import socket
 from collections.abc import Callable, Sequence
-from dataclasses import dataclass, replace
+from dataclasses import dataclass, field as attribute, replace
 
 MOST_CHANGES = 4096  # of a batch
 OCTET = "(?:[0-9]|[1-9][0-9]|1[0-9][0-9]|2[0-4][0-9]|25[0-5])"
@@ -24,23 +24,18 @@ class Refused(Exception):
     """What was given can't be used; the text says why."""
 
 
-def is_address(field: str) -> bool:
-    return ADDRESS.fullmatch(field) is not None
+Test = Callable[[str], object]  # whether a field is what it has to be
 
 
-def is_mask(field: str) -> bool:
-    return MASK.fullmatch(field) is not None
-
-
-def is_number(bits: int) -> Callable[[str], bool]:
+def is_number(bits: int) -> Test:
     """A test whether a field is a number below 2 to this power."""
     most = len(str(1 << bits))  # so that no field of a million digits is read
-    return lambda field: NUMBER.fullmatch(field) is not None and len(field) <= most and int(field) < 1 << bits
+    return lambda field: NUMBER.fullmatch(field) and len(field) <= most and int(field) < 1 << bits
 
 
-is_count, is_rate = is_number(32), is_number(64)
+is_address, is_mask, is_count, is_rate = ADDRESS.fullmatch, MASK.fullmatch, is_number(32), is_number(64)
 # Of each kind the fields behind its word: the test of each, and the word of its refusal. Those of asks aren't tested here.
-FIELDS: dict[str, list[tuple[Callable[[str], bool], str]]] = {
+FIELDS: dict[str, list[tuple[Test, str]]] = {
     "put": [*[(is_address, "address")] * 4, (is_count, "number"), (is_mask, "mask"), *[(is_rate, "number")] * 8],
     "drop": [(is_address, "address")] * 2,
     "node": [(is_address, "address"), (is_number(1), "number")],
@@ -118,10 +113,6 @@ class Drop:
     local: str
     is_removal = True
 
-    @classmethod
-    def parse(cls, fields: Sequence[str]) -> Drop:
-        return cls(*fields[1:])
-
     @property
     def key(self) -> Key:
         return self.router, self.local
@@ -137,10 +128,6 @@ class Mark:
     router: str
     transit: bool = False
 
-    @classmethod
-    def parse(cls, fields: Sequence[str]) -> Mark:
-        return cls(fields[1], fields[2] == "1")
-
     @property
     def is_removal(self) -> bool:
         return self.transit
@@ -155,11 +142,16 @@ class Mark:
 
 Row = Link | Mark  # what a database has under a key
 Change = Link | Drop | Mark
-CHANGES: dict[str, type[Link] | type[Drop] | type[Mark]] = {"put": Link, "drop": Drop, "node": Mark}
 
 
 def removal_of(key: Key) -> Change:
     return Drop(*key) if len(key) == 2 else Mark(key[0], transit=True)
+
+
+def change_of(fields: Sequence[str]) -> Change:
+    """The change of a row that isn't refused."""
+    kind, *rest = fields
+    return Link.parse(fields) if kind == "put" else Drop(*rest) if kind == "drop" else Mark(rest[0], rest[1] == "1")
 
 
 @dataclass(frozen=True)
@@ -173,7 +165,7 @@ class Batch:
     def parse(cls, rows: Sequence[Sequence[str]]) -> Batch:
         """The batch of these rows, of which none is refused and the last is its `end` row."""
         *changes, (_, number, _) = rows
-        return cls(int(number), tuple(CHANGES[fields[0]].parse(fields) for fields in changes))
+        return cls(int(number), tuple(map(change_of, changes)))
 
     def refusal(self, wanted: int, count: int) -> str | None:
         """The words by which its end row is refused, None where it ends a batch. Whether it fits a database isn't looked at."""
@@ -238,13 +230,15 @@ class Request:
 
 @dataclass(frozen=True)
 class Reply:
-    """A reply line: the cost of a route and the remote address of each of its links; else the word that says why there is none."""
+    """A reply line: the cost of a route, the remote address of each of its links, and the subobjects of its EXPLICIT_ROUTE object as the
+    line has them; else the word that says why there is none."""
 
     id: int
     version: int
     why: str | None
     cost: int
     fars: tuple[str, ...]
+    subobjects: bytes = attribute(default=b"", compare=False)
 
     @classmethod
     def parse(cls, line: str) -> Reply | None:
@@ -255,4 +249,4 @@ class Reply:
         name, version, cost, ero, why = found.groups()
         data = bytes.fromhex(ero or "")
         return cls(int(name), int(version), why, int(cost or 0),
-                   tuple(".".join(map(str, data[at + 2:at + 6])) for at in range(4, len(data), 8)))
+                   tuple(".".join(map(str, data[at + 2:at + 6])) for at in range(4, len(data), 8)), data[4:])

@@ -5,8 +5,10 @@ for one of them to end. GET and HEAD of /metrics are answered, and everything el
 """
 from __future__ import annotations
 
+import contextlib
 import re
 import socket
+import time
 from collections.abc import Callable
 
 from .endpoints import Door, Endpoint
@@ -16,14 +18,17 @@ from .stream import Stream
 MOST, SECONDS, HEAD = 16, 5, 8192  # connections, the time that one has, and bytes of a request
 LONGEST = 1 << 20  # bytes of an answer
 TYPE = "text/plain; version=0.0.4; charset=utf-8"
+LINE = re.compile(rb"[A-Za-z]{1,16} [^ \n]* HTTP/[^ \n]*\n")  # of a request, the first
+PART_OF_LINE = re.compile(rb"[A-Za-z]{1,16}(?: [^ \n]*){0,2}\r*\Z")
 
 
 class Page:
-    """The place where figures are read: `text` gives them, and `counted` is called with 1 and -1 as connections come and go."""
+    """The place where figures are read: `text` gives them, and `counted` is called with 1 and -1 as connections come and go. Before an
+    answer `prepare` is called, once in a turn of the loop, until it says that the figures are ready."""
 
     def __init__(self, loop: Loop, listener: socket.socket, text: Callable[[], str],
-                 counted: Callable[[int], object] = lambda change: None) -> None:
-        self.text, self.counted, self.count = text, counted, 0
+                 counted: Callable[[int], object] = lambda change: None, prepare: Callable[[], bool] = lambda: True) -> None:
+        self.text, self.counted, self.prepare, self.count = text, counted, prepare, 0
         self.door = Door(loop, listener, self.take)
 
     def take(self, stream: Stream) -> None:
@@ -43,7 +48,8 @@ class Reading:
     """One connection, and its request as far as it has come."""
 
     def __init__(self, page: Page, stream: Stream) -> None:
-        self.page, self.stream, self.asked, self.is_answered, self.is_over = page, stream, b"", False, False
+        self.page, self.stream, self.asked, self.is_asked, self.is_answered, self.is_over = page, stream, b"", False, False, False
+        self.begun_at = time.monotonic()
         stream.give(self, self.go_on)
         stream.wait(True)
         stream.loop.after(SECONDS, self.close)
@@ -54,15 +60,30 @@ class Reading:
     def go_on(self, events: int) -> None:
         if events & READ:
             self.asked += self.stream.read(HEAD)
-            self.is_answered = b"\r\n\r\n" in self.asked or b"\n\n" in self.asked or len(self.asked) > HEAD or not is_http(self.asked)
-            if self.is_answered and not self.stream.is_ended:
-                self.stream.write(answer_to(self.asked, self.page.text))
+            self.is_asked = answer_to(self.asked, str) is not None
+            if self.is_asked and not self.stream.is_ended:
+                self.answer()
         else:
             self.stream.flush()
+        self.go_off()
+
+    def answer(self) -> None:
+        """Answers once the figures are ready, or half of its time has gone."""
+        if self.is_over:
+            return
+        if not self.page.prepare() and time.monotonic() < self.begun_at + SECONDS / 2:
+            self.stream.loop.after(0, self.answer)
+            return
+        self.is_answered = True
+        self.stream.write(answer_to(self.asked, self.page.text) or b"")
+        self.go_off()
+
+    def go_off(self) -> None:
+        """Waits for what comes next, or ends."""
         if self.stream.is_ended or self.is_answered and not self.stream.waiting:
             self.close()
         else:
-            self.stream.wait(not self.is_answered)
+            self.stream.wait(not self.is_asked)
 
     def close(self) -> None:
         if not self.is_over:
@@ -73,22 +94,15 @@ class Reading:
     fail = close
 
 
-def is_http(asked: bytes) -> bool:
-    """Whether the bytes may begin a request of HTTP."""
-    line, ended, _ = asked.partition(b"\n")
-    words = line.rstrip(b"\r").split(b" ")
-    if not words[0].isalpha() or len(words) > 3 or len(words[0]) > 16:
-        return False
-    return not ended or len(words) == 3 and words[2].startswith(b"HTTP/")
-
-
-def answer_to(asked: bytes, text: Callable[[], str]) -> bytes:
-    """The answer to a request's head."""
+def answer_to(asked: bytes, text: Callable[[], str]) -> bytes | None:
+    """The answer to a request's head, None while more of it has to come."""
     if len(asked) > HEAD:
         return answer("431 Request Header Fields Too Large", b"The request is too long.\n")
-    if not is_http(asked):
+    if not (LINE if b"\n" in asked else PART_OF_LINE).match(asked):
         return answer("400 Bad Request", b"This is no request of HTTP.\n")
-    method, path, _ = asked.partition(b"\n")[0].rstrip(b"\r").split(b" ")
+    if b"\r\n\r\n" not in asked and b"\n\n" not in asked:
+        return None
+    method, path, _ = asked.split(b" ", 2)
     if method not in (b"GET", b"HEAD"):
         return answer("405 Method Not Allowed", b"Figures are read by GET.\n", "Allow: GET, HEAD\r\n")
     if path.partition(b"?")[0] != b"/metrics":
@@ -109,8 +123,7 @@ def get(endpoint: Endpoint) -> str:
     """The figures at an endpoint."""
     loop, found = Loop(), bytearray()
     try:
-        stream = Stream(loop, endpoint.connect())
-        try:
+        with contextlib.closing(Stream(loop, endpoint.connect())) as stream:
             stream.give(None, lambda _: found.extend(stream.read()))
             stream.write(b"GET /metrics HTTP/1.1\r\nHost: routed\r\nConnection: close\r\n\r\n")
             stream.wait(True)
@@ -119,8 +132,6 @@ def get(endpoint: Endpoint) -> str:
                 loop.turn()
             if stream.fault:
                 raise stream.fault
-        finally:
-            stream.close()
     except (OSError, UnicodeError) as fault:
         raise Unread(getattr(fault, "strerror", "") or fault) from None
     head, _, body = bytes(found).partition(b"\r\n\r\n")

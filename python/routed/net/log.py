@@ -1,6 +1,7 @@
 """The log of a tool: lines of standard error. A line that nobody takes is dropped and counted, so that the tool goes on."""
 from __future__ import annotations
 
+import contextlib
 import os
 import sys
 import time
@@ -19,28 +20,19 @@ class Log:
         if file == -1:  # a number that was closed at the start may be another file's by now
             file = sys.stderr.fileno() if sys.stderr else None
         self.name, self.most, self.file, self.dropped = name, LEVELS[level], file, 0
-        self.second, self.count, self.untold = 0, 0, 0
+        self.second, self.count, self.told = 0, 0, 0  # the last is how many of the dropped lines were told
         self.has_priorities = is_journal(file)
-
-    def wants(self, level: str) -> bool:
-        return LEVELS[level] <= self.most
 
     def say(self, level: str, text: str) -> None:
         """Writes a line where its level is wanted, or counts it as dropped."""
-        if not self.wants(level):
+        if LEVELS[level] > self.most:
             return
         second = int(time.monotonic())
-        if second != self.second:
-            self.second, self.count = second, 0
-        self.count += 1
-        if self.count > MOST and level != "error":
-            self.untold += 1
-            self.dropped += 1
-            return
-        if self.untold and self.write("warning", f"{self.untold} lines of the log were dropped"):
-            self.untold = 0
-        if not self.write(level, text):
-            self.untold += 1
+        self.second, self.count = second, self.count + 1 if second == self.second else 1
+        is_kept = level == "error" or self.count <= MOST
+        if is_kept and self.dropped > self.told and self.write("warning", f"{self.dropped - self.told} lines of the log were dropped"):
+            self.told = self.dropped
+        if not (is_kept and self.write(level, text)):
             self.dropped += 1
 
     def write(self, level: str, text: str) -> bool:
@@ -59,8 +51,7 @@ def is_journal(file: int | None) -> bool:
     """Whether the file is the stream that systemd names in JOURNAL_STREAM (systemd.exec(5))."""
     if file is None:
         return False
-    try:
+    with contextlib.suppress(OSError):
         found = os.fstat(file)
-    except OSError:
-        return False
-    return os.environ.get("JOURNAL_STREAM") == f"{found.st_dev}:{found.st_ino}"
+        return os.environ.get("JOURNAL_STREAM") == f"{found.st_dev}:{found.st_ino}"
+    return False

@@ -70,7 +70,8 @@ class Loop:
                     call(events)
                 except Exception as fault:
                     self.end(owner, fault)
-        while self.times and self.times[0][0] <= time.monotonic():
+        due = time.monotonic()  # what these calls put off, by no time at all, comes in the next turn: files have theirs before it
+        while self.times and self.times[0][0] <= due:
             self.call(*heapq.heappop(self.times)[2:])
 
     def call(self, owner: Owner | None, call: Callable[..., object], *given: Any) -> None:
@@ -114,10 +115,8 @@ class Owned:
 def ended_by(name: str, fault: BaseException) -> str:
     """The line about a connection that an exception has ended: the exception's type, where it was raised and, if that isn't in these
     tools, where they called that, and its text."""
-    places = [(frame.f_code.co_filename, line) for frame, line in traceback.walk_tb(fault.__traceback__)]
-    path, line = places[-1]
-    where = f"{path.removeprefix(TOP)}:{line}"
-    ours = [f"{path.removeprefix(TOP)}:{line}" for path, line in places if path.startswith(f"{TOP}routed/") and path != __file__]
+    places = [f"{frame.f_code.co_filename.removeprefix(TOP)}:{line}" for frame, line in traceback.walk_tb(fault.__traceback__)]
+    ours, where = [place for place in places if place.startswith("routed/") and not place.startswith("routed/net/loop.py:")], places[-1]
     if ours and ours[-1] != where:
         where += f", called at {ours[-1]}"
     return f"{name}: ended by an exception, {type(fault).__name__} at {where}: {' '.join(str(fault).split())[:MOST_TEXT]}"

@@ -20,16 +20,18 @@ class Stream:
     `waiting` has the bytes that aren't written yet. It is bounded by its user, who writes no more, and mostly reads no more where these
     came from, once `is_full`. `is_ended` says that no more comes. `fault` keeps the error that ended this, or the writing: what is
     written then is dropped. Until an owner takes it, and once it is hung up, a stream is its own. A shared one is of files whose
-    flags others see, as standard output: they may block, so it is read where something has come alone."""
+    flags others see, as standard output: they may block, so it is read where something has come alone. A socket that is still being
+    connected isn't made yet: the first event to write says whether it is."""
 
-    __slots__ = "socket", "source", "to", "loop", "call", "most", "once", "is_shared", "waiting", "unread", "is_ended", "fault"
+    __slots__ = "socket", "source", "to", "loop", "call", "most", "once", "is_shared", "is_made", "waiting", "unread", "is_ended", "fault"
 
     def __init__(self, loop: Loop | Owned, source: socket.socket | int, to: int | None = None, most: int = LONGEST,
-                 is_shared: bool = False) -> None:
+                 is_shared: bool = False, is_made: bool = True) -> None:
         self.socket = None if isinstance(source, int) else source
         self.source = source if isinstance(source, int) else source.fileno()
         self.to = self.source if to is None else to
         self.most, self.once, self.is_shared = most, select.PIPE_BUF if is_shared else LONGEST, is_shared
+        self.is_made = is_made
         self.waiting, self.unread = bytearray(), b""  # what was read of a line that isn't whole
         self.is_ended = False
         self.fault: OSError | None = None
@@ -47,7 +49,7 @@ class Stream:
     def wait(self, is_read: bool, is_written: bool = True) -> None:
         """Waits for what comes, where it is read, and for room where something waits."""
         reads = READ if is_read and not self.is_ended else 0
-        writes = WRITE if is_written and self.waiting else 0
+        writes = WRITE if is_written and (self.waiting or not self.is_made and not self.is_ended) else 0
         if self.to == self.source:
             self.loop.want(self.source, reads | writes, self.call)
         else:
@@ -89,7 +91,7 @@ class Stream:
 
     def flush(self) -> int:
         """Writes what is taken now of what waits. How many bytes that are."""
-        if self.is_shared and not has_room(self.to):
+        if self.is_shared and not has_room(self.to) or not self.is_made and not self.look():
             return 0
         try:
             count = os.write(self.to, self.waiting[:self.once])
@@ -101,6 +103,17 @@ class Stream:
             return 0
         del self.waiting[:count]
         return count
+
+    def look(self) -> bool:
+        """Whether it is connected now. If it couldn't be, it has ended."""
+        number = self.socket.getsockopt(socket.SOL_SOCKET, socket.SO_ERROR) if self.socket else 0
+        if number:
+            self.fault, self.is_ended = OSError(number, os.strerror(number)), True
+            self.waiting.clear()
+            return False
+        with contextlib.suppress(OSError):  # it is still being connected
+            self.is_made = bool(self.socket and self.socket.getpeername() is not None)
+        return self.is_made
 
     @property
     def is_full(self) -> bool:

@@ -6,7 +6,7 @@ another one. docs/run/PCEP.md has what is taken from where, and what is refused.
 
 Nothing is reserved: two LSPs may be placed on the same bandwidth. There is no sign-on but TCP-MD5 (--keys).
 
-`ready` is printed once PCCs may connect. SIGHUP reads the file of --initiate again, SIGTERM and SIGINT end it: PCCs keep their
+`ready` is printed once PCCs may connect. SIGHUP reads the files of --initiate and --allow again, SIGTERM and SIGINT end it: PCCs keep their
 LSPs. The status is 0 then, 2 where a word of the command line is refused, 3 where a socket or a file can't be had.
 """
 import argparse
@@ -41,10 +41,19 @@ def main(given: list[str] | None = None) -> int:
     words.add_argument("--address", default="127.0.0.1", help="where PCCs connect (127.0.0.1)")
     words.add_argument("--port", type=number(0, 65535), default=4189, help="its port (4189); 0 for one that the system chooses")
     words.add_argument("--keys", metavar="FILE", help="lines `ADDRESS KEY`: PCCs that use TCP-MD5 (RFC 2385)")
+    words.add_argument("--require-keys", action="store_true", help="take PCCs alone that have a line in --keys")
+    words.add_argument("--allow", metavar="FILE",
+                       help="take PCCs alone whose address is in a prefix of this file, one in a line; SIGHUP reads it again")
     words.add_argument("--pccs", type=number(1, 65536), default=256, metavar="N", help="how many are connected at once (256)")
+    words.add_argument("--most-lsps", type=number(1, 1 << 20), default=4096, metavar="N",
+                       help="how many LSPs a PCC may report (4096); with more its session ends by PCErr 20/1")
+    words.add_argument("--messages", type=number(1, 1000000), default=1000, metavar="N",
+                       help="how many messages of a PCC are read in a second (1000), a long one for as many as it has KiB; others wait")
+    words.add_argument("--ask-seconds", type=number(0.1, 3600, float), default=5, metavar="SECONDS",
+                       help="how long the server has for an answer (5); then the PCC is told that the PCE is unavailable")
     words.add_argument("--connections", type=number(1, 64), default=4, metavar="N", help="to the place of --ask (4)")
     words.add_argument("--sids", metavar="FILE",
-                       help="adjacency SIDs, as feed --sids writes them: segment routing (path setup type 1); needs --journal")
+                       help="adjacency SIDs, as feed --sids writes them: segment routing (path setup type 1); needs --journal and --watch")
     words.add_argument("--sid-group", dest="group", type=group, default=0, metavar="N",
                        help="links of a segment routing path are in this group")
     words.add_argument("--stateful", action="store_true", help="take LSPs that are delegated; needs --watch")
@@ -55,6 +64,9 @@ def main(given: list[str] | None = None) -> int:
                        help="from one such move of an LSP to the next (0); needs --journal")
     words.add_argument("--initiate", metavar="FILE",
                        help="LSPs that PCCs are to make, lines `NAME,FROM,TO,SETUP,BANDWIDTH,EXCLUDE_ANY,INCLUDE_ANY,INCLUDE_ALL`")
+    words.add_argument("--mark", metavar="PREFIX",
+                       help="each NAME of --initiate begins with PREFIX; an LSP by PCInitiate with that PREFIX is removed if no line "
+                            "names it")
     words.add_argument("--reopen", action="store_true",
                        help="close a session once a request that had no path has one: FRR asks again in a new session alone")
     words.add_argument("--replies", metavar="FOLDER", help="keep requests and reply lines there, as `routed audit` reads them")
@@ -65,6 +77,12 @@ def main(given: list[str] | None = None) -> int:
         words.error("--stateful needs --watch")
     if (options.gain or options.calm or options.sids) and not options.journal:
         words.error("--gain, --calm and --sids need --journal")
+    if options.sids and not options.watch:
+        words.error("--sids needs --watch")
+    if options.mark is not None and (not options.mark or not options.initiate):
+        words.error("--mark needs a PREFIX and --initiate")
+    if options.require_keys and not options.keys:
+        words.error("--require-keys needs --keys")
     if options.group and not options.sids:
         words.error("--sid-group needs --sids")
     if (options.initiate or options.reopen) and not options.watch or options.initiate and not options.stateful:

@@ -1,29 +1,43 @@
 """What all PCCs share: the server's answers and versions, the network, SIDs, the LSPs of a file, figures and signals."""
+import os
 import signal
 import socket
 import time
 from argparse import Namespace
-from collections.abc import Callable, Iterable, Iterator, Sequence
+from collections.abc import Callable, Iterable, Sequence
 
+from .. import program
+from ..front import processes
 from ..front.metrics import Figures
 from ..net.endpoints import BACKLOG, Door, say, tried
 from ..net.http import Page
 from ..net.log import Log
 from ..net.loop import Loop, Owner, Stopped
+from ..net.notify import Supervised
 from ..net.signals import take_signals
 from ..net.stream import Stream
 from . import wire
+from .admission import Admission
 from .asks import AGAIN, Asks
-from .keys import keys, set_key
-from .lsp import Lsp
-from .network import Network, Sids
+from .census import Census
+from .keys import set_key
+from .network import Network
 from .pcc import Pcc
 from .protocol import Link
 from .replies import Replies
 from .requests import Request
+from .slices import Asking, Slices
 from .session import UP, setup_types, stateful
+from .sids import Sids
 from .versions import Watch
-from .wanted import wanted
+from .wanted import by_pcc, wanted
+
+
+MOST_VALUES = 256  # values of a figure's label: PCCs choose some of them
+UPDATES = "accepted", "refused", "unanswered"  # what becomes of one
+
+
+DIGITS = 6  # of a run's number, at most
 
 
 class Front:
@@ -33,36 +47,58 @@ class Front:
         self.options, self.loop, self.log = options, Loop(self.failed), Log("pcep", options.log_level)
         self.clock: Callable[[], float] = time.monotonic
         self.sids: Sids | None = Sids(options.sids) if options.sids else None
-        self.network, self.replies = Network(options.journal), Replies(options.replies) if options.replies else None
+        self.network = Network(options.journal, self.say)
+        self.replies = Replies(options.replies, self.say) if options.replies else None
         self.version, self.is_away, self.is_over, self.number = 0, True, False, int(time.time())
         self.pccs: dict[str, Pcc] = {}  # by their addresses
-        self.lsps_wanted = wanted(options.initiate)
+        self.census = Census(self.pccs)
+        self.lsps_wanted = wanted(options.initiate, options.mark)
+        self.wanted_of = by_pcc(self.lsps_wanted)
+        self.strange_run: str | None = None  # of the SIDs, where it isn't the server's
         self.lsps_unwanted: set[tuple[str, str]] = set()
-        self.asks = Asks(self.loop, options.ask, options.connections, self.cut_off)
+        self.asks = Asks(self.loop, options.ask, options.connections, self.cut_off, options.ask_seconds)
+        self.slices = Slices(self.loop, self.ask)
         self.watch: Watch | None = None
+        self.number_of_run: int | None = None
         self.figures = figures = Figures()
         figures.gauge("routed_pcep_sessions", "Sessions that are up.",
                       lambda: sum(pcc.session.state == UP for pcc in self.pccs.values()))
-        figures.gauge("routed_pcep_lsps", "Delegated LSPs.", lambda: sum(lsp.is_ours() for lsp in self.lsps()))
+        figures.gauge("routed_pcep_lsps", "Delegated LSPs.", lambda: self.census.ours)
         figures.gauge("routed_pcep_lsps_without_route", "Delegated LSPs that have lost their route, and have no other.",
-                      lambda: sum(lsp.is_lost for lsp in self.lsps()))
+                      lambda: self.census.lost)
+        figures.gauge("routed_pcep_lsps_at_fault", "Delegated LSPs that aren't as they should be, by what is wrong.",
+                      lambda: self.census.faults, "fault")
+        figures.gauge("routed_pcep_connected", "Whether the server is there.", lambda: not self.is_away)
+        figures.gauge("routed_pcep_journal_followed", "Whether the journal yields the server's answers.",
+                      lambda: None if self.network.tail is None else not self.network.is_doubted)
         figures.gauge("routed_pcep_version", "The newest version that is known.", lambda: self.version)
         figures.counter("routed_pcep_messages_total", "Messages of PCCs, by their type.", "type")
         figures.counter("routed_pcep_requests_total", "Requests, by what they were answered.", "outcome")
         figures.counter("routed_pcep_errors_total", "Errors that were sent, by type and value.", "error")
         figures.counter("routed_pcep_refused_by_pccs_total", "Errors of PCCs, by type and value.", "error")
         figures.counter("routed_pcep_moves_total", "What was done with LSPs, by the reason.", "reason")
+        figures.counter("routed_pcep_updates_total", "Updates of LSPs, by what their PCCs answered.", "outcome", UPDATES)
+        figures.counter("routed_pcep_sessions_ended_total", "Sessions that were up, and ended.")
         figures.counter("routed_pcep_exceptions_total", "Connections that were ended by an exception in the code of this tool.")
+        figures.total("routed_pcep_replies_lost", "Reply lines that the files of --replies lack, since they couldn't be written.",
+                      lambda: self.replies.lost if self.replies else 0)
+        figures.gauge("routed_pcep_run", "The number of the server's run; absent if it told none.", lambda: self.number_of_run)
+        program.build_info(figures, program.find())
+        processes.add(figures, lambda: {"front": os.getpid()})
+        self.supervised = Supervised(self.loop, self.status)
+        self.admission = Admission(self)
         take_signals(self.loop, (signal.SIGTERM, signal.SIGINT, signal.SIGHUP), self.signalled)
-
-    def lsps(self) -> Iterator[Lsp]:
-        return (lsp for pcc in self.pccs.values() for lsp in pcc.session.lsps.all.values())
 
     def say(self, level: str, text: str) -> None:
         self.log.say(level, text)
 
     def count(self, what: str, value: str) -> None:
-        self.figures.add(f"routed_pcep_{what}_total", 1, value)
+        name = f"routed_pcep_{what}_total"
+        counts = self.figures.values[name]
+        self.figures.add(name, 1, value if value in counts or len(counts) < MOST_VALUES else "other")
+
+    def tally(self, what: str) -> None:
+        self.figures.add(f"routed_pcep_{what}_total")
 
     def failed(self, line: str) -> None:
         """An exception has ended a connection."""
@@ -80,6 +116,9 @@ class Front:
     def segments(self, head: str, fars: Sequence[str], version: int) -> list[Link] | None:
         assert self.sids is not None
         self.sids.look()
+        if not self.sids.is_current and self.strange_run != (self.sids.run or ""):
+            self.strange_run = self.sids.run or ""
+            self.say("warning", f"{self.sids.tail.path}: its SIDs aren't of this run of the server: paths by SIDs are unavailable")
         self.network.reach(version)
         return self.sids.segments(self.network, head, fars, version)
 
@@ -91,34 +130,62 @@ class Front:
 
         self.asks.ask(row, answered)
 
+    def in_turn(self, asking: Asking) -> None:
+        self.slices.add(asking)
+
     # ---- LSPs of several PCCs
 
-    def owner(self, session: object, head: str, name: str) -> bool:
-        """Whether another PCC has delegated the LSP of that head-end and name."""
-        others = (pcc.session.lsps.names.get(name) for pcc in self.pccs.values() if pcc.session is not session)
-        return any(lsp and lsp.is_ours() and lsp.asked().ends[0] == head for lsp in others)
+    def claims(self, peer: str, head: str, name: str) -> bool:
+        """Whether a PCC may delegate the LSP of that head-end and name: the PCC at the head-end, else the first that has delegated it."""
+        is_own: bool | None = None
+        for pcc in [*self.pccs.values()]:
+            lsp = pcc.session.lsps.names.get(name)
+            if pcc.peer == peer or not lsp or not lsp.is_ours() or lsp.asked().ends[0] != head:
+                continue
+            is_own = self.is_at(peer, head) if is_own is None else is_own
+            if not is_own or self.is_at(pcc.peer, head):
+                return False
+            pcc.loop.call(pcc.session.lsps.lose, lsp)
+        return True
+
+    def is_at(self, peer: str, head: str) -> bool:
+        """Whether a PCC connects from an address of a router."""
+        if peer != head:
+            self.network.reach(self.version)
+        return peer == head or not self.network.is_doubted and self.network.router_of(peer) == head
 
     def wanted(self, peer: str, name: str) -> Request | None:
         return self.lsps_wanted.get((peer, name))
 
     def all_wanted(self, peer: str) -> Iterable[tuple[str, Request]]:
-        return [(name, request) for (head, name), request in self.lsps_wanted.items() if head == peer]
+        return [*self.wanted_of.get(peer, {}).items()]
 
-    def unwanted(self, peer: str) -> Iterable[str]:
-        return sorted(name for head, name in self.lsps_unwanted if head == peer)
+    def is_unwanted(self, peer: str, name: str) -> bool:
+        return (peer, name) in self.lsps_unwanted
 
     # ---- versions
 
     def connect(self) -> None:
         """Connects to the places of the server, and tries again until they are there."""
-        if self.options.watch:
-            try:
-                self.watch = Watch(self)
-            except OSError:
-                self.loop.after(AGAIN, self.connect)
-                return
+        try:
+            self.watch = Watch(self) if self.options.watch else None
+        except OSError:
+            self.unreached()
+            return
+        if self.watch is None:
+            self.reached()
+
+    def reached(self) -> None:
+        """The server is there."""
         self.is_away = False
-        self.asks.open()
+        if not self.options.watch:  # else it is known first which run answers
+            self.asks.open()
+
+    def unreached(self) -> None:
+        """The server isn't there yet."""
+        if self.watch:
+            self.watch.close()
+        self.loop.after(AGAIN, self.connect)
 
     def cut_off(self) -> None:
         """A connection for asks has ended: with the server, or because it was idle. A place of versions says which."""
@@ -134,11 +201,32 @@ class Front:
         self.asks.close()
         if self.watch:
             self.watch.close()
-        self.version = 0
+        self.version, self.number_of_run = 0, None
         self.network.begin()
+        if self.sids:
+            self.sids.wanted = None
         if self.replies:
-            self.replies.roll()
+            self.replies.of_run(None)
         self.loop.after(after, self.connect)
+
+    def begun(self, run: str) -> None:
+        """The server has said which run it is. A run that was given no number has a longer name."""
+        if self.sids:
+            self.sids.wanted = run
+        number = int(run) if run.isdigit() and len(run) <= DIGITS else None
+        if number != self.number_of_run:
+            self.number_of_run = number
+            if self.replies:
+                self.replies.of_run(number)
+
+    def answers(self) -> None:
+        """The place of versions has told something, and which run it is of if that has a number."""
+        self.asks.open()
+
+    def status(self) -> str:
+        """The status line of the unit."""
+        up = sum(pcc.session.state == UP for pcc in self.pccs.values())
+        return f"version {self.version}, {up} sessions" if not self.is_away else f"no server, {up} sessions"
 
     def told(self, version: int) -> None:
         self.version = version
@@ -152,58 +240,64 @@ class Front:
     # ---- PCCs
 
     def take(self, stream: Stream) -> None:
-        peer, _ = stream.peer()
-        if not isinstance(peer, str):  # it has gone already
-            stream.close()
-            return
-        if peer in self.pccs or len(self.pccs) >= self.options.pccs:
-            is_twice = peer in self.pccs
-            self.say("warning", f"{peer}: {'it has a session already' if is_twice else 'no session is free'}")
-            if is_twice:
-                self.count("errors", "9/1")
-            stream.hang_up(wire.error(9, 1) if is_twice else wire.close(1))
-            return
+        self.admission.take(stream)
+
+    def begin(self, stream: Stream, peer: str) -> None:
+        """A session of a PCC begins."""
         self.number += 1
         self.pccs[peer] = Pcc(self, stream, peer)
 
     def tick(self) -> None:
-        """Each second: timers, and SIDs that changed at no version of their own."""
-        for pcc in [*self.pccs.values()]:
-            pcc.loop.call(pcc.tick)
+        """Each second: SIDs that changed at no version of their own, and timers."""
         if self.sids and self.sids.look():
             self.again()
-        self.loop.after(1, self.tick)
+        self.tick_next([*self.pccs.values()])
+
+    def tick_next(self, left: list[Pcc]) -> None:
+        """The timers of one PCC in each turn of the loop."""
+        if left:
+            pcc = left.pop()
+            pcc.loop.call(pcc.tick)
+        if left:
+            self.loop.after(0, lambda: self.tick_next(left))
+        else:
+            self.loop.after(1, self.tick)
 
     def signalled(self, numbers: bytes) -> None:
         if signal.SIGTERM in numbers or signal.SIGINT in numbers:
             self.is_over = True
         elif signal.SIGHUP in numbers:
+            self.admission.read_again()
             self.read_wanted()
 
     def read_wanted(self) -> None:
         """The file of --initiate, again; one that can't be read changes nothing."""
         try:
-            found = wanted(self.options.initiate)
+            found = wanted(self.options.initiate, self.options.mark)
         except Stopped as fault:
             self.say("error", f"{fault}; what was wanted before stays")
             return
         self.lsps_unwanted = {key for key in self.lsps_wanted.keys() | self.lsps_unwanted if key not in found}
-        self.lsps_wanted = found
+        self.lsps_wanted, self.wanted_of = found, by_pcc(found)
         for pcc in [*self.pccs.values()]:
             pcc.loop.call(pcc.session.lsps.making.reread)
 
     def run(self) -> int:
+        for place in (self.options.ask, self.options.watch):
+            if place:
+                place.look_up()
         with tried(f"{self.options.address}:{self.options.port}: bind"):
             listener = socket.create_server((self.options.address, self.options.port), backlog=BACKLOG)
-        for peer, key in keys(self.options.keys):
+        for peer, key in self.admission.keys.items():
             with tried(f"the key of {peer}"):
                 set_key(listener, peer, key)
         if self.options.metrics:
-            Page(self.loop, self.options.metrics.bind(0o600), self.figures.text)
+            Page(self.loop, self.options.metrics.bind(0o600), self.figures.text, prepare=self.census.go_on)
         Door(self.loop, listener, self.take)
         self.connect()
         self.tick()
         say(f"pcep {':'.join(map(str, listener.getsockname()[:2]))}", "ready")
+        self.supervised.ready()
         while not self.is_over:
             self.loop.turn()
         for pcc in [*self.pccs.values()]:

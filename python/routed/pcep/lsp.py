@@ -1,8 +1,36 @@
-"""One LSP of a PCC."""
-from .requests import Request
-from .wire import Hop
+"""One LSP of a PCC, and the updates that it was sent."""
+from __future__ import annotations
 
-DELEGATED, SYNC, REMOVED, ADMIN, CREATED = 1, 2, 4, 8, 0x80  # flags of an LSP object: D, S, R, A, C
+from .requests import Request
+from .routes import Route
+from .wire import Hop, Refused, hops_of
+
+# flags of an LSP object: D, S, R, A, O (three bits), C
+DELEGATED, SYNC, REMOVED, ADMIN, OPERATIONAL, CREATED = 1, 2, 4, 8, 0x70, 0x80
+DOWN = 0  # the O flags of an LSP that isn't signaled
+WAITS = 10, 20, 40, 60  # seconds from one update of an LSP to the next equal one
+ANSWER = 10  # seconds that an update waits for its answer
+MOST_READ = 32768  # bytes of an ERO whose links are looked for; a longer one is compared by its bytes
+MOST_AT_ONCE = 4  # updates of an LSP at one version; each further one waits for ANSWER seconds
+
+
+class Update:
+    """A PCUpd that was sent."""
+
+    __slots__ = "srp", "ero", "attributes", "route", "version", "at", "tries", "is_settled", "is_down"
+
+    def __init__(self, srp: int, ero: bytes, attributes: bytes, route: Route, version: int, at: float, tries: int) -> None:
+        self.srp, self.ero, self.attributes, self.route, self.version, self.at = srp, ero, attributes, route, version, at
+        self.tries = tries  # equal ones before it
+        self.is_settled = False  # its PCC has accepted or refused it
+        self.is_down = False  # its PCC has answered by its ERO and DOWN, which may be on the way to UP
+
+    def is_equal(self, ero: bytes, attributes: bytes) -> bool:
+        return self.ero == ero and self.attributes == attributes
+
+    def again_at(self) -> float:
+        """When an equal one may be sent."""
+        return self.at + WAITS[min(self.tries, len(WAITS) - 1)]
 
 
 class Lsp:
@@ -11,19 +39,39 @@ class Lsp:
     def __init__(self, number: int):
         self.number, self.name, self.flags, self.setup_type = number, "", 0, 0
         self.request: Request | None = None
-        self.hops: list[Hop | None] = []  # of its present route, as `ero` has them
-        self.ero = b""
-        self.srp, self.sent = 0, b""  # an update that isn't reported yet
-        self.vain_ero: bytes | None = None  # an ERO that its PCC refused
+        self.size = 0  # bytes of its last report
+        self.ero = b""  # as it was reported last
+        self.error: int | None = None  # its LSP-ERROR-CODE
+        self.route: Route | None = None  # by the links of the network; None if that isn't known
+        self.last: Update | None = None
+        self.waits = False  # for the answer to the last update
+        self.at_once = 0  # updates at the version of the last one
+        self.refused: Update | None = None
+        self.was_lost = False  # the route that its PCC kept couldn't be used at the refusal already, or since
         self.moved_at: float | None = None
-        self.is_lost, self.is_asked, self.is_returned = False, False, False
+        self.wake_at: float | None = None  # when it is looked at again
+        self.silent_since: float | None = None  # when the first update was sent that its PCC hasn't answered
+        self.tried = 0  # the version of the last try to bring it up
+        # What is said once, and counted by figures:
+        self.is_lost = False  # there is no route
+        self.is_broken = False  # the route that its PCC keeps may not be used
+        self.is_silent = False  # its PCC hasn't answered the last update
+        self.is_down = False  # though its route may be used
+        self.is_unknown = False  # its route can't be read
+        self.is_asked, self.is_returned = False, False
+        self.fault: Refused | None = None  # why it is given back
         self.is_made, self.has_changed = False, False  # a line of --initiate has made it; that has changed since
-        self.is_leaving = False  # it is to be removed
+        self.is_leaving, self.removal = False, 0  # it is to be removed, and the SRP of that
 
-    def fars(self) -> tuple[str, ...] | None:
-        """The far addresses of its present route; None where they aren't known."""
-        found = tuple(hop.far for hop in self.hops if hop and hop.far)
-        return found if found and len(found) == len(self.hops) else None
+    @property
+    def hops(self) -> list[Hop | None]:
+        """The hops of its ERO; one that can't be read where there are too many."""
+        return hops_of(self.ero) if len(self.ero) <= MOST_READ else [None]
+
+    @property
+    def pending(self) -> Update | None:
+        """The update that waits for its answer."""
+        return self.last if self.waits else None
 
     def is_ours(self) -> bool:
         return bool(self.flags & DELEGATED) and self.request is not None and not self.is_leaving
@@ -32,3 +80,18 @@ class Lsp:
         """The request of an LSP that is ours."""
         assert self.request is not None
         return self.request
+
+    def is_reported_down(self) -> bool:
+        """Whether its PCC says that it is down, though it should be up."""
+        return bool(self.flags & ADMIN) and self.flags & OPERATIONAL == DOWN
+
+    def faults(self) -> list[str]:
+        """What is wrong with an LSP that is ours, as `routed_pcep_lsps_at_fault` counts it."""
+        found = {"refused": self.refused is not None, "silent": self.is_silent, "down": self.is_down, "unknown": self.is_unknown,
+                 "lost": self.is_broken}
+        return [name for name, is_so in found.items() if is_so] if self.is_ours() else []
+
+    def forget(self) -> None:
+        """It isn't ours any more: nothing of what was sent counts."""
+        self.last, self.refused, self.waits, self.wake_at, self.silent_since = None, None, False, None, None
+        self.is_lost = self.is_broken = self.is_silent = self.is_down = self.is_unknown = False

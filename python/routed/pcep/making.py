@@ -5,10 +5,12 @@ import struct
 import typing
 
 from ..model.rows import Reply
+from ..net.loop import Owner
 from . import wire
 from .lsp import ADMIN, CREATED, DELEGATED, Lsp
 from .protocol import SessionFront
 from .requests import Request
+from .slices import Form
 from .wire import pack
 
 if typing.TYPE_CHECKING:
@@ -23,50 +25,112 @@ class Making:
         self.lsps, self.session = lsps, lsps.session
         self.front: SessionFront = lsps.front
         self.initiated: dict[str, tuple[int, Request]] = {}  # names that aren't reported yet: SRP and request
+        self.asked: dict[int, str] = {}  # the same names by their SRPs
+        self.late: set[str] = set()  # those of them that weren't reported in time
+        self.waiting: dict[str, Request] = {}  # those whose routes are to be asked for, in the order of their turns
+        self.is_due = False  # it is looked again which LSPs are to be made
         self.unmade: set[str] = set()  # names that were refused
+        self.leaving: dict[int, Lsp] = {}  # by the SRP of its removal
+        self.kept: set[int] = set()  # PLSP-IDs whose removal was refused
 
     def reported(self, lsp: Lsp) -> bool:
         """An LSP is reported. Whether it was made for another line than the file has now."""
         lsp.is_made |= lsp.name in self.initiated
-        _, request = self.initiated.pop(lsp.name, (0, None))
+        srp, request = self.initiated.pop(lsp.name, (0, None))
+        self.asked.pop(srp, None)
+        self.late.discard(lsp.name)
         return bool(lsp.flags & CREATED) and lsp.is_ours() and request is not None and request.row() != lsp.asked().row()
 
     def refused(self, srps: list[int]) -> None:
         """Its PCC refused some."""
-        for name in [name for name, (srp, _) in self.initiated.items() if srp in srps]:
-            del self.initiated[name]
-            self.unmade.add(name)
-            self.front.say("error", f"{self.session.peer}: {name!r} isn't made: its PCC refused it")
+        for srp in srps:
+            name = self.asked.pop(srp, None)
+            if name is not None and self.initiated.get(name, (0, None))[0] == srp:
+                del self.initiated[name]
+                self.unmade.add(name)
+                self.late.discard(name)
+                self.front.say("error", f"{self.session.peer}: {name!r} isn't made: its PCC refused it")
+            if lsp := self.leaving.pop(srp, None):
+                self.keep(lsp, "refuses to remove it")
+
+    def keep(self, lsp: Lsp, why: str) -> None:
+        """An LSP that isn't removed is moved like others."""
+        if self.lsps.all.get(lsp.number) is lsp and lsp.is_leaving:
+            lsp.is_leaving = False
+            self.kept.add(lsp.number)
+            self.front.say("error", f"{self.lsps.named(lsp)} stays, and is moved like others: its PCC {why}")
+            self.lsps.moves.ask_again(lsp)
 
     def reread(self) -> None:
-        """The file is another one: what was refused before is tried again."""
+        """The file is another one: what was refused before, or not reported, is tried again."""
+        for name in self.late:
+            self.asked.pop(self.initiated.pop(name, (0, None))[0], None)
+        self.late.clear()
         self.unmade.clear()
+        self.kept.clear()
+        self.leaving.clear()
         for lsp in self.lsps.all.values():
             lsp.is_leaving = False
         self.initiate()
 
+    def is_marked(self, lsp: Lsp) -> bool:
+        """Whether an LSP has a name that only this front gives."""
+        mark = self.front.options.mark
+        return bool(mark) and lsp.name.startswith(mark)
+
+    def may_make(self) -> bool:
+        """Whether the PCC makes LSPs now."""
+        is_able = self.session.state == "up" and self.lsps.is_synced and bool(self.session.capabilities & 4)
+        return is_able and not self.session.is_overloaded()
+
     def initiate(self) -> None:
         """Makes the LSPs of the file that this PCC doesn't have, and asks again for those whose line has changed. One whose line
         is gone is removed, and so is one whose line has another end: it is made again once it is gone."""
-        if self.session.state != "up" or not self.lsps.is_synced or not self.session.capabilities & 4:
+        self.is_due = False
+        if not self.may_make():
             return
         made = self.lsps.names
-        for name in self.front.unwanted(self.session.peer):
-            if name in made:
-                self.remove(made[name])
+        for lsp in [lsp for lsp in made.values() if lsp.flags & CREATED]:
+            self.look(lsp)
         for name, request in self.front.all_wanted(self.session.peer):
             if name not in made:
                 self.begin(name, request)
-            elif made[name].is_ours() and made[name].flags & CREATED:
-                self.change(made[name], request)
+
+    def look(self, lsp: Lsp) -> None:
+        """Removes an LSP that no line names any more, and asks again for one whose line has changed."""
+        if not self.may_make() or not lsp.flags & CREATED:
+            return
+        request = self.front.wanted(self.session.peer, lsp.name)
+        if request is None:
+            if self.is_marked(lsp) or self.front.is_unwanted(self.session.peer, lsp.name):
+                self.remove(lsp)
+        elif lsp.is_ours():
+            self.change(lsp, request)
 
     def remove(self, lsp: Lsp) -> None:
-        if lsp.flags & CREATED and not lsp.is_leaving:
+        if not lsp.is_leaving and lsp.number not in self.kept:
             lsp.is_leaving = True
-            self.lsps.next_srp()
+            self.lsps.drop_updates(lsp)
+            lsp.removal = srp = self.lsps.next_srp()
+            self.leaving[srp] = lsp
+            self.front.later(UNREPORTED, lambda: self.look_for_removal(srp), self.session.owner)
             self.front.count("moves", "removed")
             self.session.send(wire.message(wire.INITIATE, self.lsps.srp_object(REMOVE, lsp.setup_type),
-                                           pack(wire.O_LSP, struct.pack("!I", lsp.number << 12 | DELEGATED), must=True)))
+                                           pack(wire.O_LSP, struct.pack("!I", lsp.number << 12 | DELEGATED))))
+
+    def look_for_removal(self, srp: int) -> None:
+        """Manages an LSP again whose removal isn't reported."""
+        if lsp := self.leaving.pop(srp, None):
+            self.keep(lsp, f"hasn't reported its removal for {UNREPORTED} s")
+
+    def gone(self, lsp: Lsp) -> None:
+        """An LSP is removed. Another one may have its number or its name."""
+        self.kept.discard(lsp.number)
+        if lsp.is_leaving:
+            self.leaving.pop(lsp.removal, None)
+            request = self.front.wanted(self.session.peer, lsp.name)
+            if request and self.may_make() and lsp.name not in self.lsps.names:
+                self.begin(lsp.name, request)
 
     def change(self, lsp: Lsp, request: Request) -> None:
         if lsp.asked().ends[1] != request.ends[1]:
@@ -80,18 +144,37 @@ class Making:
             self.lsps.moves.ask(lsp)
 
     def begin(self, name: str, request: Request) -> None:
+        """Asks for the route of an LSP that is to be made, in its turn."""
         if name not in self.initiated and name not in self.unmade:
-            setup_type = max(self.session.setup_types)
             self.initiated[name] = 0, request
-            row = request.row(self.session.group(setup_type))
-            self.front.ask(row, lambda line: self.create(name, request, setup_type, line), self.session.owner)
+            self.waiting[name] = request
+            self.front.in_turn(self)
+
+    def whose(self) -> Owner | None:
+        return self.session.owner
+
+    def has_more(self) -> bool:
+        return bool(self.waiting)
+
+    def following(self) -> Form | None:
+        """The row of the name whose turn it is."""
+        if not self.waiting:
+            return None
+        name = next(iter(self.waiting))
+        request = self.waiting.pop(name)
+        if not self.may_make():  # it is begun again once it may be
+            self.initiated.pop(name, None)
+            return None
+        setup_type = max(self.session.setup_types, default=0)
+        return request.row(self.session.group(setup_type)), lambda line: self.create(name, request, setup_type, line)
 
     def create(self, name: str, request: Request, setup_type: int, line: str | None) -> None:
-        if self.session.state != "up":
+        if not self.may_make():  # it is begun again once it may be
+            self.initiated.pop(name, None)
             return
         answer = Reply.parse(line or "")
         if answer and not answer.why:
-            ero, refusal = self.session.ero(answer, request.ends[0], setup_type)
+            ero, refusal = self.session.ero(answer, request, setup_type)
             why = refusal and refusal[1]
         else:
             ero, why = b"", line or "no answer"
@@ -102,19 +185,22 @@ class Making:
         if why:
             self.initiated.pop(name, None)
             self.front.say("warning", f"{self.session.peer}: {name!r} isn't made: {why}")
-            if line is None and not self.front.is_away:
+            if line is None and not self.front.is_away and not self.is_due:
+                self.is_due = True
                 self.front.later(1, self.initiate, self.session.owner)
             return
         self.initiated[name] = asked = self.lsps.next_srp(), request
+        self.asked[asked[0]] = name
         self.front.later(UNREPORTED, lambda: self.look_for(name, asked), self.session.owner)
         self.front.count("moves", "made")
         self.session.send(wire.message(
             wire.INITIATE, self.lsps.srp_object(0, setup_type),
-            pack(wire.O_LSP, struct.pack("!I", DELEGATED | ADMIN) + wire.tlv(wire.T_NAME, name.encode()), must=True),
-            pack(wire.O_ENDS, wire.socket.inet_aton(request.ends[0]) + wire.socket.inet_aton(request.ends[1]), must=True), ero,
+            pack(wire.O_LSP, struct.pack("!I", DELEGATED | ADMIN) + wire.tlv(wire.T_NAME, name.encode())),
+            pack(wire.O_ENDS, wire.socket.inet_aton(request.ends[0]) + wire.socket.inet_aton(request.ends[1])), ero,
             request.attributes))
 
     def look_for(self, name: str, asked: tuple[int, Request]) -> None:
         """Names an LSP that was to be made if it isn't reported yet."""
         if self.initiated.get(name) is asked:
+            self.late.add(name)
             self.front.say("warning", f"{self.session.peer}: {name!r} was to be made, and isn't reported")

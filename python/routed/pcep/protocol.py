@@ -4,8 +4,10 @@ from collections.abc import Callable, Iterable, Sequence
 from typing import Protocol
 
 from ..net.loop import Owner
-from .network import Network, Sids
+from .network import Network
 from .requests import Request
+from .sids import Sids
+from .slices import Asking
 
 Link = tuple[str, str, int]  # a link of a segment routing path: near address, far address, label
 
@@ -26,6 +28,9 @@ class SessionFront(Protocol):
     def count(self, what: str, value: str) -> None:
         """Adds one to the figure `routed_pcep_WHAT_total`, under this value of its label."""
 
+    def tally(self, what: str) -> None:
+        """Adds one to the figure `routed_pcep_WHAT_total`, which has no label."""
+
     def later(self, seconds: float, call: Callable[[], object], owner: Owner | None) -> None:
         """Calls this after so many seconds. An exception in it ends the owner."""
 
@@ -35,11 +40,14 @@ class SessionFront(Protocol):
     def ask(self, row: str, call: Callable[[str | None], None], owner: Owner | None) -> None:
         """Asks the server, and gives its line to `call`; None where no line comes. An exception in it ends the owner."""
 
+    def in_turn(self, asking: Asking) -> None:
+        """Asks the server for these LSPs, a few at a time."""
+
     def segments(self, head: str, fars: Sequence[str], version: int) -> list[Link] | None:
         """The links of a route at a version, with their SIDs; None where a link has none."""
 
-    def owner(self, session: object, head: str, name: str) -> bool:
-        """Whether another PCC has delegated the LSP of that head-end and name."""
+    def claims(self, peer: str, head: str, name: str) -> bool:
+        """Whether a PCC may delegate the LSP of that head-end and name. Another PCC that has done so loses it to the head-end's."""
 
     def wanted(self, peer: str, name: str) -> Request | None:
         """What the file of --initiate wants for a PCC under a name."""
@@ -47,5 +55,5 @@ class SessionFront(Protocol):
     def all_wanted(self, peer: str) -> Iterable[tuple[str, Request]]:
         """All that the file wants of a PCC: names and requests."""
 
-    def unwanted(self, peer: str) -> Iterable[str]:
-        """The names of a PCC whose lines are gone."""
+    def is_unwanted(self, peer: str, name: str) -> bool:
+        """Whether the line of a PCC of that name is gone since the front began."""

@@ -9,17 +9,25 @@ import struct
 
 from ..model import rows
 from . import wire
-from .wire import BadObject, Object, Refused, TE_METRIC, fields, pack
+from .wire import BadObject, Object, Refused, SID_DEPTH, TE_METRIC, fields, pack
 
 MOST_HOPS = 7  # of a row
+MOST_SIDS = 255  # that a limit can say (RFC 8664 4.5)
+MOST_OBJECTS = 256  # of one request, or of one report
+MOST_RETURNED = 1024  # bytes of ignored objects that an answer returns, and as many of SVECs
 MINIMUM_COST = 1  # the objective function that a row has (RFC 5541 3.1)
 CLASS, TYPE, PARAMETER = (4, 1), (4, 2), (4, 4)  # what isn't supported
 UNKNOWN_CLASS, UNKNOWN_TYPE = (3, 1), (3, 2)
 UNAVAILABLE, UNKNOWN_TO, UNKNOWN_FROM = 1, 2, 4  # bits of the NO-PATH-VECTOR
 REVERSE = 1 << 4  # RP: both directions
 REOPTIMIZE = 1 << 3  # RP
+BANDWIDTH_HELD = wire.O_BANDWIDTH, 2  # class and type of the bandwidth that an LSP has
 NOWHERE = "", ""  # the ends of a request that has none yet
 VECTORS = {"none": 0, "unknown-to": UNKNOWN_TO, "unknown-from": UNKNOWN_FROM}
+
+
+class NeverIgnored(Refused):
+    """The reason to refuse an object whether it has the P flag or not."""
 
 
 class Request:
@@ -30,6 +38,7 @@ class Request:
         self.bandwidth, self.setup, self.hops = 0, 7, ""
         self.masks = 0, 0, 0
         self.bounds: list[float] = []
+        self.most_sids: int | None = None
         self.attributes, self.iro, self.ignored = b"", b"", b""  # objects as a PCUpd returns them, and with the I flag
 
     def take(self, given: Object) -> None:
@@ -45,12 +54,13 @@ class Request:
                 self.iro += pack(given.kind, given.body)
             elif given.kind != wire.O_ENDS and (given.kind != wire.O_METRIC or given.body[2] & 1):  # no bound: another route's
                 self.attributes += pack(given.kind, given.body, given.type)
-        except BadObject:
+        except (BadObject, NeverIgnored):
             raise
         except Refused:
             if given.must:
                 raise
-            self.ignored += pack(given.kind, given.body, given.type, ignored=True)
+            if len(self.ignored) + 4 + len(given.body) <= MOST_RETURNED:
+                self.ignored += pack(given.kind, given.body, given.type, ignored=True)
 
     def take_ends(self, body: bytes) -> None:
         here, there = fields("!4s4s", body)
@@ -58,8 +68,8 @@ class Request:
 
     def take_bandwidth(self, body: bytes) -> None:
         value = wire.number(body)
-        if value >= 2.0 ** 64:
-            raise Refused(*PARAMETER)
+        if value >= 2.0 ** 64:  # infinity, too: a path without that bandwidth would be another one
+            raise NeverIgnored(*PARAMETER)
         self.bandwidth = math.ceil(value)
 
     def take_lspa(self, body: bytes) -> None:
@@ -71,6 +81,11 @@ class Request:
     def take_metric(self, body: bytes) -> None:
         flags, kind = fields("!2xBB", body)
         value = wire.number(body[4:])
+        if kind == SID_DEPTH and flags & 1:
+            self.most_sids = int(min(value, MOST_SIDS if self.most_sids is None else self.most_sids))
+            return
+        if kind == wire.IGP_METRIC and not flags & 1:  # the path of least TE metric would be another one
+            raise NeverIgnored(*PARAMETER)
         if kind != TE_METRIC:
             raise Refused(*PARAMETER)
         if flags & 1:
@@ -102,7 +117,8 @@ class Request:
 
     def asked(self, group: int = 0) -> rows.Request:
         """What is asked. The links that it may use are in the group, too."""
-        return rows.Request(0, *self.ends, self.setup, self.bandwidth, *self.masks, self.hops).within(group)
+        found = rows.Request(0, *self.ends, self.setup, self.bandwidth, *self.masks, self.hops)
+        return found.within(group) if group else found
 
     def row(self, group: int = 0) -> str:
         """An `ask` row without its word and id."""
@@ -116,7 +132,7 @@ class Request:
 READERS = {wire.O_ENDS: Request.take_ends, wire.O_BANDWIDTH: Request.take_bandwidth, wire.O_LSPA: Request.take_lspa,
            wire.O_METRIC: Request.take_metric, wire.O_IRO: Request.take_iro, wire.O_OF: Request.take_objective,
            wire.O_RRO: Request.take_unsupported}
-KNOWN = {(wire.O_ENDS, kind) for kind in (2, 3, 4)} | {(wire.O_BANDWIDTH, 2)}  # IPv6 and P2MP ends; bandwidth that is held
+KNOWN = {(wire.O_ENDS, kind) for kind in (2, 3, 4)} | {BANDWIDTH_HELD}  # IPv6 and P2MP ends
 
 
 class Asked:
@@ -124,31 +140,56 @@ class Asked:
 
     def __init__(self, rp: Object) -> None:
         self.flags, self.id = fields("!II", rp.body)
+        if not self.id:  # it is reserved
+            raise Refused(10, 1)
         self.must, self.setup_type, self.request = rp.must, 0, Request()
-        self.tlvs = rp.body[8:]
+        self.tlvs, self.svec = rp.body[8:], b""
+        self.is_resolved, self.unknown = False, 0  # whether its ends were looked up; a bit of the NO-PATH-VECTOR
+        self.first = 0  # the bit of the answer before they were looked up
+        self.is_asked = False  # again, after it had no path
 
     def rp(self) -> bytes:
         """The RP of an answer, with the flags that PCEP has from the beginning."""
         return pack(wire.O_RP, struct.pack("!II", self.flags & 0x3f, self.id) + wire.setup_type_tlv(self.setup_type), must=True)
 
-    def read(self, objects: list[Object], setup_types: set[int]) -> None:
-        """Reads the objects behind the RP."""
+    def read(self, objects: list[Object], setup_types: set[int], is_stateful: bool) -> None:
+        """Reads the objects behind the RP. The LSP that it is about changes nothing in a session for LSPs, and is refused in another."""
         if not self.must:
             raise Refused(10, 1)
         self.setup_type = wire.setup_type_of(wire.tlvs_of(self.tlvs))
         if self.setup_type not in setup_types:
             raise Refused(21, 1)
-        if self.flags & (REVERSE | REOPTIMIZE):
+        if self.flags & REVERSE:
             raise Refused(*PARAMETER)
         ends = next((given for given in objects if given.kind == wire.O_ENDS), None)
         if ends is None:
             raise Refused(6, 3)
         if not ends.must:
             raise Refused(10, 1)
+        own: list[Object] = []
         for given in objects:
-            self.request.take(given)
+            if given.kind == wire.O_ENDS and given is not ends:  # the first counts
+                continue
+            if self.flags & REOPTIMIZE and is_of_own_lsp(given):
+                own.append(given)
+            elif given.kind == wire.O_LSP and is_stateful:
+                fields("!I", given.body)
+                wire.tlvs_of(given.body[4:])
+            else:
+                self.request.take(given)
+        self.read_own(own)
         if self.request.ends[0] == self.request.ends[1]:
             raise Refused(*PARAMETER)
+
+    def read_own(self, own: list[Object]) -> None:
+        """A reoptimization is a new request if its LSP holds no bandwidth. Else the bandwidth of its own circuits would be missing."""
+        if any(wire.number(given.body) > 0 for given in own if given.kind == wire.O_BANDWIDTH):
+            raise Refused(*(PARAMETER if any(given.kind == wire.O_RRO for given in own) else (6, 2)))
+
+
+def is_of_own_lsp(given: Object) -> bool:
+    """Whether an object says what the LSP of a reoptimization has: its route, or its bandwidth."""
+    return (given.kind, given.type) in ((wire.O_RRO, 1), BANDWIDTH_HELD)
 
 
 def requests_of(objects: list[Object]) -> tuple[list[Object], list[tuple[Object, list[Object]]]]:

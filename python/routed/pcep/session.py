@@ -1,41 +1,60 @@
 """One session with a PCC: its state, its timers and its requests (RFC 5440 4.2 and appendix A).
 
 It has no socket and no clock: it is given bytes and times, and gives bytes."""
-import functools
+import collections
 import struct
 from collections.abc import Callable
 
 from ..model.rows import Reply
 from ..net.loop import Owner
 from . import wire
+from .answers import Answers
 from .lsps import Lsps
 from .protocol import SessionFront
-from .requests import UNAVAILABLE, VECTORS, Asked, no_path, path, requests_of
+from .requests import Request
 from .wire import Malformed, Object, Refused, pack, tlv
 
-KEEPALIVE, DEAD, PATIENCE = 30, 120, 60  # seconds: what this side announces, and what each step of the beginning may take
+KEEPALIVE, DEAD = 30, 120  # seconds that this side announces
+OPEN_SECONDS, KEEP_SECONDS = 10, 60  # until the Open, and from it until the Keepalive
 MOST_UNKNOWN, MINUTE = 5, 60  # unknown messages in a minute
-MOST_KEPT = 256  # requests without a path that are asked again
+SLICE, BYTES = 8, 1 << 14  # messages, or requests and reports of them, that are taken at once; and bytes of messages
+WEIGHT = 1024  # bytes of a message that count as one more message
+MOST_OVERLOAD = 600  # seconds for which a PCC is left alone that says that it has too much to do
 OPEN_WAIT, KEEP_WAIT, UP, OVER = "open wait", "keep wait", "up", "over"
 
 
 class Session:
-    """`send` takes bytes for the PCC, and `end` closes once they are sent. An exception in what is called later ends `owner`."""
+    """`send` takes bytes for the PCC, and `end` closes once they are sent. `wake` is called when more of what has come may be taken. An
+    exception in what is called later ends `owner`."""
 
     def __init__(self, front: SessionFront, peer: str, number: int, send: Callable[[bytes], None], end: Callable[[], None], now: float,
                  owner: Owner | None = None):
         self.front, self.peer, self.number, self.owner = front, peer, number, owner
         self.put, self.end = send, end
+        self.wake: Callable[[], object] = lambda: None
         self.state, self.unread, self.began_at, self.sent_at, self.heard_at = OPEN_WAIT, b"", now, now, now
-        self.keepalive, self.dead = KEEPALIVE, 0
+        self.keepalive, self.dead, self.is_negotiated = KEEPALIVE, 0, False
         self.unknown: list[float] = []  # when unknown messages came
-        self.capabilities, self.setup_types = 0, {0}
+        self.capabilities, self.is_stateful, self.setup_types = 0, False, {0}
         self.most_sids: int | None = None
-        self.vain: dict[int, Asked] = {}  # requests that had no path, by their ids
-        self.asked = 0  # asks without an answer
-        self.is_full = False  # so much waits to be sent that LSPs aren't moved
+        self.work: collections.deque[Callable[[], object]] = collections.deque()  # what is left to do of a message
+        self.second, self.count = 0, 0  # the messages of a second
+        self.is_behind = False  # so much waits to be sent that LSPs aren't moved
+        self.overloaded_until, self.is_resting = 0.0, False
+        self.answers = Answers(self)
         self.lsps = Lsps(self)
-        self.send(wire.message(wire.OPEN, pack(wire.O_OPEN, bytes([0x20, KEEPALIVE, DEAD, number % 256]) + front.capabilities())))
+        self.send_open(KEEPALIVE, DEAD)
+
+    @property
+    def is_full(self) -> bool:
+        """Whether LSPs aren't moved now."""
+        return self.is_behind or self.is_overloaded()
+
+    def is_overloaded(self) -> bool:
+        return self.front.clock() < self.overloaded_until
+
+    def send_open(self, keepalive: int, dead: int) -> None:
+        self.send(wire.message(wire.OPEN, pack(wire.O_OPEN, bytes([0x20, keepalive, dead, self.number % 256]) + self.front.capabilities())))
 
     def send(self, data: bytes) -> None:
         self.sent_at = self.front.clock()
@@ -48,6 +67,8 @@ class Session:
 
     def stop(self, why: str, last: bytes = b"") -> None:
         if self.state != OVER:
+            if self.state == UP:
+                self.front.tally("sessions_ended")
             self.state = OVER
             if last:
                 self.send(last)
@@ -59,14 +80,18 @@ class Session:
 
     def tick(self, now: float) -> None:
         """Does what is due by now; called about once a second."""
-        if self.state == OPEN_WAIT and now - self.began_at >= PATIENCE:
+        if self.has_more():
+            self.heard_at = now
+        if self.state == OPEN_WAIT and now - self.began_at >= OPEN_SECONDS:
             self.fail(1, 2, "no Open came")
-        elif self.state == KEEP_WAIT and now - self.began_at >= PATIENCE:
+        elif self.state == KEEP_WAIT and now - self.began_at >= KEEP_SECONDS:
             self.fail(1, 7, "no Keepalive came")
         elif self.state == UP and self.dead and now - self.heard_at >= self.dead:
             self.stop("nothing came for the dead timer", wire.close(2))
-        elif self.state != OVER and self.state != OPEN_WAIT and now - self.sent_at >= self.keepalive:
+        elif self.state not in (OVER, OPEN_WAIT) and self.keepalive and now - self.sent_at >= self.keepalive:
             self.send(wire.message(wire.KEEPALIVE))
+        if self.state == UP:
+            self.lsps.tick(now)
 
     def fail(self, kind: int, value: int, why: str) -> None:
         """An error that ends the session."""
@@ -76,42 +101,67 @@ class Session:
     # ---- messages
 
     def take(self, data: bytes, now: float) -> None:
-        """Bytes of the PCC."""
-        if self.state == OVER:
-            return
-        self.unread += data
+        """Bytes of the PCC, and all that can be done with them."""
+        self.hear(data)
+        while self.go_on(now):
+            pass
+
+    def hear(self, data: bytes) -> None:
+        if self.state != OVER:
+            self.unread += data
+
+    def has_more(self) -> bool:
+        """Whether there is more to do with what has come."""
+        return self.state != OVER and (bool(self.work) or wire.has_message(self.unread))
+
+    def is_held(self, now: float) -> bool:
+        """Whether nothing more is taken now: the server or the next second has to come first."""
+        most = self.front.options.messages
+        return self.answers.is_full() or bool(most) and not self.work and self.second == int(now) and self.count >= most
+
+    def go_on(self, now: float) -> bool:
+        """Takes a slice of what has come. Whether more can be taken now."""
+        taken = 0
+        for _ in range(SLICE):
+            if not self.has_more() or self.is_held(now):
+                return False
+            if self.work:
+                self.work.popleft()()
+            elif taken < BYTES:
+                taken += self.take_message(now)
+        return True
+
+    def take_message(self, now: float) -> int:
+        """Takes a message. How many bytes it has."""
+        if self.second != int(now):
+            self.second, self.count = int(now), 0
+        self.count += 1
+        body = b""
         try:
-            found, self.unread = wire.cut(self.unread)
-            is_cut = False
-        except Malformed as fault:
-            found, is_cut = fault.args[0], True
-        for kind, body in found:
-            if self.state == OVER:
-                return
+            ((kind, body),), self.unread = wire.cut(self.unread, 1)
+            self.count += len(body) // WEIGHT
             self.heard_at = now
-            try:
-                self.message(kind, wire.objects_of(body), now)
-            except Malformed:
-                is_cut = True
-                break
-            except Refused as fault:
-                self.refuse(*fault.args)
-        if is_cut and self.state != OVER:
+            self.message(kind, wire.objects_of(body), now)
+        except Refused as fault:
+            self.refuse(*fault.args)
+        except Malformed:
+            self.front.count("messages", "malformed")
             if self.state == OPEN_WAIT:
                 self.fail(1, 1, "no message of PCEP came first")
             else:
                 self.stop("a malformed message", wire.close(wire.MALFORMED))
+        return len(body)
 
     def message(self, kind: int, objects: list[Object], now: float) -> None:
         self.front.count("messages", str(kind))
         if self.state == OPEN_WAIT:
             self.open(kind, objects, now)
         elif self.state == KEEP_WAIT:
-            self.keep(kind, objects)
+            self.keep(kind, objects, now)
         elif kind == wire.REQUEST:
-            self.requests(objects)
+            self.answers.take(objects)
         elif kind == wire.REPORT:
-            if not self.front.options.stateful or not self.capabilities & 1:
+            if not self.front.options.stateful or not self.is_stateful:
                 self.fail(19, 5, "an LSP was reported in a session without that capability")
             else:
                 self.lsps.reports(objects)
@@ -140,44 +190,61 @@ class Session:
             return
         try:
             said = wire.tlvs_of(given.body[4:])
-            self.capabilities = wire.fields("!I", said[wire.T_STATEFUL])[0] if wire.T_STATEFUL in said else 0
-            self.setup_types |= self.setup_types_of(said)
+            self.is_stateful = wire.T_STATEFUL in said
+            self.capabilities = wire.fields("!I", said[wire.T_STATEFUL])[0] if self.is_stateful else 0
+            self.setup_types = self.setup_types_of(said)
         except Refused as fault:
             kind, value = fault.args
-            self.fail(kind, value, "its Open has a TLV that can't be read")
+            self.fail(kind, value, "its Open has a TLV that can't be read, or lacks one")
             return
-        self.keepalive, self.dead = KEEPALIVE, given.body[2]
+        self.dead = given.body[2] if given.body[1] else 0  # one that sends no Keepalives has no dead timer (RFC 5440 7.3)
         self.state, self.began_at = KEEP_WAIT, now
         self.send(wire.message(wire.KEEPALIVE))
 
     def setup_types_of(self, said: dict[int, bytes]) -> set[int]:
-        """Segment routing where both sides have it, in the form of RFC 8408 or as an SR-PCE-CAPABILITY alone."""
-        sub = said.get(wire.T_SR)
+        """RSVP-TE unless the PCC leaves it out of its list; segment routing where both sides have it, in the form of RFC 8408 or as an
+        SR-PCE-CAPABILITY alone. Who lists segment routing has to have that TLV (RFC 8664 5.1)."""
+        sub, found = said.get(wire.T_SR), {0}
         if wire.T_SETUP_TYPES in said:
             body = said[wire.T_SETUP_TYPES]
             count, = wire.fields("!3xB", body)
             if len(body) < 4 + count:
                 raise wire.BadObject
+            found &= {*body[4:4 + count]}
             if 1 in body[4:4 + count]:
-                sub = wire.tlvs_of(body[4 + count + -count % 4:]).get(wire.T_SR, bytes([0, 0, 1, 0]))
+                sub = wire.tlvs_of(body[4 + count + -count % 4:]).get(wire.T_SR, sub)
+                if sub is None and self.front.sids:
+                    raise Refused(10, 12)
         if sub is None or not self.front.sids:
-            return set()
+            return found
         flags, most = wire.fields("!2xBB", sub)
         self.most_sids = None if flags & 1 or not most else most  # the X flag: no limit
-        return {1}
+        return found | {1}
 
-    def keep(self, kind: int, objects: list[Object]) -> None:
+    def keep(self, kind: int, objects: list[Object], now: float) -> None:
         """The second message."""
         if kind == wire.KEEPALIVE:
             self.state = UP
             self.front.say("info", f"{self.peer}: the session is up")
         elif kind == wire.ERROR:
             self.errors(objects)
-            self.stop("its PCC refused the Open")
+            if any(given.kind == wire.O_ERROR and given.body[2:4] == b"\1\4" for given in objects):
+                self.negotiate(objects, now)
+            else:
+                self.stop("its PCC refused the Open")
         elif kind != wire.CLOSE:
             self.fail(1, 1, "no Keepalive came behind its Open")
         else:
             self.stop("its PCC closed it")
+
+    def negotiate(self, objects: list[Object], now: float) -> None:
+        """Takes the timers that the PCC proposes for this side, once (RFC 5440 appendix A)."""
+        offer = next((given.body for given in objects if given.kind == wire.O_OPEN and len(given.body) >= 4), None)
+        if offer is None or self.is_negotiated or 0 < offer[2] < offer[1]:
+            self.fail(1, 6, "its PCC proposes timers that can't be taken, or others for the second time")
+            return
+        self.is_negotiated, self.began_at, self.keepalive = True, now, offer[1]
+        self.send_open(offer[1], offer[2] if offer[1] else 0)
 
     def errors(self, objects: list[Object]) -> None:
         srps = [struct.unpack_from("!I", given.body, 4)[0] for given in objects if given.kind == wire.O_SRP and len(given.body) >= 8]
@@ -189,106 +256,68 @@ class Session:
         self.lsps.refused(srps)
 
     def notified(self, objects: list[Object]) -> None:
-        """Requests that are cancelled aren't asked again (RFC 5440 7.14, type 1)."""
-        if any(given.kind == wire.O_NOTIFICATION and given.body[2:3] == b"\1" for given in objects):
-            for given in objects:
-                if given.kind == wire.O_RP and len(given.body) >= 8:
-                    self.vain.pop(struct.unpack_from("!I", given.body, 4)[0], None)
+        """Requests that are cancelled have no answer, and a PCC that has too much to do is told nothing of LSPs (RFC 5440 7.14)."""
+        said = [given for given in objects if given.kind == wire.O_NOTIFICATION and len(given.body) >= 4]
+        if any(given.body[2] == 1 for given in said):
+            self.answers.cancel(objects)
+        for given in [given for given in said if given.body[2] == 2][-1:]:
+            self.rest(given)
 
-    # ---- requests
+    def rest(self, given: Object) -> None:
+        """The PCC has too much to do, for as long as it says, or no longer."""
+        if given.body[3] != 1:
+            self.rested()
+            return
+        said = wire.tlvs_of(given.body[4:]).get(wire.T_OVERLOAD)
+        seconds = min(wire.fields("!I", said)[0], MOST_OVERLOAD) if said else MOST_OVERLOAD
+        self.overloaded_until = self.front.clock() + seconds
+        self.front.say("info", f"{self.peer}: its PCC has too much to do: no LSP is moved for {seconds} s, unless it says so earlier")
+        if not self.is_resting:
+            self.is_resting = True
+            self.front.later(seconds, self.look_up, self.owner)
 
-    def requests(self, objects: list[Object]) -> None:
-        before, requests = requests_of(objects)
-        svec = b"".join(pack(given.kind, given.body, given.type, ignored=True) for given in before)
-        for rp, rest in requests:
-            try:
-                asked = Asked(rp)
-            except Refused as fault:
-                self.refuse(*fault.args, pack(rp.kind, rp.body, rp.type))
-                continue
-            try:
-                if any(given.must for given in before):
-                    raise Refused(4, 1)  # requests that depend on one another are no rows
-                asked.read(rest, self.setup_types)
-            except Refused as fault:
-                self.refuse(*fault.args, asked.rp())
-                continue
-            self.ask(asked, svec)
+    def look_up(self) -> None:
+        """Looks whether the PCC has had its time. It may have asked for more."""
+        self.is_resting = False
+        if self.is_overloaded() and self.state == UP:
+            self.is_resting = True
+            self.front.later(self.overloaded_until - self.front.clock(), self.look_up, self.owner)
+        else:
+            self.rested()
 
-    def ask(self, asked: Asked, svec: bytes = b"") -> None:
-        self.asked += 1
-        self.vain.pop(asked.id, None)
-        self.front.ask(asked.request.row(self.group(asked.setup_type)), lambda line: self.answered(asked, svec, line), self.owner)
+    def rested(self) -> None:
+        if self.overloaded_until:
+            self.overloaded_until = 0.0
+            if self.state == UP:
+                self.again()
+
+    # ---- paths
 
     def group(self, setup_type: int) -> int:
         """The group that links of a segment routing path have to be in."""
         return self.front.options.group if setup_type == 1 else 0
 
-    def answered(self, asked: Asked, svec: bytes, line: str | None) -> None:
-        self.asked -= 1
-        if self.state == UP:
-            data, outcome = self.answer(asked, svec, Reply.parse(line or ""), line)
-            self.front.count("requests", outcome)
-            if data:
-                self.send(data)
-
-    def answer(self, asked: Asked, svec: bytes, answer: Reply | None, line: str | None) -> tuple[bytes, str]:
-        """The message for a request, and what became of it. Ignored objects come back where it has room for them (RFC 5440 7.2)."""
-        front = svec + asked.rp() if len(svec) < wire.MOST // 2 else asked.rp()
-        if line is None:
-            self.keep_vain(asked)
-            return no_path(front, UNAVAILABLE), "unavailable"
-        if answer is None:  # a row that was refused
-            self.refuse(4, 4, asked.rp())
-            return b"", "refused"
-        if answer.why:
-            self.keep_vain(asked)
-            return no_path(front, VECTORS[answer.why]), answer.why
-        broken = asked.request.broken(answer.cost)
-        if broken:
-            self.keep_vain(asked)
-            return no_path(front, 0, b"".join(wire.metric(wire.TE_METRIC, bound, is_bound=True) for bound in broken)), "above the bound"
-        ero, why = self.ero(answer, asked.request.ends[0], asked.setup_type)
-        if why:
-            self.front.say("warning", f"{self.peer}: request {asked.id}: {why[1]}")
-            if why[0]:
-                self.refuse(*why[0], asked.rp())
-                return b"", "refused"
-            return no_path(front, UNAVAILABLE), "unavailable"
-        has_room = len(front) + len(ero) + len(asked.request.ignored) + 16 <= wire.MOST
-        return path(front, ero, answer.cost, asked.request.ignored) if has_room else path(asked.rp(), ero, answer.cost, b""), "route"
-
-    def ero(self, answer: Reply, head: str, setup_type: int) -> tuple[bytes, tuple[tuple[int, int] | None, str] | None]:
+    def ero(self, answer: Reply, request: Request, setup_type: int) -> tuple[bytes, tuple[tuple[int, int] | None, str] | None]:
         """The ERO of a route, or why there is none: the error that says so, if any, and words."""
         if setup_type == 0:
-            return wire.addresses_ero(answer.fars), None
-        if self.most_sids and len(answer.fars) > self.most_sids:
-            return b"", ((10, 4), f"its path has {len(answer.fars)} SIDs, and the PCC takes {self.most_sids}")
-        links = self.front.segments(head, answer.fars, answer.version)
+            return pack(wire.O_ERO, answer.subobjects), None
+        for most, who in ((self.most_sids, "the PCC"), (request.most_sids, "its METRIC of SID depth")):
+            if most is not None and len(answer.fars) > most:
+                return b"", ((10, 3), f"its path has {len(answer.fars)} SIDs, and {who} takes {most}")
+        if not self.front.network.follows(request, self.group(setup_type), answer):
+            return b"", (None, "the network isn't known at its version")
+        links = self.front.segments(request.asked().head, answer.fars, answer.version)
         if links is None:
             return b"", (None, "a link of its path has no SID")
         if 20 * len(links) > wire.MOST - 1000:
-            return b"", ((10, 4), f"its path has {len(links)} SIDs, more than a message has room for")
+            return b"", ((10, 3), f"its path has {len(links)} SIDs, more than a message has room for")
         return wire.segments_ero(links), None
-
-    def keep_vain(self, asked: Asked) -> None:
-        """A request without a path is asked again at each version, where the front may close the session for it."""
-        if self.front.options.reopen and len(self.vain) < MOST_KEPT:
-            self.vain[asked.id] = asked
 
     def again(self) -> None:
         """A new version: asks again for what had no path, and for the LSPs."""
-        for asked in [*self.vain.values()]:
-            self.asked += 1
-            self.front.ask(asked.request.row(self.group(asked.setup_type)), functools.partial(self.vain_answered, asked), self.owner)
+        self.answers.again()
         self.lsps.moves.again()
         self.lsps.making.initiate()
-
-    def vain_answered(self, asked: Asked, line: str | None) -> None:
-        self.asked -= 1
-        answer = Reply.parse(line or "")
-        if self.state == UP and asked.id in self.vain and answer and not answer.why and not asked.request.broken(answer.cost):
-            self.stop(f"request {asked.id}, which had no path, has one now: its PCC asks again in a new session", wire.close(1))
 
 
 def stateful(flags: int) -> bytes:

@@ -4,32 +4,72 @@ from __future__ import annotations
 import re
 from typing import TYPE_CHECKING
 
-from ..net.stream import Stream
+from ..net.endpoints import CONNECT
+from ..net.loop import READ, WRITE
 
 if TYPE_CHECKING:
     from .front import Front
 
 LATE_AGAIN = 1  # seconds from one try to connect to the next where the place has no room, or tells something else
 LONGEST = 100  # bytes of a line that has no end yet
+RUN = 2  # seconds in which the place says which run it is of; versions are told behind that
 VERSION = re.compile(rb"version ([0-9]{1,20})")
+RUN_LINE = re.compile(rb"run ([0-9a-f]{1,64})")
 
 
 class Watch:
-    """A connection that tells versions."""
+    """A connection that tells versions and, where SIDs are used, which run of the server they are of. The front hears of it once it is
+    connected."""
 
     def __init__(self, front: Front) -> None:
-        self.front, self.stream = front, Stream(front.loop, front.options.watch.connect())
-        self.stream.give(self, self.read)
+        self.front, self.stream, self.is_there = front, front.options.watch.begin(front.loop), False
+        self.stream.give(self, self.go_on)
+        self.version: int | None = None  # that isn't told yet
+        self.is_held = bool(front.sids)
+        self.is_new = True  # no line has come
         self.stream.wait(True)
+        if not self.stream.is_made:
+            self.stream.loop.after(CONNECT, self.give_up)
 
     def named(self) -> str:
         return "the connection for versions"
 
     def fail(self) -> None:
-        self.front.lost("the connection for versions has ended")
+        if self.is_there:
+            self.front.lost("the connection for versions has ended")
+        else:
+            self.front.unreached()
 
-    def read(self, _: int) -> None:
+    def give_up(self) -> None:
+        if not self.stream.is_made and not self.stream.is_closed:
+            self.front.unreached()
+
+    def go_on(self, events: int) -> None:
+        if events & WRITE:
+            self.stream.flush()
+        if not self.stream.is_made:
+            if self.stream.is_ended:
+                self.front.unreached()
+            return
+        if not self.is_there:
+            self.is_there = True
+            self.front.reached()
+            if self.is_held:
+                self.stream.write(b"run\n")
+                self.stream.loop.after(RUN, self.release)
+            self.stream.wait(True)
+        if events & READ:
+            self.read()
+
+    def read(self) -> None:
         lines = self.stream.lines()
+        for found in filter(None, map(RUN_LINE.fullmatch, lines)):
+            self.front.begun(found[1].decode())
+            self.is_held = False
+        if self.is_new and lines and lines[0] != b"busy":
+            self.is_new = False  # a run that has a number has said it
+            self.front.answers()
+        lines = [line for line in lines if not RUN_LINE.fullmatch(line)]
         versions = [int(found[1]) for found in map(VERSION.fullmatch, lines) if found]
         if self.stream.is_ended:
             self.front.lost()
@@ -37,8 +77,21 @@ class Watch:
             self.front.lost("the place of versions is busy", LATE_AGAIN)
         elif len(versions) < len(lines) or len(self.stream.unread) > LONGEST:
             self.front.lost("the place of versions tells something else", LATE_AGAIN)
-        elif versions:
-            self.front.told(versions[-1])
+        else:
+            self.tell(versions)
+
+    def tell(self, versions: list[int]) -> None:
+        """Tells the newest version, once the run is known."""
+        self.version = versions[-1] if versions else self.version
+        if self.version is not None and not self.is_held:
+            version, self.version = self.version, None
+            self.front.told(version)
+
+    def release(self) -> None:
+        """A server that doesn't say which run it is."""
+        if self.is_held and not self.stream.is_closed:
+            self.is_held = False
+            self.tell([])
 
     def close(self) -> None:
         self.stream.close()

@@ -11,8 +11,8 @@ from .requests import Request
 TESTS: list[Callable[[str], object]] = [is_address, is_address, re.compile("[0-7]").fullmatch, is_rate, is_mask, is_mask, is_mask]
 
 
-def wanted(path: str | None) -> dict[tuple[str, str], Request]:
-    """Requests by PCC and name."""
+def wanted(path: str | None, mark: str | None = None) -> dict[tuple[str, str], Request]:
+    """Requests by PCC and name. Each name begins with the mark."""
     found: dict[tuple[str, str], Request] = {}
     if path is None:
         return found
@@ -26,10 +26,20 @@ def wanted(path: str | None) -> dict[tuple[str, str], Request]:
         why = refusal(rest)
         if why or not re.fullmatch(r"[!-~]{1,255}", name):
             raise Stopped(f"{path}: line {number}: {why or 'its name is no 1 to 255 visible characters'}")
+        if mark and not name.startswith(mark):
+            raise Stopped(f"{path}: line {number}: {name} doesn't begin with {mark}, as --mark says")
         if (rest[0], name) in found:
             raise Stopped(f"{path}: line {number}: {name} is there already")
         found[rest[0], name] = request_of(rest)
     return found
+
+
+def by_pcc(found: dict[tuple[str, str], Request]) -> dict[str, dict[str, Request]]:
+    """The same requests by name, for each PCC."""
+    of: dict[str, dict[str, Request]] = {}
+    for (head, name), request in found.items():
+        of.setdefault(head, {})[name] = request
+    return of
 
 
 def refusal(fields: list[str]) -> str | None:

@@ -9,8 +9,9 @@ OPEN, KEEPALIVE, REQUEST, REPLY, NOTIFICATION, ERROR, CLOSE, REPORT, UPDATE, INI
 # Classes of objects; the RFC's names of some: O_RRO the reported route, O_BANDWIDTH of type 1 a request's.
 (O_OPEN, O_RP, O_NO_PATH, O_ENDS, O_BANDWIDTH, O_METRIC, O_ERO, O_RRO, O_LSPA, O_IRO, O_SVEC, O_NOTIFICATION, O_ERROR, O_CLOSE, O_OF, O_LSP,
  O_SRP) = 1, 2, 3, 4, 5, 6, 7, 8, 9, 10, 11, 12, 13, 15, 21, 32, 33
-T_NO_PATH_VECTOR, T_STATEFUL, T_NAME, T_LSP_IDS, T_SR, T_SETUP_TYPE, T_SETUP_TYPES = 1, 16, 17, 18, 26, 28, 34
-TE_METRIC = 2
+T_NO_PATH_VECTOR, T_STATEFUL, T_NAME, T_LSP_IDS, T_LSP_ERROR, T_SR, T_SETUP_TYPE, T_SETUP_TYPES = 1, 16, 17, 18, 20, 26, 28, 34
+T_OVERLOAD = 2  # of a NOTIFICATION: seconds
+IGP_METRIC, TE_METRIC, SID_DEPTH = 1, 2, 11
 MOST = 65535  # bytes of a message
 MALFORMED = 3  # the reason of a Close
 NAI_ADJACENCY = 3  # an SR-ERO's NAI type: the addresses of both interfaces
@@ -25,11 +26,12 @@ class Object(NamedTuple):
 
 
 class Hop(NamedTuple):
-    """A hop of an ERO."""
+    """A hop of an ERO, strict or loose."""
 
-    far: str | None  # the address of the far interface
+    far: str | None  # its address: of the far interface, if the front has written it
     label: int | None  # the SID
-
+    bits: int = 32  # the length of its prefix
+    near: str | None = None  # the address of the near interface
 
 
 class Malformed(Exception):
@@ -61,11 +63,11 @@ def message(kind: int, *objects: bytes) -> bytes:
     return struct.pack("!BBH", 0x20, kind, len(body) + 4) + body
 
 
-def cut(data: bytes) -> tuple[list[tuple[int, bytes]], bytes]:
-    """The whole messages at the front of bytes, as kinds and bodies, and what remains."""
+def cut(data: bytes, most: int = MOST) -> tuple[list[tuple[int, bytes]], bytes]:
+    """The first whole messages of bytes, so many at most, as kinds and bodies, and what remains."""
     found: list[tuple[int, bytes]] = []
     at = 0
-    while len(data) - at >= 4:
+    while len(data) - at >= 4 and len(found) < most:
         first, kind, size = struct.unpack_from("!BBH", data, at)
         if first >> 5 != 1 or size < 4:
             raise Malformed(found)
@@ -74,6 +76,14 @@ def cut(data: bytes) -> tuple[list[tuple[int, bytes]], bytes]:
         found.append((kind, data[at + 4:at + size]))
         at += size
     return found, data[at:]
+
+
+def has_message(data: bytes) -> bool:
+    """Whether the first message is there whole, or can't be one."""
+    if len(data) < 4:
+        return False
+    first, _, size = struct.unpack_from("!BBH", data)
+    return first >> 5 != 1 or size < 4 or len(data) >= size
 
 
 def objects_of(body: bytes) -> list[Object]:
@@ -171,14 +181,18 @@ def hops_of(ero: bytes) -> list[Hop | None]:
 
 
 def hop_of(kind: int, part: bytes) -> Hop | None:
-    if kind == 1:  # strict
+    kind &= 0x7f  # without the L bit
+    if kind == 1:
         far, length = fields("!2x4sB", part)
-        return Hop(address(far), None) if length == 32 else None
+        if length > 32:
+            raise BadObject
+        return Hop(address(far), None, length)
     if kind != 36:
         return None
     flags, = fields("!2xH", part)
     sid, nai = (b"", part[4:]) if flags & NO_SID else (part[4:8], part[8:])
-    label = fields("!I", sid)[0] >> (12 if flags & IS_MPLS else 0) if sid else None
+    label = fields("!I", sid)[0] >> (12 if flags & IS_MPLS else 0) if sid or not flags & NO_SID else None
     if flags & NO_NAI or flags >> 12 != NAI_ADJACENCY:
         return Hop(None, label)
-    return Hop(address(fields("!4x4s", nai)[0]), label)
+    near, far = fields("!4s4s", nai)
+    return Hop(address(far), label, 32, address(near))

@@ -6,17 +6,45 @@ changes after the last end row. A row or a batch that `routed` refuses is refuse
 from __future__ import annotations
 
 import argparse
+import math
 import re
-import sys
+from collections.abc import Iterable, Iterator
+from typing import NamedTuple
 
+from ..model.advice import not_rows, open_quote
 from ..model.database import Database
 from ..model.journals import read_database
-from ..model.rows import Link, Refused, Reply, Request, rank
-from ..sweep.swept import overbooked_before
-from . import positions
-from .network_picture import ROUTE_STYLES, Full, Route, network_picture
+from ..model.names import NamesRefused
+from ..model.rows import Key, Link, Refused, Reply, Request, rank
+from ..program import failed, number
+from ..sweep.swept import Overbooked, overbooked_before
+from . import positions, shapes
+from .canvas import BLUE, GRAY, GREEN, ORANGE, PURPLE, RED, SKY, YELLOW, Note, fit, picture
+from .labels import Sheet
+from .layout import Places
+from .positions import Names
+from .shapes import Curve
 
 ANY = Request(0, "", "")  # which each link has enough for
+GROUP_COLORS = [BLUE, ORANGE, GREEN, PURPLE, SKY, YELLOW, GRAY]
+GROUP_DASHES = ["", "9 4", "3 3"]
+# Each route has a color and dashes that no other has, and none of the groups' colors.
+ROUTE_STYLES = [(color, dash) for dash in ("", "11 4") for color in (RED, "#000000", "#a0148c")]
+LANES = [6.5, -6.5, 10.5, -10.5, 14.5, -14.5]  # how far to the right of a circuit a route is drawn
+THINNEST, WIDEST = 1.5, 7.0  # pixels of a circuit
+SMALLER = 0.4  # what these are multiplied by in a large network
+MOST_BARE = 400  # links, from which on it is there
+UNDER = "stroke:#fff;stroke-width:7;stroke-linejoin:round"  # white under a route, so that it is seen on many circuits
+
+Line = tuple[Link, Link | None]  # what is drawn as one: a circuit, whose directions are in the same groups, or a link of one way
+Full = dict[str, list[Overbooked]]  # what is overbooked, by a link's name
+
+
+class Route(NamedTuple):
+    """A reply's first words, and its links."""
+
+    reply: str
+    links: list[Link]
 
 
 def walk_of(database: Database, line: str) -> list[Link]:
@@ -60,18 +88,162 @@ def read_overbooked(path: str, database: Database) -> Full:
     return found
 
 
-def version(text: str) -> int:
-    """The number of a batch, 0 for the network before the first."""
-    value = int(text)
-    if value < 0:
-        raise ValueError
-    return value
+def lines_of(database: Database) -> list[Line]:
+    lines: list[Line] = []
+    for link in sorted(database.links(), key=lambda link: link.key):
+        back = database.reverse(link)
+        if not back or back.group != link.group:
+            lines.append((link, None))
+        elif link.key < back.key:
+            lines.append((link, back))
+    return lines
+
+
+def groups_of(lines: list[Line]) -> dict[int, tuple[str, str]]:
+    """The color and the dashes of each group that a link has."""
+    return {group: (GROUP_COLORS[at % len(GROUP_COLORS)], GROUP_DASHES[at // len(GROUP_COLORS) % len(GROUP_DASHES)])
+            for at, group in enumerate(sorted({link.group for link, _ in lines}))}
+
+
+def most_free(lines: list[Line], priority: int) -> int:
+    return max((one.unreserved[priority] for pair in lines for one in pair if one), default=0)
+
+
+def width_of(free: int, most: int) -> float:
+    return THINNEST + (WIDEST - THINNEST) * math.sqrt(free / most) if most else THINNEST
+
+
+def lanes_of(routes: list[Route]) -> list[float]:
+    """Beside which side of its circuits each route is, so that no two are on one line."""
+    lanes: list[float] = []
+    for route in routes:
+        keys = {link.key for link in route.links}
+        beside = [(link, lane) for other, lane in zip(routes, lanes) for link in other.links]
+        taken = {lane for link, lane in beside if link.key in keys} | {-lane for link, lane in beside if link.back in keys}
+        lanes.append(next((lane for lane in LANES if lane not in taken), LANES[-1]))
+    return lanes
+
+
+def about(link: Link, back: Link | None, names: Names, priority: int, overbooked: Full) -> str:
+    """What is said of a circuit where the pointer is on it."""
+    says = [f"{names[link.router]} – {names[link.neighbor]}" if back else f"{names[link.router]} to {names[link.neighbor]}, one way"]
+    for one in filter(None, (link, back)):
+        says.append(f"{one.local} to {one.remote}: metric {one.metric:,}, group 0x{one.group:x}, "
+                    f"{one.unreserved[priority]:,} bytes per second unreserved at priority {priority}")
+        says += [f"overbooked at priority {it.priority}: {it.asked:,} bytes per second are asked of {it.unreserved:,}"
+                 for it in overbooked.get(one.name, ())]
+    return "\n".join(says)
+
+
+def circuits(lines: list[Line], curves: list[Curve], names: Names, priority: int, overbooked: Full, opacity: str,
+             thinner: float) -> Iterator[str]:
+    """The circuits and the links of one way; those that are overbooked have a band under them."""
+    for (link, back), line in zip(lines, curves):
+        if any(one.name in overbooked for one in (link, back) if one):
+            yield shapes.line("band", line.path(), shapes.BAND)
+    most, groups = most_free(lines, priority), groups_of(lines)
+    for (link, back), line in zip(lines, curves):
+        free = min(one.unreserved[priority] for one in (link, back or link))
+        color, dash = groups[link.group]
+        dashes = (dash or "none") if free else "1 5"
+        style = f"stroke:{color};stroke-width:{width_of(free, most) * thinner:.1f};stroke-dasharray:{dashes}{opacity}"
+        yield shapes.line("circuit" if back else "one-way", line.path(), style, about(link, back, names, priority, overbooked))
+        if not back:
+            yield shapes.arrow(line, "#444", 0.8)
+
+
+def route_lines(routes: list[Route], at: dict[Key, Curve], sheet: Sheet, names: Names) -> Iterator[str]:
+    """Each route as one line beside its circuits, with an arrow on each of its links. Links that aren't drawn are left out."""
+    for route, (color, dash), lane in zip(routes, ROUTE_STYLES, lanes_of(routes)):
+        ways, path, is_on = [], "", False
+        for link in route.links:
+            if link.key in at:
+                ways.append(at[link.key].aside(lane))
+                path += ways[-1].path("L" if is_on else "M")
+            is_on = link.key in at
+        if not ways:
+            continue
+        style = f"stroke:{color};stroke-width:3;stroke-linejoin:round;stroke-dasharray:{dash or 'none'}"
+        if len(at) >= MOST_BARE:
+            yield shapes.line("under", path, UNDER)
+        yield shapes.line("route", path, style, route_text(route, names))
+        for way in ways:
+            sheet.line(way.points(), 2)
+            yield shapes.arrow(way, color)
+
+
+def route_text(route: Route, names: Names) -> str:
+    cost, count = sum(link.metric for link in route.links), len(route.links)
+    one, other = route.links[0].router, route.links[-1].neighbor
+    return (f"{route.reply}: {names.get(one, one)} to {names.get(other, other)}, "
+            f"cost {cost:,}, {count} {'link' if count == 1 else 'links'}")
+
+
+def marks_of_routes(routes: list[Route], places: Places) -> tuple[list[str], dict[str, float]]:
+    """The rings and diamonds at the ends of routes, and the radius of what is at each router."""
+    radii: dict[str, float] = dict.fromkeys(places, shapes.NUMBERED)
+    shown = []
+    for route, (color, dash) in zip(routes, ROUTE_STYLES):
+        for router, shape, inside in ((route.links[0].router, shapes.ring, 10), (route.links[-1].neighbor, shapes.diamond, 14)):
+            if router not in places:
+                continue
+            radius = max(inside, radii[router] + 4 if radii[router] > shapes.NUMBERED else 0)
+            shown.append(shape(*places[router], radius, color, dash))
+            radii[router] = radius + 1
+    return shown, radii
+
+
+def notes_of_circuits(lines: list[Line], priority: int, opacity: str, thinner: float) -> list[Note]:
+    """The legend of groups and widths."""
+    if not lines:
+        return [(None, "The network has no routers.")]
+    notes: list[Note] = [(shapes.sample(f"stroke:{color};stroke-dasharray:{dash or 'none'};stroke-width:4{opacity}"),
+                          f"group 0x{group:x}" if group else "no group (0x0)") for group, (color, dash) in groups_of(lines).items()]
+    notes.append((shapes.sample(f"stroke:#444;stroke-width:{WIDEST * thinner:g}"),
+                  f"widest: {most_free(lines, priority):,} bytes per second unreserved at priority {priority}; dotted: none"))
+    if not all(back for _, back in lines):
+        notes.append((shapes.one_way_sample, "one direction alone, or in other groups than its reverse"))
+    return notes
+
+
+def notes_of_routes(routes: list[Route], names: Names) -> list[Note]:
+    """The legend of routes."""
+    notes: list[Note] = [(shapes.sample(f"stroke:{color};stroke-dasharray:{dash or 'none'};stroke-width:3"), route_text(route, names))
+                         for route, (color, dash) in zip(routes, ROUTE_STYLES)]
+    ends: list[Note] = [(lambda x, y: shapes.ring(x, y, 9, RED), "ring: where a route begins"),
+                        (lambda x, y: shapes.diamond(x, y, 11, RED), "diamond: where it ends")]
+    return notes + ends if routes else []
+
+
+def network_picture(title: str, database: Database, places: Places, names: Names, routes: list[Route], priority: int,
+                    overbooked: Full) -> Iterable[str]:
+    """The lines of the whole picture, which has the links between routers that have places."""
+    places, wide, high = fit(places)
+    thinner, faint = (1.0, 0.5) if len(places) < shapes.MANY else (SMALLER, 0.3)
+    lines = [line for line in lines_of(database) if line[0].router in places and line[0].neighbor in places]
+    marks, sheet, opacity = database.marks(), Sheet(wide, high), f";stroke-opacity:{faint}" if routes else ""
+    curves, at = shapes.curves([(link.router, link.neighbor) for link, _ in lines], places), {}
+    for (link, back), line in zip(lines, curves):
+        at[link.key] = line
+        if back:
+            at[back.key] = line.reversed()
+    drawn = [*circuits(lines, curves, names, priority, overbooked, opacity, thinner), *route_lines(routes, at, sheet, names)]
+    ends, radii = marks_of_routes(routes, places)
+    first = {router for route in routes for router in (route.links[0].router, route.links[-1].neighbor) if router in places}
+    shapes.place_names(sheet, places, names, radii, curves, first)
+    routers, unnamed = shapes.routers(sheet, places, names, marks)
+    notes = notes_of_circuits(lines, priority, opacity, thinner)
+    if overbooked:
+        notes.append((shapes.sample(shapes.BAND), "overbooked: more is asked of it than it has unreserved"))
+    if not marks.isdisjoint(places):
+        notes.append((lambda x, y: shapes.router(x, y, True), "no transit: no route passes through it"))
+    return picture(title, wide, high, [*drawn, *ends, *routers], [*notes, *notes_of_routes(routes, names), *unnamed])
 
 
 def options(words: list[str] | None) -> argparse.Namespace:
     asked = argparse.ArgumentParser(prog="draw", description=__doc__.split("\n\n")[0])
     asked.add_argument("rows", help="the file of rows or the journal")
-    asked.add_argument("--version", type=version, metavar="N", help="the network after batch N, by default the last")
+    asked.add_argument("--version", type=number("version", 0), metavar="N", help="the network after batch N, by default the last")
     asked.add_argument("--replies", metavar="FILE", help="reply lines of routed, or the lines of a book")
     asked.add_argument("--ask", action="append", default=[], metavar="ID",
                        help=f"draw the route of this reply; at most {len(ROUTE_STYLES)} times")
@@ -94,15 +266,22 @@ def main(words: list[str] | None = None) -> int:
     asked = options(words)
     try:
         with open(asked.rows, "rb") as rows:
-            database = read_database(rows.read(), asked.version, has_asks=True)
+            data = rows.read()
+        if told := not_rows(data):
+            raise Refused(told)
+        database = read_database(data, asked.version, has_asks=True)
         routes = read_routes(asked, database) if asked.replies else []
         overbooked = read_overbooked(asked.overbooked, database) if asked.overbooked else {}
-        places, names = positions.positions(asked, [(link.router, link.neighbor) for link in database.links()], "draw")
+        pairs = [(link.router, link.neighbor) for link in database.links()]
+        part = positions.part_of(asked, pairs)
+        if part is not None:
+            pairs = [pair for pair in pairs if part.issuperset(pair)]
+        places, names = positions.positions(asked, pairs, "draw")
         print(*network_picture(asked.title, database, places, names, routes, asked.priority, overbooked), sep="\n")
+    except NamesRefused as fault:
+        return failed("draw", fault)
     except Refused as fault:
-        print(f"draw: {asked.rows}: {fault}", file=sys.stderr)
-        return 1
+        return failed("draw", f"{asked.rows}: {fault}{open_quote(data)}")
     except (OSError, ValueError) as fault:
-        print(f"draw: {fault}", file=sys.stderr)
-        return 1
+        return failed("draw", fault)
     return 0

@@ -6,21 +6,25 @@ one, and how many links are then overbooked. The lines come on standard input, a
 from __future__ import annotations
 
 import argparse
+import re
 import sys
 from collections.abc import Iterable
 
+from ..model.advice import format_of
+from ..model.rows import Refused
+from ..program import failed
 from ..sweep.swept import Failure, Overbooked, failures, overbooked_before
 from . import positions, shapes
-from .canvas import BLUE, GRAY, ORANGE, RED, Note, fit, legend, picture, text_in
+from .canvas import BLUE, GRAY, ORANGE, RED, Note, fit, picture, text_in
 from .labels import SMALL, Sheet, Wanted, box_of
 from .layout import Places
 from .positions import Names
 from .shapes import Curve
 
 KINDS = {"lost": (f"stroke:{RED};stroke-width:6", "a request loses its route"),
-         "longer": (f"stroke:{BLUE};stroke-width:4", "no request loses its route, and one gets a longer one"),
          "overbooked": (f"stroke:{ORANGE};stroke-width:4;stroke-dasharray:10 4",
-                        "no route is lost or longer, and a link is overbooked more than before"),
+                        "no request loses its route, and a link is overbooked more than before"),
+         "longer": (f"stroke:{BLUE};stroke-width:4", "no route is lost, no link is overbooked more, and a request gets a longer route"),
          "none": (f"stroke:{GRAY};stroke-width:2", "no request and no link is worse off")}
 INK = {"lost": "#a84300", "longer": "#005a8e", "overbooked": "#8a5f00"}  # of the counts, dark enough to read
 ALONG = (0.5, 0.44, 0.56, 0.38, 0.62, 0.32, 0.68, 0.26, 0.74, 0.2, 0.8)  # where on its circuit a count may be
@@ -31,7 +35,7 @@ Over = dict[Failure, list[Overbooked]]  # what is overbooked of each circuit whi
 
 
 def kind_of(failure: Failure) -> str:
-    return "lost" if failure.lost else "longer" if failure.longer else "overbooked" if failure.overbooked else "none"
+    return "lost" if failure.lost else "overbooked" if failure.overbooked else "longer" if failure.longer else "none"
 
 
 def counts_of(failure: Failure) -> str:
@@ -71,23 +75,25 @@ def failures_picture(title: str, found: list[Failure], over: Over, places: Place
     sheet, curves, drawn = Sheet(wide, high), shapes.curves([(it.one, it.other) for it in found], places), []
     drawn += [shapes.line("band", line.path(), shapes.BAND) for failure, line in zip(found, curves) if over[failure]]
     for failure, line in zip(found, curves):
-        drawn.append(shapes.line(kind_of(failure), line.path(), KINDS[kind_of(failure)][0], about(failure, names, over[failure])))
+        style = KINDS[kind_of(failure)][0]
+        if len(places) >= shapes.MANY:
+            style = re.sub(r"width:(\d)", lambda found: f"width:{int(found[1]) / 2:g}", style)
+        drawn.append(shapes.line(kind_of(failure), line.path(), style, about(failure, names, over[failure])))
         drawn += [] if failure.is_circuit else [shapes.arrow(line, "#444", 0.8)]
     shapes.place_names(sheet, places, names, dict.fromkeys(places, shapes.NUMBERED), curves)
     place_counts(found, curves, sheet)
-    texts, numbers = shapes.texts_of_names(sheet, places, names)
-    drawn += list(shapes.routers(places, names, set(), numbers)) + texts
+    routers, unnamed = shapes.routers(sheet, places, names, ())
+    drawn += routers
     absent = []
     for index, failure in enumerate(found):
         if box := sheet.box(index):
             drawn += [shapes.plate(box), text_in(box, counts_of(failure), "counts", SMALL, INK[kind_of(failure)])]
         elif kind_of(failure) != "none":
             absent.append(failure)
-    shown, more = legend(notes_of(found, over, names, absent, numbers), wide, high)
-    return picture(title, wide, high + more + 10, drawn + shown)
+    return picture(title, wide, high, drawn, [*notes_of(found, over, names, absent), *unnamed])
 
 
-def notes_of(found: list[Failure], over: Over, names: Names, absent: list[Failure], numbers: dict[str, int]) -> list[Note]:
+def notes_of(found: list[Failure], over: Over, names: Names, absent: list[Failure]) -> list[Note]:
     """The legend, and what has no room in the picture."""
     kinds = {kind_of(failure) for failure in found}
     notes: list[Note] = [(shapes.sample(style), text) for kind, (style, text) in KINDS.items() if kind in kinds]
@@ -101,7 +107,7 @@ def notes_of(found: list[Failure], over: Over, names: Names, absent: list[Failur
         notes.append((shapes.one_way_sample, "one direction alone"))
     if absent:
         notes.append((None, "Counts without room: " + ", ".join(f"{between(it, names)} {counts_of(it)}" for it in absent)))
-    return notes + shapes.number_notes(numbers, names)
+    return notes
 
 
 def by_circuit(found: list[Failure], before: dict[str, list[Overbooked]]) -> Over:
@@ -121,12 +127,20 @@ def main(words: list[str] | None = None) -> int:
     asked.add_argument("--title", default="Failures of circuits")
     given = asked.parse_args(words)
     try:
-        lines = sys.stdin.read().splitlines()
-        found = failures(lines)
+        data = sys.stdin.buffer.read()
+        if told := format_of(data):
+            return failed("draw-failures", f"standard input can't be a sweep: {told}")
+        lines = data.decode(errors="replace").splitlines()
+        try:
+            found = failures(lines)
+        except ValueError as fault:
+            return failed("draw-failures", fault, advice="give all that sweep prints of single circuits")
+        part = positions.part_of(given, [(failure.one, failure.other) for failure in found])
+        if part is not None:
+            found = [failure for failure in found if failure.one in part and failure.other in part]
         over = by_circuit(found, overbooked_before(lines))
         places, names = positions.positions(given, [(failure.one, failure.other) for failure in found], "draw-failures")
         print(*failures_picture(given.title, found, over, places, names), sep="\n")
-    except (ValueError, OSError) as fault:
-        print(f"draw-failures: {fault}", file=sys.stderr)
-        return 1
+    except (Refused, ValueError, OSError) as fault:
+        return failed("draw-failures", fault)
     return 0

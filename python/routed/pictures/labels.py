@@ -6,6 +6,7 @@ text is never wider than its box in the fonts that pictures name.
 from __future__ import annotations
 
 import collections
+import itertools
 import math
 import unicodedata
 from collections.abc import Hashable, Iterable, Iterator, Sequence
@@ -38,13 +39,12 @@ class Wanted(NamedTuple):
 
 def width(text: str, size: int = TEXT) -> float:
     """The pixels of a line of text. What isn't ASCII is as wide as its base letter, or as the widest letters are."""
-    whole = 0
-    for letter in unicodedata.normalize("NFD", text):
-        if " " <= letter <= "~":
-            whole += WIDTHS[ord(letter) - 32]
-        elif not unicodedata.combining(letter):
-            whole += 1100
-    return whole * size / 1000
+    return sum(map(advance, unicodedata.normalize("NFD", text))) * size / 1000
+
+
+def advance(letter: str) -> int:
+    """The thousandths of the font size that a character takes, none for an accent."""
+    return WIDTHS[ord(letter) - 32] if " " <= letter <= "~" else 0 if unicodedata.combining(letter) else 1100
 
 
 def box_of(x: float, y: float, text: str, size: int = TEXT) -> Box:
@@ -96,33 +96,28 @@ def meet(one: Box, other: Box) -> bool:
     return one[0] < other[2] and other[0] < one[2] and one[1] < other[3] and other[1] < one[3]
 
 
+def cells(box: Box, size: int) -> Iterator[tuple[int, int]]:
+    """The cells of this size that a box touches."""
+    return itertools.product(range(int(box[0] // size), int(box[2] // size) + 1), range(int(box[1] // size), int(box[3] // size) + 1))
+
+
 class Boxes:
     """Boxes by the cells that they touch, each under a key."""
 
     def __init__(self) -> None:
         self.cells: dict[tuple[int, int], dict[Hashable, Box]] = collections.defaultdict(dict)
 
-    def cells_of(self, box: Box) -> Iterator[tuple[int, int]]:
-        for column in range(int(box[0] // CELL), int(box[2] // CELL) + 1):
-            for row in range(int(box[1] // CELL), int(box[3] // CELL) + 1):
-                yield column, row
-
     def put(self, key: Hashable, box: Box) -> None:
-        for cell in self.cells_of(box):
+        for cell in cells(box, CELL):
             self.cells[cell][key] = box
 
     def drop(self, key: Hashable, box: Box) -> None:
-        for cell in self.cells_of(box):
+        for cell in cells(box, CELL):
             del self.cells[cell][key]
 
     def meeting(self, box: Box) -> dict[Hashable, Box]:
         """The boxes that the box meets, by their keys."""
-        found: dict[Hashable, Box] = {}
-        for cell in self.cells_of(box):
-            for key, other in self.cells.get(cell, {}).items():
-                if meet(box, other):
-                    found[key] = other
-        return found
+        return {key: other for cell in cells(box, CELL) for key, other in self.cells.get(cell, {}).items() if meet(box, other)}
 
 
 class Sheet:
@@ -149,61 +144,59 @@ class Sheet:
 
     def under(self, box: Box) -> float:
         """How much of lines is under a box."""
-        if not self.ink:
-            return 0
-        return sum(self.ink.get((column, row), 0) for column in range(int(box[0] // STEP), int(box[2] // STEP) + 1)
-                   for row in range(int(box[1] // STEP), int(box[3] // STEP) + 1))
+        return sum(self.ink.get(cell, 0) for cell in cells(box, STEP))
 
     def place(self, wanted: Iterable[Wanted], ink: float = 1.0) -> None:
         """Gives texts their boxes, those with the fewest spots first; then each may move to a better one. Texts of calls before may move,
         and stay in the picture. The ink is what is against a spot for each point of a line under it."""
         for text in wanted:
-            free = [(against + ink * self.under(box) + CLOSE * len(self.drawn.meeting(wider(box, NEAR)).keys() - {text.key}), at,
+            free = [(against + ink * self.under(box) + CLOSE * len(self.drawn.meeting(wider(box, NEAR, NEAR)).keys() - {text.key}), at,
                      wider(box)) for at, (box, against) in enumerate(text.spots) if self.is_free(box)]
             self.spots[text.key] = [box for _, _, box in sorted(free)]
         order = sorted((text.key for text in wanted), key=lambda key: len(self.spots[key]))
         for _ in range(ROUNDS):
             for key in order:
-                if key in self.placed:
-                    self.texts.drop(key, self.placed[key])
-                box = self.first_free(key)
-                if box is None and self.make_room(key):
-                    box = self.first_free(key)
-                if box is not None:
-                    self.placed[key] = box
-                    self.texts.put(key, box)
+                if box := self.first_free(key) or self.make_room(key):
+                    self.put(key, box)
 
-    def first_free(self, key: Hashable) -> Box | None:
-        return next((box for box in self.spots[key] if not self.texts.meeting(box)), None)
+    def place_over(self, text: Wanted) -> None:
+        """Places a text that has no room where it covers no other text, or else few, and the fewest of what is drawn."""
+        inside = [(len(self.texts.meeting(box)), len(self.drawn.meeting(box)), against, at, box)
+                  for at, (box, against) in enumerate(text.spots) if self.is_inside(box)]
+        if inside and text.key not in self.placed:
+            self.put(text.key, wider(min(inside)[-1]))
 
-    def make_room(self, key: Hashable) -> bool:
-        """Moves one text so that another has a spot, where that can be done."""
+    def put(self, key: Hashable, box: Box) -> None:
+        """Places a text, or moves it."""
+        if key in self.placed:
+            self.texts.drop(key, self.placed[key])
+        self.placed[key] = box
+        self.texts.put(key, box)
+
+    def first_free(self, key: Hashable, kept: Box | None = None) -> Box | None:
+        """The best spot of a text that no other text meets, nor a box that is kept free."""
+        return next((box for box in self.spots[key] if not (kept and meet(box, kept)) and self.texts.meeting(box).keys() <= {key}), None)
+
+    def make_room(self, key: Hashable) -> Box | None:
+        """Moves one text so that another has this spot, where that can be done."""
         for box in self.spots[key]:
             in_the_way = list(self.texts.meeting(box))
-            if len(in_the_way) == 1:
-                other, = in_the_way
-                self.texts.drop(other, self.placed[other])
-                to = next((it for it in self.spots[other] if not meet(it, box) and not self.texts.meeting(it)), None)
-                self.placed[other] = to or self.placed[other]
-                self.texts.put(other, self.placed[other])
-                if to:
-                    return True
-        return False
+            if len(in_the_way) == 1 and (to := self.first_free(in_the_way[0], box)):
+                self.put(in_the_way[0], to)
+                return box
+        return None
 
     def box(self, key: Hashable) -> Box | None:
         """The box of a text, None where it has no room."""
-        return narrower(self.placed[key]) if key in self.placed else None
+        return wider(self.placed[key], -GAP_ASIDE, -GAP) if key in self.placed else None
 
     def is_free(self, box: Box) -> bool:
-        is_inside = EDGE <= box[0] and EDGE <= box[1] and box[2] <= self.wide - EDGE and box[3] <= self.high - EDGE
-        return is_inside and not self.drawn.meeting(box)
+        return self.is_inside(box) and not self.drawn.meeting(box)
+
+    def is_inside(self, box: Box) -> bool:
+        return EDGE <= box[0] and EDGE <= box[1] and box[2] <= self.wide - EDGE and box[3] <= self.high - EDGE
 
 
-def wider(box: Box, aside: float | None = None) -> Box:
-    """The box with the gaps of texts round it, or with as much on each side."""
-    across, down = (GAP_ASIDE, GAP) if aside is None else (aside, aside)
+def wider(box: Box, across: float = GAP_ASIDE, down: float = GAP) -> Box:
+    """The box with the gaps of texts round it, or with others."""
     return box[0] - across, box[1] - down, box[2] + across, box[3] + down
-
-
-def narrower(box: Box) -> Box:
-    return box[0] + GAP_ASIDE, box[1] + GAP, box[2] - GAP_ASIDE, box[3] - GAP

@@ -29,7 +29,8 @@ Neighbors = dict[str, list[str]]
 
 def lay_out(routers: Sequence[str], pairs: Sequence[Pair]) -> Places:
     """A place for each router."""
-    return packed([component(part, neighbors) for part, neighbors in components(routers, pairs)])
+    neighbors = neighbors_of(routers, pairs)
+    return packed([component(part, neighbors) for part in components(neighbors)])
 
 
 def complete(places: Places, routers: Sequence[str], pairs: Sequence[Pair]) -> Places:
@@ -47,7 +48,7 @@ def complete(places: Places, routers: Sequence[str], pairs: Sequence[Pair]) -> P
     if order:
         drawn = random.Random(1)
         scaled = {router: (x / unit + drawn.uniform(-0.1, 0.1), y / unit + drawn.uniform(-0.1, 0.1)) for router, (x, y) in places.items()}
-        moved = relaxed(scaled, {router: neighbors[router] for router in places}, given)
+        moved = relaxed(scaled, neighbors, given)
         places.update({router: (moved[router][0] * unit, moved[router][1] * unit) for router in order})
     alone = [router for router in routers if router not in places]
     _, top, right, _ = bounds(places)
@@ -84,40 +85,37 @@ def hops_from(roots: Iterable[str], neighbors: Neighbors) -> dict[str, int]:
     return hops
 
 
-def components(routers: Sequence[str], pairs: Sequence[Pair]) -> list[tuple[list[str], Neighbors]]:
-    """The components, the largest first: the routers of each, and their neighbors."""
-    neighbors, found = neighbors_of(routers, pairs), []
+def components(neighbors: Neighbors) -> list[list[str]]:
+    """The routers of each component, the largest first."""
+    parts: list[list[str]] = []
     seen: set[str] = set()
-    for router in sorted(routers):
+    for router in sorted(neighbors):
         if router not in seen:
-            part = sorted(hops_from([router], neighbors))
-            seen.update(part)
-            found.append((part, neighbors))
-    return sorted(found, key=lambda it: -len(it[0]))
+            parts.append(sorted(hops_from([router], neighbors)))
+            seen.update(parts[-1])
+    return sorted(parts, key=len, reverse=True)
 
 
 def component(routers: list[str], neighbors: Neighbors) -> Places:
     places = pivoted(routers, neighbors)
-    return relaxed(places, {router: neighbors[router] for router in routers}) if len(routers) > 2 else places
+    return relaxed(places, neighbors) if len(routers) > 2 else places
 
 
 def pivoted(routers: list[str], neighbors: Neighbors) -> Places:
     """Places by Pivot MDS, in units of a hop. Each is moved a little, so that no two are the same."""
     drawn = random.Random(1)
-    nearest: dict[str, float] = dict.fromkeys(routers, math.inf)
     columns: list[list[int]] = []
     pivot = routers[0]
-    while len(columns) < min(PIVOTS, len(routers)):
+    for _ in routers[:PIVOTS]:
         hops = hops_from([pivot], neighbors)
         columns.append([hops[router] ** 2 for router in routers])
-        nearest = {router: min(nearest[router], hops[router]) for router in routers}
-        pivot = max(routers, key=nearest.__getitem__)
+        nearest = [min(row) for row in zip(*columns)]
+        pivot = routers[nearest.index(max(nearest))]
     means = [sum(column) / len(routers) for column in columns]
     rows = [[square - mean for square, mean in zip(row, means)] for row in zip(*columns)]
     rows = [[(sum(row) / len(row) - it) / 2 for it in row] for row in rows]
-    axes: list[list[float]] = []
-    for _ in range(2):
-        axes.append(main_axis(rows, axes, drawn))
+    first = main_axis(rows, [], drawn)
+    axes = [first, main_axis(rows, [first], drawn)]
     points = [[sum(a * b for a, b in zip(row, axis)) for axis in axes] for row in rows]
     usual = sorted(math.hypot(*point) for point in points)[len(points) // 2] or 1.0
     unit = math.sqrt(len(routers)) / 3 / usual  # so that about one router is on each unit of area
@@ -150,34 +148,31 @@ def relaxed(places: Places, neighbors: Neighbors, still: Container[str] = ()) ->
     index = {router: at for at, router in enumerate(places)}
     reach = NEAR if still else REACH if len(places) > SMALL else 4 * REACH
     moving = [at for router, at in index.items() if router not in still]
-    xs, ys = [x for x, _ in places.values()], [y for _, y in places.values()]
+    at = [complex(*place) for place in places.values()]
     pairs = [(index[one], index[other], 3 / (len(neighbors[one]) + len(neighbors[other])))
              for one in places for other in neighbors[one] if one < other]
     rounds = ROUNDS if len(places) <= 4 * SMALL else ROUNDS // 2
     for turn in range(rounds):
-        most, across, down = LONGEST * (1 - turn / rounds) + 0.02, [0.0] * len(xs), [0.0] * len(xs)
+        most, forces = LONGEST * (1 - turn / rounds) + 0.02, [0j] * len(at)
         for one, other, pull in pairs:
-            x, y = xs[other] - xs[one], ys[other] - ys[one]
-            force = min(math.sqrt(x * x + y * y), STRETCHED) * pull
-            across[one] += force * x
-            across[other] -= force * x
-            down[one] += force * y
-            down[other] -= force * y
-        for one, other in near_pairs(list(zip(xs, ys)), reach):
-            x, y = xs[other] - xs[one], ys[other] - ys[one]
-            square = x * x + y * y + 1e-6
-            if square < reach * reach:
-                across[one] -= x / square
-                across[other] += x / square
-                down[one] -= y / square
-                down[other] += y / square
+            way = at[other] - at[one]
+            force = min(math.sqrt(square(way)), STRETCHED) * pull * way
+            forces[one] += force
+            forces[other] -= force
+        for one, other in near_pairs([(place.real, place.imag) for place in at], reach):
+            way = at[other] - at[one]
+            if (far := square(way) + 1e-6) < reach * reach:
+                forces[one] -= way / far
+                forces[other] += way / far
         for router in moving:
-            x, y = across[router], down[router]
-            far = math.sqrt(x * x + y * y)
-            step = most / far if far > most else 1.0
-            xs[router] += x * step
-            ys[router] += y * step
-    return dict(zip(places, zip(xs, ys)))
+            far = math.sqrt(square(forces[router]))
+            at[router] += forces[router] * (most / far if far > most else 1.0)
+    return {router: (place.real, place.imag) for router, place in zip(places, at)}
+
+
+def square(way: complex) -> float:
+    """The square of its length."""
+    return (way * way.conjugate()).real
 
 
 def near_pairs(places: Sequence[Place], reach: float) -> Iterator[tuple[int, int]]:

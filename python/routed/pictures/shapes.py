@@ -3,7 +3,7 @@ from __future__ import annotations
 
 import collections
 import math
-from collections.abc import Callable, Collection, Iterator, Sequence
+from collections.abc import Callable, Collection, Sequence
 from typing import NamedTuple
 
 from .canvas import Note, hover, text_in
@@ -17,6 +17,9 @@ CLEAR = 13  # pixels from a circuit to the middle of a third router
 ROUTER, NUMBERED = 6, 9  # radius of a router, and of one that has a number in place of a name; all names keep off the larger one
 BAND = "stroke:#ffc46b;stroke-width:15"  # under what is overbooked
 INK = 1.5  # what a name pays for each point of a circuit under it
+MOST_NUMBERED = 60  # routers whose names have no room, above which they have no numbers
+MANY = 200  # routers, from which on they and their circuits are drawn smaller
+DOT = 4  # radius of a router there
 MOST_SAMPLED = 3000  # circuits, above which they don't go round routers, and names don't go round circuits
 
 
@@ -72,18 +75,18 @@ def curves(ends: Sequence[tuple[str, str]], places: Places) -> list[Curve]:
     for index, pair in enumerate(ends):
         between[min(pair), max(pair)].append(index)
     for pair, together in between.items():
-        def tried(bend: float, pair: tuple[str, str] = pair, together: list[int] = together) -> list[Curve]:
-            return [curve(places[pair[0]], places[pair[1]], bend + (at - (len(together) - 1) / 2) * BEND) for at in range(len(together))]
-
-        def is_clear(them: list[Curve], pair: tuple[str, str] = pair) -> bool:
-            return all(set(routers.meeting((x, y, x, y))) <= set(pair) for it in them for x, y in it.points())
-
-        made = tried(0)
-        if len(ends) <= MOST_SAMPLED:
-            made = next((them for them in map(tried, BENDS) if is_clear(them)), made)
+        one, other = (places[router] for router in pair)
+        tried = (side_by_side(one, other, len(together), bend) for bend in BENDS if len(ends) <= MOST_SAMPLED)
+        clear = (them for them in tried if all(routers.meeting((x, y, x, y)).keys() <= set(pair) for it in them for x, y in it.points()))
+        made = next(clear, side_by_side(one, other, len(together), 0))
         for index, it in zip(together, made):
             found[index] = it if ends[index] == pair else it.reversed()
     return [found[index] for index in range(len(ends))]
+
+
+def side_by_side(start: Place, end: Place, count: int, bend: float) -> list[Curve]:
+    """Curves of several circuits between the same two routers."""
+    return [curve(start, end, bend + (at - (count - 1) / 2) * BEND) for at in range(count)]
 
 
 def arrow(line: Curve, color: str, part: float = 0.55) -> str:
@@ -104,7 +107,8 @@ def router(x: float, y: float, is_marked: bool, radius: float = ROUTER, text: st
     style, inside = 'style="fill:#fff;stroke:#000;stroke-width:2"', hover(text) if text else ""
     if not is_marked:
         return f'<circle class="router" cx="{x:.1f}" cy="{y:.1f}" r="{radius}" {style}>{inside}</circle>'
-    half, cross = (7, "l14 14m0 -14l-14 14") if radius == ROUTER else (radius, "")  # a number takes the place of the cross
+    half = 7 if radius == ROUTER else radius
+    cross = "" if radius == NUMBERED else f"l{2 * half} {2 * half}m0 -{2 * half}l-{2 * half} {2 * half}"  # or else a number
     return f'<path class="no-transit" d="M{x - half:.1f} {y - half:.1f}h{2 * half}v{2 * half}h-{2 * half}z{cross}" {style}>{inside}</path>'
 
 
@@ -136,34 +140,37 @@ def one_way_sample(x: float, y: float) -> str:
     return sample("stroke:#444;stroke-width:2")(x, y) + arrow(curve((x - 20, y), (x + 20, y), 0), "#444", 0.8)
 
 
-def place_names(sheet: Sheet, places: Places, names: Names, radii: dict[str, float], curves: list[Curve]) -> None:
-    """Gives the routers' names their boxes, beside the routers and off the circuits where that can be."""
+def place_names(sheet: Sheet, places: Places, names: Names, radii: dict[str, float], curves: list[Curve],
+                first: Collection[str] = ()) -> None:
+    """Gives the routers' names their boxes, beside the routers and off the circuits where that can be. Some have theirs first,
+    and where these have no room they cover other routers."""
     for router, (x, y) in places.items():
         half = radii[router] + 0.5
         sheet.block(router, (x - half, y - half, x + half, y + half))
     for it in curves if len(curves) <= MOST_SAMPLED else ():
         sheet.line(it.points(), INK)
-    sheet.place([Wanted(router, spots_round(*places[router], radii[router], names[router])) for router in sorted(places)])
+    wanted = {router: Wanted(router, spots_round(*places[router], radii[router], names[router])) for router in sorted(places)}
+    sheet.place([wanted[router] for router in sorted(first)])
+    for router in sorted(first):
+        sheet.place_over(wanted[router])
+    sheet.place([text for router, text in wanted.items() if router not in first])
 
 
-def texts_of_names(sheet: Sheet, places: Places, names: Names) -> tuple[list[str], dict[str, int]]:
-    """The names that have room, and the numbers of the routers whose names have none."""
-    boxes = {router: sheet.box(router) for router in sorted(places)}
-    return ([text_in(box, names[router], "name") for router, box in boxes.items() if box],
-            {router: number for number, router in enumerate([router for router, box in boxes.items() if not box], 1)})
-
-
-def routers(places: Places, names: Names, marks: Collection[str], numbers: dict[str, int]) -> Iterator[str]:
-    """The routers. One whose name has no room has a number in it."""
-    for at in sorted(places):
-        says = names[at] if names[at] == at else f"{names[at]}, {at}"
-        yield router(*places[at], at in marks, NUMBERED if at in numbers else ROUTER, says + (", no transit" if at in marks else ""))
+def routers(sheet: Sheet, places: Places, names: Names, marks: Collection[str]) -> tuple[list[str], list[Note]]:
+    """The routers and their names, and the note of the names that have no room. Their routers have numbers in them, where these are few."""
+    boxes = {at: sheet.box(at) for at in sorted(places)}
+    unnamed = [at for at, box in boxes.items() if not box]
+    numbers = {at: number for number, at in enumerate(unnamed if len(unnamed) <= MOST_NUMBERED else [], 1)}
+    drawn = []
+    for at in boxes:
+        says = (names[at] if names[at] == at else f"{names[at]}, {at}") + (", no transit" if at in marks else "")
+        drawn.append(router(*places[at], at in marks, NUMBERED if at in numbers else ROUTER if len(places) < MANY else DOT, says))
         if at in numbers:
             x, y = places[at]
-            yield f'<text class="number" x="{x:.1f}" y="{y + 3.3:.1f}">{numbers[at]}</text>'
-
-
-def number_notes(numbers: dict[str, int], names: Names) -> list[Note]:
-    """The list of the names that have no room."""
-    listed = ", ".join(f"{number} {names[router]}" for router, number in numbers.items())
-    return [(None, f"Names without room: {listed}")] if numbers else []
+            drawn.append(f'<text class="number" x="{x:.1f}" y="{y + 3.3:.1f}">{numbers[at]}</text>')
+    listed = ", ".join(f"{number} {names[at]}" for at, number in numbers.items())
+    drawn += [text_in(box, names[at], "name") for at, box in boxes.items() if box]
+    if numbers:
+        return drawn, [(None, f"Names without room: {listed}")]
+    told = f"{len(unnamed)} names have no room: a browser shows them at the pointer, and --around draws a part"
+    return drawn, [(None, told)] if unnamed else []

@@ -23,10 +23,10 @@ import os
 from collections.abc import Callable, Container, Generator, Iterable
 from typing import NamedTuple
 
-from ..model.journals import read_database
-from ..model.networks import Part, Stopped, circuits_of, read_requests, routers_of
-from ..model.rows import Key, Link, Refused, Reply, Request, value
-from .solving import MOST_ASKS, Question, Solve, run
+from ..model.database import Database
+from ..model.journals import read_database, records
+from ..model.rows import Key, Link, Refused, Reply, Request, rank, value
+from .solving import MOST_ASKS, Question, Solve, Stopped, run
 
 NOTHING = (0,) * 8  # asked of a link, by priority
 
@@ -35,6 +35,8 @@ Outcome = tuple[str, list[int], list[int], int]
 Outcomes = Generator[Outcome | Exception, None, None]
 
 
+# What fails as one: a circuit, a link of one way or a router. It goes to other machines, as an answer of a sweep does.
+Part = NamedTuple("Part", [("name", str), ("keys", tuple[Key, ...])])
 # The cost and the links of a route; the word that says why there is none, cost None and no links. It goes to other machines, whose
 # cloudpickle can't make a class that is written as one of NamedTuple.
 Answer = NamedTuple("Answer", [("why", str | None), ("cost", int | None), ("walk", tuple[Link, ...])])
@@ -52,18 +54,14 @@ class Network:
         self.rows = run(program, ["snapshot", "--journal", "/dev/stdin"], journal)  # short, however long the journal is
         self.database = read_database("\n".join(self.rows).encode())
         self.links = {link.key: link for link in self.database.links()}
-        self.rank = {key: place for place, key in enumerate(self.links)}
         self.answers = self.first_answers(lines)
         self.users = self.find_users()
         self.loads: dict[Key, list[int]] = {}  # of each link that a route takes, the bandwidth asked of it at each setup priority
         for request, answer in zip(self.requests, self.answers):
             for link in answer.walk:
                 self.loads.setdefault(link.key, [0] * 8)[request.setup] += request.bandwidth
-        self.full = {key: found for key in self.in_order(self.loads) if (found := self.overbooked(key, self.loads[key]))}
+        self.full = {key: found for key in sorted(self.loads, key=rank) if (found := self.overbooked(key, self.loads[key]))}
         self.idle: collections.deque[Solve] = collections.deque()  # programs that wait for a question
-
-    def in_order(self, keys: Iterable[Key]) -> list[Key]:
-        return sorted(keys, key=self.rank.__getitem__)
 
     def run_batch(self, journal: bytes, requests: bytes, workers: int) -> list[str]:
         """The lines of `routed batch`: the versions, and the replies to all requests while nothing is out."""
@@ -145,7 +143,7 @@ class Network:
 
     def question(self, parts: Iterable[Part]) -> tuple[dict[Key, Link], list[int]]:
         """The links of these parts, and the indexes of the requests that may be answered otherwise without them."""
-        keys = self.in_order({key for _, keys in parts for key in keys})
+        keys = sorted({key for _, keys in parts for key in keys}, key=rank)
         return {key: self.links[key] for key in keys}, sorted({index for key in keys for index in self.users.get(key, ())})
 
     def ask(self, links: dict[Key, Link], indexes: list[int]) -> list[str]:
@@ -201,8 +199,36 @@ class Network:
         said += [f"longer request {self.requests[index].id} cost={new} was={old} more={new - old}" for index, (new, old) in longer.items()]
         most = max((new - old for new, old in longer.values()), default=0)
         facts: list[str] = []
-        for key in self.in_order(loads):
+        for key in sorted(loads, key=rank):
             before = self.full.get(key, {})
             facts += [text for priority, (taken, text) in self.overbooked(key, loads[key]).items() if taken > before.get(priority, (0,))[0]]
         said += [*facts, f"lost={len(lost)} longer={len(longer)} most={most} overbooked={len(facts)}"]
         return "\n".join(f"scenario {place} {line}" for line in said), lost, list(longer), len(facts)
+
+
+def read_requests(rows: bytes) -> list[Request]:
+    """The requests of rows that `routed` takes, which have different ids."""
+    requests: dict[int, Request] = {}
+    for place, request in enumerate(map(Request.parse, records(rows)), 1):
+        if requests.setdefault(request.id, request) is not request:
+            raise Refused(f"request row {place} refused: same-id")
+    return list(requests.values())
+
+
+def circuits_of(database: Database) -> list[Part]:
+    """Two links are a circuit where each leads to the other's key. A link without such a reverse fails alone."""
+    parts: list[Part] = []
+    for link in database.links():
+        if not database.reverse(link):
+            parts.append(Part(f"link {link.name}", (link.key,)))
+        elif rank(link.key) < rank(link.back):
+            parts.append(Part(f"circuit {link.name}", (link.key, link.back)))
+    return parts
+
+
+def routers_of(database: Database) -> list[Part]:
+    keys: dict[str, list[Key]] = collections.defaultdict(list)
+    for link in database.links():
+        keys[link.router].append(link.key)
+        keys[link.neighbor].append(link.key)
+    return [Part(f"router {router}", tuple(keys[router])) for router in sorted(keys, key=value)]

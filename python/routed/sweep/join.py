@@ -8,18 +8,19 @@ from __future__ import annotations
 
 import argparse
 import fileinput
+import itertools
 import re
 import sys
 from collections.abc import Iterable, Iterator
 from typing import NamedTuple
 
 from ..model.rows import Refused
+from ..program import failed
 from .ranking import LINE, MOST, Ranking
+from .swept import COUNTS, REQUEST
 
 LAST = re.compile(r"part (\d+)/(\d+) input=([0-9a-f]{16}) scenarios=(\d+) lost=(\d+) longer=(\d+) overbooked=(\d+)")
-SCENARIO = re.compile(r"scenario (\d+) (.*)")
-ENDED = re.compile(r"scenario (\d+) lost=(\d+) longer=(\d+) most=\d+ overbooked=\d+")
-TOUCHED = re.compile(r"scenario \d+ (lost|longer) request (\d+) .*")
+SCENARIO = re.compile(r"scenario \d+ .*")
 
 
 class Part(NamedTuple):
@@ -35,30 +36,25 @@ class Part(NamedTuple):
 
 
 def parts(lines: Iterable[str]) -> Iterator[Part]:
-    before: list[str] = []
-    scenarios: list[str] = []
-    ranked: list[str] = []
+    said: list[list[str]] = [[], [], []]
     for line in lines:
         if last := LAST.fullmatch(line):
             at, of, source, *counts = last.groups()
-            yield Part(before, scenarios, ranked, int(at), int(of), source, [int(count) for count in counts])
-            before, scenarios, ranked = [], [], []
-        elif SCENARIO.fullmatch(line) and not ranked:
-            scenarios.append(line)
-        elif line.startswith("most "):
-            ranked.append(line)
-        elif not scenarios and not ranked:
-            before.append(line)
-        else:
+            yield Part(said[0], said[1], said[2], int(at), int(of), source, [int(count) for count in counts])
+            said = [[], [], []]
+            continue
+        kind = 1 if SCENARIO.fullmatch(line) else 2 if line.startswith("most ") else 0
+        if any(said[kind + 1:]):  # it stands behind a line of a later kind
             break
-    if said := before + scenarios + ranked:
-        raise Refused(f"a part ends by {said[-1]!r}, and not by a line that says which part it is")
+        said[kind].append(line)
+    if together := list(itertools.chain(*said)):
+        raise Refused(f"a part ends by {together[-1]!r}, and not by a line that says which part it is")
 
 
 def rank(ranking: Ranking, part: Part) -> None:
     """Adds a part to a ranking: from the scenarios the requests that they touch, and from the part's own ranking the failures."""
-    for found in filter(None, map(TOUCHED.fullmatch, part.scenarios)):
-        ranking.touch(int(found[2]), found[1] == "longer")
+    for found in filter(None, map(REQUEST.fullmatch, part.scenarios)):
+        ranking.touch(int(found[3]), found[2] == "longer")
     for found in filter(None, map(LINE.fullmatch, part.ranked)):
         ranking.keep(found[1], (int(found[2]), int(found[3]), int(found[4]), int(found[5]), found[6]))
 
@@ -73,7 +69,7 @@ def join(lines: Iterable[str]) -> Iterator[str]:
             raise Refused(f"part {part.at}/{part.of} stands where part {at}/{of} has to be")
         if first and (part.source, part.before) != (first.source, first.before):
             raise Refused(f"part {at}/{of} is of another journal, other requests, other failures or another program")
-        ended = [[int(number) for number in found.groups()] for found in map(ENDED.fullmatch, part.scenarios) if found]
+        ended = [[int(number) for number in found.groups()] for found in map(COUNTS.fullmatch, part.scenarios) if found]
         if [place for place, _, _ in ended] != list(range(totals[0] + 1, totals[0] + part.counts[0] + 1)):
             raise Refused(f"part {at}/{of} hasn't the scenarios from {totals[0] + 1} to {totals[0] + part.counts[0]}")
         own = Ranking()
@@ -96,10 +92,13 @@ def main(words: list[str] | None = None) -> int:
     asked.add_argument("files", nargs="*", metavar="FILE")
     try:
         with fileinput.input(asked.parse_args(words).files, encoding="utf-8") as lines:
-            for line in join(line.rstrip("\n") for line in lines):
+            for line in join(line.rstrip("\r\n") for line in lines):
                 print(line)
         sys.stdout.flush()
-    except (Refused, OSError) as fault:
-        print(f"join: {fault}", file=sys.stderr)
-        return 1
+    except Refused as fault:
+        return failed("join", fault, advice="give what sweep --part I/N printed, for I from 1 to N")
+    except UnicodeError:
+        return failed("join", "a part is no text", advice="unpack it, where it is compressed")
+    except OSError as fault:
+        return failed("join", fault)
     return 0

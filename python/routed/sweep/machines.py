@@ -2,7 +2,9 @@
 from __future__ import annotations
 
 import collections
+import contextlib
 import csv
+import functools
 import itertools
 import logging
 import operator
@@ -16,10 +18,9 @@ from collections.abc import Callable, Iterable, Iterator
 from typing import IO, Any
 
 from ..model.journals import MOST_ROWS
-from ..model.networks import Part, Stopped
 from ..model.rows import MOST_CHANGES, Key, Link, Refused
-from .failures import Network, Outcomes
-from .solving import MOST_ASKS, Question, checked, ended, heads_of
+from .failures import Network, Outcomes, Part
+from .solving import MOST_ASKS, Question, Stopped, checked, ended, heads_of
 
 AHEAD = 2  # tasks for each thread of Dask's workers that are handed out
 MOST_IN_TASK = 64  # scenarios
@@ -36,22 +37,17 @@ Scenario = tuple[int, Iterable[Part]]  # its place, and what is out in it
 Scenarios = Callable[[], Iterator[Scenario]]
 
 
-class Teller:
-    """What each worker of Dask gets."""
-
-    def __init__(self, given: Network) -> None:
-        self.given = given
-
-    def tell(self, scenarios: list[Scenario]) -> tuple[str, list[tuple]]:
-        """The worker's address, and in plain types the outcomes of these scenarios, up to the first fault: its kind and its text."""
-        from distributed import get_worker
-        said: list[tuple] = []
-        for place, parts in scenarios:
-            found = self.given.outcome(place, parts)
-            if isinstance(found, Exception):
-                return get_worker().address, [*said, (type(found).__name__, str(found))]
-            said.append(found)
-        return get_worker().address, said
+def tell(given: Network, scenarios: list[Scenario]) -> tuple[str, list[tuple]]:
+    """At a worker of Dask: its address, and in plain types the outcomes of these scenarios, up to the first fault: its kind and its
+    text."""
+    from distributed import get_worker
+    said: list[tuple] = []
+    for place, parts in scenarios:
+        found = given.outcome(place, parts)
+        if isinstance(found, Exception):
+            return get_worker().address, [*said, (type(found).__name__, str(found))]
+        said.append(found)
+    return get_worker().address, said
 
 
 class ByValue:
@@ -78,14 +74,14 @@ def over_dask(address: str, given: Network, scenarios: Scenarios, count: int) ->
             workers = client.scheduler_info()["workers"]
             if not workers:
                 raise Stopped(f"{address}: there is no worker")
-            far, left = client.scatter(ByValue(Teller(given)), broadcast=True, hash=False), scenarios()
+            far, left = client.scatter(ByValue(functools.partial(tell, given)), broadcast=True, hash=False), scenarios()
             waiting: collections.deque[tuple[int, Any]] = collections.deque()
             threads = sum(worker["nthreads"] for worker in workers.values())
             size = max(1, min(MOST_IN_TASK, count // (SHARES * threads)))
             while some := [(place, [tuple(part) for part in parts]) for place, parts in itertools.islice(left, size)]:
                 if len(waiting) == AHEAD * threads:
                     yield from results(client, workers, distributed.TimeoutError, *waiting.popleft())
-                waiting.append((some[0][0], client.submit(operator.methodcaller("tell", some), far, pure=False)))
+                waiting.append((some[0][0], client.submit(operator.call, far, some, pure=False)))
             while waiting:
                 yield from results(client, workers, distributed.TimeoutError, *waiting.popleft())
     except (Refused, Stopped):
@@ -132,22 +128,21 @@ def over_ssh(logins: str, jobs: int, given: Network, scenarios: Scenarios, count
         except OSError as fault:
             raise Stopped(f"parallel: {fault.strerror}") from None
         assert running.stdin and running.stdout
+        connections = Connections(given, most, running.stdout)
         writer = threading.Thread(target=write, args=(running.stdin, Connections(given, most, running.stdout), scenarios))
         writer.start()
         try:
-            connections = Connections(given, most, running.stdout)
-            try:
-                for at, parts in scenarios():
-                    place = f"scenario {at}"
-                    yield given.outcome(at, parts, connections.ask)
-                place = "behind the last scenario"
-                connections.end()
-                if running.stdout.read() or running.wait():
-                    raise Lost
-            except Lost:  # what parallel says of it stands before later lines
-                running.terminate()
-                running.wait()
-                raise Stopped(f"{place}: {cause(log.name, said)}") from None
+            for at, parts in scenarios():
+                place = f"scenario {at}"
+                yield given.outcome(at, parts, connections.ask)
+            place = "behind the last scenario"
+            connections.end()
+            if running.stdout.read() or running.wait():
+                raise Lost
+        except Lost:  # what parallel says of it stands before later lines
+            running.terminate()
+            running.wait()
+            raise Stopped(f"{place}: {cause(log.name, said)}") from None
         finally:
             running.terminate()
             running.stdout.close()
@@ -229,14 +224,11 @@ class Connections:
 
 def write(stream: IO[bytes], connections: Connections, scenarios: Scenarios) -> None:
     """The network, with which each connection begins, and the questions, one line each."""
-    try:
-        with stream:
-            stream.write(line_of(connections.given.rows))
-            for _, parts in scenarios():
-                for question, _ in connections.questions(*connections.given.question(parts)):
-                    stream.write(line_of(question.rows))
-    except BrokenPipeError:
-        pass
+    with contextlib.suppress(BrokenPipeError), stream:
+        stream.write(line_of(connections.given.rows))
+        for _, parts in scenarios():
+            for question, _ in connections.questions(*connections.given.question(parts)):
+                stream.write(line_of(question.rows))
 
 
 def line_of(rows: list[str]) -> bytes:

@@ -1,6 +1,7 @@
 """The ranked end of a sweep: the failures that cost most, and the requests that most failures touch."""
 from __future__ import annotations
 
+import heapq
 import re
 from collections.abc import Callable, Iterator, Sequence
 from typing import Any
@@ -40,11 +41,7 @@ class Ranking:
         self.touched.setdefault(name, [0, 0])[at] += 1
 
     def keep(self, kind: str, failure: Failure) -> None:
-        worst = self.worst[kind]
-        if len(worst) < MOST or ORDERS[kind](failure) < ORDERS[kind](worst[-1]):
-            worst.append(failure)
-            worst.sort(key=ORDERS[kind])
-            del worst[MOST:]
+        self.worst[kind] = heapq.nsmallest(MOST, [*self.worst[kind], failure], key=ORDERS[kind])
 
     def lines(self) -> Iterator[str]:
         for kind, worst in self.worst.items():

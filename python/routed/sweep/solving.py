@@ -8,22 +8,27 @@ import tempfile
 from collections.abc import Iterable, Sequence
 
 from ..model.journals import MOST_ROWS, in_batches  # each version takes a row, so a stream has no more versions
-from ..model.networks import Stopped
 from ..model.rows import Drop, Key, Link, Refused, Request
 
 MOST_ASKS = 4096  # of a question
+STOPPED = "routed: stopped"  # the last line of a run that stopped, behind the line that says why
+
+
+class Stopped(Exception):
+    """A program or a machine stopped, or wrote what it can't write."""
 
 
 def ended(program: str, status: int, lines: list[str]) -> Stopped:
     """How a program ended that had to go on or to say no more, and the last that it said."""
     how = f"ended with status {status}" if status >= 0 else f"was ended by signal {-status}"
-    return Stopped(f"{program} {how}" + "".join(f": {line}" for line in [line for line in lines if line][-1:]))
+    said = [line for line in lines if line and line != STOPPED] or [line for line in lines if line]
+    return Stopped(f"{program} {how}" + "".join(f": {line}" for line in said[-1:]))
 
 
 def run(program: str, words: list[str], data: bytes, pass_fds: Sequence[int] = ()) -> list[str]:
     """The lines that a run of the program over this standard input writes."""
     try:
-        ran = subprocess.run([program, *words], input=data, capture_output=True, pass_fds=pass_fds)
+        ran = subprocess.run([program, *words, "--explain"], input=data, capture_output=True, pass_fds=pass_fds)
     except OSError as fault:
         raise Stopped(f"{program}: {fault.strerror}") from None
     lines = ran.stdout.decode(errors="replace").splitlines()
@@ -71,12 +76,13 @@ class Solve:
         self.program, self.rows, self.version = program, 0, len(heads_of(rows))
         self.said = tempfile.TemporaryFile()
         try:
-            self.process = subprocess.Popen([program, "solve"], stdin=subprocess.PIPE, stdout=subprocess.PIPE, stderr=self.said, bufsize=0)
+            self.process = subprocess.Popen([program, "solve", "--explain"], stdin=subprocess.PIPE, stdout=subprocess.PIPE,
+                                            stderr=self.said, bufsize=0)
         except OSError as fault:
             raise Stopped(f"{program}: {fault.strerror}") from None
         assert self.process.stdin and self.process.stdout
-        self.into, self.out = self.process.stdin.fileno(), self.process.stdout.fileno()
-        os.set_blocking(self.into, False)
+        self.into, self.out = self.process.stdin, self.process.stdout.fileno()
+        os.set_blocking(self.into.fileno(), False)
         try:
             self.exchange(rows, heads_of(rows))
         except BaseException:
@@ -119,9 +125,7 @@ class Solve:
     def write(self, data: memoryview) -> int:
         """How many bytes are written without waiting; all where the program reads no more, which its output shows."""
         try:
-            return os.write(self.into, data)
-        except BlockingIOError:
-            return 0
+            return self.into.write(data) or 0  # None where it would wait
         except BrokenPipeError:
             return len(data)
 

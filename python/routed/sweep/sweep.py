@@ -18,26 +18,24 @@ import sys
 from collections.abc import Generator, Iterator
 from multiprocessing.connection import Connection
 
-from ..model.networks import Stopped, circuits_of, routers_of
+from ..model.advice import not_rows, why_torn
 from ..model.rows import Refused
-from ..program import add_option, find
-from .failures import Network, Outcomes
+from ..program import add_option, failed, find
+from .failures import Network, Outcomes, circuits_of, routers_of
 from .machines import Scenario, Scenarios, over_dask, over_ssh
 from .progress import Progress
 from .ranking import Ranking
+from .solving import Stopped
 
 
 def work(given: Network, scenarios: Scenarios, at: int, jobs: int, readers: list[Connection], results: Connection) -> None:
     """One of the jobs: the scenario at this index, and then every Nth one, where N is the number of jobs."""
+    signal.signal(signal.SIGINT, signal.SIG_DFL)  # which ends the sweep, and says what there is to say
     for reader in readers:
         reader.close()  # so that a job whose results nobody takes any more ends
-    try:
+    with contextlib.suppress(BrokenPipeError), contextlib.closing(given):
         for place, parts in itertools.islice(scenarios(), at, None, jobs):
             results.send(given.outcome(place, parts))
-    except BrokenPipeError:
-        pass
-    finally:
-        given.close()
 
 
 def over_jobs(jobs: int, given: Network, scenarios: Scenarios) -> Outcomes:
@@ -150,11 +148,15 @@ def main(words: list[str] | None = None) -> int:
     try:
         with open(asked.journal, "rb") as journal, open(asked.requests, "rb") as rows:
             batches, requests = journal.read(), rows.read()
+        for name, data in ((asked.journal, batches), (asked.requests, requests)):
+            if told := not_rows(data):
+                raise Refused(f"{name}: {told}")
         asked.input = hashlib.sha256(b"\0".join((batches, requests, asked.fail.encode()))).hexdigest()[:16]
         with contextlib.closing(sweep(asked, batches, requests)) as lines:
             for line in lines:
                 print(line, flush=True)
-    except (Refused, Stopped, OSError) as fault:
-        print(f"sweep: {fault}", file=sys.stderr)
-        return 3 if isinstance(fault, Stopped) else 1
+    except Refused as fault:
+        return failed("sweep", f"{fault}: {why_torn(batches)}" if str(fault).startswith("journal torn after ") else fault)
+    except (Stopped, OSError) as fault:
+        return failed("sweep", fault, 3 if isinstance(fault, Stopped) else 1)
     return 0

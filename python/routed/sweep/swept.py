@@ -36,10 +36,10 @@ class Failure(NamedTuple):
 
 
 def overbooked_before(lines: Iterable[str]) -> dict[str, list[Overbooked]]:
-    """What is overbooked while nothing fails: of each link, by its name."""
+    """What is overbooked while nothing fails, by the lines of a sweep: of each link, by its name."""
     found: dict[str, list[Overbooked]] = collections.defaultdict(list)
     for line in lines:
-        if (over := OVERBOOKED.fullmatch(line.rstrip("\n"))) and over[1] is None:
+        if (over := OVERBOOKED.fullmatch(line)) and over[1] is None:
             found[over[2]].append(Overbooked(int(over[3]), int(over[4]) + int(over[5]), int(over[6])))
     return dict(found)
 
@@ -52,7 +52,6 @@ def failures(lines: Iterable[str]) -> list[Failure]:
     before: dict[tuple[str, str], int] = collections.defaultdict(int)
     found, count = [], None
     for line in lines:
-        line = line.rstrip("\n")
         if out := OUT.fullmatch(line):
             if out[1] in outs:
                 raise ValueError(f"scenario {out[1]} has two circuits out")

@@ -1,4 +1,5 @@
--- The plan of a batch for rows and marks, from the result of checking the batch against the rows.
+-- The plan of a batch for a table follows from checking the batch against the table's rows (links).
+-- The plan of a batch says what its changes do to the table.
 use Rattle.std.proofs.Common.{◌≡◌, ℕ, true, List, All, refl, sym, subst, ◌∙◌}
 use Rattle.std.specs.List.{count_by}
 use Rattle.cspf_model.specs.declared.link.Link.{Link}
@@ -17,13 +18,15 @@ use Rattle.cspf_columns.proofs.RouterLists.{routers_marked}
 use Rattle.cspf_columns.proofs.RowOrder.{links_of-database_of}
 
 module _ (rows : List Link) (marks : List ℕ) where
-  -- Whether a change adds a link doesn't depend on the marks.
+  -- Whether a change adds a link doesn't depend on the marks of the database. A mark says that a
+  -- router has no transit.
   adds_marked : (c : Change) → adds_link (database_of rows) c ≡ adds_link (marked_database rows marks) c
   adds_marked (Put l) = refl
   adds_marked (Remove from local) = refl
   adds_marked (Node router transit) = refl
 
-  -- So how many links are added doesn't depend on the marks.
+  -- How many links the changes add doesn't depend on the marks of the database. A mark says that a
+  -- router has no transit.
   added_marked : (cs : List Change) → count_by (adds_link (database_of rows)) cs ≡ count_by (adds_link (marked_database rows marks)) cs
   added_marked cs = λ i. count_by (λ c. adds_marked c i) cs
 

@@ -1,4 +1,5 @@
--- Which row each change affects, and changes of which no two affect the same row.
+-- Lemmas on the row (a link) that each change affects, and on changes no two of which affect the
+-- same row.
 use mathlib.Core.Bool.{true≢false}
 use Rattle.std.proofs.Common.{◌≡◌, ◌≢◌, ℕ, ◌+◌, ◌<◌, ◌||◌, Bool, true, false, not, Option, Some, None, IfSome, IfNone, List, All, [], ◌∷◌, take, length, get_or, slice_index_or, Result, Ok, Err, IfOk, IsOkAnd, IsSomeAnd, inl, inr, refl, sym, ap, subst, ◌∙◌, arith}
 use Rattle.std.specs.Ordering.{eq_by_cmp}
@@ -19,13 +20,13 @@ use Rattle.cspf_model.specs.Lemmas.RepeatedKeys.{is_changed, IsNewAt}
 use Rattle.cspf_model.specs.Refusals.{AreOnceEach}
 use Rattle.cspf_model.proofs.Databases.Keys.{keys_apart_from, link_keys_same}
 
--- the index of the row with a key, if there is one
+-- `row` is the index of the row (a link) with the key `k`, if there is such a row
 pub record IsRowWith (rows : List Link) (k : Key) (row : Option ℕ) : Type 0 where
   pub bound : IfSome row (λ at. at < length rows)
   pub some : IfSome row (HoldsAt (λ l. key_of l ≡ k) rows)
   pub none : IfNone row (All (λ l. key_of l ≢ k) rows)
 
--- A change with a link's key affects the row with this key.
+-- If a change has the key of a link, the row (a link) that it affects is the row with this key.
 pub row_of_key : (rows : List Link) (change : Change) (k : Key) (row : Option ℕ) → link_key k ≡ key_changed change → IsRowWith rows k row → IsRowOf rows change row
 row_of_key rows change k None is found = record { bound = tt; some = tt; none = λ i d h e. found.none i d h (link_keys_same (key_of (get_or rows i d)) k (e ∙ sym is)) }
 row_of_key rows change k (Some at) is found = record { bound = found.bound; some = λ d. ap link_key (found.some d) ∙ is; none = tt }
@@ -34,19 +35,22 @@ pub row_with_key : (rows : List Link) (change : Change) (k : Key) (row : Option 
 row_with_key rows change k None is found = record { bound = tt; some = tt; none = λ i d h e. found.none i d h (ap link_key e ∙ is) }
 row_with_key rows change k (Some at) is found = record { bound = found.bound; some = λ d. link_keys_same (key_of (get_or rows at d)) k (found.some d ∙ sym is); none = tt }
 
--- If the negation of a test is true, the test is false.
+-- If the negation of a test is true, the test itself is false.
 off : (b : Bool) → not b ≡ true → b ≡ false
 off true e = absurd (cc)
 off false e = refl
 
--- If the row of a change isn't seen yet, no earlier change has the same key.
+-- Suppose that `AreOnSeenRows` holds for the index `at`. If the change at this index affects a row
+-- (a link) whose flag in `seen` is false, no earlier change has the same key.
 new_here : (rows : List Link) (changes : List Change) (at : ℕ) (change : Change) (row : ℕ) (seen : List Bool) → at < length changes → change ≡ get_or changes at change → row < length rows
     → HoldsAt (λ l. link_key (key_of l) ≡ key_changed change) rows row → slice_index_or seen row true ≡ false → AreOnSeenRows rows changes seen at → IsNewAt changes at
 new_here [] changes at change row seen h is inside on unseen before d = absurd (omega (arith, inside))
 new_here (l ∷ rows) changes at change row seen h is inside on unseen before d =
     subst (λ k. is_changed (take at changes) k ≡ false) (on l ∙ ap key_changed (is ∙ get_or_default changes at change d h)) (off (is_changed (take at changes) (link_key (key_of (get_or (l ∷ rows) row l)))) (before.untouched row l inside unseen))
 
--- After the row of the change at an index is marked as seen, `AreOnSeenRows` holds for the next index.
+-- Suppose that `AreOnSeenRows` holds for the index `at`, and that the change at this index affects
+-- a row (a link) whose flag is false. Once this flag is set, `AreOnSeenRows` holds for the next
+-- index.
 pub seen_more : (rows : List Link) → AreByKey rows → (changes : List Change) (at : ℕ) (change : Change) → at < length changes → change ≡ get_or changes at change → (row : Option ℕ) → IsRowOf rows change row
     → (old new : List Bool) → IsSomeAnd row (IsSeenAt old new) → AreOnSeenRows rows changes old at → AreOnSeenRows rows changes new (at + 1)
 seen_more rows by_key changes at change h is None found old new one before = absurd one
@@ -66,7 +70,8 @@ seen_more rows by_key changes at change h is (Some row) found old new one before
       ap not (list_any_more tie changes at change h ∙ ap (λ b. b || tie (get_or changes at change)) others ∙ this);
 }
 
--- If the tally says that no two changes affect the same row, no two changes have the same key.
+-- If the tally says that no two changes affect the same row (a link), no two changes have the same
+-- key. The tally counts what the changes do to the links and the routers.
 pub told_apart : (c : Columns) (changes : List Change) (r : Result Tally ℕ) → IfOk r (IsTallyOf c changes) → IsOkAnd r (λ t. t.apart ≡ true) → AreOnceEach changes
 told_apart c changes (Ok t) is on = is.apart on
 told_apart c changes (Err at) is on = absurd on

@@ -1,4 +1,5 @@
--- Two databases with the same shape have the same list of routers.
+-- If two databases have the same marks, and their links differ only in unreserved bandwidths, their
+-- lists of routers are equal. A mark says that a router has no transit.
 use Rattle.std.proofs.Common.{◌≡◌, ℕ, true, false, cond, T, ◌&&◌, Some, List, [], ◌∷◌, map, refl, sym, ap, subst, ◌∙◌}
 use Rattle.std.specs.Ordering.{eq_by_cmp, is_lt}
 use Rattle.std.specs.Option.{option_map}
@@ -12,7 +13,8 @@ use Rattle.cspf_columns.specs.Index.{numbers_in, router_list}
 use Rattle.cspf_db.specs.Shapes.{Shape, shape_of, HaveOneShape, ShapesTellRouters}
 use Rattle.cspf_model.proofs.Databases.Keys.{keys_total, keys_antisymmetric}
 
--- the entries with the shapes of their links
+-- the entries `es`, in which each link is replaced by its shape: all its attributes except its
+-- unreserved bandwidths
 abbrev shapes_in : List (Key × Link) → List (Key × Shape)
 shapes_in [] = []
 shapes_in (e ∷ es) = (e.0, shape_of e.1) ∷ shapes_in es
@@ -22,7 +24,7 @@ find-shapes_in q [] = refl
 find-shapes_in q (e ∷ es) =
     elim (eq_by_cmp key_cmp q e.0) as (λ b. cond b (Some (shape_of e.1)) (find key_cmp q (shapes_in es)) ≡ option_map shape_of (cond b (Some e.1) (find key_cmp q es))) [ true ↦ refl | false ↦ find-shapes_in q es ]
 
--- The keys of these entries are in the same order.
+-- A key is below all keys of `shapes_in es` exactly if it is below all keys of the entries `es`.
 below-shapes_in : (q : Key) (es : List (Key × Link)) → below_all key_cmp q (shapes_in es) ≡ below_all key_cmp q es
 below-shapes_in q [] = refl
 below-shapes_in q (e ∷ es) = ap (λ b. is_lt (key_cmp q e.0) && b) (below-shapes_in q es)
@@ -34,16 +36,18 @@ sorted-shapes_in (e ∷ es) = λ i. below-shapes_in e.0 es i && sorted-shapes_in
 shapes_rise : (d : Database) → T (is_sorted key_cmp (shapes_in (entries d.links)))
 shapes_rise d = subst T (sym (sorted-shapes_in (entries d.links))) (entries_sorted d.links)
 
--- The entry that is found at a key has the shape of the link at this key.
+-- At each key, `shapes_in` of a database's entries has the shape of the database's link at this
+-- key, or nothing if there is no such link.
 shape_at : (d : Database) (q : Key) → find key_cmp q (shapes_in (entries d.links)) ≡ option_map shape_of (finite.get d.links q)
 shape_at d q = find-shapes_in q (entries d.links) ∙ ap (option_map shape_of) (sym (get-entries d.links q))
 
--- Two databases with the same shape have the same list of shapes.
+-- If two databases differ only in unreserved bandwidths, their entries are equal after each link is
+-- replaced by its shape.
 one_list : (d e : Database) → HaveOneShape d e → shapes_in (entries e.links) ≡ shapes_in (entries d.links)
 one_list d e is =
     same_entries key_cmp keys_total keys_antisymmetric (shapes_in (entries e.links)) (shapes_in (entries d.links)) (shapes_rise e) (shapes_rise d) (λ q. shape_at e q ∙ is.links q ∙ sym (shape_at d q))
 
--- the endpoints of the shapes
+-- for each shape of the list, the routers at the two ends of the link with this shape
 abbrev ends_in : List (Key × Shape) → List ℕ
 ends_in es = flat_map (λ e. e.1.from ∷ e.1.to ∷ []) es
 
@@ -51,7 +55,8 @@ ends-shapes_in : (es : List (Key × Link)) → ends_of (map (λ e. e.1) es) ≡ 
 ends-shapes_in [] = refl
 ends-shapes_in (e ∷ es) = ap (λ ns. e.1.from ∷ e.1.to ∷ ns) (ends-shapes_in es)
 
--- Two databases with the same shape have the same routers in the same order.
+-- If two databases have the same marks, and their links differ only in unreserved bandwidths, they
+-- have the same routers in the same order. A mark says that a router has no transit.
 pub shapes_tell : ShapesTellRouters
 unfolding router_list
 shapes_tell d e is =

@@ -1,4 +1,4 @@
--- Private: the parts of a table besides its columns.
+-- Private: the marks of a table, and its column that says which routers have transit.
 use Rattle.std.specs.Prelude.{◌≡◌, ◌<◌, ◌≤◌, ℕ, Bool, false, not, List, length, slice_index, slice_index_or, Vec}
 use Rattle.std.specs.Vec.{vec_capacity}
 use Rattle.std.specs.declared.alloc.Global.{Global}
@@ -10,20 +10,22 @@ use Rattle.cspf_db.specs.declared.limits.TheConstants.{ROOM_FOR_MARKS}
 use Rattle.cspf_model.specs.Lemmas.LinkRows.{marks_in, marked_database}
 use Rattle.cspf_model.specs.declared.limits.TheConstants.{MOST_MARKS, MOST_ROUTERS}
 
--- For each router, whether it has transit: whether it isn't marked.
+-- `transits` has for each router whether it has transit. A router has transit if it isn't marked.
 pub record AreTransitsOf (routers marks : List ℕ) (transits : List Bool) : Type 0 where
   pub many : length transits ≡ length routers
   pub each : (at : ℕ) → at < length routers
       → slice_index_or transits at false ≡ not (set.contains (marks_in marks) (slice_index routers at))
 
--- The marks are in rising order, and at most as many as a table may have. There is room for one more mark for each
--- change of a batch.
+-- The marked routers are in rising order, and there are at most as many as a table may have. The
+-- vector has capacity for one more mark for each change of a batch. A mark says that a router has
+-- no transit.
 pub record AreMarks (marks : Vec ℕ Global) : Type 0 where
   pub rising : AreRising marks.items
   pub most : length marks.items ≤ MOST_MARKS
   pub room : ROOM_FOR_MARKS ≤ vec_capacity marks
 
--- A table has columns, marks, and for each router whether it has transit. A mark doesn't make a router.
+-- A table has columns, marks, and for each router whether it has transit. A marked router needn't
+-- be a router of the database.
 pub record IsTable (a : Inside) : Type 0 where
   pub columns : AreColumns a.columns
   pub marks : AreMarks a.marks

@@ -1,4 +1,5 @@
--- Private: which changes change the shape of a database.
+-- Private: the changes that change the shape of a database, which is everything in it except the
+-- links' unreserved bandwidths.
 use Rattle.std.specs.Prelude.{Bool, false, not, ◌&&◌, cond, nat_eq, is_some}
 use Rattle.std.specs.Option.{option_map_or}
 use Rattle.std.specs.FinSet as set
@@ -13,9 +14,10 @@ is_shape s t =
     nat_eq s.from t.from && nat_eq s.local t.local && nat_eq s.to t.to && nat_eq s.remote t.remote
     && nat_eq s.metric t.metric && nat_eq s.group t.group
 
--- Whether a change changes the shape. A put does unless the database has a link of this shape at the key. A
--- removal does if the database has a link at the key. A change of a mark does unless it leaves the router as it
--- is.
+-- Whether a change changes more of a database than unreserved bandwidths. A change that puts a link
+-- does so unless the database has a link at its key with the same other attributes. A removal does
+-- so if the database has a link at its key. A change of a router's transit does so unless the
+-- router already has this transit.
 abbrev pub reshapes : Database → Change → Bool
 reshapes d (Put l) = not (option_map_or (λ m. is_shape (shape_of m) (shape_of l)) (link_at d (key_of l)) false)
 reshapes d (Remove from local) = is_some (link_at d (from, local))

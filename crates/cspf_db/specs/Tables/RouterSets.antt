@@ -7,11 +7,12 @@ use Rattle.cspf_db.specs.declared.table.fit.router_set.TheConstants.{SLOTS}
 use Rattle.cspf_db.specs.declared.table.fit.router_set.Routers.TheInside.{Inside}
 use Rattle.cspf_model.specs.declared.limits.TheConstants.{MOST_ROUTERS}
 
--- the set of the routers that were added
+-- the set of the routers that the arrays have: the first `count` numbers of `found`
 abbrev pub routers_in : Inside → FinSet nat_cmp
 routers_in a = from_list (take a.count a.found)
 
--- The arrays have their sizes, and the first `count` numbers are at most 1,024 routers, each once.
+-- The arrays have their fixed sizes. The first `count` numbers of `found` are those of different
+-- routers, and `count` is at most 1,024.
 pub record AreRouters (a : Inside) : Type 0 where
   pub room : length a.found ≡ MOST_ROUTERS
   pub slots : length a.places ≡ SLOTS

@@ -1,4 +1,5 @@
--- Private: which row each change affects, and what a tally of changes says.
+-- Private: the row (a link) that each change affects, and when the tally of changes is true: its
+-- counts and its flags.
 use Rattle.std.specs.Prelude.{◌≡◌, ◌≢◌, ◌*◌, ◌<◌, ◌≤◌, ℕ, Bool, true, false, Option, IfSome, IfNone, List, All, length, count_by, take, slice_index_or, slice_set}
 use Rattle.std.specs.List.{AllWithin, HoldsAt}
 use Rattle.cspf_columns.specs.AlikeChanges.{IsAlike}
@@ -14,25 +15,28 @@ use Rattle.cspf_model.specs.Lemmas.RepeatedKeys.{IsNewAt}
 use Rattle.cspf_model.specs.Lemmas.RowsLeft.{adds_link, is_untouched}
 use Rattle.cspf_model.specs.Refusals.{AreOnceEach, RemovesNothing}
 
--- the index of the row with the change's key, if there is one
+-- `row` is the index of the row (a link) with the change's key, if there is such a row
 pub record IsRowOf (rows : List Link) (change : Change) (row : Option ℕ) : Type 0 where
   pub bound : IfSome row (λ at. at < length rows)
   pub some : IfSome row (HoldsAt (λ l. link_key (key_of l) ≡ key_changed change) rows)
   pub none : IfNone row (All (λ l. link_key (key_of l) ≢ key_changed change) rows)
 
--- This row wasn't seen before, and is seen now.
+-- The flag of the row (a link) at the index `row` is false in `old`. `new` is `old` with this flag
+-- set: a change affects the row.
 pub record IsSeenAt (old new : List Bool) (row : ℕ) : Type 0 where
   pub within : row < length old
   pub unseen : slice_index_or old row true ≡ false
   pub seen : new ≡ slice_set old row true
 
--- None of the changes below an index has the key of an earlier change, or of a row that isn't seen.
+-- `seen` lists flags of rows (links). No change before the index `at` has the key of an earlier
+-- change, or of a row whose flag is false.
 pub record AreOnSeenRows (rows : List Link) (changes : List Change) (seen : List Bool) (at : ℕ) : Type 0 where
   pub new : (k : ℕ) → k < at → IsNewAt changes k
   pub untouched : (row : ℕ) (d : Link) → row < length rows → slice_index_or seen row true ≡ false
       → is_untouched (take at changes) (slice_index_or rows row d) ≡ true
 
--- what the changes do to the rows and to the routers
+-- The tally of these changes is true: its two counts and its two flags say what the changes do to
+-- the rows (links) and the routers. Each link that a change removes is one of the rows.
 pub record IsTallyOf (c : Columns) (changes : List Change) (tally : Tally) : Type 0 where
   pub present : All (IsPresent (database_of c.rows.items)) changes
   pub added : tally.added ≡ count_by (adds_link (database_of c.rows.items)) changes
@@ -42,7 +46,7 @@ pub record IsTallyOf (c : Columns) (changes : List Change) (tally : Tally) : Typ
   pub alike : tally.alike ≡ true → All (IsAlike c.rows.items) changes
   pub apart : tally.apart ≡ true → AreOnceEach changes
 
--- The index is that of the first change that removes a link which the database doesn't have.
+-- `at` is the index of the first change that removes a link which the database doesn't have.
 pub record IsFirstAbsent (d : Database) (changes : List Change) (at : ℕ) : Type 0 where
   pub bound : at < length changes
   pub absent : HoldsAt (RemovesNothing d) changes at

@@ -1,4 +1,5 @@
-//! The addresses that a prefix covers. They are a range without gaps.
+//! The addresses that a prefix covers. They are a range: all addresses from the lowest to the
+//! highest one.
 ghost use Rattle.std.specs.Prelude.{◌≡◌, ◌<◌, ◌≤◌, ◌↔◌, ℕ, true, IsTrue};
 ghost use Rattle.cspf_db.specs.Tables.AddressRanges.{IsInRange, IsRangeOf};
 
@@ -32,7 +33,7 @@ impl AddressRange {
         self.first <= number && number < self.end
     }
 
-    /// Whether the range has no address from `lowest` to `highest`.
+    /// Whether none of the addresses from `lowest` to `highest` is in the range.
     pub(super) fn misses(&self, lowest: Addr, highest: Addr) -> bool
         ensures { result ≡ true
             → (address : ℕ) → lowest ≤ address → address ≤ highest → ¬ IsInRange self.now address }

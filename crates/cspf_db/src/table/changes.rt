@@ -1,4 +1,4 @@
-//! Tests of changes by themselves: which keys they have, and at which routers they put links.
+//! Tests of changes that need no table: which keys they have, and at which routers they put links.
 ghost use Rattle.std.specs.Prelude.{◌≡◌, ◌<◌};
 ghost use Rattle.std.specs.Ordering.{eq_by_cmp};
 ghost use Rattle.cspf_model.specs.Changes.{change_key_cmp, key_changed};
@@ -10,8 +10,8 @@ ghost use Rattle.cspf_model.specs.Lemmas.GoneRouters.{puts_at};
 use cspf_addr::Addr;
 use cspf_model::{Change, Link};
 
-/// Whether the change has this key. A change of a link has the link's key, and a change of a mark
-/// has the router and `None`.
+/// Whether the change has the key `key`. The key of a change of a link is the link's key. The key
+/// of a change of a router's transit is the router and `None`.
 fn is_on(change: &Change, key: (Addr, Option<Addr>)) -> bool
     ensures { result ≡ eq_by_cmp change_key_cmp key (key_changed change.now) }
 {
@@ -19,14 +19,14 @@ fn is_on(change: &Change, key: (Addr, Option<Addr>)) -> bool
     key.0 == other.0 && key.1 == other.1
 }
 
-/// Whether one of the changes has this key.
+/// Whether one of the changes has the key `key`.
 pub(super) fn any_on(changes: &[Change], key: (Addr, Option<Addr>)) -> bool
     ensures { result ≡ is_changed changes.now key }
 {
     changes.iter().any(|change| is_on(change, key))
 }
 
-/// Whether none of the changes has the key of the row.
+/// Whether none of the changes has the key of the row `row` (a link).
 pub(super) fn is_untouched(row: &Link, changes: &[Change]) -> bool
     ensures { result ≡ is_untouched changes.now row.now }
 {

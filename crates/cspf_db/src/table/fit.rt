@@ -1,4 +1,4 @@
-//! Whether a batch fits the table, and if not, the first reason.
+//! Whether a batch fits the table, and if it doesn't fit, the first reason.
 
 ghost use Rattle.std.specs.Prelude.{count_by, ◌≡◌, ◌+◌, ◌<◌, ◌≤◌, ◌↔◌, true, length, IfOk, IfErr, IsOkAnd, IsTrue};
 ghost use Rattle.cspf_model.specs.Database.{link_count};
@@ -41,7 +41,8 @@ fn has_too_many_links(columns: &Columns, changes: &[Change], added: usize) -> bo
     after > MOST_LINKS
 }
 
-/// Whether the tally says that no two changes have the same key.
+/// Whether the changes have a tally, and it says that no two changes have the same key. The tally
+/// counts what the changes do to the links and the routers.
 fn tells_apart(tally: &Result<Tally, usize>) -> bool
     ensures { result ≡ true → IsOkAnd tally.now (λ tally. tally.apart ≡ true) }
 {
@@ -51,8 +52,9 @@ fn tells_apart(tally: &Result<Tally, usize>) -> bool
     }
 }
 
-/// Whether the batch fits the rows and the marks. If it does, returns what it does to the rows, and
-/// otherwise the first reason why it doesn't fit.
+/// Whether the batch fits the rows (links) and the marks. If it fits, returns what it does to the
+/// rows, and otherwise the first reason why it doesn't fit. A mark says that a router has no
+/// transit.
 pub(super) fn fits(columns: &Columns, marks: &[Addr], batch: &Batch) -> Result<Tally, Refusal>
     requires columns { AreColumns columns.now }
     requires rising { AreRising marks.now }

@@ -1,4 +1,5 @@
-//! The marks of routers without transit, in rising order, and how changes affect them.
+//! The marks of a table, in rising order, and how changes affect them. A mark says of a router that
+//! it is without transit.
 ghost use Rattle.std.specs.Prelude.{◌≡◌, ◌+◌, ◌<◌, ◌≤◌, ◌↔◌, IsTrue, length, vec_len};
 ghost use Rattle.std.specs.Vec.{vec_capacity};
 ghost use Rattle.std.specs.FinSet as set;
@@ -14,7 +15,7 @@ use cspf_columns::insertion::insert_within;
 use cspf_columns::routers::search;
 use cspf_model::{Change, MOST_MARKS};
 
-/// Whether the router is marked.
+/// Whether the router is marked as without transit.
 pub(super) fn is_marked(marks: &[Addr], router: Addr) -> bool
     requires { AreRising marks.now }
     ensures { result ≡ set.contains (marks_in marks.now) router }
@@ -22,7 +23,8 @@ pub(super) fn is_marked(marks: &[Addr], router: Addr) -> bool
     search(marks, router).is_ok()
 }
 
-/// Whether the change marks a router that isn't marked yet.
+/// Whether the change marks a router that isn't marked yet. A mark says that a router has no
+/// transit.
 fn adds_mark(marks: &[Addr], change: &Change) -> bool
     requires { AreRising marks.now }
     ensures { result ≡ adds_mark (marks_in marks.now) change.now }
@@ -33,7 +35,8 @@ fn adds_mark(marks: &[Addr], change: &Change) -> bool
     }
 }
 
-/// Whether the change removes the mark of a router that is marked.
+/// Whether the change removes the mark of a marked router. A mark says that a router has no
+/// transit.
 fn removes_mark(marks: &[Addr], change: &Change) -> bool
     requires { AreRising marks.now }
     ensures { result ≡ removes_mark (marks_in marks.now) change.now }
@@ -44,7 +47,8 @@ fn removes_mark(marks: &[Addr], change: &Change) -> bool
     }
 }
 
-/// Whether there are more than 1,024 marks after the changes.
+/// Whether there are more than 1,024 marks after the changes. A mark says that a router has no
+/// transit.
 pub(super) fn has_too_many_marks(marks: &[Addr], changes: &[Change]) -> bool
     requires rising { AreRising marks.now }
     requires most { length marks.now ≤ MOST_MARKS }
@@ -64,7 +68,8 @@ pub(super) fn has_too_many_marks(marks: &[Addr], changes: &[Change]) -> bool
     after > MOST_MARKS
 }
 
-/// Marks the router, or removes its mark. There is room, so this takes no memory.
+/// Marks the router as without transit, or removes its mark if `transit` is true. The vector has
+/// room for one more mark, so this takes no memory.
 fn set_mark(marks: &mut Vec<Addr>, router: Addr, transit: bool)
     requires rising { AreRising marks.old.items }
     requires room { vec_len marks.old < vec_capacity marks.old }
@@ -87,8 +92,8 @@ fn set_mark(marks: &mut Vec<Addr>, router: Addr, transit: bool)
     }
 }
 
-/// Makes the changes of marks, and leaves out all other changes. There is room, so this takes no
-/// memory.
+/// Makes those changes that change a router's transit, and ignores all others. The vector has room
+/// for all new marks, so this takes no memory. A mark says that a router has no transit.
 pub(super) fn change_marks(marks: &mut Vec<Addr>, changes: &[Change])
     requires rising { AreRising marks.old.items }
     requires room { vec_len marks.old + length changes.now ≤ vec_capacity marks.old }

@@ -9,12 +9,12 @@ use crate::Table;
 use cspf_model::{Batch, Change, Link};
 
 /// Law: two databases have the same list of routers if they have the same marks and their links
-/// differ only in their unreserved bandwidths.
+/// differ only in their unreserved bandwidths. A mark says that a router has no transit.
 pub fn shapes_tell_routers()
     ensures { ShapesTellRouters }
 {}
 
-/// Whether the links differ at most in their unreserved bandwidths.
+/// Whether the two links differ at most in their unreserved bandwidths.
 fn is_shaped_as(link: &Link, other: &Link) -> bool
     ensures { result ≡ is_shape (shape_of link.now) (shape_of other.now) }
 {
@@ -48,11 +48,11 @@ impl Table {
         changes.iter().any(|change| self.reshapes(change))
     }
 
-    /// Whether the batch changes anything of the database except unreserved bandwidths: which links
-    /// or marks there are, where a link ends, its metric or its groups. It isn't checked whether
-    /// the batch fits. For a batch that doesn't fit, `true` says nothing. It takes no memory. It
-    /// takes at most one binary search for each change, up to the first change for which the answer
-    /// is yes.
+    /// Whether the batch changes anything of the database except unreserved bandwidths. Other
+    /// things are which links and marks there are, where a link ends, its metric and its groups. It
+    /// isn't checked whether the batch fits. For a batch that doesn't fit, `true` says nothing. The
+    /// call takes no memory. It takes at most one binary search for each change, and stops at the
+    /// first change for which the answer is yes. A mark says that a router has no transit.
     pub fn changes_shape(&self, batch: &Batch) -> bool
         ensures kept { result ≡ false
             → HaveOneShape self.now (after_changes self.now batch.now.changes) }

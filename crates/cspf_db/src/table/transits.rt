@@ -9,7 +9,8 @@ ghost use Rattle.cspf_model.specs.declared.limits.TheConstants.{MOST_ROUTERS};
 
 use cspf_addr::Addr;
 
-/// The index of the first mark, from index `first` on, that isn't below the router.
+/// The index of the first marked address (one without transit), from the index `first` on, that
+/// isn't below the router. If there is none, the result is the number of marked addresses.
 fn skip_below(marks: &[Addr], first: usize, router: Addr) -> usize
     requires { first ≤ length marks.now }
     ensures bound { result ≤ length marks.now }
@@ -23,8 +24,8 @@ fn skip_below(marks: &[Addr], first: usize, router: Addr) -> usize
     at
 }
 
-/// Whether the router isn't marked. `at` is the index of the first mark that isn't below the
-/// router.
+/// Whether the router isn't marked as without transit. `at` is the index of the first marked
+/// address that isn't below the router.
 fn is_unmarked_at(marks: &[Addr], at: usize, router: Addr) -> bool
     requires rising { AreRising marks.now }
     requires below { (k : ℕ) → k < at → slice_index marks.now k < router }
@@ -34,7 +35,8 @@ fn is_unmarked_at(marks: &[Addr], at: usize, router: Addr) -> bool
     at >= marks.len() || marks[at] != router
 }
 
-/// Lists for each router whether it has transit, in one pass over the routers and the marks.
+/// Lists for each router whether it has transit. The call goes through the routers and the marks
+/// once.
 pub(crate) fn list_transits(transits: &mut Vec<bool>, routers: &[Addr], marks: &[Addr])
     requires routers { AreRising routers.now }
     requires marks { AreRising marks.now }

@@ -1,4 +1,5 @@
--- The first reason why a batch doesn't fit, and why there is at most one reason.
+-- Which reason is the first for which a batch doesn't fit the database, and why a batch is refused
+-- for at most one reason.
 use Rattle.cspf_model.specs.Laws.{OneRefusal}
 use mathlib.Core.Bool.{true≢false}
 use Rattle.std.proofs.Common.{◌≡◌, ℕ, zero, suc, ◌+◌, ◌<◌, ◌≤◌, inl, inr, ◌||◌, true, Option, Some, None, option_map, List, [], ◌∷◌, length, map, take, refl, sym, ap, subst, ◌∙◌, add-one, arith, length-take-le, is_some, IfNone}
@@ -21,16 +22,17 @@ use Rattle.cspf_model.specs.Lemmas.RepeatedKeys.{is_changed, IsNewAt, IsRepeated
 use Rattle.cspf_model.specs.Refusals.{change_at, RepeatsAt, RemovesNothing, RemovesNothingAt, IsLeastPlace, AreOnceEach, ArePresent, IsRefusal}
 use Rattle.cspf_model.proofs.Databases.Keys.{change_keys_total, change_keys_same, change_key_itself}
 
--- Equal keys tie.
+-- Equal keys of changes compare as equal.
 tie_from : (j k : ChangeKey) → j ≡ k → eq_by_cmp change_key_cmp j k ≡ true
 tie_from j k e = ap (eq_by_cmp change_key_cmp j) (sym e) ∙ change_key_itself j
 
--- The change at an index has the next greater number as its place.
+-- The change at the index `at`, counted from 0, has the place `at + 1`, counted from 1.
 at_place : (cs : List Change) (at : ℕ) (d : Change) → at < length cs
     → change_at cs (at + 1) ≡ Some (slice_index_or cs at d)
 at_place cs at d within = ap (change_at cs) (add-one at) ∙ slice_get-get_or cs at d within
 
--- A change repeats a key if a change at a lower index has the same key.
+-- If a change at an index below `at` has the key of the change at the index `at`, the latter has
+-- the key of an earlier change.
 repeated_before : (cs : List Change) (at earlier : ℕ) (d : Change) → at < length cs → earlier < at
     → key_changed (slice_index_or cs earlier d) ≡ key_changed (slice_index_or cs at d)
     → is_changed (take at cs) (key_changed (slice_index_or cs at d)) ≡ true
@@ -40,7 +42,8 @@ repeated_before cs at earlier d within before same =
     (λ c. eq_by_cmp change_key_cmp (key_changed (slice_index_or cs at d)) (key_changed c)) (take at cs)
     (earlier, slice_index_or cs earlier d, omega (arith, long, before), get_or_default (take at cs) earlier _ d (omega (arith, long, before)) ∙ get_or-take at cs earlier d before, tie_from _ _ (sym same))
 
--- If no change before the index `at` repeats a key, none of the first `at` places repeats a key.
+-- If no change at an index (from 0) below `at` repeats a key, then no change at a place (from 1) up
+-- to `at` repeats a key.
 new_before : (cs : List Change) (at : ℕ) → ((k : ℕ) → k < at → IsNewAt cs k) → (place : ℕ)
     → place < at + 1 → ¬ RepeatsAt cs place
 new_before cs at new zero within r = absurd (none-some (r.is_second))
@@ -57,7 +60,8 @@ new_before cs at new (suc n) within r = earlier_cases r.earlier r.is_earlier r.i
         true≢false
         (sym (repeated_before cs n m r.second (slice_get_within cs n r.second r.is_second) (omega (arith, before)) (ap key_changed first ∙ r.one_key ∙ ap key_changed (sym second))) ∙ new n (omega (arith, within)) r.second)
 
--- The first index at which a key is repeated gives the least place of a repeat.
+-- If the index `at` is the first at which a change repeats a key, the place `at + 1` is the least
+-- at which a change repeats a key.
 pub least_repeat : (cs : List Change) (at : ℕ) → at < length cs → IsRepeatedAt cs at
     → ((k : ℕ) → k < at → IsNewAt cs k) → IsLeastPlace (RepeatsAt cs) (at + 1)
 least_repeat [] at within repeated new = absurd (omega (arith, within))
@@ -81,7 +85,7 @@ least_repeat (c ∷ cs) at within repeated new = record {
   none_before = new_before (c ∷ cs) at new;
 }
 
--- A key is changed exactly if it is among the keys of the changes.
+-- Some change has the key `k` exactly if `k` is among the keys of the changes.
 any-keys : (k : ChangeKey) (cs : List Change)
     → list_any (eq_by_cmp change_key_cmp k) (map key_changed cs) ≡ is_changed cs k
 any-keys k [] = refl
@@ -107,20 +111,22 @@ once_from_new (c ∷ cs) new =
     subst AreOnceEach (take_all (length (c ∷ cs)) (c ∷ cs) (omega arith))
     (once_below (c ∷ cs) c new (length (c ∷ cs)) (omega arith))
 
--- If a search finds no repeat, all changes have different keys.
+-- If a search for a change that repeats a key finds none, all changes have different keys.
 pub once_if_none : (cs : List Change) (r : Option ℕ)
     → IfNone r ((k : ℕ) → k < length cs → IsNewAt cs k) → IfNone r (AreOnceEach cs)
 once_if_none cs None new = once_from_new cs new
 once_if_none cs (Some at) new = tt
 
--- If a removal removes nothing, its key isn't in the database.
+-- If a change removes a link that the database lacks, the database has no link with the key of this
+-- removal.
 absent_not_present : (d : Database) (c : Change) → RemovesNothing d c → ¬ IsPresent d c
 absent_not_present d (Put l) absent present = absent
 absent_not_present d (Node router transit) absent present = absent
 absent_not_present d (Remove from local) absent present =
     true≢false (sym present ∙ ap is_some absent)
 
--- The first index at which a change removes nothing gives the least such place.
+-- If the index `at` is the first at which a change removes a link that the database lacks, `at + 1`
+-- is the least place of such a change.
 pub least_absent : (d : Database) (cs : List Change) (at : ℕ) → at < length cs
     → HoldsAt (RemovesNothing d) cs at → AllWithin (IsPresent d) cs 0 at
     → IsLeastPlace (RemovesNothingAt d cs) (at + 1)
@@ -140,7 +146,8 @@ least_absent d (c ∷ cs) at within absent present = record {
         absent_not_present d r.change r.removes_nothing
         (subst (IsPresent d) (get_or_from_slice_get (c ∷ cs) n r.change r.change r.is_change) (present n r.change (omega arith) (omega (arith, before))))
 
--- The key at a place.
+-- If a list has the change `c` at an index, the list of the keys of all its changes has the key of
+-- `c` at this index.
 key_there : (cs : List Change) (n : ℕ) (c : Change) (d : ChangeKey) → slice_get cs n ≡ Some c
     → slice_index_or (map key_changed cs) n d ≡ key_changed c
 key_there cs n c d is =
@@ -167,7 +174,8 @@ repeats_not_once cs (suc n) r once = earlier_cases r.earlier r.is_earlier r.is_f
         ∙ apart_from_distinct (eq_by_cmp change_key_cmp) (map key_changed cs) m n (key_changed r.first)
         once (omega (arith, before)) within)
 
--- If some removal removes nothing, not every removal's key is in the database.
+-- If some change removes a link that the database lacks, then not every removal has the key of a
+-- link of the database.
 removes_not_present : (d : Database) (cs : List Change) (place : ℕ) → RemovesNothingAt d cs place
     → ¬ ArePresent d cs
 removes_not_present d cs zero r present = absurd (none_there r.is_change)
@@ -178,7 +186,7 @@ removes_not_present d cs (suc n) r present =
     absent_not_present d r.change r.removes_nothing
     (subst (IsPresent d) (get_or_from_slice_get cs n r.change r.change r.is_change) (present n r.change (slice_get_within cs n r.change r.is_change)))
 
--- A batch that is refused doesn't fit.
+-- A batch that is refused doesn't fit the database.
 pub refused_unfit : (d : Database) (b : NumberedChanges) (e : Refusal) → IsRefusal d b e
     → ¬ Fits d b
 refused_unfit d b TooLong why fits = absurd (omega (arith, why, fits.short))
@@ -188,7 +196,7 @@ refused_unfit d b Full why fits = absurd (omega (arith, why.1, fits.links))
 refused_unfit d b TooManyRouters why fits = absurd (omega (arith, why.2, fits.routers))
 refused_unfit d b TooManyMarks why fits = absurd (omega (arith, why.3, fits.marks))
 
--- There is at most one least place.
+-- If two places are the least at which `P` holds, they are equal.
 one_least : (P : ℕ → Type 0) (m n : ℕ) → IsLeastPlace P m → IsLeastPlace P n → m ≡ n
 one_least P m n is also =
     not_apart m n (λ before. also.none_before m before is.here)
@@ -197,7 +205,7 @@ one_least P m n is also =
     not_apart : (m n : ℕ) → (m < n → ⊥) → (n < m → ⊥) → m ≡ n
     not_apart m n below above = omega (arith, below, above)
 
--- The position of a reason in the order of reasons.
+-- The position of a reason in the order in which the reasons are tested, from 0.
 rank : Refusal → ℕ
 rank TooLong = 0
 rank (Duplicate at) = 1
@@ -206,7 +214,8 @@ rank Full = 3
 rank TooManyRouters = 4
 rank TooManyMarks = 5
 
--- A later reason is excluded by an earlier one, so the two are equal.
+-- If a batch is refused for two reasons, the second of which isn't before the first in the order of
+-- reasons, the two reasons are equal.
 one_upto : (d : Database) (b : NumberedChanges) (e f : Refusal) → rank e ≤ rank f → IsRefusal d b e → IsRefusal d b f → e ≡ f
 unfolding rank
 one_upto d b TooLong TooLong low is also = refl

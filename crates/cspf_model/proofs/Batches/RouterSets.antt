@@ -1,4 +1,5 @@
--- A set of routers kept in an array, and when links have too many ends.
+-- How a set of routers is kept in an array, and when links have more than 1,024 routers at their
+-- ends.
 use Rattle.std.proofs.Common.{◌≡◌, ℕ, ◌+◌, ◌<◌, ◌≤◌, ◌||◌, Bool, true, false, cond, List, [], ◌∷◌, ◌++◌, length, length-take-le, take, drop, slice_index, refl, sym, ap, ◌∙◌, arith, eqb}
 use Rattle.std.specs.Ordering.{nat_cmp, eq_by_cmp}
 use Rattle.std.specs.Cmp.{nat_cmp_total, Equal-is, eq_by_cmp_equiv}
@@ -15,7 +16,8 @@ use Rattle.cspf_model.specs.Lemmas.RowsLeft.{is_untouched, rows_untouched, links
 use Rattle.cspf_model.specs.Lemmas.CountedEnds.{with_ends}
 use Rattle.cspf_model.proofs.Databases.EndCounts.{len-with_ends-le, len-insert-le}
 
--- A list of different numbers has as many items as its set.
+-- If the numbers of a list are different, the set of the list has as many members as the list has
+-- items.
 pub len-from_distinct : (xs : List ℕ) → IsDistinct (eq_by_cmp nat_cmp) xs
     → set.len (set.from_list {R = nat_cmp} xs) ≡ length xs
 unfolding IsDistinct
@@ -32,12 +34,13 @@ len-from_distinct (x ∷ xs) apart =
     none_of x (y ∷ ys) all =
         ap (λ b. b || list_any (eq_by_cmp nat_cmp x) ys) all.0 ∙ none_of x ys all.1
 
--- If only a member ties with a number, a tie doesn't change whether the number is a member.
+-- If all numbers that compare as equal to the inserted number are members already, the set has the
+-- same members after the insertion as before.
 same_or : (tie there : Bool) → (tie ≡ true → there ≡ true) → there ≡ (tie || there)
 same_or true there tied = tied refl
 same_or false there tied = refl
 
--- Inserting a member changes nothing.
+-- If a number that a set already has is inserted, the set doesn't change.
 pub insert-there : (s : set.FinSet nat_cmp) (k : ℕ) → set.contains s k ≡ true → s ≡ set.insert s k
 insert-there s k there =
     set.same_set nat_cmp_total set.nat_cmp-IsAntisymmetric _ _ (λ q.
@@ -45,29 +48,32 @@ insert-there s k there =
     (λ tie. sym (set.contains_tied nat_cmp_total s q k ((Equal-is (nat_cmp q k)).0 tie)) ∙ there)
     ∙ sym (set.contains-insert nat_cmp_total s k q))
 
--- A search of the list for a number has the same result as a search of its set.
+-- The set of a list has a number as a member exactly if a search of the list for this number finds
+-- it.
 pub contains-found : (xs : List ℕ) (x : ℕ)
     → set.contains (set.from_list {R = nat_cmp} xs) x ≡ list_any (λ y. eqb y x) xs
 contains-found xs x = set.contains-from_list_nat xs x
 
--- A number that the list doesn't have yet.
+-- In this part, `x` is a number that the list `xs` doesn't have.
 module _ (xs : List ℕ) (x : ℕ) (new : list_any (λ y. eqb y x) xs ≡ false) where
-  -- The number isn't in the set.
+  -- The set of the numbers in `xs` doesn't have `x`.
   absent : set.contains (set.from_list {R = nat_cmp} xs) x ≡ false
   absent = contains-found xs x ∙ new
 
-  -- The list with this number still has different numbers.
+  -- If the numbers in `xs` are different, they are still different after `x` is appended.
   pub distinct-push : IsDistinct (eq_by_cmp nat_cmp) xs
       → IsDistinct (eq_by_cmp nat_cmp) (xs ++ x ∷ [])
   distinct-push apart =
       IsDistinct-push (eq_by_cmp_equiv nat_cmp_total) xs x apart
       (sym (set.contains-from_list nat_cmp_total xs x) ∙ absent)
 
-  -- The set of the list with this number is the set with the number inserted.
+  -- The set of the numbers in `xs` with `x` appended is the set of the numbers in `xs` with `x`
+  -- inserted.
   pub set-push : set.from_list {R = nat_cmp} (xs ++ x ∷ []) ≡ set.insert (set.from_list xs) x
   set-push = set.from_list_push nat_cmp_total set.nat_cmp-IsAntisymmetric xs x
 
-  -- The set with this number has one member more.
+  -- If the numbers in `xs` are different, the set of these numbers and `x` has one member more than
+  -- `xs` has numbers.
   pub len-push : IsDistinct (eq_by_cmp nat_cmp) xs
       → set.len (set.insert (set.from_list {R = nat_cmp} xs) x) ≡ length xs + 1
   len-push apart =
@@ -76,12 +82,16 @@ module _ (xs : List ℕ) (x : ℕ) (new : list_any (λ y. eqb y x) xs ≡ false)
       (λ b. cond b (set.len (set.from_list {R = nat_cmp} xs)) (set.len (set.from_list {R = nat_cmp} xs) + 1)) absent
       ∙ ap (λ n. n + 1) (len-from_distinct xs apart)
 
--- If the first end of a link makes the set too large, both ends make it too large.
+-- The router at which a link begins is inserted into a set, and then the router at which the link
+-- ends. If the set has more than 1,024 routers after the first insertion, it has more than 1,024
+-- after both.
 pub full-first : (s : set.FinSet nat_cmp) (l : Link) → 1024 < set.len (set.insert s l.from)
     → 1024 < set.len (set.insert (set.insert s l.from) l.to)
 full-first s l full = omega (arith, full, len-insert-le (set.insert s l.from) l.to)
 
--- If the ends of the next row make the set too large, so do the ends of all remaining rows.
+-- The routers at the ends of the unchanged links are added to a set, one link after the other. If
+-- the set has more than 1,024 routers after the ends of the link `l`, it has more than 1,024 after
+-- the ends of all these links.
 pub full-row : (s old : set.FinSet nat_cmp) (l : Link) (rows : List Link) (cs : List Change) (i : ℕ)
     → i < length rows → l ≡ slice_index_or rows i l → true ≡ is_untouched cs l
     → with_ends s (rows_untouched (drop i rows) cs) ≡ with_ends old (rows_untouched rows cs)
@@ -94,8 +104,9 @@ full-row s old l rows cs i within read left same full =
     omega
     (arith, full, len-with_ends-le (with_ends s (l ∷ [])) (rows_untouched (drop (i + 1) rows) cs), ap set.len next)
 
--- If the ends of the next link that is put make the set too large, so do the ends of all remaining
--- links that are put.
+-- The routers at the ends of the links that are put are added to a set, one link after the other.
+-- If the set has more than 1,024 routers after the ends of the link `l`, it has more than 1,024
+-- after the ends of all these links.
 pub full-put : (s old : set.FinSet nat_cmp) (c : Change) (l : Link) (cs : List Change) (i : ℕ)
     → i < length cs → c ≡ slice_index_or cs i c → c ≡ Put l
     → with_ends s (links_put (drop i cs)) ≡ with_ends old (links_put cs)
@@ -107,7 +118,7 @@ full-put s old c l cs i within read is same full =
     omega
     (arith, full, len-with_ends-le (with_ends s (l ∷ [])) (links_put (drop (i + 1) cs)), ap set.len next)
 
--- A number at a lower index than `n` is found among the first `n` items.
+-- If a list has a number at an index below `n`, a search of its first `n` items finds this number.
 pub found_at : (xs : List ℕ) (n at x : ℕ) → at < n → n ≤ length xs → slice_index xs at ≡ x → list_any (λ y. eqb y x) (take n xs) ≡ true
 found_at xs n at x h le is =
     let within : at < length xs = omega (arith, h, le) in

@@ -1,4 +1,5 @@
--- The database after changes is made of the rows that they leave alone and the links that they put.
+-- A database is made from a list of links, called rows. After changes it consists of the rows whose
+-- keys no change has and of the links that the changes put.
 use Rattle.std.proofs.Common.{◌≡◌, zero, suc, ◌||◌, Bool, true, false, cond, not, Option, Some, None, List, [], ◌∷◌, ◌++◌, Contains, map, refl, sym, ap, ◌∙◌, arith}
 use Rattle.std.specs.Ordering.{eq_by_cmp}
 use Rattle.std.specs.List.{IsDistinct, AllByRecursion}
@@ -22,20 +23,21 @@ use Rattle.cspf_model.proofs.Databases.LastChanges.{link_at-after_change}
 use Rattle.cspf_model.proofs.Databases.LinksOfRows.{link_at-database_of}
 use Rattle.cspf_model.proofs.Databases.OneChange.{same_database, same_options, found_too}
 
--- The link at a key among the entries of a list of links.
+-- The first link of the list that has this key, if there is one.
 at_key : List Link → Key → Option Link
 at_key links k = find key_cmp k (map entry_of links)
 
--- The rows that the changes leave alone, followed by the links that they put.
+-- The links in `rows` whose keys no change has, followed by the links that the changes put.
 abbrev pub rows_after : List Link → List Change → List Link
 rows_after rows changes = rows_untouched rows changes ++ links_put changes
 
--- Keys that tie are changed by the same changes.
+-- If two keys compare as equal, some change has the one key exactly if some change has the other.
 changed_alike : (cs : List Change) (j k : Key) → eq_by_cmp key_cmp j k ≡ true
     → is_changed cs (link_key j) ≡ is_changed cs (link_key k)
 changed_alike cs j k tie = ap (λ q. is_changed cs (link_key q)) (keys_same j k tie)
 
--- If neither the row nor the rows after it have the key, nothing is found.
+-- If the first link doesn't have the key that is searched for, and a search of the later links
+-- finds nothing, a search of all links finds nothing.
 none_found : (b : Bool) (x : Link) (o : Option Link) → b ≡ false → o ≡ None
     → cond b (Some x) o ≡ None
 none_found true x o off none = absurd (cc)
@@ -51,7 +53,7 @@ or_second : (a b : Bool) → (a || b) ≡ false → b ≡ false
 or_second true b e = absurd (cc)
 or_second false b e = e
 
--- If no change has a key, no link with this key is put.
+-- If no change has the key `k`, the changes put no link with this key.
 not_put : (cs : List Change) (k : Key) → is_changed cs (link_key k) ≡ false → at_key (links_put cs) k ≡ None
 unfolding at_key
 not_put [] k off = refl
@@ -61,8 +63,8 @@ not_put (Put l ∷ cs) k off =
 not_put (Remove from local ∷ cs) k off = not_put cs k (or_second _ _ off)
 not_put (Node router transit ∷ cs) k off = not_put cs k (or_second _ _ off)
 
--- At a key without a change, the rows left alone have the same link as all rows. At a changed key they
--- have none.
+-- At a key that some change has, `rows_untouched` has no link. At any other key it has the same
+-- link as `rows`.
 at_left : (rows : List Link) (cs : List Change) (k : Key)
     → at_key (rows_untouched rows cs) k ≡ cond (is_changed cs (link_key k)) None (at_key rows k)
 unfolding at_key
@@ -91,12 +93,13 @@ at_left (l ∷ rows) cs k =
         → at_key (rows_untouched (l ∷ rows) cs) k ≡ at_key (l ∷ rows_untouched rows cs) k
     stayed off = ap (λ b. at_key (cond (not b) (l ∷ rows_untouched rows cs) (rows_untouched rows cs)) k) off
 
--- The first option, unless it is empty. Then the second option.
+-- The first option if it has a value, and otherwise the second option.
 first_of : Option Link → Option Link → Option Link
 first_of None p = p
 first_of (Some x) p = Some x
 
--- The link at a key in two lists of links, one after the other.
+-- If the first of two lists of links has a link with the key `k`, the joined list has the same link
+-- at `k`. Otherwise the joined list has at `k` the link that the second list has there, if any.
 at_both : (xs ys : List Link) (k : Key) → at_key (xs ++ ys) k ≡ first_of (at_key xs k) (at_key ys k)
 unfolding at_key first_of
 at_both [] ys k = refl
@@ -106,7 +109,8 @@ at_both (x ∷ xs) ys k =
       | false ↦ at_both xs ys k
     ]
 
--- At a changed key it is the link that is put. At another key it is the row's link.
+-- `b` says whether some change has a key. If so, the link at this key is the option `put`, and
+-- otherwise it is the option `row`.
 chosen : (b : Bool) (row put : Option Link) → (b ≡ false → put ≡ None)
     → first_of (cond b None row) put ≡ cond b put row
 unfolding first_of
@@ -114,7 +118,8 @@ chosen true row put none = refl
 chosen false None put none = none refl
 chosen false (Some x) put none = refl
 
--- The link at a key in the rows after the changes.
+-- If some change has the key `k`, `rows_after` has at `k` the link that is put, if any. Otherwise
+-- it has the same link at `k` as `rows`.
 at_after : (rows : List Link) (cs : List Change) (k : Key)
     → at_key (rows_after rows cs) k ≡ cond (is_changed cs (link_key k)) (at_key (links_put cs) k) (at_key rows k)
 at_after rows cs k =
@@ -122,7 +127,7 @@ at_after rows cs k =
     ∙ ap (λ o. first_of o (at_key (links_put cs) k)) (at_left rows cs k)
     ∙ chosen (is_changed cs (link_key k)) (at_key rows k) (at_key (links_put cs) k) (not_put cs k)
 
--- If all changes have different keys, no later change has the key of the first.
+-- If all changes of a list have different keys, no other change has the key of the first change.
 not_again : (c : Change) (cs : List Change) → AreOnceEach (c ∷ cs)
     → is_changed cs (key_changed c) ≡ false
 unfolding IsDistinct
@@ -134,27 +139,32 @@ not_again c cs once = none_on (key_changed c) cs once.0
     none_on k [] all = refl
     none_on k (c ∷ cs) all = ap (λ b. b || is_changed cs k) all.0 ∙ none_on k cs all.1
 
--- The link at a key after one change.
+-- After a change with the key `k`, the database has at `k` the link that the change puts, or no
+-- link if the change is a removal. After any other change it has the same link at `k` as before.
 pub link_at-relinked : (d : Database) (c : Change) (k : Key)
     → link_at (relinked d c) k ≡ cond (eq_by_cmp change_key_cmp (link_key k) (key_changed c)) (link_left c) (link_at d k)
 link_at-relinked d (Put l) k = link_at-after_change d (Put l) k
 link_at-relinked d (Remove from local) k = link_at-after_change d (Remove from local) k
 link_at-relinked d (Node router transit) k = link_at-after_change d (Node router transit) k
 
--- A list of changes that is followed by another list.
+-- Making the changes of two joined lists gives the same database as making first the changes of the
+-- first list and then those of the second list.
 pub all_relinked-append : (d : Database) (bs cs : List Change)
     → all_relinked d (bs ++ cs) ≡ all_relinked (all_relinked d bs) cs
 all_relinked-append d [] cs = refl
 all_relinked-append d (b ∷ bs) cs = all_relinked-append (relinked d b) bs cs
 
--- Changes to links leave the marks.
+-- `all_relinked`, which makes only the changes to links, doesn't change which routers are marked as
+-- without transit.
 pub marks-all_relinked : (d : Database) (cs : List Change) → (all_relinked d cs).marks ≡ d.marks
 marks-all_relinked d [] = refl
 marks-all_relinked d (Put l ∷ cs) = marks-all_relinked (relinked d (Put l)) cs
 marks-all_relinked d (Remove from local ∷ cs) = marks-all_relinked (relinked d (Remove from local)) cs
 marks-all_relinked d (Node router transit ∷ cs) = marks-all_relinked d cs
 
--- The link at a key after changes with different keys.
+-- Suppose that all changes have different keys. At a key that some change has, the database after
+-- the changes has the link that this change puts, if any. At any other key it has the same link as
+-- before.
 at_changed_by : (d : Database) (cs : List Change) (k : Key) → AreOnceEach cs
     → link_at (all_relinked d cs) k ≡ cond (is_changed cs (link_key k)) (at_key (links_put cs) k) (link_at d k)
 unfolding IsDistinct at_key
@@ -189,7 +199,8 @@ at_changed_by d (Node router transit ∷ cs) k once =
     at_changed_by d cs k once.1
     ∙ ap (λ b. cond (b || is_changed cs (link_key k)) (at_key (links_put cs) k) (link_at d k)) (sym (link_apart k router))
 
--- The rows after the changes make the database after the changes.
+-- If all changes in `cs` have different keys, the database that is made from `rows_after rows cs`
+-- is the database that is made from `rows`, after these changes (`all_relinked`).
 pub database-rows_after : (rows : List Link) (cs : List Change) → AreOnceEach cs
     → database_of (rows_after rows cs) ≡ all_relinked (database_of rows) cs
 unfolding at_key
@@ -198,7 +209,7 @@ database-rows_after rows cs once =
     ∙ ap (cond (is_changed cs (link_key k)) (at_key (links_put cs) k)) (sym (link_at-database_of rows k))
     ∙ sym (at_changed_by (database_of rows) cs k once))
 
--- A key that no row has is not the key of a row left alone.
+-- If no link in `rows` has the key `k`, no link in `rows_untouched rows cs` has this key.
 apart_left : (k : Key) (rows : List Link) (cs : List Change)
     → AllByRecursion (λ y. eq_by_cmp key_cmp k y ≡ false) (map key_of rows)
     → AllByRecursion (λ y. eq_by_cmp key_cmp k y ≡ false) (map key_of (rows_untouched rows cs))
@@ -209,7 +220,7 @@ apart_left k (l ∷ rows) cs all =
       | false ↦ apart_left k rows cs all.1
     ]
 
--- A key that no change has is not the key of a link that is put.
+-- If no change has the key `k`, no link that the changes put has this key.
 apart_put : (k : Key) (cs : List Change) → is_changed cs (link_key k) ≡ false
     → AllByRecursion (λ y. eq_by_cmp key_cmp k y ≡ false) (map key_of (links_put cs))
 apart_put k [] off = tt
@@ -217,7 +228,7 @@ apart_put k (Put l ∷ cs) off = (or_first _ _ off, apart_put k cs (or_second _ 
 apart_put k (Remove from local ∷ cs) off = apart_put k cs (or_second _ _ off)
 apart_put k (Node router transit ∷ cs) off = apart_put k cs (or_second _ _ off)
 
--- The links that are put have different keys.
+-- If all changes have different keys, the links that they put have different keys.
 puts_apart : (cs : List Change) → AreOnceEach cs → HaveOwnKeys (links_put cs)
 unfolding IsDistinct
 puts_apart [] once = tt
@@ -226,13 +237,15 @@ puts_apart (Put l ∷ cs) once =
 puts_apart (Remove from local ∷ cs) once = puts_apart cs once.1
 puts_apart (Node router transit ∷ cs) once = puts_apart cs once.1
 
--- What holds of the keys of two lists holds of the keys of the joined list.
+-- If `P` holds of the keys of all links of two lists, it holds of the keys of all links of the
+-- joined list.
 all_both : (P : Key → Type 0) (xs ys : List Link) → AllByRecursion P (map key_of xs)
     → AllByRecursion P (map key_of ys) → AllByRecursion P (map key_of (xs ++ ys))
 all_both P [] ys all also = also
 all_both P (x ∷ xs) ys all also = (all.0, all_both P xs ys all.1 also)
 
--- The rows after the changes have different keys.
+-- If the links in `rows` have different keys, and the changes have different keys, the links in
+-- `rows_after rows cs` have different keys.
 pub apart-rows_after : (rows : List Link) (cs : List Change) → HaveOwnKeys rows → AreOnceEach cs
     → HaveOwnKeys (rows_after rows cs)
 unfolding IsDistinct
@@ -243,11 +256,11 @@ apart-rows_after (l ∷ rows) cs apart once =
       | false ↦ λ off. (all_both (λ y. eq_by_cmp key_cmp (key_of l) y ≡ false) (rows_untouched rows cs) (links_put cs) (apart_left (key_of l) rows cs apart.0) (apart_put (key_of l) cs off), apart-rows_after rows cs apart.1 once)
     ] refl
 
--- An item of a list is an item of the list with one more item in front.
+-- If a list contains an item, the list with one more item in front contains this item.
 behind : {X : Type 0} (x : X) (xs : List X) (y : X) → Contains xs y → Contains (x ∷ xs) y
 behind x xs y has = (suc has.0, omega (arith, has.1), has.2)
 
--- A link among the links that are put is put by one of the changes.
+-- Each link of `links_put` is put by one of the changes.
 put_from : (cs : List Change) (l : Link) → Contains (links_put cs) l → Contains cs (Put l)
 put_from [] l has = absurd (omega (arith, has.1))
 put_from (Put m ∷ cs) l (zero, h, is) = (0, omega arith, ap Put is)
@@ -257,7 +270,7 @@ put_from (Remove from local ∷ cs) l has = behind (Remove from local) cs (Put l
 put_from (Node router transit ∷ cs) l has =
     behind (Node router transit) cs (Put l) (put_from cs l has)
 
--- A link that one of the changes puts is among the links that are put.
+-- `links_put` has each link that one of the changes puts.
 put_among : (cs : List Change) (l : Link) → Contains cs (Put l) → Contains (links_put cs) l
 put_among [] l has = absurd (omega (arith, has.1))
 put_among (Put m ∷ cs) l (zero, h, is) = (0, omega arith, same_link is)
@@ -271,7 +284,7 @@ put_among (Remove from local ∷ cs) l (suc k, h, is) = put_among cs l (k, omega
 put_among (Node router transit ∷ cs) l (zero, h, is) = absurd (cc)
 put_among (Node router transit ∷ cs) l (suc k, h, is) = put_among cs l (k, omega (arith, h), is)
 
--- Changes with different keys have the same result in any order.
+-- In this part, `ys` are the changes `cs` in another order, and all changes have different keys.
 module _ (cs ys : List Change) (moved : IsPermutation cs ys) (once : AreOnceEach cs) where
   -- The changes in the other order have different keys too.
   still_once : AreOnceEach ys

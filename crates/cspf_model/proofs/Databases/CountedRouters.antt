@@ -1,4 +1,4 @@
--- The set of routers that is counted has exactly the routers of the database.
+-- The set whose members `router_count` counts has exactly the routers of the database.
 use Rattle.std.proofs.Common.{◌≡◌, ℕ, ◌||◌, ◌&&◌, inl, inr, Bool, true, false, cond, T, Option, Some, None, List, [], ◌∷◌, map, refl, sym, ap, ◌∙◌}
 use Rattle.std.specs.Ordering.{nat_cmp, eq_by_cmp, is_lt, is_eq, ordering_reverse}
 use Rattle.std.specs.declared.cmp.Ordering.{Ordering}
@@ -15,31 +15,33 @@ use Rattle.cspf_model.proofs.Databases.Keys.{keys_total, key_itself}
 use Rattle.cspf_model.proofs.Databases.DistinctRouters.{router_in_ends}
 use Rattle.cspf_model.proofs.Databases.EndCounts.{any-ends_of}
 
--- An entry whose link passes a test, and the key at which this entry is found.
+-- The link of some entry passes the test `p`, and a search of the entries for `key` finds this
+-- link.
 record Found (p : Link → Bool) (es : List (Key × Link)) : Type 0 where
   pub key : Key
   pub link : Link
   pub passes : p link ≡ true
   pub found : map.find key_cmp key es ≡ Some link
 
--- If both of two tests pass, the first passes.
+-- If the conjunction of two tests is true, the first test is true.
 both_first : (a b : Bool) → T (a && b) → T a
 both_first true b h = tt
 both_first false b h = h
 
--- If both of two tests pass, the second passes.
+-- If the conjunction of two tests is true, the second test is true.
 both_second : (a b : Bool) → T (a && b) → T b
 both_second true b h = h
 both_second false b h = absurd h
 
--- A lower key is a different key.
+-- If a key is below another key, the two keys don't compare as equal.
 below_apart : (k j : Key) (o : Ordering) → key_cmp k j ≡ o → T (is_lt o)
     → eq_by_cmp key_cmp j k ≡ false
 below_apart k j Less is h = ap is_eq (keys_total.antisymm j k ∙ ap ordering_reverse is)
 below_apart k j Equal is h = absurd h
 below_apart k j Greater is h = absurd h
 
--- A key that is found after an entry with a lower key is different from that lower key.
+-- If the key `k` is below the keys of all entries, a key that is found among these entries doesn't
+-- compare as equal to `k`.
 not_first : (k : Key) (es : List (Key × Link)) → T (below_all key_cmp k es) → (j : Key) (l : Link)
     → map.find key_cmp j es ≡ Some l → eq_by_cmp key_cmp j k ≡ false
 not_first k [] below j l found = absurd (none_some found)
@@ -53,7 +55,8 @@ not_first k (e ∷ es) below j l found =
       | false ↦ λ _ there. not_first k es (both_second _ _ below) j l there
     ] refl found
 
--- In a sorted list, each entry is found at its key.
+-- If the link of some entry of a sorted list passes a test, a search of the list for this entry's
+-- key finds this link.
 found_among : (p : Link → Bool) (es : List (Key × Link)) → T (map.is_sorted key_cmp es)
     → list_any p (map (λ e. e.1) es) ≡ true → Found p es
 found_among p [] sorted any = absurd (cc)
@@ -64,7 +67,8 @@ found_among p (e ∷ es) sorted any =
           record { key = f.key; link = f.link; passes = f.passes; found = ap (λ b. cond b (Some e.1) (map.find key_cmp f.key es)) (not_first e.0 es (both_first _ _ sorted) f.key f.link f.found) ∙ f.found }
     ] refl any
 
--- A router that ties with an end of a link is that end.
+-- If a router compares as equal to the router at an end of a link, the link begins or ends at this
+-- router.
 pub end_at : (router : ℕ) (l : Link)
     → (eq_by_cmp nat_cmp router l.from || eq_by_cmp nat_cmp router l.to) ≡ true → EndsAt router l
 end_at router l =
@@ -76,7 +80,7 @@ end_at router l =
     same_number : (m n : ℕ) → eq_by_cmp nat_cmp m n ≡ true → m ≡ n
     same_number m n tie = set.nat_cmp-IsAntisymmetric m n ((Equal-is (nat_cmp m n)).0 tie)
 
--- The counted set has exactly the routers of the database.
+-- The set that `router_count` counts has exactly the routers of the database.
 pub routers_counted : RoutersAreCounted
 routers_counted d keyed router = (
   λ counted.

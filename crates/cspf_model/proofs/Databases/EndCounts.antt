@@ -1,4 +1,5 @@
--- How many links and how many routers a database of rows has.
+-- The number of links and the number of routers of a database that is made from a list of links,
+-- called rows.
 use Rattle.std.specs.Bool.{OnTrue, OnFalse}
 use mathlib.Core.Bool.{true≢false}
 use Rattle.std.proofs.lemmas.List.{nil_from_length, get_or_default, take_more}
@@ -28,7 +29,8 @@ use Rattle.cspf_model.proofs.Databases.LinksOfRows.{link_at-database_of}
 use Rattle.cspf_model.proofs.Databases.OneChange.{find-behind}
 use Rattle.cspf_model.proofs.Databases.ChangedRows.{rows_after, database-rows_after, apart-rows_after}
 
--- The database of rows with different keys has as many links as there are rows.
+-- If the links in `rows` have different keys, the database that is made from them has as many links
+-- as `rows`.
 pub link_count-database_of : (rows : List Link) → HaveOwnKeys rows
     → link_count (database_of rows) ≡ length rows
 unfolding IsDistinct
@@ -39,18 +41,19 @@ link_count-database_of (l ∷ rows) apart =
     (link_at-database_of rows (key_of l) ∙ find-behind l rows apart)
     ∙ ap (λ n. n + 1) (link_count-database_of rows apart.1) ∙ omega arith
 
--- Three tests, grouped in the other way.
+-- The disjunction of three tests doesn't depend on which two are grouped.
 or_assoc : (a b c : Bool) → (a || (b || c)) ≡ ((a || b) || c)
 or_assoc true b c = refl
 or_assoc false b c = refl
 
--- Three tests, of which the first two change places.
+-- The disjunction of three tests stays the same if the first two change places.
 or_swap : (a b c : Bool) → (a || (b || c)) ≡ (b || (a || c))
 or_swap true true c = refl
 or_swap true false c = refl
 or_swap false b c = refl
 
--- Some end in the list of ends passes a test exactly if some link has an end that passes it.
+-- Some router in `ends_of links` passes a test exactly if a router at an end of some link passes
+-- it.
 pub any-ends_of : (p : ℕ → Bool) (links : List Link)
     → list_any p (ends_of links) ≡ list_any (λ l. p l.from || p l.to) links
 any-ends_of p [] = refl
@@ -71,7 +74,8 @@ any-put p k v (e ∷ es) none =
       | Greater ↦ λ rest. ap (λ b. p e.1 || b) (any-put p k v es rest) ∙ or_swap (p e.1) (p v) _
     ] none
 
--- The links of the database of rows are the rows.
+-- If the links in `rows` have different keys, some link of the database that is made from them
+-- passes a test exactly if some link in `rows` passes it.
 any-values : (p : Link → Bool) (rows : List Link) → HaveOwnKeys rows
     → list_any p (map.values (database_of rows).links) ≡ list_any p rows
 unfolding IsDistinct
@@ -86,11 +90,12 @@ any-values p (l ∷ rows) apart =
     (sym (map.get-entries (database_of rows).links (key_of l)) ∙ link_at-database_of rows (key_of l) ∙ find-behind l rows apart)
     ∙ ap (λ b. p l || b) (any-values p rows apart.1)
 
--- The set of the ends of these links.
+-- The set of the routers at the ends of these links.
 ends_set : List Link → set.FinSet nat_cmp
 ends_set links = set.from_list (ends_of links)
 
--- The routers of the database of rows are the ends of the rows.
+-- If the links in `rows` have different keys, the database made from them has as many routers as
+-- there are different routers at the ends of these links.
 pub router_count-database_of : (rows : List Link) → HaveOwnKeys rows
     → router_count (database_of rows) ≡ set.len (set.from_list {R = nat_cmp} (ends_of rows))
 router_count-database_of rows apart =
@@ -99,12 +104,12 @@ router_count-database_of rows apart =
     ∙ any-values _ rows apart ∙ sym (any-ends_of (eq_by_cmp nat_cmp q) rows)
     ∙ sym (set.contains-from_list nat_cmp_total _ q)))
 
--- A test that fails adds nothing to a disjunction.
+-- The disjunction of a test and `false` is the test itself.
 or_false : (a : Bool) → a ≡ (a || false)
 or_false true = refl
 or_false false = refl
 
--- Four tests in another order.
+-- `(b or (a or s)) or rest` has the same value as `s or (a or (b or rest))`.
 turn : (a b s rest : Bool) → ((b || (a || s)) || rest) ≡ (s || (a || (b || rest)))
 turn true true true rest = refl
 turn true true false rest = refl
@@ -115,7 +120,8 @@ turn false true false rest = refl
 turn false false true rest = refl
 turn false false false rest = refl
 
--- What a set contains after the ends of links were added to it.
+-- After the routers at the ends of links are added to a set, the set has exactly its earlier
+-- members and these routers.
 pub contains-with_ends : (s : set.FinSet nat_cmp) (links : List Link) (q : ℕ)
     → set.contains (with_ends s links) q ≡ (set.contains s q || list_any (eq_by_cmp nat_cmp q) (ends_of links))
 contains-with_ends s [] q = or_false _
@@ -125,7 +131,8 @@ contains-with_ends s (l ∷ links) q =
     (set.contains-insert nat_cmp_total (set.insert s l.from) l.to q ∙ ap (λ b. eq_by_cmp nat_cmp q l.to || b) (set.contains-insert nat_cmp_total s l.from q))
     ∙ turn (eq_by_cmp nat_cmp q l.from) (eq_by_cmp nat_cmp q l.to) (set.contains s q) _
 
--- The ends of links, added to the empty set one after the other.
+-- If the routers at the ends of links are added to the empty set one by one, the result is the set
+-- of these routers.
 with_ends-empty : (links : List Link) → with_ends set.empty links ≡ set.from_list (ends_of links)
 with_ends-empty links =
     set.same_set nat_cmp_total set.nat_cmp-IsAntisymmetric _ _ (λ q.
@@ -133,7 +140,8 @@ with_ends-empty links =
     ∙ ap (λ b. b || list_any (eq_by_cmp nat_cmp q) (ends_of links)) (set.contains-empty nat_cmp q)
     ∙ sym (set.contains-from_list nat_cmp_total _ q))
 
--- The ends of some links are added, and then the ends of other links.
+-- The routers at the ends of one list of links, and then those of another list, are added to a set.
+-- Adding the routers at the ends of the joined list gives the same set.
 pub with_ends-append : (s : set.FinSet nat_cmp) (xs ys : List Link)
     → with_ends (with_ends s xs) ys ≡ with_ends s (xs ++ ys)
 with_ends-append s [] ys = refl
@@ -148,7 +156,7 @@ len-insert-le s k =
     no_less true n = omega arith
     no_less false n = omega arith
 
--- Adding the ends of links makes no set smaller.
+-- Adding the routers at the ends of links makes no set smaller.
 pub len-with_ends-le : (s : set.FinSet nat_cmp) (links : List Link)
     → set.len s ≤ set.len (with_ends s links)
 len-with_ends-le s [] = omega arith
@@ -161,13 +169,13 @@ pub or_right : (a b : Bool) → b ≡ true → (a || b) ≡ true
 or_right true b e = refl
 or_right false b e = e
 
--- A member that doesn't tie with the removed number stays in the set.
+-- If a number is removed from a set, each member that differs from this number stays a member.
 stays_inside : (tie found there : Bool) → (tie ≡ true → found ≡ false) → found ≡ true → there ≡ true
     → (not tie && there) ≡ true
 stays_inside true found there apart is inside = absurd (cc (apart refl))
 stays_inside false found there apart is inside = inside
 
--- A set with an item has one member more than the set without it.
+-- A set has one member more than the same set without one of its members.
 len-without : (t : set.FinSet nat_cmp) (x : ℕ) → set.contains t x ≡ true
     → set.len (set.remove t x) + 1 ≡ set.len t
 len-without t x there =
@@ -175,7 +183,8 @@ len-without t x there =
     let some : set.len t ≡ 0 → ⊥ = λ none. true≢false (sym there ∙ ap (λ s. set.contains s x) (set.empty_of_len t none) ∙ set.contains-empty nat_cmp x) in
     omega (arith, shorter, some)
 
--- The set of a list whose items are all in another set is at most as large as that set.
+-- If all items of a list are members of a set, the set of the list has at most as many members as
+-- this set.
 len-within : (xs : List ℕ) (t : set.FinSet nat_cmp)
     → ((q : ℕ) → list_any (eq_by_cmp nat_cmp q) xs ≡ true → set.contains t q ≡ true)
     → set.len (set.from_list {R = nat_cmp} xs) ≤ set.len t
@@ -198,7 +207,7 @@ len-within (x ∷ xs) t inside =
       )
     ] refl)
 
--- A row that is left alone is one of the rows.
+-- If some link in `rows_untouched rows cs` passes a test, some link in `rows` passes this test.
 any_left : (p : Link → Bool) (rows : List Link) (cs : List Change)
     → list_any p (rows_untouched rows cs) ≡ true → list_any p rows ≡ true
 any_left p [] cs is = is
@@ -212,7 +221,8 @@ any_left p (l ∷ rows) cs is =
     or_either true b c e f = refl
     or_either false b c e f = f e
 
--- A router at which one of the rows begins or ends is among the ends of the rows.
+-- If some link in `rows` begins or ends at a router, this router is among the routers at the ends
+-- of these links.
 pub known_end : (rows : List Link) (router q : ℕ) → AnyEndsAt rows router
     → eq_by_cmp nat_cmp q router ≡ true
     → list_any (λ l. eq_by_cmp nat_cmp q l.from || eq_by_cmp nat_cmp q l.to) rows ≡ true
@@ -237,9 +247,11 @@ or_split : {P : Type 0} (a b : Bool) → (a || b) ≡ true → (a ≡ true → P
 or_split true b e f g = f refl
 or_split false b e f g = g e
 
--- How many routers the database has after changes.
+-- In this part, the links in `rows` have different keys, the changes have different keys, and the
+-- changes act on the database that is made from `rows`.
 module _ (rows : List Link) (cs : List Change) (apart : HaveOwnKeys rows) (once : AreOnceEach cs) where
-  -- It has as many routers as there are ends of the rows left alone and of the links that are put.
+  -- After the changes, the database has as many routers as there are different routers at the ends
+  -- of the unchanged links and of the links that are put.
   pub router_count-after : router_count (all_relinked (database_of rows) cs) ≡ set.len (with_ends (with_ends set.empty (rows_untouched rows cs)) (links_put cs))
   router_count-after =
       ap router_count (sym (database-rows_after rows cs once))
@@ -247,7 +259,8 @@ module _ (rows : List Link) (cs : List Change) (apart : HaveOwnKeys rows) (once 
       ∙ ap set.len
       (sym (with_ends-append set.empty (rows_untouched rows cs) (links_put cs) ∙ with_ends-empty (rows_after rows cs)))
 
-  -- Each end of the rows after the changes is an end of a row, or of a link that is put.
+  -- Each router at an end of a link after the changes is at an end of a link in `rows`, or of a
+  -- link that the changes put.
   in_grown : (q : ℕ) → list_any (eq_by_cmp nat_cmp q) (ends_of (rows_after rows cs)) ≡ true → set.contains (with_ends (set.from_list (ends_of rows)) (links_put cs)) q ≡ true
   in_grown q is =
       let all : set.FinSet nat_cmp = set.from_list (ends_of rows) in
@@ -257,7 +270,8 @@ module _ (rows : List Link) (cs : List Change) (apart : HaveOwnKeys rows) (once 
       (λ left. ap (λ b. b || list_any (eq_by_cmp nat_cmp q) (ends_of (links_put cs))) (set.contains-from_list nat_cmp_total (ends_of rows) q ∙ any-ends_of (eq_by_cmp nat_cmp q) rows ∙ any_left _ rows cs left))
       (λ put. or_right (set.contains all q) _ (any-ends_of (eq_by_cmp nat_cmp q) (links_put cs) ∙ put))
 
-  -- If the changes bring at most `most` new routers, the count grows by at most `most`.
+  -- If the changes put links with at most `most` new routers at their ends, the number of the
+  -- database's routers grows by at most `most`.
   pub router_count-brought : (routers : List ℕ) (most : ℕ) → All (λ r. set.contains (set.from_list {R = nat_cmp} (ends_of rows)) r ≡ true) routers → BringsAtMost routers cs most
       → router_count (all_relinked (database_of rows) cs) ≤ router_count (database_of rows) + most
   router_count-brought routers most inside brings =
@@ -265,7 +279,9 @@ module _ (rows : List Link) (cs : List Change) (apart : HaveOwnKeys rows) (once 
       omega
       (arith, len-within (ends_of (rows_after rows cs)) (with_ends all (links_put cs)) in_grown, brings all inside, ap router_count (database-rows_after rows cs once), router_count-database_of (rows_after rows cs) (apart-rows_after rows cs apart once), router_count-database_of rows apart)
 
-  -- If also some router is gone after the changes, the count grows by less than `most`.
+  -- The changes put links with at most `most` new routers at their ends. If they also leave some
+  -- router of the database without links, the number of the database's routers grows by less than
+  -- `most`.
   pub router_count-gone : (routers : List ℕ) (most : ℕ) → All (λ r. set.contains (set.from_list {R = nat_cmp} (ends_of rows)) r ≡ true) routers → BringsAtMost routers cs most
       → HasGone rows routers cs → router_count (all_relinked (database_of rows) cs) + 1 ≤ router_count (database_of rows) + most
   router_count-gone routers most inside brings (g, known, gone) =
@@ -294,19 +310,21 @@ len-insert-most s k =
     one_more true n = omega arith
     one_more false n = omega arith
 
--- Adding a router that the set has already doesn't make it larger.
+-- If a set already has a router, adding this router doesn't make the set larger. Otherwise the set
+-- grows by at most one.
 pub one_end : (s : set.FinSet nat_cmp) (k most : ℕ) → (most ≡ 0 → set.contains s k ≡ true) → set.len (set.insert s k) ≤ set.len s + most
 one_end s k zero there = omega (arith, set.len-insert nat_cmp_total s k ∙ ap (λ b. cond b (set.len s) (set.len s + 1)) (there refl))
 one_end s k (suc most) there = omega (arith, len-insert-most s k)
 
--- A put brings at most those of its ends that aren't among the routers.
+-- A `Put` change of the link adds at most `m + n` routers to a set that has all of `routers`. Here
+-- `m` is 0 only if the link begins at one of `routers`, and `n` is 0 only if it ends at one.
 pub brings_put : (routers : List ℕ) (l : Link) (m n : ℕ) → (m ≡ 0 → Contains routers l.from) → (n ≡ 0 → Contains routers l.to) → BringsAtMost routers (Put l ∷ []) (m + n)
 brings_put routers l m n from to s inside =
     let there : (r : ℕ) → Contains routers r → set.contains s r ≡ true = λ r. All-contains (λ q. set.contains s q ≡ true) routers r inside in
     omega
     (arith, one_end s l.from m (λ e. there l.from (from e)), one_end (set.insert s l.from) l.to n (λ e. set.contains-insert nat_cmp_total s l.from l.to ∙ or_right (eq_by_cmp nat_cmp l.to l.from) _ (there l.to (to e))))
 
--- Three tests, of which the last two change places.
+-- The disjunction of three tests stays the same if the last two change places.
 turn_last : (a b e : Bool) → ((a || b) || e) ≡ ((a || e) || b)
 turn_last true b e = refl
 turn_last false true true = refl
@@ -314,7 +332,8 @@ turn_last false true false = refl
 turn_last false false true = refl
 turn_last false false false = refl
 
--- The ends of two lists of links may be added in either order.
+-- If the routers at the ends of two lists of links are added to a set, the order of the two lists
+-- doesn't matter.
 with_ends-turned : (s : set.FinSet nat_cmp) (xs ys : List Link) → with_ends (with_ends s xs) ys ≡ with_ends (with_ends s ys) xs
 with_ends-turned s xs ys =
     set.same_set nat_cmp_total set.nat_cmp-IsAntisymmetric _ _ (λ q.
@@ -323,18 +342,23 @@ with_ends-turned s xs ys =
     ∙ turn_last (set.contains s q) _ _
     ∙ sym (contains-with_ends (with_ends s ys) xs q ∙ ap (λ b. b || list_any (eq_by_cmp nat_cmp q) (ends_of xs)) (contains-with_ends s ys q)))
 
--- The number of routers, counted by a set to which all ends were added.
+-- This part counts the routers that the database has after the changes. To count them, the routers
+-- at the ends of links are added to a set.
 module _ (rows : List Link) (cs : List Change) (apart : HaveOwnKeys rows) (once : AreOnceEach cs) where
-  -- The routers are the ends of the links that are put and of the rows left alone.
+  -- After the changes, the database has as many routers as there are different routers at the ends
+  -- of the links that are put and of the unchanged links.
   counted : router_count (all_relinked (database_of rows) cs) ≡ set.len (with_ends (with_ends set.empty (links_put cs)) (rows_untouched rows cs))
   counted = router_count-after rows cs apart once ∙ ap set.len (with_ends-turned set.empty (rows_untouched rows cs) (links_put cs))
 
-  -- The case in which the ends of the links that are put are already too many.
+  -- If there are more than 1,024 different routers at the ends of the links that are put, the
+  -- database has more than 1,024 routers after the changes.
   pub many_put : 1024 < set.len (with_ends set.empty (links_put cs))
       → 1024 < router_count (all_relinked (database_of rows) cs)
   many_put many = omega (arith, many, len-with_ends-le (with_ends set.empty (links_put cs)) (rows_untouched rows cs), counted)
 
-  -- The case in which the ends of both were added.
+  -- The set `first` has the routers at the ends of the links that are put. The routers at the ends
+  -- of the unchanged links are added to it. If the test `b` says whether the resulting set has at
+  -- most 1,024 routers, it also says this of the database after the changes.
   pub tells_both : (b : Bool) (first second : set.FinSet nat_cmp)
       → first ≡ with_ends set.empty (links_put cs)
       → OnTrue b (second ≡ with_ends first (rows_untouched rows cs)) → OnTrue b (set.len second ≤ 1024)

@@ -1,4 +1,5 @@
--- What a search of the rows for a key says of the database.
+-- What a search for a key in a list of links, called rows, says of the database that is made from
+-- them.
 use Rattle.std.proofs.Common.{◌≡◌, ◌≢◌, ℕ, suc, ◌<◌, ◌↔◌, Bool, true, false, cond, Some, None, IsTrue, IsSome, IfSome, IfNone, is_some, not, List, [], ◌∷◌, All, length, map, slice_index_or, refl, sym, ap, subst, ◌∙◌, arith, zero, Option}
 use Rattle.std.specs.Ordering.{eq_by_cmp}
 use Rattle.std.specs.List.{IsDistinct, HoldsAt}
@@ -9,7 +10,8 @@ use Rattle.cspf_model.specs.Lemmas.LinkRows.{entry_of, database_of}
 use Rattle.cspf_model.proofs.Databases.Keys.{keys_apart_from, key_itself}
 use Rattle.cspf_model.proofs.Databases.LinksOfRows.{link_at-database_of, find-row}
 
--- The row with a key is the link that the database has at this key.
+-- If the links in `rows` have different keys, the database that is made from them has each of these
+-- links at the link's own key.
 pub link_at-row : (rows : List Link) → IsDistinct (eq_by_cmp key_cmp) (map key_of rows)
     → (k : Key) (at : ℕ) (d : Link) → at < length rows → key_of (slice_index_or rows at d) ≡ k
     → link_at (database_of rows) k ≡ Some (slice_index_or rows at d)
@@ -17,7 +19,7 @@ link_at-row rows apart k at d h e =
     link_at-database_of rows k ∙ ap (λ q. find key_cmp q (map entry_of rows)) (sym e)
     ∙ find-row rows apart at d h
 
--- A key that no row has isn't found.
+-- If no link in `rows` has the key `k`, a search of `rows` for `k` finds nothing.
 pub find-no_row : (rows : List Link) (k : Key) → All (λ l. key_of l ≢ k) rows
     → find key_cmp k (map entry_of rows) ≡ None
 find-no_row [] k none = refl
@@ -26,12 +28,13 @@ find-no_row (l ∷ rows) k none =
     (keys_apart_from k (key_of l) (λ e. none 0 l (omega arith) (sym e)))
     ∙ find-no_row rows k (λ at d h. none (suc at) d (omega arith))
 
--- If no row has a key, the database has no link at it.
+-- If no link in `rows` has the key `k`, the database that is made from `rows` has no link at `k`.
 pub link_at-no_row : (rows : List Link) (k : Key) → All (λ l. key_of l ≢ k) rows
     → link_at (database_of rows) k ≡ None
 link_at-no_row rows k none = link_at-database_of rows k ∙ find-no_row rows k none
 
--- A test of the rows for a router decides whether the database has the router.
+-- If `rows` are the links of a database, the test whether one of them begins or ends at a router
+-- says whether the database has this router.
 pub tells : (d : Database) (rows : List Link) (router : ℕ) (b : Bool) → AreLinksOf d rows
     → (b ≡ true → (at : ℕ) × (at < length rows) × HoldsAt (EndsAt router) rows at)
     → (b ≡ false → All (λ l. ¬ EndsAt router l) rows) → IsTrue b ↔ IsRouterOf d router
@@ -42,7 +45,7 @@ tells d (m ∷ rows) router true listed hit miss =
 tells d rows router false listed hit miss =
     ((λ e. absurd (cc)), λ (l, is, ends). let at = listed.whole l is in absurd (miss refl at.0 l at.1 (subst (EndsAt router) (sym at.2) ends)))
 
--- If some row has a key, the database has a link at it.
+-- If some link in `rows` has the key `k`, a search of `rows` for `k` finds a link.
 some_there : (rows : List Link) (k : Key) (at : ℕ) → at < length rows
     → HoldsAt (λ l. key_of l ≡ k) rows at → IsSome (find key_cmp k (map entry_of rows))
 some_there [] k at h has = absurd (omega arith)
@@ -52,7 +55,8 @@ some_there (l ∷ rows) k zero h has =
 some_there (l ∷ rows) k (suc at) h has =
     elim (eq_by_cmp key_cmp k (key_of l)) as (λ b. IsSome (cond b (Some l) (find key_cmp k (map entry_of rows)))) [ true ↦ refl | false ↦ some_there rows k at (omega arith) has ]
 
--- A search of the rows for a removal's key decides whether the removal removes nothing.
+-- If a search of `rows` for the key of a removal finds no link, the database lacks the link that is
+-- to be removed. If the search finds a link, the database has a link with this key.
 pub tells_removal : (rows : List Link) (k : Key) (place : Option ℕ) (b : Bool)
     → is_some place ≡ not b → IfSome place (λ at. at < length rows)
     → IfSome place (HoldsAt (λ l. key_of l ≡ k) rows) → IfNone place (All (λ l. key_of l ≢ k) rows)
@@ -62,7 +66,8 @@ tells_removal rows k None b e bound some none =
 tells_removal rows k (Some at) b e bound some none =
     ((λ on. absurd (cc)), λ _. subst IsSome (sym (link_at-database_of rows k)) (some_there rows k at bound some))
 
--- A search of the rows for a put's key decides whether the put adds a link.
+-- The database gets an additional link from a `Put` change exactly if a search of `rows` for the
+-- link's key finds nothing.
 pub tells_addition : (rows : List Link) (k : Key) (place : Option ℕ) (b : Bool)
     → is_some place ≡ not b → IfSome place (λ at. at < length rows)
     → IfSome place (HoldsAt (λ l. key_of l ≡ k) rows) → IfNone place (All (λ l. key_of l ≢ k) rows)

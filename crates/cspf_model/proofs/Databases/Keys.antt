@@ -1,4 +1,4 @@
--- The keys of links and of changes: their order, and which keys tie.
+-- The keys of links and of changes: their order, and which keys compare as equal.
 use Rattle.std.proofs.Common.{◌≡◌, ◌≢◌, ℕ, true, false, Option, Some, None, refl, ap}
 use Rattle.std.specs.Ordering.{nat_cmp, eq_by_cmp, is_eq, ordering_then}
 use Rattle.std.specs.declared.cmp.Ordering.{Ordering}
@@ -18,15 +18,15 @@ keys_total =
     then_total (on_total (λ (k : Key). k.0) nat_cmp_total)
     (on_total (λ (k : Key). k.1) nat_cmp_total)
 
--- A key ties with itself.
+-- A key compares as equal to itself.
 pub key_itself : (k : Key) → eq_by_cmp key_cmp k k ≡ true
 key_itself k = (eq_by_cmp_equiv keys_total).refl k
 
--- If one key doesn't tie with another, the other doesn't tie with it.
+-- If one key doesn't compare as equal to another, the other doesn't compare as equal to it.
 pub keys_apart : (j k : Key) → eq_by_cmp key_cmp j k ≡ false → eq_by_cmp key_cmp k j ≡ false
 keys_apart j k e = rw ((eq_by_cmp_equiv keys_total).symm k j) e
 
--- Only equal keys tie.
+-- Two keys compare as equal only if they are equal.
 pub keys_antisymmetric : IsAntisymmetric key_cmp
 keys_antisymmetric j k e =
     elim (nat_cmp j.0 k.0) as (λ r. nat_cmp j.0 k.0 ≡ r → ordering_then r (nat_cmp j.1 k.1) ≡ Equal → j ≡ k) [
@@ -35,11 +35,11 @@ keys_antisymmetric j k e =
       | Greater ↦ λ _ off. absurd (cc)
     ] refl e
 
--- Keys that tie are equal.
+-- Keys that compare as equal are equal.
 pub keys_same : (j k : Key) → eq_by_cmp key_cmp j k ≡ true → j ≡ k
 keys_same j k e = keys_antisymmetric j k ((Equal-is (key_cmp j k)).0 e)
 
--- Different keys don't tie.
+-- Different keys don't compare as equal.
 pub keys_apart_from : (j k : Key) → j ≢ k → eq_by_cmp key_cmp j k ≡ false
 keys_apart_from j k apart =
     elim (eq_by_cmp key_cmp j k) as (λ b. eq_by_cmp key_cmp j k ≡ b → b ≡ false) [ true ↦ λ tie. absurd (apart (keys_same j k tie)) | false ↦ λ _. refl ] refl
@@ -50,23 +50,25 @@ change_keys_total =
     then_total (on_total (λ (k : ChangeKey). k.0) nat_cmp_total)
     (on_total (λ (k : ChangeKey). k.1) (options_total nat_cmp_total))
 
--- The key of a change ties with itself.
+-- The key of a change compares as equal to itself.
 pub change_key_itself : (k : ChangeKey) → eq_by_cmp change_key_cmp k k ≡ true
 change_key_itself k = (eq_by_cmp_equiv change_keys_total).refl k
 
--- If one key of changes doesn't tie with another, the other doesn't tie with it.
+-- If one key of changes doesn't compare as equal to another, the other doesn't compare as equal to
+-- it.
 pub change_keys_apart : (j k : ChangeKey) → eq_by_cmp change_key_cmp j k ≡ false
     → eq_by_cmp change_key_cmp k j ≡ false
 change_keys_apart j k e = rw ((eq_by_cmp_equiv change_keys_total).symm k j) e
 
--- Only equal interfaces tie, and a missing interface ties only with a missing one.
+-- Two interfaces compare as equal only if they are equal. A missing interface compares as equal
+-- only to a missing one.
 options_antisymmetric : (o p : Option ℕ) → option_cmp nat_cmp o p ≡ Equal → o ≡ p
 options_antisymmetric None None e = refl
 options_antisymmetric None (Some n) e = absurd (cc)
 options_antisymmetric (Some m) None e = absurd (cc)
 options_antisymmetric (Some m) (Some n) e = λ i. Some (nat_cmp-IsAntisymmetric m n e i)
 
--- Only equal keys of changes tie.
+-- Two keys of changes compare as equal only if they are equal.
 change_keys_antisymmetric : IsAntisymmetric change_key_cmp
 change_keys_antisymmetric j k e =
     elim (nat_cmp j.0 k.0) as (λ r. nat_cmp j.0 k.0 ≡ r → ordering_then r (option_cmp nat_cmp j.1 k.1) ≡ Equal → j ≡ k) [
@@ -75,18 +77,20 @@ change_keys_antisymmetric j k e =
       | Greater ↦ λ _ off. absurd (cc)
     ] refl e
 
--- Keys of changes that tie are equal.
+-- Keys of changes that compare as equal are equal.
 pub change_keys_same : (j k : ChangeKey) → eq_by_cmp change_key_cmp j k ≡ true → j ≡ k
 change_keys_same j k e =
     change_keys_antisymmetric j k ((Equal-is (change_key_cmp j k)).0 e)
 
--- If the second of two orders doesn't tie, both together don't tie.
+-- If the second of two comparisons doesn't give `Equal`, the comparison by the first and then by
+-- the second doesn't give `Equal`.
 untied_behind : (o p : Ordering) → is_eq p ≡ false → is_eq (ordering_then o p) ≡ false
 untied_behind Less p e = refl
 untied_behind Equal p e = e
 untied_behind Greater p e = refl
 
--- The key of a change to a link doesn't tie with that of a change of transit.
+-- The key of a change to a link doesn't compare as equal to the key of a change of a router's
+-- transit.
 pub link_apart : (k : Key) (router : ℕ)
     → eq_by_cmp change_key_cmp (link_key k) (mark_key router) ≡ false
 link_apart k router = untied_behind (nat_cmp k.0 router) Greater refl
@@ -95,7 +99,7 @@ pub mark_apart : (router : ℕ) (k : Key)
     → eq_by_cmp change_key_cmp (mark_key router) (link_key k) ≡ false
 mark_apart router k = untied_behind (nat_cmp router k.0) Less refl
 
--- Two links whose changes have the same key have the same key.
+-- If the changes to two links have the same key, the two links have the same key.
 pub link_keys_same : (j k : Key) → link_key j ≡ link_key k → j ≡ k
 link_keys_same j k e =
     let from : j.0 ≡ k.0 = ap (λ (q : ChangeKey). q.0) e in
@@ -103,7 +107,7 @@ link_keys_same j k e =
     let local : j.1 ≡ k.1 = cc in
     λ i. (from i, local i)
 
--- The key of a change to a link isn't that of a change of transit.
+-- The key of a change to a link isn't equal to the key of a change of a router's transit.
 pub link_not_mark : (k : Key) (router : ℕ) → link_key k ≡ mark_key router → ⊥
 link_not_mark k router e = some_none (ap (λ (q : ChangeKey). q.1) e)
   where

@@ -1,4 +1,4 @@
--- Rows with different keys, and the links of the database that the rows make.
+-- The links of a database that is made from a list of links, called rows, whose keys are different.
 use Rattle.std.proofs.Common.{◌≡◌, ℕ, zero, suc, ◌+◌, ◌<◌, true, false, cond, Some, List, [], ◌∷◌, length, map, slice_index_or, refl, sym, ap, ◌∙◌, add-one, arith}
 use Rattle.std.specs.Ordering.{eq_by_cmp}
 use Rattle.std.specs.List.{IsDistinct, AllByRecursion, Contains}
@@ -8,19 +8,21 @@ use Rattle.cspf_model.specs.Database.{Key, key_of, key_cmp, AreLinksOf, AreAtThe
 use Rattle.cspf_model.specs.Lemmas.LinkRows.{entry_of, database_of}
 use Rattle.cspf_model.proofs.Databases.Keys.{keys_total, key_itself, keys_apart, keys_same}
 
--- The link that the database of rows has at a key.
+-- The database that is made from `rows` has at a key the link that a search of `rows` for this key
+-- finds.
 pub link_at-database_of : (rows : List Link) (k : Key)
     → link_at (database_of rows) k ≡ find key_cmp k (map entry_of rows)
 link_at-database_of rows k = get-from_entries keys_total (map entry_of rows) k
 
--- What holds of all keys holds of the key at an index.
+-- If `P` holds of the keys of all links in `rows`, it holds of the key of the link at each index.
 at_map : (P : Key → Type 0) (rows : List Link) → AllByRecursion P (map key_of rows)
     → (k : ℕ) (d : Link) → k < length rows → P (key_of (slice_index_or rows k d))
 at_map P [] all k d h = absurd (omega arith)
 at_map P (l ∷ rows) all zero d h = all.0
 at_map P (l ∷ rows) all (suc k) d h = at_map P rows all.1 k d (omega arith)
 
--- A search for the key of a row finds that row.
+-- If the links in `rows` have different keys, a search of `rows` for the key of one of them finds
+-- this link.
 pub find-row : (rows : List Link) → IsDistinct (eq_by_cmp key_cmp) (map key_of rows)
     → (k : ℕ) (d : Link) → k < length rows
     → find key_cmp (key_of (slice_index_or rows k d)) (map entry_of rows) ≡ Some (slice_index_or rows k d)
@@ -33,7 +35,7 @@ find-row (l ∷ rows) apart (suc k) d h =
     (keys_apart (key_of l) (key_of (slice_index_or rows k d)) (at_map (λ y. eq_by_cmp key_cmp (key_of l) y ≡ false) rows apart.0 k d (omega arith)))
     ∙ find-row rows apart.1 k d (omega arith)
 
--- A link that is found at a key is one of the rows.
+-- If a search of `rows` for a key finds a link, `rows` contains this link.
 pub row-find : (rows : List Link) (q : Key) (l : Link) → find key_cmp q (map entry_of rows) ≡ Some l
     → Contains rows l
 row-find [] q l e = cc
@@ -43,7 +45,8 @@ row-find (m ∷ rows) q l e =
       | false ↦ λ there. let r = row-find rows q l there in (r.0 + 1, omega arith, rw add-one r.2)
     ] e
 
--- Rows with different keys are exactly the links of the database that they make.
+-- If the links in `rows` have different keys, they are exactly the links of the database that is
+-- made from them.
 pub rows_listed : (rows : List Link) → IsDistinct (eq_by_cmp key_cmp) (map key_of rows)
     → AreLinksOf (database_of rows) rows
 rows_listed rows apart = record {
@@ -51,7 +54,7 @@ rows_listed rows apart = record {
   whole = λ l is. row-find rows (key_of l) l (sym (link_at-database_of rows (key_of l)) ∙ is);
 }
 
--- A link that is found at a key has that key.
+-- If a search of `rows` for the key `k` finds a link, the link's key is `k`.
 key_of-find : (rows : List Link) (k : Key) (l : Link) → find key_cmp k (map entry_of rows) ≡ Some l
     → key_of l ≡ k
 key_of-find [] k l e = cc
@@ -62,6 +65,6 @@ key_of-find (m ∷ rows) k l e =
       | false ↦ λ _ there. key_of-find rows k l there
     ] refl e
 
--- Rows make a database with each link at its own key.
+-- The database that is made from `rows` has each link at the link's own key.
 pub rows_keyed : (rows : List Link) → AreAtTheirKeys (database_of rows)
 rows_keyed rows k l is = key_of-find rows k l (sym (link_at-database_of rows k) ∙ is)

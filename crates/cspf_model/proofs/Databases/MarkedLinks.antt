@@ -1,4 +1,4 @@
--- The links and the marks of a database after changes.
+-- The links of a database after changes, and the routers that are then marked as without transit.
 use Rattle.std.proofs.Common.{◌≡◌, ℕ, List, [], ◌∷◌, refl, sym, ap, ◌∙◌}
 use Rattle.std.specs.Ordering.{nat_cmp}
 use Rattle.std.specs.FinMap as finite
@@ -13,31 +13,37 @@ use Rattle.cspf_model.specs.Lemmas.LinkChanges.{relinked, all_relinked}
 use Rattle.cspf_model.specs.Lemmas.MarkChanges.{marked, all_marked}
 use Rattle.cspf_model.specs.Lemmas.LinkRows.{database_of, marks_in, marked_database}
 
--- Databases with the same links have the same links after a change.
+-- If two databases have the same links, `after_change` on the one and `relinked` on the other give
+-- the same links.
 one_relinked : (d e : Database) (c : Change) → d.links ≡ e.links → (after_change d c).links ≡ (relinked e c).links
 one_relinked d e (Put l) same = ap (λ (m : FinMap key_cmp Link). insert m (key_of l) l) same
 one_relinked d e (Remove from local) same = ap (λ (m : FinMap key_cmp Link). remove m (from, local)) same
 one_relinked d e (Node router transit) same = same
 
--- Databases with the same links have the same links after a list of changes.
+-- If two databases have the same links, `after_changes` on the one and `all_relinked` on the other
+-- give the same links.
 pub links-after_changes : (d e : Database) (cs : List Change) → d.links ≡ e.links → (after_changes d cs).links ≡ (all_relinked e cs).links
 links-after_changes d e [] same = same
 links-after_changes d e (c ∷ cs) same = links-after_changes (after_change d c) (relinked e c) cs (one_relinked d e c same)
 
--- The marks after a change.
+-- After a change, the routers that are marked as without transit are those that `marked` computes
+-- from the change and the routers that were marked before.
 one_marked : (d : Database) (c : Change) → (after_change d c).marks ≡ marked d.marks c
 one_marked d (Put l) = refl
 one_marked d (Remove from local) = refl
 one_marked d (Node router transit) = refl
 
--- The marks after a list of changes.
+-- After changes, the routers that are marked as without transit are those that `all_marked`
+-- computes from the changes and the routers that were marked before.
 pub marks-after_changes : (d : Database) (cs : List Change) → (after_changes d cs).marks ≡ all_marked d.marks cs
 marks-after_changes d [] = refl
 marks-after_changes d (c ∷ cs) = marks-after_changes (after_change d c) cs ∙ ap (λ m. all_marked m cs) (one_marked d c)
 
--- How many links, routers and marks the database of rows and marks has after changes.
+-- In this part, changes act on the database with the links in `rows`, in which the routers in
+-- `marks` are marked as without transit.
 module _ (rows : List Link) (marks : List ℕ) (cs : List Change) where
-  -- The links are those of the rows after the changes.
+  -- After the changes, this database has the same links that `all_relinked` gives for the database
+  -- with the links in `rows` in which no router is marked as without transit.
   pub links_changed : (after_changes (marked_database rows marks) cs).links ≡ (all_relinked (database_of rows) cs).links
   links_changed = links-after_changes (marked_database rows marks) (database_of rows) cs refl
 
@@ -50,7 +56,9 @@ module _ (rows : List Link) (marks : List ℕ) (cs : List Change) where
   pub marks_counted : set.len (all_marked (marks_in marks) cs) ≡ mark_count (after_changes (marked_database rows marks) cs)
   marks_counted = ap set.len (sym (marks-after_changes (marked_database rows marks) cs))
 
--- The rows and the marks after the changes make the database after the changes.
+-- Suppose that the links `new` make a database with the links that the database has after the
+-- changes. Suppose also that `more` lists the routers that are then marked as without transit. Then
+-- `new` and `more` together make the database after the changes.
 pub marked_after : (rows new : List Link) (marks more : List ℕ) (cs : List Change) → database_of new ≡ all_relinked (database_of rows) cs → marks_in more ≡ all_marked (marks_in marks) cs
     → marked_database new more ≡ after_changes (marked_database rows marks) cs
 marked_after rows new marks more cs made set_to =

@@ -7,7 +7,8 @@ use Rattle.cspf_model.specs.Admissible.{IsAdmissible}
 use Rattle.cspf_model.specs.Walks.{AreJoined, end_of}
 use Rattle.cspf_model.specs.NetworkLaws.{MayComeNext, WalksGrowByOneLink}
 
--- What holds of each item of a list and of one more item.
+-- If `P` holds of each item of a list and of one more item, it holds of each item of the list with
+-- this item appended.
 module _ {A : Type 0} (P : A → Type 0) where
   all_more : (xs : List A) (x : A) → AllByRecursion P xs → P x → AllByRecursion P (xs ++ x ∷ [])
   all_more [] x all holds = (holds, tt)
@@ -17,7 +18,7 @@ module _ {A : Type 0} (P : A → Type 0) where
   last_one [] x all = all.0
   last_one (y ∷ ys) x all = last_one ys x all.1
 
--- Joined links that are continued by a link from their end are joined.
+-- If links are joined, and one more link begins where they end, all of them are joined.
 joined_more : (router : ℕ) (links : List Link) (l : Link) → AreJoined router links → l.from ≡ end_of router links → AreJoined router (links ++ l ∷ [])
 joined_more router [] l joined from = (from, tt)
 joined_more router (m ∷ links) l joined from = (joined.0, joined_more m.to links l joined.1 from)
@@ -26,7 +27,8 @@ last_joined : (router : ℕ) (links : List Link) (l : Link) → AreJoined router
 last_joined router [] l joined = joined.0
 last_joined router (m ∷ links) l joined = last_joined m.to links l joined.1
 
--- What holds of the routers at which the links after the first begin.
+-- In this part, `P` is a property of routers. The lemmas apply it to the routers at which all links
+-- but the first begin.
 module _ (P : ℕ → Type 0) where
   starts_more : (links : List Link) (l : Link) → AllByRecursion P (map (λ m. m.from) links) → P l.from → AllByRecursion P (map (λ m. m.from) (links ++ l ∷ []))
   starts_more [] l all holds = (holds, tt)
@@ -36,7 +38,8 @@ module _ (P : ℕ → Type 0) where
   last_start [] l all = all.0
   last_start (m ∷ links) l all = last_start links l all.1
 
--- A walk may be continued from its last router if that router has transit or the walk is empty.
+-- If a link is appended to a walk, the result is a walk exactly if `MayComeNext` holds of the walk
+-- and the link.
 pub walks_grow : WalksGrowByOneLink
 walks_grow d q [] l is = (
   λ more. record { admissible = more.links.0; joined = more.joined.0; leaves = inr refl },

@@ -1,4 +1,5 @@
--- Which links are walks of the triangle, depending on its marks.
+-- Which lists of links are walks in the triangle, depending on the routers that are marked as
+-- without transit.
 use Rattle.std.proofs.Common.{◌≡◌, ◌≢◌, ℕ, ◌<◌, false, List, [], ◌∷◌, refl, sym, ap, ◌∙◌, lit<, ◌||◌, ◌&&◌, not}
 use mathlib.Core.Bool.{true≢false}
 use Rattle.std.proofs.lemmas.Bool.{eqb-false}
@@ -16,29 +17,30 @@ use Rattle.cspf_model.proofs.Routes.FieldRecords.{requests_said}
 use Rattle.cspf_model.proofs.Routes.ExampleRoutes.{made, for_each, admitted}
 use Rattle.cspf_model.proofs.Networks.NetworkLinks.{link_at-network, marks-network}
 
--- There is a request from 1.1.1.1 to 3.3.3.3.
+-- There is a request from 1.1.1.1 to 3.3.3.3 without hops.
 pub may_be_asked : MayBeAsked
 may_be_asked =
     let q : Request = made (asked_fields (router 3) []) (lit< tt) (eqb-false (router 1) (router 3) refl) in
     (q, (requests_said q (asked_fields (router 3) [])).1 refl)
 
--- A router that isn't among the marks has transit.
+-- A router that isn't marked as without transit has transit.
 has_transit : (marks : List ℕ) (r : ℕ) → set.contains (network triangle marks).marks r ≡ false → HasTransit (network triangle marks) r
 has_transit marks r off on = true≢false (sym on ∙ off)
 
 module _ (marks : List ℕ) (priority : 0 < 8) (two_ends : router 1 ≢ router 3) where
-  -- The triangle with these marks, and the request.
+  -- The database of the triangle in which the routers in `marks` are marked as without transit. `q`
+  -- below is the request from 1.1.1.1 to 3.3.3.3.
   abbrev d : Database
   d = network triangle marks
 
   abbrev q : Request
   q = made (asked_fields (router 3) []) priority two_ends
 
-  -- A link is admissible if the database also has its reverse.
+  -- A link is admissible if the request admits it, and the database has the link and its reverse.
   way : (l r : Link) → IsAdmitted q l → IsLinkOf d l → IsLinkOf d r → IsReverse l r → IsAdmissible d q l
   way l r admits here back same = record { link = here; usable = record { admitted = admits; reverse = (r, back, same) } }
 
-  -- The admissible links of the triangle.
+  -- The next four lemmas: four links of the triangle are admissible for the request `q`.
   way_1_to_2 : IsAdmissible d q from_1_to_2
   way_1_to_2 = way from_1_to_2 from_2_to_1 (admitted (router 3) [] priority two_ends _ _ _ _ _ _)
       (link_at-network triangle marks (router 1, from_1_to_2.local)) (link_at-network triangle marks (router 2, from_2_to_1.local)) (record { from = refl; local = refl; to = refl; remote = refl })
@@ -55,7 +57,8 @@ module _ (marks : List ℕ) (priority : 0 < 8) (two_ends : router 1 ≢ router 3
   way_1_to_3 = way from_1_to_3 (back from_1_to_3) (admitted (router 3) [] priority two_ends _ _ _ _ _ _)
       (link_at-network triangle marks (router 1, from_1_to_3.local)) (link_at-network triangle marks (router 3, from_1_to_3.remote)) (record { from = refl; local = refl; to = refl; remote = refl })
 
-  -- The walks, if the routers that they pass through have transit.
+  -- The next three lemmas: three lists of links are walks of the request `q` if the routers that
+  -- they pass through have transit.
   by_2 : HasTransit d (router 2) → IsWalk d q way_by_2
   by_2 passed = record {
     links = (way_1_to_2, (way_2_to_3, tt));
@@ -77,12 +80,15 @@ module _ (marks : List ℕ) (priority : 0 < 8) (two_ends : router 1 ≢ router 3
     transit = (passed, (again, tt));
   }
 
--- Links are a walk with these marks if they are a walk for each request that is made.
+-- The routers in `marks` are marked as without transit, and the requests are those from 1.1.1.1 to
+-- 3.3.3.3 without hops. If the links are a walk for each request that `made` builds, they are a
+-- walk for each request.
 walks : (marks : List ℕ) (walk : List Link) → ((priority : 0 < 8) (two_ends : router 1 ≢ router 3) → IsWalk (network triangle marks) (made (asked_fields (router 3) []) priority two_ends) walk)
     → IsWalkWithMarks marks walk
 walks marks walk each q says = for_each (asked_fields (router 3) []) (λ q. IsWalk (network triangle marks) q walk) each q says
 
--- Without marks the links are a walk, and also with marks at both ends.
+-- In each of the next five lemmas the links are a walk, because no router that they pass through is
+-- marked as without transit. A marked router may be the first or the last router of a walk.
 pub unmarked : IsWalkWithMarks [] way_by_2
 unmarked = walks [] way_by_2 (λ p e. by_2 [] p e (has_transit [] (router 2) (marks-network triangle [] (router 2))))
 
@@ -99,19 +105,21 @@ pub again_unmarked : IsWalkWithMarks [] way_by_1_again
 again_unmarked =
     walks [] way_by_1_again (λ p e. by_1_again [] p e (has_transit [] (router 2) (marks-network triangle [] (router 2))) (has_transit [] (router 1) (marks-network triangle [] (router 1))))
 
--- A walk doesn't pass through the marked router in its middle.
+-- If 2.2.2.2 is marked as without transit, the links from 1.1.1.1 over 2.2.2.2 to 3.3.3.3 aren't a
+-- walk.
 pub middle : IsNoWalkWithMarks (router 2 ∷ []) way_by_2
 middle q says walk = walk.transit.0 (marks-network triangle (router 2 ∷ []) (router 2))
 
--- A walk doesn't pass through its marked head-end.
+-- If 1.1.1.1 is marked as without transit, the links that lead back to 1.1.1.1 and leave it again
+-- aren't a walk.
 pub again : IsNoWalkWithMarks (router 1 ∷ []) way_by_1_again
 again q says walk = walk.transit.1.0 (marks-network triangle (router 1 ∷ []) (router 1))
 
--- A change marks a router.
+-- After a change that takes a router's transit away, the router is marked as without transit.
 pub marked : IsMarkedByChange
 marked d r = set.contains-insert nat_cmp_total d.marks r r ∙ ap (λ o. is_eq o || set.contains d.marks r) (tied_itself nat_cmp_total r)
 
--- A change takes a router's mark away.
+-- After a change that gives a router transit, the router isn't marked as without transit.
 pub mark_taken : IsUnmarkedByChange
 mark_taken d r on =
     true≢false (sym on ∙ set.contains-remove nat_cmp_total d.marks r r ∙ ap (λ o. not (is_eq o) && set.contains d.marks r) (tied_itself nat_cmp_total r))

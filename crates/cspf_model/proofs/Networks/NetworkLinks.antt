@@ -1,4 +1,5 @@
--- The links and the marks of the database that one batch of puts and marks makes.
+-- The links of a database that one batch makes, and its routers without transit. The batch first
+-- puts links and then marks routers as without transit.
 use Rattle.std.proofs.Common.{◌≡◌, ℕ, true, false, cond, Some, None, List, [], ◌∷◌, ◌++◌, map, refl, sym, ap, subst, ◌∙◌}
 use Rattle.std.specs.Ordering.{eq_by_cmp}
 use Rattle.std.specs.List.{AllByRecursion}
@@ -12,7 +13,7 @@ use Rattle.cspf_model.specs.NetworkLaws.{network_batch, network}
 use Rattle.cspf_model.proofs.Databases.Keys.{keys_total}
 use Rattle.cspf_model.proofs.Databases.LastChanges.{last_decides}
 
--- Marks change no links.
+-- Changes that only mark routers as without transit don't change the links of the database.
 marks_over : (d : Database) (marks : List ℕ) → (after_changes d (map (λ r. Node r false) marks ++ [])).links ≡ d.links
 marks_over d [] = refl
 marks_over d (r ∷ marks) = marks_over (after_change d (Node r false)) marks
@@ -23,19 +24,22 @@ links_alone : (d : Database) (links : List Link) (marks : List ℕ)
 links_alone d [] marks = marks_over d marks
 links_alone d (l ∷ links) marks = links_alone (after_change d (Put l)) links marks
 
--- The link at a key, which doesn't depend on the marks.
+-- The network has at a key the link that the last `Put` change with this key puts, if any, whatever
+-- routers are marked as without transit.
 pub link_at-network : (links : List Link) (marks : List ℕ) (k : Key)
     → link_at (network links marks) k ≡ link_after (last_on (link_key k) ((network_batch links []).changes ++ [])) None
 link_at-network links marks k =
     ap (λ (m : finite.FinMap key_cmp Link). finite.get m k) (links_alone no_links links marks)
     ∙ (last_decides (network_batch links [] ∷ [])).at k
 
--- Whether a router is marked.
+-- A router of the network is marked as without transit exactly if the last change of its transit in
+-- the network's batch takes the transit away.
 pub marks-network : (links : List Link) (marks : List ℕ) (router : ℕ)
     → set.contains (network links marks).marks router ≡ mark_after (last_on (mark_key router) ((network_batch links marks).changes ++ [])) false
 marks-network links marks router = (last_decides (network_batch links marks ∷ [])).marked router
 
--- A put keeps what holds of all links, if it holds of the link that is put.
+-- In this part, `P` is a property of links. Suppose that `P` holds of each link of a database and
+-- of the link that a change puts. Then `P` holds of each link of the database after the change.
 module _ (P : Link → Type 0) where
   put_one : (d : Database) (m : Link) → P m → ((l : Link) → IsLinkOf d l → P l)
       → (l : Link) → IsLinkOf (after_change d (Put m)) l → P l
@@ -56,7 +60,7 @@ module _ (P : Link → Type 0) where
   puts d [] marks all before l is = marks_alone d marks before l is
   puts d (m ∷ links) marks all before l is = puts (after_change d (Put m)) links marks all.1 (put_one d m all.0 before) l is
 
-  -- What holds of each link of the list holds of each link of the network.
+  -- If `P` holds of each link of the list, it holds of each link of the network.
   pub each_link : (links : List Link) (marks : List ℕ) → AllByRecursion P links
       → (l : Link) → IsLinkOf (network links marks) l → P l
   each_link links marks all l is = puts no_links links marks all none l is

@@ -9,11 +9,12 @@ use Rattle.cspf_model.specs.NetworkLaws.{network_batch, network, back_to_other_a
 use Rattle.cspf_model.proofs.Routes.ExampleRoutes.{made, admitted}
 use Rattle.cspf_model.proofs.Networks.NetworkLinks.{link_at-network}
 
--- The key that a reverse of the link has.
+-- The key that a reverse of the link from 1.1.1.1 to 2.2.2.2 has.
 abbrev reverse_key : Key
 reverse_key = (router 2, address 10 0 12 2)
 
--- A reverse of the link is what the database has at that key.
+-- If a link of the network is a reverse of the link from 1.1.1.1 to 2.2.2.2, it is the network's
+-- link with the key `reverse_key`.
 found : (links : List Link) (r : Link) → IsLinkOf (network links []) r → IsReverse from_1_to_2 r
     → link_after (last_on (link_key reverse_key) ((network_batch links []).changes ++ [])) None ≡ Some r
 found links r is same =
@@ -26,7 +27,8 @@ none_some l e = cc
 same_Some : (l m : Link) → Some l ≡ Some m → l ≡ m
 same_Some l m e = cc
 
--- If there is no link at that key, the link from 1.1.1.1 to 2.2.2.2 isn't usable.
+-- The next three lemmas: if the network has no link with the key `reverse_key`, the link from
+-- 1.1.1.1 to 2.2.2.2 isn't usable for any request.
 pub one_way : IsUnusableAmong (from_1_to_2 ∷ [])
 one_way q usable =
     let r = usable.reverse in none_some r.0 (found (from_1_to_2 ∷ []) r.0 r.1 r.2)
@@ -39,8 +41,9 @@ pub other_from : IsUnusableAmong (from_1_to_2 ∷ back_from_other_router ∷ [])
 other_from q usable =
     let r = usable.reverse in none_some r.0 (found (from_1_to_2 ∷ back_from_other_router ∷ []) r.0 r.1 r.2)
 
--- If the link at that key ends at another address or router, the link from 1.1.1.1 to 2.2.2.2 isn't
--- usable either.
+-- The next two lemmas: suppose that the link with the key `reverse_key` ends at another address, or
+-- at another router, than the link from 1.1.1.1 to 2.2.2.2 begins. Then the link from 1.1.1.1 to
+-- 2.2.2.2 isn't usable for any request.
 pub other_remote : IsUnusableAmong (from_1_to_2 ∷ back_to_other_address ∷ [])
 other_remote q usable =
     let r = usable.reverse in
@@ -53,7 +56,8 @@ other_to q usable =
     let same = same_Some back_to_other_router r.0 (found (from_1_to_2 ∷ back_to_other_router ∷ []) r.0 r.1 r.2) in
     eqb-false (router 3) (router 1) refl (ap (λ (l : Link). l.to) same ∙ r.2.to)
 
--- With its reverse, the link from 1.1.1.1 to 2.2.2.2 is usable.
+-- If the network also has the reverse of the link from 1.1.1.1 to 2.2.2.2, the link from 1.1.1.1 to
+-- 2.2.2.2 is usable for each request that admits it.
 pub with_reverse : IsUsableAmong (from_1_to_2 ∷ back from_1_to_2 ∷ [])
 with_reverse q is = record {
   admitted = is;
@@ -64,7 +68,7 @@ with_reverse q is = record {
   );
 }
 
--- A request that admits the link from 1.1.1.1 to 2.2.2.2.
+-- Some request admits the link from 1.1.1.1 to 2.2.2.2.
 pub may_be_admitted : MayBeAdmitted from_1_to_2
 may_be_admitted =
     let two_ends = eqb-false (router 1) (router 3) refl in

@@ -15,14 +15,15 @@ use Rattle.cspf_model.proofs.Networks.NetworkLinks.{link_at-network, each_link}
 no_router : (links : List Link) (marks : List ℕ) (r : ℕ) → AllByRecursion (λ l. ¬ EndsAt r l) links → ¬ IsRouterOf (network links marks) r
 no_router links marks r none known = each_link (λ l. ¬ EndsAt r l) links marks none known.0 known.1 known.2
 
--- One link makes the routers at both of its ends routers of the network.
+-- The network whose only link leads from 1.1.1.1 to 2.2.2.2 has both of these routers.
 pub is_router_1 : IsRouterOf (network (from_1_to_2 ∷ []) []) (router 1)
 is_router_1 = (from_1_to_2, link_at-network (from_1_to_2 ∷ []) [] (router 1, from_1_to_2.local), inl refl)
 
 pub is_router_2 : IsRouterOf (network (from_1_to_2 ∷ []) []) (router 2)
 is_router_2 = (from_1_to_2, link_at-network (from_1_to_2 ∷ []) [] (router 1, from_1_to_2.local), inr refl)
 
--- A mark alone makes no router.
+-- A router that is marked as without transit, and at which no link begins or ends, isn't a router
+-- of the network.
 pub no_router_3 : ¬ IsRouterOf (network (from_1_to_2 ∷ []) (router 3 ∷ [])) (router 3)
 no_router_3 =
     no_router (from_1_to_2 ∷ []) (router 3 ∷ []) (router 3)
@@ -49,12 +50,14 @@ unknown_9 =
       ((λ ends. elim ends [ inl e ↦ eqb-false (router 2) (router 9) refl e | inr e ↦ eqb-false (router 1) (router 9) refl e ]), tt),
     )
 
--- If an answer is a best answer, every best answer is equal to it.
+-- If an answer is a best answer, another answer is a best answer exactly if it is equal to the
+-- first.
 alone : (q : Request) (answer other : Answer) → IsBestAnswer d q answer → IsBestAnswer d q other ↔ (other ≡ answer)
 alone q answer other is =
     ((λ also. one_answer d q other answer also is), λ same. subst (IsBestAnswer d q) (sym same) is)
 
--- If the head-end is unknown, the answer says so, whatever the tail-end is.
+-- If the head-end is unknown, the answer says that the head-end is unknown, whatever the tail-end
+-- is.
 head_end_first : (to : ℕ) → IsAnswerBetween (router 8) to unknown_from
 head_end_first to q from _ other =
     alone q unknown_from other (subst (λ r. ¬ IsRouterOf d r) (sym from) unknown_8)
@@ -65,7 +68,8 @@ both_unknown = head_end_first (router 9)
 pub head_end_unknown : IsAnswerBetween (router 8) (router 1) unknown_from
 head_end_unknown = head_end_first (router 1)
 
--- If the head-end is known and the tail-end is unknown, the answer says that the tail-end is unknown.
+-- If the head-end is known and the tail-end is unknown, the answer says that the tail-end is
+-- unknown.
 pub tail_end_unknown : IsAnswerBetween (router 1) (router 9) unknown_to
 tail_end_unknown q from to other =
     alone q unknown_to other

@@ -39,7 +39,8 @@ made f priority two_ends = record {
   two_ends = two_ends;
 }
 
--- What holds of the request made of these fields holds of each request with these fields.
+-- If `P` holds of the request that `made` builds from these fields, it holds of each request with
+-- these fields.
 pub for_each : (f : RequestFields) (P : Request → Type 0)
     → ((priority : f.setup < 8) (two_ends : f.from ≢ f.to) → P (made f priority two_ends))
     → (q : Request) → HasRequestFields q f → P q
@@ -47,37 +48,41 @@ for_each f P holds q says =
     let Q : RequestFields → Type 0 = λ g. (priority : g.setup < 8) (two_ends : g.from ≢ g.to) → P (made g priority two_ends) in
     subst Q (sym ((requests_said q f).0 says)) holds q.priority q.two_ends
 
--- If the rows have different keys, some database has exactly these links, and a request between two
--- different routers can be made.
+-- If the links in `rows` have different keys, some database has exactly these links. There is a
+-- request from 1.1.1.1 to each other router.
 found : (rows : List Link) (to : ℕ) → HaveOwnKeys rows → router 1 ≢ to → AreFound rows to
 found rows to apart two_ends = record {
   database = (database_of rows, record { listed = rows_listed rows apart; unmarked = refl });
   request = λ hops. let q : Request = made (asked_fields to hops) (lit< tt) two_ends in (q, (requests_said q (asked_fields to hops)).1 refl);
 }
 
--- There is a database with the links of the first network.
+-- There is a database with exactly the six links of the first network of `specs/Examples` and their
+-- reverses.
 pub six_links_found : AreFound (both_ways six_links) (router 4)
 unfolding IsDistinct
 six_links_found = found (both_ways six_links) (router 4) (search rules) (eqb-false _ _ refl)
 
--- There is a database with the links of the second network.
+-- There is a database with exactly the three links of the second network of `specs/Examples` and
+-- their reverses.
 pub three_links_found : AreFound (both_ways three_links) (router 3)
 unfolding IsDistinct
 three_links_found = found (both_ways three_links) (router 3) (search rules) (eqb-false _ _ refl)
 
--- What holds of each row holds of each link of the database.
+-- If `P` holds of each link in `rows`, and `rows` are the links of the database, `P` holds of each
+-- link of the database.
 each_link : (P : Link → Type 0) (d : Database) (rows : List Link) → AreLinksOf d rows
     → AllByRecursion P rows → (l : Link) → IsLinkOf d l → P l
 each_link P d rows listed all l is =
     All-contains P rows l (All-from_recursion P rows all) (listed.whole l is)
 
--- A router doesn't own a prefix that covers none of its addresses.
+-- A router doesn't own a prefix (`Owns`) if the prefix covers neither the Router ID nor the address
+-- of any interface of the router.
 not_owned : (d : Database) (prefix : PrefixParts) (r : ℕ) (rows : List Link) → AreLinksOf d rows
     → ¬ Covers prefix r → AllByRecursion (λ l. ¬ BeginsWithin prefix r l) rows → ¬ Owns d prefix r
 not_owned d prefix r rows listed apart none owns =
     elim owns.covered [ inl covered ↦ apart covered | inr by_link ↦ each_link (λ l. ¬ BeginsWithin prefix r l) d rows listed none by_link.0 by_link.1 by_link.2 ]
 
--- Each link with enough unreserved bandwidth is admitted.
+-- Each link with 1,000 bytes per second unreserved is admitted for the request that `made` builds.
 pub admitted : (tail_end : ℕ) (hops : List Hop) (priority : 0 < 8) (two_ends : router 1 ≢ tail_end) (from local to remote metric : ℕ) (apart : from ≢ to)
     → IsAdmitted (made (asked_fields tail_end hops) priority two_ends) (link from local to remote metric 1000 apart)
 admitted tail_end hops priority two_ends from local to remote metric apart = record {
@@ -85,7 +90,8 @@ admitted tail_end hops priority two_ends from local to remote metric apart = rec
   room = lit≤ tt;
 }
 
--- Such a link is usable if the database has its reverse.
+-- For the request that `made` builds, a link of the database with 1,000 bytes per second unreserved
+-- is admissible if the database also has the link's reverse.
 usable : (d : Database) (tail_end : ℕ) (hops : List Hop) (priority : 0 < 8) (two_ends : router 1 ≢ tail_end) (from local to remote metric : ℕ) (apart : from ≢ to)
     → IsLinkOf d (link from local to remote metric 1000 apart) → IsLinkOf d (back (link from local to remote metric 1000 apart))
     → IsAdmissible d (made (asked_fields tail_end hops) priority two_ends) (link from local to remote metric 1000 apart)
@@ -97,30 +103,33 @@ usable d tail_end hops priority two_ends from local to remote metric apart is is
   };
 }
 
--- Without marks each router has transit.
+-- If no router is marked as without transit, each router has transit.
 has_transit : (d : Database) → d.marks ≡ set.empty → (router : ℕ) → HasTransit d router
 has_transit d none router on =
     true≢false (sym on ∙ ap (λ s. set.contains s router) none ∙ set.contains-empty nat_cmp router)
 
 module _ (d : Database) (network : IsNetwork d (both_ways six_links)) where
-  -- Each row is a link of the database.
+  -- Each of the six links, and the reverse of each, is a link of the database.
   rows : AllByRecursion (IsLinkOf d) (both_ways six_links)
   rows = recursion_from_All (IsLinkOf d) (both_ways six_links) network.listed.each
 
-  -- The router 10.9.0.1 owns the prefix of the strict hop.
+  -- The router 10.9.0.1 owns the prefix 10.9.0.0/16 of the strict hop (`Owns`): the database has
+  -- this router, and the prefix covers its Router ID.
   owned_inner_1 : Owns d inner_hop.prefix (inner 1)
   owned_inner_1 = record { known = (from_1_to_inner_1, rows.1.0, inr refl); covered = inl refl }
 
-  -- The router 10.9.0.2 owns the prefix of the strict hop.
+  -- The router 10.9.0.2 owns the prefix 10.9.0.0/16 of the strict hop (`Owns`): the database has
+  -- this router, and the prefix covers its Router ID.
   owned_inner_2 : Owns d inner_hop.prefix (inner 2)
   owned_inner_2 = record { known = (from_1_to_inner_2, rows.1.1.0, inr refl); covered = inl refl }
 
-  -- The head-end owns the prefix of the hop to itself.
+  -- The head-end 1.1.1.1 owns the prefix 1.1.1.1/32 of the hop to itself (`Owns`): the database has
+  -- this router, and the prefix covers its Router ID.
   owned_router_1 : Owns d first_router_hop.prefix (router 1)
   owned_router_1 = record { known = (from_1_to_3, rows.0, inl refl); covered = inl refl }
 
   module _ (hops : List Hop) (priority : 0 < 8) (two_ends : router 1 ≢ router 4) where
-    -- A request in the first network.
+    -- A request from 1.1.1.1 to 4.4.4.4 with the hops `hops`.
     abbrev q : Request
     q = made (asked_fields (router 4) hops) priority two_ends
 
@@ -146,7 +155,8 @@ module _ (d : Database) (network : IsNetwork d (both_ways six_links)) where
       transit = (has_transit d network.unmarked _, (has_transit d network.unmarked _, tt));
     }
 
--- On the way over 10.9.0.2 the strict leg visits only owners of its hop's prefix.
+-- With the strict hop to 10.9.0.0/16, the way over 10.9.0.2 is a route, because its first leg
+-- visits only the head-end and routers with an address in 10.9.0.0/16.
 pub may_stand_at_owners : MayStandAtOwners
 may_stand_at_owners d q network says =
     let owns_1 = owned_inner_1 d network in
@@ -167,7 +177,8 @@ may_stand_at_owners d q network says =
       );
     }) q says
 
--- On the way over 3.3.3.3 the loose leg may visit 3.3.3.3.
+-- With the loose hop to 10.9.0.0/16, the way over 3.3.3.3 is a route, because a loose leg may visit
+-- any router.
 pub may_stand_anywhere : MayStandAnywhere
 may_stand_anywhere d q network says =
     for_each (asked_fields (router 4) (loose_inner_hop ∷ [])) (λ q. IsRoute d q way_outside)
@@ -186,7 +197,8 @@ may_stand_anywhere d q network says =
       );
     }) q says
 
--- The leg to the head-end is empty.
+-- With a first hop to the head-end itself, the way over 10.9.0.2 is a route, because its first leg
+-- may be empty.
 pub may_be_empty : MayBeEmpty
 may_be_empty d q network says =
     let owns_first = owned_router_1 d network in
@@ -211,46 +223,51 @@ may_be_empty d q network says =
       );
     }) q says
 
--- The way over 3.3.3.3 costs less.
+-- The way over 3.3.3.3 comes before the way over 10.9.0.2.
 pub is_outside_before_inside : IsOutsideBeforeInside
 is_outside_before_inside = refl
 
--- No link begins within a prefix that doesn't cover the link's local address.
+-- If a prefix doesn't cover the link's local address, the link doesn't begin at an interface with
+-- an address in this prefix.
 not_begun : (prefix : PrefixParts) (r : ℕ) (l : Link) → ¬ Covers prefix l.local
     → ¬ BeginsWithin prefix r l
 not_begun prefix r l apart begins = apart begins.local
 
--- None of the six links begins within 10.9.0.0/16, and none of their reverses does.
+-- None of the six links, and none of their reverses, begins at an interface with an address in
+-- 10.9.0.0/16.
 none_begins : (r : ℕ) → AllByRecursion (λ l. ¬ BeginsWithin inner_hop.prefix r l) (both_ways six_links)
 none_begins r =
     let none = not_begun inner_hop.prefix r in
     (none from_1_to_3 (eqb-false _ _ refl), (none from_1_to_inner_1 (eqb-false _ _ refl), (none from_1_to_inner_2 (eqb-false _ _ refl), (none from_3_to_inner_1 (eqb-false _ _ refl), (none from_inner_1_to_4 (eqb-false _ _ refl), (none from_inner_2_to_inner_1 (eqb-false _ _ refl), (none (back from_1_to_3) (eqb-false _ _ refl), (none (back from_1_to_inner_1) (eqb-false _ _ refl), (none (back from_1_to_inner_2) (eqb-false _ _ refl), (none (back from_3_to_inner_1) (eqb-false _ _ refl), (none (back from_inner_1_to_4) (eqb-false _ _ refl), (none (back from_inner_2_to_inner_1) (eqb-false _ _ refl), tt))))))))))))
 
 module _ (d : Database) (listed : AreLinksOf d (both_ways six_links)) where
-  -- The router 1.1.1.1 doesn't own the prefix of the strict hop.
+  -- The router 1.1.1.1 has no address in the prefix 10.9.0.0/16 of the strict hop, so it doesn't
+  -- own this prefix (`Owns`).
   not_owned_router_1 : ¬ Owns d inner_hop.prefix (router 1)
   not_owned_router_1 =
       not_owned d inner_hop.prefix (router 1) (both_ways six_links) listed (eqb-false _ _ refl)
       (none_begins (router 1))
 
-  -- The router 3.3.3.3 doesn't own the prefix of the strict hop.
+  -- The router 3.3.3.3 has no address in the prefix 10.9.0.0/16 of the strict hop, so it doesn't
+  -- own this prefix (`Owns`).
   not_owned_router_3 : ¬ Owns d inner_hop.prefix (router 3)
   not_owned_router_3 =
       not_owned d inner_hop.prefix (router 3) (both_ways six_links) listed (eqb-false _ _ refl)
       (none_begins (router 3))
 
   module _ (priority : 0 < 8) (two_ends : router 1 ≢ router 4) where
-    -- A request with the strict hop.
+    -- A request from 1.1.1.1 to 4.4.4.4 with the strict hop to 10.9.0.0/16.
     abbrev asking : Request
     asking = made (asked_fields (router 4) (inner_hop ∷ [])) priority two_ends
 
-    -- A strict leg may not visit 3.3.3.3.
+    -- The leg to the strict hop to 10.9.0.0/16 may not visit the router 3.3.3.3.
     not_inside : ¬ IsInside d asking 1 (router 3)
     not_inside (inl loose) = cc
     not_inside (inr (inl first)) = eqb-false (router 3) (router 1) refl first
     not_inside (inr (inr owns)) = not_owned_router_3 owns
 
-    -- However the way over 3.3.3.3 is cut, its first leg isn't a leg to the strict hop.
+    -- The way over 3.3.3.3 can't be cut into a leg to the strict hop to 10.9.0.0/16 and a leg to
+    -- the tail-end.
     not_cut : (legs : List (List Link)) → ¬ IsCutInto d asking way_outside legs
     not_cut [] cut = absurd (omega (arith, cut.number))
     not_cut ([] ∷ rest) cut = not_owned_router_1 cut.each.0.arrives
@@ -258,13 +275,14 @@ module _ (d : Database) (listed : AreLinksOf d (both_ways six_links)) where
         let same : l ≡ from_1_to_3 = cc (cut.whole) in
         not_inside (subst (λ (m : Link). IsInside d asking 1 m.to) same cut.each.0.within.1.0)
 
--- For the strict hop the way over 3.3.3.3 isn't a route.
+-- With the strict hop to 10.9.0.0/16, the way over 3.3.3.3 isn't a route.
 pub may_not_stand_elsewhere : MayNotStandElsewhere
 may_not_stand_elsewhere d q network says =
     for_each (asked_fields (router 4) (inner_hop ∷ [])) (λ q. ¬ IsRoute d q way_outside)
     (λ priority two_ends route. not_cut d network.listed priority two_ends route.cut.0 route.cut.1) q says
 
--- One address of 2.2.2.2 is that of its interface on the link without unreserved bandwidth.
+-- With a hop to the prefix of an interface of 2.2.2.2, the way over 2.2.2.2 is a route, although
+-- the link of this interface isn't admissible.
 pub may_be_met_by_any_link : MayBeMetByAnyLink
 may_be_met_by_any_link d q network says =
     let rows : AllByRecursion (IsLinkOf d) (both_ways three_links) = recursion_from_All (IsLinkOf d) (both_ways three_links) network.listed.each in

@@ -9,11 +9,11 @@ use Rattle.cspf_model.specs.Targets.{IsTargetOf, IsLoose, IsInside}
 use Rattle.cspf_model.specs.Legs.{IsCutInto}
 use Rattle.cspf_model.specs.HopLaws.{AreRoutesWithoutHops}
 
--- Without hops there is no first hop.
+-- If a request has no hops, the search for its first hop finds none.
 no_first_hop : (q : Request) → q.hops ≡ [] → slice_get q.hops 0 ≡ None
 no_first_hop q none = ap (λ hops. slice_get hops 0) none
 
--- The only leg is the whole walk.
+-- If a request has no hops and a walk can be cut into legs, the walk ends at the tail-end.
 only_leg_arrives : (d : Database) (q : Request) (walk : List Link) → q.hops ≡ []
     → (legs : List (List Link)) → IsCutInto d q walk legs → end_of q.from walk ≡ q.to
 only_leg_arrives d q walk none [] cut = absurd (omega (arith, cut.number))
@@ -24,14 +24,15 @@ only_leg_arrives d q walk none (leg ∷ []) cut =
 only_leg_arrives d q walk none (leg ∷ next ∷ legs) cut =
     absurd (omega (arith, cut.number, ap length none))
 
--- The leg to the tail-end may visit any router.
+-- If a request has no hops, its only leg may visit any routers.
 stays_inside : (d : Database) (q : Request) → q.hops ≡ [] → (routers : List ℕ)
     → AllByRecursion (IsInside d q 1) routers
 stays_inside d q none [] = tt
 stays_inside d q none (router ∷ routers) =
     (inl (subst IsLoose (sym (no_first_hop q none)) tt), stays_inside d q none routers)
 
--- A walk that ends at the tail-end is cut into one leg.
+-- If a request has no hops, a walk that ends at the tail-end is cut into one leg, which is the
+-- whole walk.
 one_leg : (d : Database) (q : Request) (walk : List Link) → q.hops ≡ [] → end_of q.from walk ≡ q.to
     → IsCutInto d q walk (walk ∷ [])
 one_leg d q walk none arrives = record {

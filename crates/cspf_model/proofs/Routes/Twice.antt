@@ -6,7 +6,7 @@ use Rattle.std.proofs.lemmas.Map.Keys.{IsDistinct-head, IsDistinct-tail, IsDisti
 use Rattle.cspf_model.specs.declared.link.Link.{Link}
 use Rattle.cspf_model.specs.RouteLinks.{VisitsTwice}
 
--- How it is found that a route visits a router twice.
+-- Lemmas for the test whether a route visits a router twice.
 
 abbrev pub ends : List Link → List ℕ
 ends links = map (λ l. l.to) links
@@ -21,7 +21,8 @@ pub none_ends : (router : ℕ) (links : List Link) → AllByRecursion (λ y. nat
 none_ends router [] all = refl
 none_ends router (l ∷ ls) all = or_from _ _ all.0 (none_ends router ls all.1)
 
--- One more link was looked at. Its end differs from all ends after it, or ties with one of them.
+-- In this part, `l` is the link at the index `i`. In `passed`, no later link ends at the router at
+-- which `l` ends. In `shared`, some later link ends at this router.
 module _ (links : List Link) (i : ℕ) (within : i < length links) (l : Link) (is : l ≡ slice_index_or links i l)
     (whole : IsDistinct nat_eq (ends (drop i links)) ↔ IsDistinct nat_eq (ends links)) where
   behind : IsDistinct nat_eq (ends (drop i links)) ≡ IsDistinct nat_eq (l.to ∷ ends (drop (i + 1) links))
@@ -45,7 +46,8 @@ meets_start (l ∷ ls) d some e = λ all.
     let head = IsDistinct-head nat_eq l.from (ends (l ∷ ls)) all in
     false≢true (sym (none_ends l.from (l ∷ ls) head) ∙ e)
 
--- Otherwise the route visits a router twice exactly if two links end at the same router.
+-- If no link ends at the router where the first link begins, the route visits a router twice
+-- exactly if two links end at the same router.
 pub meets_elsewhere : (links : List Link) (d : Link) → 0 < length links → list_any (λ l. nat_eq (slice_index_or links 0 d).from l.to) links ≡ false → (b : Bool)
     → IsTrue b ↔ (¬ IsDistinct nat_eq (ends links)) → IsTrue b ↔ VisitsTwice links
 meets_elsewhere [] d some e b same = absurd (omega arith)

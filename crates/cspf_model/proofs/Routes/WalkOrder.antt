@@ -1,4 +1,4 @@
--- The order of walks is total, and no two different routes of a request tie.
+-- The order of walks is total, and no two different routes of a request compare as equal.
 use Rattle.std.proofs.Common.{◌≡◌, ◌≢◌, ℕ, Some, List, [], ◌∷◌, length, refl, sym, ap, subst, ◌∙◌}
 use Rattle.std.specs.Ordering.{ordering_then, ordering_reverse}
 use Rattle.std.specs.declared.cmp.Ordering.{Ordering}
@@ -22,7 +22,8 @@ walks_total =
     then_total (on_total cost_of nat_cmp_total)
     (then_total (on_total (λ (walk : List Link). length walk) nat_cmp_total) (on_total locals_of nat_list_cmp_total))
 
--- Joined links of a database with the same local addresses are equal.
+-- Two lists of admissible links begin at the same router, and in each list each later link begins
+-- where the link before it ends. If the lists have the same local addresses, they are equal.
 one_walk : (d : Database) (q : Request) (router : ℕ) (v w : List Link)
     → AllByRecursion (IsAdmissible d q) v → AllByRecursion (IsAdmissible d q) w → AreJoined router v
     → AreJoined router w → locals_of v ≡ locals_of w → v ≡ w
@@ -40,24 +41,26 @@ one_walk d q router (l ∷ ls) (m ∷ ms) all also joined too same =
     same_Some : (x y : Link) → Some x ≡ Some y → x ≡ y
     same_Some x y e = cc
 
--- Walks of the same request with the same local addresses are equal.
+-- Two walks of one request are equal if their links have the same local addresses in the same
+-- order.
 pub walks_told : WalksAreTold
 walks_told d q v w is also same =
     one_walk d q q.from v w is.links also.links is.joined also.joined same
 
--- If two orders together tie, the second one ties.
+-- If a comparison by a first order and then by a second order gives `Equal`, the comparison by the
+-- second order gives `Equal`.
 last_tie : (a b : Ordering) → ordering_then a b ≡ Equal → b ≡ Equal
 last_tie Less b e = absurd (cc)
 last_tie Equal b e = e
 last_tie Greater b e = absurd (cc)
 
--- Two routes of the same request that tie are equal.
+-- Two routes of the same request that compare as equal are equal.
 pub routes_ranked : RoutesAreRanked
 routes_ranked d q v w is also tie =
     walks_told d q v w is.is_walk also.is_walk
     (slice_cmp-IsAntisymmetric nat_cmp-IsAntisymmetric (locals_of v) (locals_of w) (last_tie _ _ (last_tie _ _ tie)))
 
--- If neither of two walks comes before the other, they tie.
+-- If neither of two walks comes before the other, the walks compare as equal.
 neither_first : (a b : Ordering) → a ≡ ordering_reverse b → a ≢ Less → b ≢ Less → a ≡ Equal
 neither_first Less b e first second = absurd (first refl)
 neither_first Equal b e first second = refl
@@ -65,7 +68,7 @@ neither_first Greater Less e first second = absurd (second refl)
 neither_first Greater Equal e first second = absurd (cc)
 neither_first Greater Greater e first second = absurd (cc)
 
--- There is at most one best route.
+-- A request has at most one best route.
 pub one_best : (d : Database) (q : Request) (v w : List Link) → IsBestRoute d q v
     → IsBestRoute d q w → v ≡ w
 one_best d q v w is also =

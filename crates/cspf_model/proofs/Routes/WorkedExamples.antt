@@ -1,4 +1,5 @@
--- Proofs of the worked orders, changes and admissions of `specs/Laws`.
+-- Proofs of the worked examples of `specs/Laws`: the order of walks, changes with the same key, and
+-- the admission of links.
 use Rattle.std.specs.Int.Bits.{and_zero_r}
 use Rattle.std.proofs.Common.{◌≡◌, ◌+◌, true, cond, Some, None, [], ◌∷◌, sym, ap, ◌∙◌, inl, bit_and, arith}
 use Rattle.std.specs.Ordering.{nat_cmp, eq_by_cmp, ordering_then}
@@ -10,7 +11,8 @@ use Rattle.cspf_model.specs.Changes.{link_key, last_on, link_after}
 use Rattle.cspf_model.specs.Laws.{AddressesCompareAsNumbers, FewerLinksComeFirst, CheaperLinksComeFirst, LastPutStands, LastRemovalStands, ExactBandwidthIsEnough, LessBandwidthIsNot}
 use Rattle.cspf_model.proofs.Databases.Keys.{key_itself}
 
--- The address 10.0.0.9 comes before 10.0.0.10.
+-- Of two walks of one link each and the same cost, the one with the local address 10.0.0.9 comes
+-- before the one with 10.0.0.10.
 pub as_numbers : AddressesCompareAsNumbers
 as_numbers l m cost nine ten =
     ap (λ o. ordering_then o (ordering_then Equal (ordering_then (nat_cmp l.local m.local) Equal)))
@@ -32,18 +34,19 @@ cheaper_first l m n one also three =
     ∙ ap (λ a. ordering_then (nat_cmp (1 + a) (0 + n.metric)) Greater) also
     ∙ ap (λ a. ordering_then (nat_cmp 2 (0 + a)) Greater) three
 
--- If the last change of a key is a put, the database has the link that it puts.
+-- If the last change with a key puts a link, the database has this link.
 pub put_stands : LastPutStands
 put_stands l m same =
     let tie : eq_by_cmp key_cmp (key_of l) (key_of m) ≡ true = ap (eq_by_cmp key_cmp (key_of l)) (sym same) ∙ key_itself (key_of l) in
     ap (λ b. link_after (cond b (Some (Put m)) (last_on (link_key (key_of l)) (Put l ∷ Remove l.from l.local ∷ []))) None) tie
 
--- If the last change of a key is a removal, the database has no link there.
+-- If the last change with a key is a removal, the database has no link at this key.
 pub removal_stands : LastRemovalStands
 removal_stands l m same =
     ap (λ b. link_after (cond b (Some (Remove l.from l.local)) (last_on (link_key (key_of l)) (Put l ∷ Put m ∷ []))) None) (key_itself (key_of l))
 
--- A link with 1,000 bytes per second is admitted for a request of 1,000 bytes per second.
+-- A link with 1,000 bytes per second unreserved is admitted for a request of 1,000 bytes per
+-- second.
 pub enough : ExactBandwidthIsEnough
 enough q l groups free request_fields = record {
   affinity = record {
@@ -54,6 +57,7 @@ enough q l groups free request_fields = record {
   room = omega (arith, free, request_fields);
 }
 
--- A link with 1,000 bytes per second isn't admitted for a request of 1,001 bytes per second.
+-- A link with 1,000 bytes per second unreserved isn't admitted for a request of 1,001 bytes per
+-- second.
 pub too_little : LessBandwidthIsNot
 too_little q l free request_fields is = absurd (omega (arith, free, request_fields, is.room))

@@ -31,21 +31,22 @@ any_to links router = list_any (λ l. nat_eq l.to router) links
 abbrev pub is_end_of : List Link → ℕ → Bool
 is_end_of links router = any_to links router || any_from links router
 
--- If the change puts a link, both ends of the link are among the routers.
+-- If the change puts a link, the routers at both ends of the link are in the list `routers`.
 abbrev pub HasListedEnds : List ℕ → Change → Type 0
 HasListedEnds routers (Put l) = Contains routers l.from × Contains routers l.to
 HasListedEnds routers (Remove from local) = Unit {0}
 HasListedEnds routers (Node router transit) = Unit {0}
 
--- The changes bring at most `most` routers that aren't in the list. If a set contains the list, the
--- ends of the links that the changes put add at most `most` routers to the set.
+-- The links that the changes put have at most `most` routers at their ends that aren't in the list.
+-- That is, these links' ends add at most `most` routers to a set that has the list's routers.
 abbrev pub BringsAtMost : List ℕ → List Change → ℕ → Type 0
 BringsAtMost routers changes most =
     (s : FinSet nat_cmp) → All (λ r. contains s r ≡ true) routers
     → len (with_ends s (links_put changes)) ≤ len s + most
 
--- One change brings at most `most` routers that aren't in the list, and at which no other change puts a
--- link.
+-- The link that a change puts has at most `most` new routers at its ends. A router is new if it
+-- isn't in the list `routers`, and none of the changes `others` puts a link that begins or ends at
+-- it.
 abbrev pub BringsBeside : List ℕ → List Change → Change → ℕ → Type 0
 BringsBeside routers others c most =
     (s : FinSet nat_cmp) → All (λ r. contains s r ≡ true) routers

@@ -21,6 +21,6 @@ pub record IsGone (rows : List Link) (changes : List Change) (router : ℕ) : Ty
   pub left : list_any (is_at router) (rows_untouched rows changes) ≡ false
   pub put : list_any (is_at router) (links_put changes) ≡ false
 
--- After the changes there is a router in the list at which no link begins or ends.
+-- The list `routers` has a router at which no link begins or ends after the changes.
 abbrev pub HasGone : List Link → List ℕ → List Change → Type 0
 HasGone rows routers changes = (router : ℕ) × Contains routers router × IsGone rows changes router

@@ -1,4 +1,5 @@
--- Private: which keys the changes of a list have, and which changes have the key of an earlier change.
+-- Private: which keys the changes of a list have, and which changes have the key of an earlier
+-- change.
 use Rattle.std.specs.Prelude.{◌≡◌, ℕ, Bool, true, false, List, take}
 use Rattle.std.specs.Ordering.{eq_by_cmp}
 use Rattle.std.specs.List.{list_any, slice_index_or}

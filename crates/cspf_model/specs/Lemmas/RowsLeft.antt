@@ -1,4 +1,5 @@
--- Private: which rows changes leave alone, and which links they put, add or remove.
+-- Private: which of a database's links, called rows, are left alone by changes, and which links the
+-- changes put, add or remove.
 use Rattle.std.specs.Prelude.{Bool, true, false, not, is_some, List, filter}
 use Rattle.std.specs.List.{filter_map}
 use Rattle.cspf_model.specs.declared.link.Link.{Link}
@@ -8,11 +9,11 @@ use Rattle.cspf_model.specs.Database.{Database, key_of, link_at}
 use Rattle.cspf_model.specs.Changes.{link_key, link_left}
 use Rattle.cspf_model.specs.Lemmas.RepeatedKeys.{is_changed}
 
--- Whether no change has the key of the row.
+-- Whether no change has the key of the link `row`.
 abbrev pub is_untouched : List Change → Link → Bool
 is_untouched changes row = not (is_changed changes (link_key (key_of row)))
 
--- The rows whose keys no change has.
+-- The links in `rows` whose keys no change has.
 abbrev pub rows_untouched : List Link → List Change → List Link
 rows_untouched rows changes = filter (is_untouched changes) rows
 

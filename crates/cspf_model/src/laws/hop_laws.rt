@@ -1,4 +1,4 @@
-//! Laws of hops and routes. Each function here does nothing. Its contract is the law.
+//! Laws of hops and routes. Each function here has an empty body. Its contract states the law.
 ghost use Rattle.cspf_model.specs.HopLaws.{AreRoutesWithoutHops};
 ghost use Rattle.cspf_model.specs.Examples.{MayStandAtOwners, MayNotStandElsewhere, MayStandAnywhere, IsOutsideBeforeInside, MayBeEmpty, MayBeMetByAnyLink, AreFound, both_ways, six_links, three_links, router};
 

@@ -3,8 +3,9 @@ ghost use Rattle.cspf_rows.specs.JournalLaws.{AreTextsCut, AreJournalsReadBack, 
 use crate::laws::rows_are_read_back;
 use cspf_addr::masks_are_spelled;
 
-/// Law: the text of batches is read as these batches, with nothing left after them, and it is cut
-/// into their records. The batches are numbered from 1 on and have at most `MOST_ROWS` rows in all.
+/// Law: the text of batches is cut into the records of these batches, and it is read as these
+/// batches, with nothing left after them. The batches are numbered from 1 on and have at most
+/// `MOST_ROWS` rows in all.
 pub fn journals_are_read_back()
     ensures cut { AreTextsCut }
     ensures back { AreJournalsReadBack }
@@ -13,7 +14,8 @@ pub fn journals_are_read_back()
     masks_are_spelled();
 }
 
-/// Law: no records are two different lists of batches, or have two different rests.
+/// Law: if the same records are a journal of one list of batches and also of another, the two lists
+/// are the same. Records are left after the batches of both, or of neither.
 pub fn journals_are_one()
     ensures { IsOneJournal }
 {}

@@ -24,11 +24,11 @@ use std::io::Read;
 #[derive(Drop)]
 pub struct JournalReader<R> {
     records: Reader<R>,
-    /// The fields of the last row.
+    /// The fields of the journal's row that was read last.
     fields: ByteRecord,
-    /// How many rows were read.
+    /// How many rows of the stream were read.
     rows: u32,
-    /// How many batches were read.
+    /// How many whole batches were read.
     count: u32,
 }
 
@@ -36,7 +36,7 @@ impl<R: Read> JournalReader<R> {
     ghost use Rattle.cspf_rows.specs.GivenBatches.{CanRead, HasGiven, HasFailed, rows_read};
     ghost use Rattle.cspf_rows.specs.JournalReading.{HasRead, ComesTo};
 
-    /// A reader that has read no row.
+    /// A reader of a journal that has read no row yet.
     pub fn new(alloc: Global, reader: R) -> Self
         ensures can { CanRead result }
         ensures none { HasGiven R.remaining (option_map rows_of (R.remaining reader)) result [] }
@@ -51,8 +51,8 @@ impl<R: Read> JournalReader<R> {
 
     /// Reads the next whole batch into `batch`, whose memory is used again, or comes to the end of
     /// the batches. To find the end, the stream is read to its last row; rows after the batches
-    /// take no memory. If there are more than `MOST_ROWS` rows, they are refused as `TooManyRows`.
-    /// After the end or an error nothing more is read.
+    /// take no memory. A stream of more than `MOST_ROWS` rows is refused as `TooManyRows`. After
+    /// the end or an error nothing more is read.
     pub fn read_batch(&mut self, batch: &mut Batch) -> Result<JournalStep, ReadError>
         requires { CanRead self.old }
         ensures can { result ≡ Ok JournalStep.Batch → CanRead self.new }
@@ -80,7 +80,8 @@ impl<R: Read> JournalReader<R> {
         }
     }
 
-    /// Takes the next row after the open changes of a batch, or comes to the end of the rows.
+    /// Reads the next row after the changes that `batch` has so far, and adds it to `batch` if it
+    /// is a change. Returns `None` if the row is one more change, and otherwise `Batch` or `End`.
     fn take_row(&mut self, batch: &mut Batch) -> Result<Option<JournalStep>, ReadError>
         requires { CanRead self.old }
         ensures can { (result ≡ Ok None) ⊎ (result ≡ Ok (Some JournalStep.Batch))
@@ -115,7 +116,7 @@ impl<R: Read> JournalReader<R> {
         }
     }
 
-    /// Reads the rows after a row that is in no batch.
+    /// Reads all further rows after a row that is in no batch, and keeps none of them.
     fn skip_rest(&mut self) -> Result<(), ReadError>
         requires { CanRead self.old }
         ensures end { OnOk result ((all : Option (List (List (List ℕ))))
@@ -156,7 +157,8 @@ impl<R: Read> JournalReader<R> {
     }
 }
 
-/// What follows the batches of a journal that has no more rows.
+/// What follows the whole batches of a journal that ends after the changes `changes`, without an
+/// `end` row for them. If there are no such changes, no row follows the batches.
 fn rest_of(changes: &[Change]) -> Rest
     ensures clean { result ≡ Rest.Clean → changes.now ≡ [] }
     ensures torn { result ≡ Rest.Torn → changes.now ≢ [] }

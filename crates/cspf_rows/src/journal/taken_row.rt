@@ -11,19 +11,21 @@ use cspf_model::{Batch, Change};
 use csv::ByteRecord;
 use std::alloc::AllocError;
 
-/// What a row is that comes after the open changes of a batch.
+/// What the next row of a journal is to the batch that is being read. The `end` row of this batch
+/// hasn't come yet.
 #[derive(Clone, Copy)]
 pub(super) enum Taken {
-    /// One more open change.
+    /// One more change of the batch.
     Change,
-    /// The end of the batch.
+    /// The `end` row, which ends the batch.
     Batch,
-    /// A row that isn't in the batch.
+    /// A row that is neither a change nor the `end` row of the batch.
     Behind,
 }
 
-/// Takes a row after the open changes of the batch with the number `next`. It takes memory only if
-/// the row is a change.
+/// Reads the next row of a journal, and returns what it is to the batch with the number `next`.
+/// `batch` has the changes of this batch so far. If the row is a change, it is added to them.
+/// Memory is taken only for a change.
 pub(super) fn take(fields: &ByteRecord, next: u32, batch: &mut Batch) -> Result<Taken, AllocError>
     ensures { IfOk result (IsTaken (row_of (fields_of fields.now)) next batch.old batch.new) }
 {
@@ -33,7 +35,7 @@ pub(super) fn take(fields: &ByteRecord, next: u32, batch: &mut Batch) -> Result<
     }
 }
 
-/// Takes a row that is read.
+/// Does what `take` does, but with a row that was already read from its fields.
 fn take_row(row: &Row, next: u32, batch: &mut Batch) -> Result<Taken, AllocError>
     ensures { IfOk result (IsTaken (Ok row.now) next batch.old batch.new) }
 {
@@ -61,7 +63,7 @@ fn take_row(row: &Row, next: u32, batch: &mut Batch) -> Result<Taken, AllocError
     }
 }
 
-/// Adds an open change.
+/// Adds a change to the batch that is being read.
 fn add(change: Change, batch: &mut Batch) -> Result<Taken, AllocError>
     ensures { IfOk result (λ taken. (next : ℕ)
         → IsTaken (Ok (change_row change)) next batch.old batch.new taken) }
@@ -70,7 +72,8 @@ fn add(change: Change, batch: &mut Batch) -> Result<Taken, AllocError>
     Ok(Taken::Change)
 }
 
-/// Whether the open changes are the whole batch with this number and this many changes.
+/// Whether an `end` row with this number and this count ends the batch: the number is `next`, and
+/// the batch has this many changes.
 fn is_whole(batch: &Batch, next: u32, number: u32, count: u32) -> bool
     ensures { IsTrue result ↔ ((number ≡ next) × (count ≡ length batch.now.changes)) }
 {

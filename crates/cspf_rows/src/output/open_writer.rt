@@ -3,7 +3,7 @@ ghost use Rattle.std.specs.Io.KnownBytes.{Appends, Keeps};
 
 use std::io::Write;
 
-/// A writer that can be used up to its first failed write. It can only write.
+/// A writer that can be used until its first failed write. It can write, and do nothing else.
 #[derive(Drop)]
 pub(super) struct OpenWriter<'a, W> {
     to: &'a mut W,
@@ -11,7 +11,7 @@ pub(super) struct OpenWriter<'a, W> {
 }
 
 impl<'a, W: Write> OpenWriter<'a, W> {
-    /// The writer, which has made no write.
+    /// An `OpenWriter` that writes to `to` and has made no write yet.
     pub(super) fn new(to: &'a mut W) -> OpenWriter<'a, W>
         ensures writer { result.to.ghost_name ≡ to.entry.ghost_name }
         ensures contents { result.to.now ≡ to.old }

@@ -17,10 +17,12 @@ use std::alloc::Global;
 use std::io::Write;
 use std::thread::Threads;
 
-/// The most requests in a part. The lines of a part are written before the next part is answered.
+/// Requests are answered in parts of at most this many requests. The lines of a part are written
+/// before the next part is answered.
 const MOST_AT_ONCE: usize = 32_768;
 
-/// The gate for a part of a list of requests. It gets each request's index in the whole list.
+/// The gate for a part of a list of requests. It passes each request's index in the whole list to
+/// the gate of the run.
 #[derive(Drop)]
 struct PartGate<'a, G> {
     gate: &'a G,
@@ -38,7 +40,8 @@ impl<G: Gate> Gate for PartGate<'_, G> {
     }
 }
 
-/// Answers requests at the last published version, and writes their lines after each part.
+/// Answers requests at the last published version, part by part. The lines of a part are written
+/// before the next part is answered.
 pub(super) fn answer_in_parts<J: Write, W: Write, G: Gate + Sync, T: Threads + Sync>(
     rt: &T,
     alloc: Global,
@@ -71,7 +74,8 @@ pub(super) fn answer_in_parts<J: Write, W: Write, G: Gate + Sync, T: Threads + S
     Ok(())
 }
 
-/// Answers the requests from `first` on, writes their lines, and hands the askers back.
+/// Answers the requests from `first` on, writes their lines, and hands back the askers, which
+/// answer requests.
 #[tactic(auto, using(crate::proofs::StreamFaults::judged))]
 fn answer_from<J: Write, W: Write, G: Gate + Sync, T: Threads + Sync>(
     rt: &T,
@@ -110,8 +114,9 @@ fn answer_from<J: Write, W: Write, G: Gate + Sync, T: Threads + Sync>(
     }
 }
 
-/// The error of a part, in which a request's index in the part is replaced by its index in the
-/// whole list. `first` is the index of the part's first request.
+/// Turns the error of a part into the error of the whole list of requests. A request's index in the
+/// part is replaced by its index in the whole list. `first` is the index of the part's first
+/// request.
 fn error_of_list(first: usize, error: ServeError) -> ServeError
     ensures { IsErrorOfPart first error result }
 {

@@ -1,4 +1,4 @@
-//! The run of `batch`: reads a journal and requests, and writes the lines of both.
+//! The run of `batch`: reads a journal and requests, and writes the lines that answer both.
 
 ghost use Rattle.std.specs.Prelude.{◌≡◌, ℕ, ◌<◌, ◌⊎◌, ◌≤◌, ◌++◌, List, [], length, All, Ok, IfOk, IfErr, IfSome, OnOk, OnErr, vec_len, false};
 ghost use Rattle.std.specs.Io.KnownBytes.{Appends};
@@ -42,12 +42,12 @@ struct Streams<R, Q> {
     accept_torn: bool,
 }
 
-/// Publishes the batches of a journal, one after the other, and then answers the requests of a
-/// stream at the last version by the given number of workers: `IsBatchRun`. The workers keep as
-/// many trees as the askers of `open`. One batch at a time is in memory. Both streams are read
+/// Publishes the batches of a journal, one after the other. Then the given number of workers answer
+/// the requests of a stream at the last version: `IsBatchRun`. The workers keep as many trees of
+/// lower bounds as the askers of `open`. One batch at a time is in memory. Both streams are read
 /// before the first line is written. The status is 2 if anything was refused, and 0 otherwise.
-/// After an error the writer has got nothing, or the beginning of those lines, up to the reply to
-/// some request: `IsBatchRunInPart`. The writer isn't flushed.
+/// After an error the writer has got nothing, or a prefix of the lines of a run without an error,
+/// up to the reply to some request: `IsBatchRunInPart`. The writer isn't flushed.
 pub fn run_batch<
     R: Read + Drop,
     Q: Read + Drop,
@@ -71,7 +71,8 @@ pub fn run_batch<
         × Appends (W.contents writer.old) (W.contents writer.new) lines))) }
     ensures stopped { OnErr result (HasBegunBatch accept_torn (R.remaining journal)
         (Q.remaining requests) (W.contents writer.old) (W.contents writer.new)) }
-    // If the status is 0, the lines are those of one script of both streams.
+    // If the status is 0, the lines are those of a run over one stream, which has the rows of the
+    // journal and then those of the requests.
     ensures script { result ≡ Ok 0 → IfSome (R.remaining journal) (λ kept.
         IfSome (Q.remaining requests) (λ asked. IsCleanJournal (rows_of kept)
         → length (rows_of kept ++ rows_of asked) ≤ MOST_ROWS → (lines : List ℕ) × (counts : Counts)
@@ -94,7 +95,7 @@ pub fn run_batch<
     )
 }
 
-/// As `run_batch`, but the options limit the number of trees that all workers have together.
+/// As `run_batch`, but the options limit how many trees of lower bounds all workers keep together.
 pub fn run_batch_with<
     R: Read + Drop,
     Q: Read + Drop,
@@ -119,7 +120,8 @@ pub fn run_batch_with<
         × Appends (W.contents writer.old) (W.contents writer.new) lines))) }
     ensures stopped { OnErr result (HasBegunBatch accept_torn (R.remaining journal)
         (Q.remaining requests) (W.contents writer.old) (W.contents writer.new)) }
-    // If the status is 0, the lines are those of one script of both streams.
+    // If the status is 0, the lines are those of a run over one stream, which has the rows of the
+    // journal and then those of the requests.
     ensures script { result ≡ Ok 0 → IfSome (R.remaining journal) (λ kept.
         IfSome (Q.remaining requests) (λ asked. IsCleanJournal (rows_of kept)
         → length (rows_of kept ++ rows_of asked) ≤ MOST_ROWS → (lines : List ℕ) × (counts : Counts)
@@ -128,7 +130,8 @@ pub fn run_batch_with<
     ensures error { IfErr result
         (IsBatchFault accept_torn (R.remaining journal) (Q.remaining requests)) }
 {
-    // Law: if nothing is refused, the lines are those of a script.
+    // Law: if nothing is refused, the lines are those of a run over one stream: the journal's rows
+    // and then the requests' rows.
     lines_of_a_script();
     let streams = Streams {
         journal,
@@ -139,7 +142,7 @@ pub fn run_batch_with<
 }
 
 /// Publishes the batches of a journal, and then answers requests at the last version. The
-/// publisher's journal keeps nothing. Returns the status.
+/// publisher's own journal stores nothing. Returns the status.
 fn answer<R: Read + Drop, Q: Read + Drop, W: Write, G: Gate + Sync, T: Threads + Wait + Sync>(
     rt: &T,
     alloc: Global,
@@ -171,7 +174,8 @@ fn answer<R: Read + Drop, Q: Read + Drop, W: Write, G: Gate + Sync, T: Threads +
     }
 }
 
-/// Publishes the batches of a journal and answers requests, by a publisher that is lent.
+/// Publishes the batches of a journal, and answers requests. The publisher that does both stays the
+/// caller's.
 fn answer_lent<
     T: Threads + Wait + Sync,
     J: Write,
@@ -208,7 +212,7 @@ fn answer_lent<
     }
 }
 
-/// What was read of the streams of a run.
+/// What a run has read from its streams.
 #[derive(Drop)]
 struct ReadStreams {
     /// The line of the first batch that doesn't fit, if there is one.
@@ -246,8 +250,8 @@ fn publish_and_read<J: Write, R: Read + Drop, Q: Read + Drop, T: Wait>(
     Ok(ReadStreams { unfit, requests })
 }
 
-/// Writes the published versions. Then it writes the line of the batch that doesn't fit, or answers
-/// the requests if all batches fit. Returns the status.
+/// Writes the line of each published version. Then it writes the line of the batch that doesn't
+/// fit, or answers the requests if all batches fit. Returns the status.
 #[tactic(auto, using(crate::proofs::StreamFaults::judged))]
 fn answer_read<J: Write, W: Write, G: Gate + Sync, T: Threads + Sync>(
     rt: &T,

@@ -46,7 +46,7 @@ pub(super) fn publish_journal<R: Read + Drop, J: Write, T: Wait>(
     publish_all(rt, alloc, &mut journal, &mut batch, accept_torn, publisher)
 }
 
-/// Publishes the batches that a reader of a journal returns, with memory for one batch.
+/// Publishes the batches that a reader of a journal returns, with one batch at a time in memory.
 fn publish_all<R: Read, J: Write, T: Wait>(
     rt: &T,
     alloc: Global,
@@ -114,7 +114,7 @@ fn publish<J: Write, T: Wait>(
     }
 }
 
-/// How a run ends at a batch that wasn't published.
+/// Returns how a run ends at a batch that wasn't published.
 fn end_of(number: u32, error: ApplyError) -> EarlyEnd
     ensures refused { IfRefused result (IsOwnFaultLine error number) }
     ensures failed { IfFailed result (IsFaultBeyond error) }

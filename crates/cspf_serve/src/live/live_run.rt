@@ -1,5 +1,5 @@
-//! The run of `live`: publishes updates while workers answer requests, and writes the lines of
-//! both.
+//! The run of `live`: publishes updates while workers answer requests, and writes the lines that
+//! answer both.
 
 ghost use Rattle.std.specs.Prelude.{◌≡◌, ℕ, ◌<◌, ◌≤◌, ◌⊎◌, List, [], length, All, IfOk, IfErr, IfSome, Err, OnOk, slice_get, vec_len, false};
 ghost use Rattle.std.specs.Io.KnownBytes.{Appends};
@@ -30,11 +30,12 @@ use std::sync::Wait;
 use std::thread::Threads;
 
 /// Publishes the batches of updates to a journal, while the given number of workers answer the
-/// requests of a stream: `IsLiveRun`. The workers keep as many trees as the askers of `open`. Both
-/// streams are read whole before any batch is published. The status is 2 if anything was refused,
-/// and 0 otherwise. The journal's writer is handed back, after an error too. It has got the text of
-/// each published batch, and after a fault of the journal also a prefix of the next batch's text.
-/// After an error the contents of the other writer are unspecified. Neither writer is flushed.
+/// requests of a stream: `IsLiveRun`. The workers keep as many trees of lower bounds as the askers
+/// of `open`. Both streams are read whole before any batch is published. The status is 2 if
+/// anything was refused, and 0 otherwise. The journal's writer is handed back, after an error too.
+/// This writer has got the text of each published batch, and after a fault of the journal also a
+/// prefix of the next batch's text. After an error the contents of the other writer are
+/// unspecified. Neither writer is flushed.
 pub fn run_live_rows<
     R: Read + Drop,
     Q: Read + Drop,
@@ -69,7 +70,8 @@ pub fn run_live_rows<
     )
 }
 
-/// As `run_live_rows`, but the options limit the number of trees that all workers have together.
+/// As `run_live_rows`, but the options limit how many trees of lower bounds all workers keep
+/// together.
 pub fn run_live_rows_with<
     R: Read + Drop,
     Q: Read + Drop,
@@ -112,7 +114,8 @@ pub fn run_live_rows_with<
     )
 }
 
-/// Publishes batches by a new publisher while workers answer requests.
+/// Publishes batches while workers answer requests. The publisher is new: it hasn't published a
+/// batch yet.
 fn answer_opened<J: Write, W: Write, G: Gate + Sync, T: Threads + Wait + Sync>(
     rt: &T,
     alloc: Global,
@@ -142,8 +145,8 @@ fn answer_opened<J: Write, W: Write, G: Gate + Sync, T: Threads + Wait + Sync>(
     end_live(rt, alloc, ran, batches, writer)
 }
 
-/// If there are answers, writes their lines and the line that counts the applied batches. Closes
-/// the publisher.
+/// If there are answers, writes the lines of the answers and the line that counts the applied
+/// batches. Closes the publisher.
 fn end_live<J: Write, W: Write, T: Wait>(
     rt: &T,
     alloc: Global,
@@ -158,7 +161,7 @@ fn end_live<J: Write, W: Write, T: Wait>(
     ensures journal { IfOk ran (λ live. result.1 ≡ live.publisher.journal) }
     ensures history { IfOk ran (λ live. IsHistory live.publisher.batches) }
     ensures error { IfOk ran (λ live. IfErr result.0 IsStreamFault) }
-    // The error of a worker keeps its name.
+    // An error of the workers is returned inside the error `Serve`.
     ensures fault { IfErr ran (λ e. result.0 ≡ Err (RunError.Serve e.0)) }
     ensures closed { IfErr ran (λ e. result.1 ≡ e.1.journal) }
 {
@@ -224,7 +227,7 @@ fn fault_line(batches: &[Batch], applied: u32, fault: Option<ApplyError>) -> Opt
         return None;
     };
     let Some(batch) = batches.get(applied as usize) else {
-        // Never: if there is a fault, there is a batch after the applied ones.
+        // This doesn't happen: if there is a fault, there is a batch after the applied ones.
         return None;
     };
     let number = batch.number;

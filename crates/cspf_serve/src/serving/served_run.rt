@@ -49,8 +49,8 @@ pub enum ServedError {
 
 /// The result of a run over updates and clients.
 pub struct Served<W, J, V> {
-    /// 0 if all rows and batches of all streams were accepted and no change was left open, and 2
-    /// otherwise.
+    /// 0 if all rows and batches of all streams were accepted and no change was left open (without
+    /// its `end` row), and 2 otherwise.
     pub status: u8,
     /// How the stream of updates ended.
     pub updates: Result<(), StreamError>,
@@ -60,12 +60,13 @@ pub struct Served<W, J, V> {
     pub journal: J,
     /// The results of the clients, in the order of the clients.
     pub clients: Vec<ServedClient<V>>,
-    /// The steps of the journal that the updates and all clients saw. They take no memory when the
+    /// The steps of the journal that the publisher and all clients have seen: batches recorded or
+    /// counted as published, and readings of that count. These steps take no memory when the
     /// program runs.
     pub steps: SeenSteps,
 }
 
-/// What the thread of a client needs to answer it.
+/// A client's seat: what the thread of the client needs to answer the client's requests.
 #[derive(Drop)]
 struct ClientSeat {
     alloc: Global,
@@ -93,8 +94,8 @@ impl<Q: Read + Drop, V: Replies> Doer<Client<Q, V>> for ClientSeat {
     }
 }
 
-/// What is allocated for the clients before any of them is started: a seat, a slot for its state,
-/// and a slot for its result.
+/// What is allocated before any client is started: for each client a seat (what its thread needs),
+/// and memory for its state and for its result.
 #[derive(Drop)]
 struct Seats<Q, V> {
     seats: Vec<ClientSeat>,
@@ -102,7 +103,8 @@ struct Seats<Q, V> {
     served: Vec<ServedClient<V>>,
 }
 
-/// A seat for each asker; the seats are numbered from 1.
+/// Makes a seat (what the thread of one client needs) for each asker, which answers requests. The
+/// seats are numbered from 1.
 fn seat_all<Q: Drop, V: Drop>(alloc: Global, askers: Vec<Asker>) -> Result<Seats<Q, V>, AllocError>
     ensures { IfOk result (λ made. (source : Book) → All (λ a. a.source ≡ source) askers.items
         → AreSeats source (vec_len askers) made) }
@@ -126,7 +128,7 @@ fn seat_all<Q: Drop, V: Drop>(alloc: Global, askers: Vec<Asker>) -> Result<Seats
     })
 }
 
-/// The list of all steps of the journal that the publisher and the clients have seen.
+/// Returns the list of all steps of the journal that the publisher and the clients have seen.
 fn all_steps<J: Write, Q: Read + Drop, V: Replies + Drop>(
     updates: &Updates<J>,
     serving: &[ServingClient<Q, V>],
@@ -144,7 +146,7 @@ fn all_steps<J: Write, Q: Read + Drop, V: Replies + Drop>(
     all
 }
 
-/// Makes the result of each client, after it has met all published batches.
+/// Lets each client learn of all published batches, and returns the clients' results.
 fn close_all<J: Write, Q: Read + Drop, V: Replies + Drop>(
     updates: &mut Updates<J>,
     serving: Vec<ServingClient<Q, V>>,
@@ -173,7 +175,8 @@ fn are_accepted<V>(clients: &[ServedClient<V>]) -> bool
     clients.iter().all(|client| client.refused == 0)
 }
 
-/// 0 if no row and no batch of any stream was refused and no change is open, and 2 otherwise.
+/// 0 if no row and no batch of any stream was refused and no change is open (without its `end`
+/// row), and 2 otherwise.
 fn status_of<J: Write, V>(updates: &Updates<J>, clients: &[ServedClient<V>]) -> u8
     ensures { (first : PublisherState J) (t : UpdatesState) → KeepsUpdates J.contents first updates.now t
         → IsServedStatus t clients.now result }
@@ -184,7 +187,8 @@ fn status_of<J: Write, V>(updates: &Updates<J>, clients: &[ServedClient<V>]) -> 
     if are_accepted(clients) { 0 } else { 2 }
 }
 
-/// Writes the line that counts the open changes at the end of the updates, if there are any.
+/// If changes are open (without their `end` row) at the end of the updates, writes the line that
+/// counts them.
 fn say_last<W: Write, J: Write>(
     alloc: Global,
     said: &mut W,
@@ -199,7 +203,7 @@ fn say_last<W: Write, J: Write>(
     }
 }
 
-/// The stream of updates of a run, which this thread answers.
+/// The updates of a run: a stream that this thread answers.
 struct Publishing<'a, R, W, J, T> {
     rt: &'a T,
     alloc: Global,
@@ -226,7 +230,8 @@ impl<'a, R: Read, W: Write, J: Write, T: Wait> Meanwhile for Publishing<'a, R, W
     }
 }
 
-/// Answers all rows of the updates, and then writes the line that counts the open changes, if any.
+/// Answers all rows of the updates. If changes are open then (without their `end` row), writes the
+/// line that counts them.
 fn answer_updates<R: Read, W: Write, J: Write, T: Wait>(
     rt: &T,
     alloc: Global,
@@ -241,12 +246,13 @@ fn answer_updates<R: Read, W: Write, J: Write, T: Wait>(
 {
     match answer_rows(rt, alloc, rows, said, updates) {
         Ok(()) => say_last(alloc, said, updates),
-        Err(error) => Err(error),
+        Err(stop) => Err(StreamError::from(stop)),
     }
 }
 
-/// Opens a publisher over a journal, and makes a seat for each client. The publisher and the
-/// clients' askers have at most `trees` trees together.
+/// Opens a publisher over a journal, and makes for each client the seat with what its thread needs.
+/// The publisher and the clients' askers (which answer requests) keep at most `trees` trees of
+/// lower bounds together.
 fn open_seats<J: Write, Q: Drop, V: Drop, T: Wait>(
     rt: &T,
     alloc: Global,
@@ -299,10 +305,11 @@ fn close_run<W, J: Write, Q: Read + Drop, V: Replies + Drop, T: Wait>(
 
 /// Publishes updates as they come in, and writes each batch to the journal first. Each client has
 /// an asker and a thread that answer it, and waits neither for another client nor for the
-/// publisher. Publisher and askers have at most `trees` trees together. The run ends when the
-/// updates and all clients have ended: `IsServedRun`.
+/// publisher. The publisher and the askers keep at most `trees` trees of lower bounds together. The
+/// run ends when the updates and all clients have ended: `IsServedRun`.
 ///
-/// An error comes before anything is read. It gives back all inputs except for the updates.
+/// If an error is returned, nothing was read. The error gives back all inputs except for the
+/// updates.
 pub fn run_serve<
     R: Read + Drop,
     W: Write,

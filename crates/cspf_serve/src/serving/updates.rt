@@ -1,4 +1,5 @@
-//! Answers the rows of the updates, by a publisher that counts each batch that it publishes.
+//! Answers the rows of the updates, by a publisher that counts each batch as published after it
+//! publishes the batch.
 
 ghost use Rattle.std.specs.Prelude.{◌≡◌, ◌<◌, ◌⊎◌, [], List, IsTrue, ◌↔◌, IfOk};
 ghost use Rattle.cspf_model.specs.declared.batch.Change.{Change as Changed};
@@ -19,7 +20,8 @@ use std::io::Write;
 use std::marker::Model;
 use std::sync::Wait;
 
-/// The publisher, and the steps of its journal up to the one that counts its last batch.
+/// The publisher, and the steps of its journal up to the step that counts the publisher's last
+/// batch as published.
 pub(super) struct Counted<J> {
     publisher: Publisher<J>,
     steps: SeenSteps,
@@ -36,7 +38,7 @@ impl<J> Model for Counted<J> {
 }
 
 impl<J: Write> Counted<J> {
-    /// A publisher from which nothing was asked yet.
+    /// The publisher, and the steps that its journal has at this time.
     fn new(publisher: Publisher<J>) -> Counted<J>
         ensures { result.publisher ≡ publisher }
     {
@@ -44,7 +46,7 @@ impl<J: Write> Counted<J> {
         Counted { publisher, steps }
     }
 
-    /// The steps of the journal up to the one that counts the last batch.
+    /// The steps of the journal up to the step that counts the publisher's last batch as published.
     fn steps(&self) -> SeenSteps
         ensures same { result ≡ self.now.steps }
         ensures journal { AreJournalSteps result.steps }
@@ -83,8 +85,8 @@ impl<J: Write, R: Wait> Sink<R> for Counted<J> {
     }
 }
 
-/// The state of a run's updates: the publisher, the open changes, and the number of refused rows
-/// and batches.
+/// The state of a run's updates: the publisher, the open changes (those without their `end` row),
+/// and the number of refused rows and batches.
 pub(super) struct Updates<J> {
     rows: Rows<Counted<J>>,
 }
@@ -103,14 +105,17 @@ impl<J> Model for Updates<J> {
 }
 
 impl<J: Write, R: Wait> Answering<R> for Updates<J> {
+    type Fault = AllocError;
+
     ghost use Rattle.std.specs.Prelude.{◌<◌};
     ghost use Rattle.cspf_serve.specs.UpdatesStates.{IsUpdateTaken, IsUpdateFailed};
 
     ghost answers = { IsUpdateTaken J.contents };
 
-    ghost fails = { IsUpdateFailed J.contents };
+    ghost fails = { λ fault. IsUpdateFailed J.contents };
 
-    // Each row adds at most 1 to each of these numbers.
+    // Each row adds at most 1 to the number of open changes (without their `end` row), of answers
+    // and of refusals.
     ghost may_stand = { λ place k. (k.changes.count < place) × (k.answers < place) × (k.refused < place) };
 
     fn answer(
@@ -120,14 +125,15 @@ impl<J: Write, R: Wait> Answering<R> for Updates<J> {
         place: u64,
         fields: &ByteRecord,
     ) -> Result<Vec<u8>, AllocError> {
-        // Law: a batch that is refused doesn't fit.
+        // Law: a batch is refused for at most one reason, and only if it doesn't fit the database.
         one_refusal();
         self.rows.answer(rt, alloc, place, &Row::read(fields))
     }
 }
 
 impl<J: Write> Updates<J> {
-    /// The state before the first row: no change is open, and nothing was refused.
+    /// The state before the first row: no change is open (waiting for its `end` row), and nothing
+    /// was refused.
     pub(crate) fn new(alloc: Global, publisher: Publisher<J>) -> Updates<J>
         ensures publisher { result.sink.publisher ≡ publisher }
         ensures open { AreOpen result.changes [] }
@@ -154,7 +160,7 @@ impl<J: Write> Updates<J> {
         self.rows.refused > 0 || self.rows.changes.count > 0
     }
 
-    /// The steps of the journal up to the one that counts the last batch.
+    /// The steps of the journal up to the step that counts the publisher's last batch as published.
     pub(super) fn steps(&self) -> SeenSteps
         ensures same { result ≡ self.now.sink.steps }
         ensures journal { AreJournalSteps result.steps }
@@ -163,7 +169,7 @@ impl<J: Write> Updates<J> {
         self.rows.sink.steps()
     }
 
-    /// A token by which a client learns of all published batches.
+    /// A value by which a client learns of all published batches.
     pub(super) fn tell(&mut self) -> Told
         ensures batches { result.batches ≡ self.old.sink.publisher.batches }
         ensures source { result.source ≡ self.old.sink.publisher.source }
@@ -172,8 +178,8 @@ impl<J: Write> Updates<J> {
         self.rows.sink.publisher.tell()
     }
 
-    /// Closes the publisher, and hands its journal's writer back. It may wait for clients that are
-    /// inside an ask.
+    /// Closes the publisher, and returns its journal's writer. The call may wait for clients whose
+    /// request is just being answered.
     pub(crate) fn close<R: Wait>(self, rt: &R) -> J
         ensures { result ≡ self.sink.publisher.journal }
     {

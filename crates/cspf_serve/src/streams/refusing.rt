@@ -17,7 +17,7 @@ pub(crate) fn refuse<W: Write>(alloc: Global, end: EarlyEnd, writer: &mut W) -> 
     ensures begun { OnErr result
         (IsRefusalBegun end (W.contents writer.old) (W.contents writer.new)) }
     ensures error { IfErr result IsStreamFault }
-    // The error that ended the run keeps its name.
+    // If the run ended by an error, the result is the `RunError` with the same name.
     ensures last { IfErr result (λ e. (why : JudgeError) × IsLastError end why
         × (e ≡ judged_error_of why)) }
 {

@@ -1,5 +1,5 @@
-//! What a table does with batches: it replaces links, refuses changes, and takes what fits when it is
-//! full. Also the fields and keys of links and requests.
+//! What a table does with batches: it replaces links, refuses changes, and accepts what fits when
+//! it is full. Also which fields and keys links and requests have.
 use super::edits::Edit::{self, Node, Put, Remove};
 use super::edits::{answer, answers, assert_case, batch_of, link};
 use cspf_addr::{Addr, Hop, Hops, Mask, Prefix};
@@ -17,8 +17,8 @@ const THREE: u32 = 50529027; // 3.3.3.3
 
 const INTERFACE: u32 = 167775233; // 10.0.12.1
 
-// Puts of links from 1.1.1.1 to 2.2.2.2 with different local addresses. The addresses of a link's two
-// interfaces differ in their last bit.
+// Changes that put links from 1.1.1.1 to 2.2.2.2 with different local addresses. The addresses of a
+// link's two interfaces differ in their last bit.
 const FIRST: Edit = Put(ONE, 0, TWO, 1);
 
 const FIVE: Edit = Put(ONE, 5, TWO, 4);
@@ -27,12 +27,14 @@ const SEVEN: Edit = Put(ONE, 7, TWO, 6);
 
 const LAST: Edit = Put(ONE, 16384, TWO, 16385);
 
-// The link of such a put, by its local address.
+// The link that runs from 1.1.1.1 by the interface `local` to 2.2.2.2. Its remote address differs
+// from `local` in the last bit.
 fn one_to_two(local: u32) -> Result<Link, LinkError> {
     link(ONE, local, TWO, local ^ 1)
 }
 
-// Puts of links from 1.1.1.1 to 2.2.2.2 whose local addresses are the numbers of a range.
+// A batch that puts links from 1.1.1.1 to 2.2.2.2. The links' local addresses are the numbers from
+// `first` to `end` - 1.
 fn puts(alloc: Global, first: u32, end: u32) -> Result<Batch, Fail> {
     let mut changes = Vec::new(alloc);
     for local in first..end {
@@ -41,7 +43,8 @@ fn puts(alloc: Global, first: u32, end: u32) -> Result<Batch, Fail> {
     Ok(Batch { number: 1, changes })
 }
 
-// The link from 1.1.1.1 by the interface 5 to 3.3.3.3, with other attributes.
+// The link from 1.1.1.1 by the interface 5 to 3.3.3.3. Its other attributes differ from those of
+// `one_to_two`.
 fn other_link() -> Result<Link, LinkError> {
     Link::new(
         Addr::new(ONE),
@@ -54,8 +57,9 @@ fn other_link() -> Result<Link, LinkError> {
     )
 }
 
-// Whether a link runs from 1.1.1.1 by the interface 5 to this router and its interface. The link has to
-// have this metric, group and unreserved bandwidths.
+// Whether a link runs from 1.1.1.1 by the interface 5 to the router and the interface that `to`
+// gives. The link also has to have the metric and the group of `of_links`, and the unreserved
+// bandwidths `free`.
 fn has_fields(link: &Link, to: (u32, u32), of_links: (u32, u32), free: [u64; 8]) -> bool {
     let from = (link.from.number(), link.local.number());
     let ends = from == (ONE, 5) && (link.to.number(), link.remote.number()) == to;
@@ -87,7 +91,7 @@ fn links(rt: HostRuntime) -> Result<(), Fail> {
     Ok(())
 }
 
-// Why a request is refused whose head-end is its tail-end, with this setup priority.
+// Why a request from a router to the same router, with this setup priority, is refused.
 fn refusal(setup: u8) -> Option<RequestError> {
     let (one, none) = (Addr::new(ONE), Mask::new(0));
     Request::new(7, one, one, setup, 1, none, none, none, Hops::none()).err()
@@ -127,7 +131,7 @@ fn is_batch(batch: &Batch, number: u32, changes: &[Change]) -> bool {
     batch.number == number && batch.changes.as_slice() == changes
 }
 
-// Whether the copy of a batch stays as it is when the batch loses a change.
+// Whether the copy of a batch stays as it is when a change is removed from the batch.
 fn is_copied(alloc: Global, batch: &mut Batch, changes: &[Change]) -> Result<bool, Fail> {
     let copy = batch.copy(alloc)?;
     let _ = batch.changes.pop();
@@ -143,8 +147,8 @@ fn a_copied_batch(rt: HostRuntime) -> Result<(), Fail> {
     Ok(())
 }
 
-// Whether the changes fit the table, by one call or by two. The table has to have exactly these links
-// then, and find them by their keys.
+// Whether the table accepts the changes, by one call or by two. After the changes, the table has to
+// have exactly these links, and to find them by their keys.
 fn leaves(
     alloc: Global,
     table: &mut Table,
@@ -157,7 +161,7 @@ fn leaves(
     Ok(fits && table.links() == links && are_found(table, links))
 }
 
-// Whether the links are found by their keys.
+// Whether the table finds each of the links by its key.
 fn are_found(table: &Table, links: &[Link]) -> bool {
     for link in links {
         if table.find(link.from, link.local) != Some(*link) {
@@ -183,8 +187,9 @@ fn a_replaced_link(rt: HostRuntime) -> Result<(), Fail> {
     replace(&rt, rt.alloc(), &mut Table::new(rt.alloc())?)
 }
 
-// Puts a link and its reverse. Then the link gets another metric, and the reverse has no unreserved
-// bandwidth. Then the link is as it was, and its router is marked.
+// Puts a link and its reverse. Then the link gets another metric, and the reverse gets no
+// unreserved bandwidth. Then the link is put as it was first, and the router that it runs from is
+// marked as without transit.
 fn change_attributes(rt: &impl Abort, alloc: Global, table: &mut Table) -> Result<(), Fail> {
     let (old, mut full) = (link(ONE, 4, TWO, 5)?, link(TWO, 5, ONE, 4)?);
     let mut dear = old;
@@ -251,8 +256,9 @@ fn full_table(alloc: Global) -> Result<Table, Fail> {
     Ok(table)
 }
 
-// Changes, what a full table answers, and whether it then has its first link and its last link. A put
-// and a removal, in either order, leave a full table full.
+// Changes to a full table, what the table answers to them, and whether it then has its first link
+// and its last link. If a batch puts one link and removes another, in either order, a full table
+// stays full.
 const FULL: &[(&[Edit], Result<(), Refusal>, bool, bool)] = &[
     (&[], Ok(()), true, false),
     (&[LAST], Err(Refusal::Full), true, false),
@@ -281,7 +287,7 @@ fn a_full_table(rt: HostRuntime) -> Result<(), Fail> {
     change_full(&rt, rt.alloc(), &mut full_table(rt.alloc())?)
 }
 
-// Puts of a link from the router 0 to each router from 1 to `end` less 1.
+// A batch that puts one link from the router 0 to each router from 1 to `end` - 1.
 fn star(alloc: Global, end: u32) -> Result<Batch, Fail> {
     let mut changes = Vec::new(alloc);
     for to in 1..end {
@@ -290,7 +296,7 @@ fn star(alloc: Global, end: u32) -> Result<Batch, Fail> {
     Ok(Batch { number: 1, changes })
 }
 
-// Whether an empty table refuses the batch, and accepts it without its last change.
+// Whether an empty table refuses the batch, but accepts it without its last change.
 fn takes_one_less(table: &mut Table, batch: &mut Batch) -> bool {
     let more = table.check(batch);
     let _ = batch.changes.pop();
@@ -306,8 +312,8 @@ fn as_many_routers_as_are_kept(rt: HostRuntime) -> Result<(), Fail> {
     Ok(())
 }
 
-// Whether the table has 1,024 routers. Each of these routers has to be in the table if its flag is set,
-// and not otherwise.
+// Whether the table has 1,024 routers. It has to have each router of the list whose flag is set,
+// and none of the others.
 fn has_routers(table: &Table, routers: &[(u32, bool)]) -> bool {
     for (router, known) in routers {
         if table.has_router(Addr::new(*router)) != *known {
@@ -319,26 +325,29 @@ fn has_routers(table: &Table, routers: &[(u32, bool)]) -> bool {
 
 const TOO_MANY: Result<(), Refusal> = Err(Refusal::TooManyRouters);
 
-// Changes of a table with one link from the router 0 to each of the routers 1 to 1,023, and what the
-// table answers. The last item lists routers, and whether the table has each of them after the changes.
+// Changes to a table that has one link from the router 0 to each of the routers 1 to 1,023, and
+// what the table answers to them. The last item lists routers, and whether the table has each of
+// them after the changes.
 const STAR: &[(&[Edit], Result<(), Refusal>, &[(u32, bool)])] = &[
-    // another router comes: alone, and as a router goes
+    // a link to a new router is refused alone, and accepted together with the removal of the only
+    // link to another router
     (&[Put(0, 1024, 1024, 1025)], TOO_MANY, &[(1024, false)]),
     (
         &[Put(0, 1024, 1024, 1025), Remove(0, 1023)],
         Ok(()),
         &[(1024, true), (1023, false)],
     ),
-    // a link is moved to another router, which in the second case gets a link as well
+    // a link is replaced by one to a new router; the second batch also puts a link from the new
+    // router
     (&[Put(0, 5, 2000, 4)], Ok(()), &[(2000, true), (5, false)]),
     (
         &[Put(0, 6, 3000, 7), Put(3000, 3001, 0, 3000)],
         Ok(()),
         &[(3000, true), (6, false)],
     ),
-    // a router that stays gets a link to another router
+    // a link from router 7 to a new router would make one router too many
     (&[Put(7, 7, 4000, 6)], TOO_MANY, &[(4000, false)]),
-    // two links are moved to other routers
+    // two links are replaced by links to two new routers
     (
         &[Put(0, 8, 5000, 9), Put(0, 9, 6000, 8)],
         Ok(()),
@@ -346,8 +355,9 @@ const STAR: &[(&[Edit], Result<(), Refusal>, &[(u32, bool)])] = &[
     ),
 ];
 
-// What such a table answers to the batch, by one call or by two. The second result is whether the table
-// then has the routers whose flags are set, and lacks the others.
+// What a table with the links of `star` answers to the batch, by one call or by two. The second
+// result is whether the table then has exactly those routers of the list whose flags are true, and
+// 1,024 routers in all.
 fn change_star(
     alloc: Global,
     star: &Batch,
@@ -361,7 +371,8 @@ fn change_star(
     Ok((answer, has_routers(&table, routers)))
 }
 
-// Makes the changes of `STAR`, by two calls and by one.
+// Absorbs each batch of `STAR` twice: by the calls `check` and `absorb`, and by the call
+// `try_absorb`. Both ways have to give what `STAR` says.
 fn change_stars(rt: &impl Abort, alloc: Global, star: &Batch) -> Result<(), Fail> {
     for (at, (edits, wanted, routers)) in STAR.iter().enumerate() {
         let batch = batch_of(alloc, edits)?;
@@ -378,8 +389,8 @@ fn routers_that_come_as_others_go(rt: HostRuntime) -> Result<(), Fail> {
     change_stars(&rt, rt.alloc(), &star(rt.alloc(), 1024)?)
 }
 
-// Routers, addresses and lengths of prefixes, and whether the router owns the prefix in a table with
-// the link from 1.1.1.1 by 10.0.12.1 to 2.2.2.2.
+// A router, the address and the length of a prefix, and whether the router owns the prefix. The
+// table has the link from 1.1.1.1 by 10.0.12.1 to 2.2.2.2.
 const OWNERS: &[(u32, u32, u8, bool)] = &[
     (ONE, INTERFACE, 24, true),
     (TWO, INTERFACE, 24, false),
@@ -397,7 +408,7 @@ fn assert_owners(rt: &impl Abort, table: &Table) -> Result<(), Fail> {
     Ok(())
 }
 
-// Which routers own prefixes of an interface and of other addresses.
+// Which routers own prefixes that cover an interface, and prefixes that cover other addresses.
 #[test]
 fn owners_of_prefixes(rt: HostRuntime) -> Result<(), Fail> {
     let one_link = [Put(ONE, INTERFACE, TWO, INTERFACE ^ 1)];

@@ -1,6 +1,6 @@
-//! One test works on a table, and one test leaves its table empty. Both make the same batches.
-//! `tests/scarce` counts how often each test takes memory. The counts are equal, since looking at a
-//! batch, absorbing it and reading the table take no memory.
+//! One test works on a table, and another test leaves its table empty. Both make the same batches.
+//! `tests/scarce` counts how often each test takes memory. The counts are equal, because looking at
+//! a batch, absorbing it and reading the table take no memory.
 use super::edits::Edit::{self, Node, Put, Remove};
 use super::edits::{assert_case, batch_of, put};
 use cspf_addr::{Addr, Prefix};
@@ -11,27 +11,28 @@ use std::test::Fail;
 
 // Batches of few changes. The last five batches don't fit.
 const FEW: [&[Edit]; 10] = [
-    // no change
+    // this batch has no changes
     &[],
-    // a link, its reverse and a mark
+    // this batch puts a link and its reverse, and marks a router as without transit
     &[Put(1, 10, 2, 20), Put(2, 20, 1, 10), Node(1, false)],
-    // the same links
+    // this batch puts the same links again, which the table already has
     &[Put(1, 10, 2, 20), Put(2, 20, 1, 10)],
-    // a link that is moved to a new router
+    // this batch makes a link run to a new router
     &[Put(1, 10, 3, 30)],
-    // a link that goes, with its router and a mark
+    // this batch removes the link from router 1, and the mark that says that router 1 has no
+    // transit
     &[Remove(1, 10), Node(1, true)],
-    // two changes with the same key
+    // each of these batches has two changes of the same key
     &[Put(1, 10, 2, 20), Remove(1, 10)],
     &[Node(5, false), Node(5, true)],
-    // a removal of a link that the table doesn't have
+    // each of these batches removes a link that the table doesn't have
     &[Remove(9, 9)],
     &[Put(1, 10, 2, 20), Remove(9, 9)],
     &[Remove(9, 9), Remove(9, 9)],
 ];
 
-// Puts of links from the router 0 to other routers. The links' local addresses are the numbers of a
-// range.
+// A batch that puts links from the router 0 to `routers` other routers. The links' local addresses
+// are the numbers from `first` to `end` - 1.
 fn many(alloc: Global, first: u32, end: u32, routers: u32) -> Result<Batch, Fail> {
     let mut changes = Vec::new(alloc);
     for local in first..end {
@@ -41,10 +42,10 @@ fn many(alloc: Global, first: u32, end: u32, routers: u32) -> Result<Batch, Fail
     Ok(Batch { number: 1, changes })
 }
 
-// Batches of links from the router 0: the first local address, the local address after the last one,
-// and to how many other routers the links run. Four batches fill the table. The next two put the same
-// links, and links to other routers. The last three bring too many routers, too many links, and too
-// many changes.
+// Batches of links from the router 0: the first local address, the number after the last local
+// address, and to how many other routers the links run. Four batches fill the table. The next two
+// batches put the same links again, and links to other routers. The last three bring too many
+// routers, too many links, and too many changes.
 const MANY: [(u32, u32, u32); 9] = [
     (0, 4096, 1000),
     (4096, 8192, 1000),
@@ -69,7 +70,7 @@ fn batches(alloc: Global) -> Result<Vec<Batch>, Fail> {
     Ok(all)
 }
 
-// How many items all reads of a table find.
+// How many items are found by all calls that read a table.
 fn reads(table: &Table, prefix: Prefix) -> usize {
     let mut found = table.ends().len().wrapping_add(table.marks().len());
     for (at, router) in table.routers().iter().enumerate() {
@@ -85,7 +86,7 @@ fn reads(table: &Table, prefix: Prefix) -> usize {
     found.wrapping_add(reads_of_links(table))
 }
 
-// How many links are found by their keys and have their reverses.
+// How many links of the table are found by `find` and have a reverse, as `has_reverse` says.
 fn reads_of_links(table: &Table) -> usize {
     let mut found = 0usize;
     for link in table.links() {
@@ -95,7 +96,9 @@ fn reads_of_links(table: &Table) -> usize {
     found
 }
 
-// Looks at each batch, absorbs it by both calls, and reads the table.
+// Checks each batch, absorbs it by `try_absorb` and again by `absorb`, and then reads the table.
+// The result is how many items these reads find, plus the number of batches for which `check` and
+// `try_absorb` agree and `changes_shape` is true.
 fn work(table: &mut Table, batches: &[Batch], prefix: Prefix) -> usize {
     let mut found = 0usize;
     for batch in batches {

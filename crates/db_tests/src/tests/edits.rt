@@ -1,5 +1,6 @@
-//! What the tests share: links that differ only in their routers and interfaces, changes by their
-//! numbers, what a table answers to a batch, and the only assertion.
+//! What the tests share: links that differ only in their routers and interfaces, and changes whose
+//! addresses are given by numbers. Also how a table answers a batch, and `assert_case`, which has
+//! the only assertion of these tests.
 use cspf_addr::{Addr, Mask};
 use cspf_db::Table;
 use cspf_model::{Batch, Change, Link, LinkError, Refusal};
@@ -7,17 +8,19 @@ use std::alloc::Global;
 use std::process::Abort;
 use std::test::Fail;
 
-// Fails if a case doesn't hold, with the case's name and number.
+// Fails with the name and the number of a case if the case doesn't hold.
 pub(super) fn assert_case(rt: &impl Abort, name: &str, number: usize, holds: bool) {
     assert!(rt; holds, "{name} {number}");
 }
 
-// A change, by the numbers of its addresses.
+// A change, whose addresses are given by their numbers.
 #[derive(Clone, Copy)]
 pub(super) enum Edit {
-    // Puts the link from a router by a local interface to another router by a remote interface.
+    // Puts a link. The numbers are those of the router that it runs from, its local interface, the
+    // router that it runs to, and its remote interface.
     Put(u32, u32, u32, u32),
-    // Removes the link from a router by a local interface.
+    // Removes a link. The numbers are those of the router that it runs from, and of its local
+    // interface.
     Remove(u32, u32),
     // Sets whether a router has transit.
     Node(u32, bool),
@@ -33,7 +36,8 @@ impl Edit {
     }
 }
 
-// The link from a router by a local interface to another router by a remote interface.
+// The link from the router `from` with its interface `local` to the router `to` with its interface
+// `remote`.
 pub(super) fn link(from: u32, local: u32, to: u32, remote: u32) -> Result<Link, LinkError> {
     Link::new(
         Addr::new(from),
@@ -73,7 +77,8 @@ pub(super) fn batch_of(alloc: Global, edits: &[Edit]) -> Result<Batch, Fail> {
     Ok(Batch { number: 1, changes })
 }
 
-// What a table answers to a batch. If the batch fits, the table absorbs it, by one call or by two.
+// What a table answers to a batch. If the batch fits, the table absorbs it: by `try_absorb` if
+// `at_once`, and otherwise by `absorb` after `check`.
 pub(super) fn answer(table: &mut Table, batch: &Batch, at_once: bool) -> Result<(), Refusal> {
     if at_once {
         return table.try_absorb(batch);
@@ -83,7 +88,8 @@ pub(super) fn answer(table: &mut Table, batch: &Batch, at_once: bool) -> Result<
     answer
 }
 
-// Whether a table gives this answer to a batch of these changes, by two calls.
+// Whether a table gives the answer `wanted` to a batch of these changes. The batch is checked by
+// one call, and absorbed by another.
 pub(super) fn answers(
     alloc: Global,
     table: &mut Table,

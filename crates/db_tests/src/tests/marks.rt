@@ -1,4 +1,5 @@
-//! Which routers have transit, after batches that mark them and take their marks away.
+//! The table has to say which routers have transit, after batches that mark routers as without
+//! transit or remove such marks.
 use super::edits::Edit::{self, Node, Put, Remove};
 use super::edits::{answer, answers, assert_case, drop_of, node, put};
 use super::reverses::Draw;
@@ -9,8 +10,8 @@ use std::alloc::{AllocError, Global};
 use std::process::Abort;
 use std::test::Fail;
 
-// Whether each router is known by its Router ID. A router has to be marked at its index exactly if its
-// Router ID is one of these.
+// Whether the table finds each of its routers by its Router ID. The router at an index has to be
+// marked as without transit exactly if its Router ID is one of `marks`.
 fn are_routers_marked(table: &Table, marks: &[u32]) -> bool {
     for (at, router) in table.routers().iter().enumerate() {
         let marked = marks.contains(&router.number());
@@ -21,8 +22,8 @@ fn are_routers_marked(table: &Table, marks: &[u32]) -> bool {
     true
 }
 
-// How many addresses below 2,048 are routers. The result is `None` if the marked addresses below 2,048
-// aren't exactly these.
+// How many addresses below 2,048 are routers of the table. The result is `None` if the addresses
+// below 2,048 that are marked as without transit aren't exactly `marks`.
 fn count_routers(table: &Table, marks: &[u32]) -> Option<usize> {
     let mut known = 0usize;
     for number in 0..2048 {
@@ -35,7 +36,7 @@ fn count_routers(table: &Table, marks: &[u32]) -> Option<usize> {
     Some(known)
 }
 
-// Whether the table lists exactly these marks.
+// Whether the table lists exactly the addresses `marks` as marked, so as without transit.
 fn are_listed(table: &Table, marks: &[u32]) -> bool {
     for router in table.marks() {
         if !marks.contains(&router.number()) {
@@ -45,25 +46,27 @@ fn are_listed(table: &Table, marks: &[u32]) -> bool {
     table.marks().len() == marks.len()
 }
 
-// Whether exactly these addresses are marked, by each call of the table, and there are this many
-// routers. All addresses are below 2,048.
+// Whether all calls that say which addresses are marked as without transit name exactly the
+// addresses `marks`, and there are `routers` routers. All addresses are below 2,048.
 fn are_marks(table: &Table, marks: &[u32], routers: usize) -> bool {
     let known = count_routers(table, marks) == Some(routers) && table.routers().len() == routers;
     known && are_listed(table, marks) && are_routers_marked(table, marks)
 }
 
-// A batch, what the table answers to it, which addresses are marked then, and how many routers there
-// are.
+// A batch, what the table answers to it, and what the table has after that: which addresses are
+// marked as without transit, and how many routers there are.
 type Step = (&'static [Edit], Result<(), Refusal>, &'static [u32], usize);
 
 const MARKS_THAT_COME: &[Step] = &[
     (&[], Ok(()), &[], 0),
-    // a mark makes no router, and may be set twice
+    // an address without links that is marked as without transit is no router of the table, and it
+    // may be marked again
     (&[Node(1, false)], Ok(()), &[1], 0),
     (&[Node(1, false)], Ok(()), &[1], 0),
-    // an address that isn't marked has transit already
+    // to give transit to an address that already has transit changes nothing
     (&[Node(2, true)], Ok(()), &[1], 0),
-    // the marked router comes, and another router comes with its mark
+    // links are put at router 1, which is marked as without transit; the new router 3 is marked in
+    // the batch that puts its link
     (
         &[Put(1, 7, 2, 7), Node(3, false), Put(3, 8, 1, 8)],
         Ok(()),
@@ -85,12 +88,14 @@ const MARKS_THAT_GO: &[Step] = &[
         3,
     ),
     (&[Node(1, true), Node(2, false)], Ok(()), &[2, 3], 3),
-    // the routers go, and their marks stay
+    // all links are removed, and with them all routers, but the addresses stay marked as without
+    // transit
     (&[Remove(1, 7), Remove(3, 8)], Ok(()), &[2, 3], 0),
     (&[Node(3, true), Node(2, true)], Ok(()), &[], 0),
 ];
 
-// The key of a mark differs from the keys of the router's links, whatever their local addresses are.
+// The key of a router's mark (that it is without transit) differs from the keys of the router's
+// links, whatever their local addresses are.
 const KEYS_OF_MARKS: &[Step] = &[
     (
         &[Put(5, 0, 6, 0), Put(5, 5, 6, 5), Node(5, false)],
@@ -106,8 +111,8 @@ const KEYS_OF_MARKS: &[Step] = &[
     ),
 ];
 
-// Batches that change the mark of a router twice, to the same value or not, and a batch that is refused
-// for its links.
+// The first batch marks router 9 as without transit. Each of the next four sets the transit of
+// router 5 twice, to the same value or to another. The last batch is refused for its links.
 const REFUSED: &[Step] = &[
     (&[Node(9, false)], Ok(()), &[9], 0),
     (
@@ -158,7 +163,8 @@ const REFUSED: &[Step] = &[
 ];
 
 const ROUTERS_AND_MARKS: &[Step] = &[
-    // marks of addresses below, between and above the routers, and of a router
+    // two batches mark addresses as without transit: some below, between and above those of the
+    // routers 3 and 6, and that of router 6
     (
         &[Put(3, 1, 6, 1), Node(1, false), Node(4, false)],
         Ok(()),
@@ -166,14 +172,16 @@ const ROUTERS_AND_MARKS: &[Step] = &[
         2,
     ),
     (&[Node(6, false), Node(9, false)], Ok(()), &[1, 4, 6, 9], 2),
-    // marked and unmarked routers come before, between and after the other routers
+    // routers with and without transit are added, with addresses before, between and after those of
+    // the other routers
     (
         &[Put(1, 1, 4, 1), Put(9, 1, 2, 1)],
         Ok(()),
         &[1, 4, 6, 9],
         6,
     ),
-    // routers and marks go in one batch, and other routers and marks come
+    // each batch removes two routers and takes transit away from one; the first batch also gives
+    // transit to a router, and the second adds a router
     (
         &[Remove(1, 1), Node(6, true), Node(2, false)],
         Ok(()),
@@ -186,11 +194,12 @@ const ROUTERS_AND_MARKS: &[Step] = &[
         &[1, 2, 4, 8, 9],
         3,
     ),
-    // a router goes, and the router after it stays
+    // router 2 is removed, and the routers 8 and 9 stay; router 8 gets transit again
     (&[Remove(9, 1), Node(8, true)], Ok(()), &[1, 2, 4, 9], 2),
 ];
 
-// Takes the steps, one after the other.
+// Absorbs the batches of the steps into the table, one after the other. After each, the table has
+// to be as the step says.
 fn make(
     rt: &impl Abort,
     name: &str,
@@ -205,7 +214,8 @@ fn make(
     Ok(())
 }
 
-// Takes the steps with an empty table.
+// Absorbs the batches of the steps into an empty table, one after the other. After each, the table
+// has to be as the step says.
 fn make_all(rt: &impl Abort, name: &str, steps: &[Step], alloc: Global) -> Result<(), Fail> {
     make(rt, name, steps, alloc, &mut Table::new(alloc)?)
 }
@@ -233,7 +243,8 @@ fn keys_of_marks(rt: HostRuntime) {
     assert_case(&rt, "the key of a mark", 5, holds);
 }
 
-// Changes that mark the routers of a range, or take their marks away.
+// Changes that mark the routers from `first` to `end` - 1 as without transit, or remove their
+// marks.
 fn nodes(alloc: Global, first: u32, end: u32, transit: bool) -> Result<Vec<Change>, AllocError> {
     let mut changes = Vec::new(alloc);
     for router in first..end {
@@ -242,8 +253,8 @@ fn nodes(alloc: Global, first: u32, end: u32, transit: bool) -> Result<Vec<Chang
     Ok(changes)
 }
 
-// How many addresses below 4,096 are marked, how many marks the table lists, and how many routers it
-// has.
+// How many addresses below 4,096 are marked as without transit, how many of these marks the table
+// lists, and how many routers it has.
 fn counts(table: &Table) -> [usize; 3] {
     let mut marked = 0usize;
     for number in 0..4096 {
@@ -254,8 +265,8 @@ fn counts(table: &Table) -> [usize; 3] {
     [marked, table.marks().len(), table.routers().len()]
 }
 
-// Marks the addresses 0 to 1,023. Whether the table accepts this batch, then has exactly these marks,
-// and would accept the batch again.
+// Marks the addresses 0 to 1,023 as without transit. Returns whether the table accepts this batch,
+// then has exactly these marks, and would accept the batch again.
 fn fill(alloc: Global, table: &mut Table) -> Result<bool, AllocError> {
     let changes = nodes(alloc, 0, 1024, false)?;
     let all = Batch { number: 1, changes };
@@ -263,7 +274,7 @@ fn fill(alloc: Global, table: &mut Table) -> Result<bool, AllocError> {
     Ok(fits && counts(table) == [1024, 1024, 0] && table.check(&all) == Ok(()))
 }
 
-// Whether two addresses have transit.
+// Whether the address `first` has transit, and whether the address `second` has it.
 fn transit_of(table: &Table, first: u32, second: u32) -> (bool, bool) {
     let first = table.transit(Addr::new(first));
     (first, table.transit(Addr::new(second)))
@@ -271,11 +282,12 @@ fn transit_of(table: &Table, first: u32, second: u32) -> (bool, bool) {
 
 const TOO_MANY: Result<(), Refusal> = Err(Refusal::TooManyMarks);
 
-// Changes of a table in which the addresses 0 to 1,023 are marked, what the table answers, and whether
-// the addresses 0 and 1,024 have transit then.
+// Changes to a table in which the addresses 0 to 1,023 are marked as without transit. With each:
+// what the table answers, and whether the addresses 0 and 1,024 then have transit.
 const MORE: &[(&[Edit], Result<(), Refusal>, (bool, bool))] = &[
-    // One mark more is too many. The mark comes with transit for an unmarked address, with a mark that
-    // is set already, and with a link.
+    // Each of these batches would mark one address too many as without transit. It marks the
+    // address 1,024. It also gives transit to an address that has transit, marks a marked address
+    // again, or puts a link.
     (
         &[Node(1024, false), Node(1025, true)],
         TOO_MANY,
@@ -291,18 +303,19 @@ const MORE: &[(&[Edit], Result<(), Refusal>, (bool, bool))] = &[
         TOO_MANY,
         (false, true),
     ),
-    // a mark comes in place of another, and back
+    // address 1,024 is marked as without transit in place of address 0; the next batch marks
+    // address 0 in place of address 1,024
     (&[Node(1024, false), Node(0, true)], Ok(()), (true, false)),
     (&[Node(0, false), Node(1024, true)], Ok(()), (false, true)),
 ];
 
-// Whether a table has 1,024 marks and no routers, and whether these two addresses have transit as
-// given.
+// Whether a table has 1,024 marks of addresses without transit and no routers, and whether the two
+// addresses have transit as `transit` says.
 fn is_full(table: &Table, (first, second): (u32, u32), transit: (bool, bool)) -> bool {
     counts(table) == [1024, 1024, 0] && transit_of(table, first, second) == transit
 }
 
-// Sets all marks, and then makes the changes of `MORE`.
+// Marks the addresses 0 to 1,023 as without transit, and then makes the changes of `MORE`.
 fn change_full(rt: &impl Abort, alloc: Global, table: &mut Table) -> Result<(), Fail> {
     assert_case(rt, "marks", 1024, fill(alloc, table)?);
     for (at, (edits, wanted, transit)) in MORE.iter().enumerate() {
@@ -318,7 +331,7 @@ fn one_mark_more_than_are_kept(rt: HostRuntime) -> Result<(), Fail> {
     change_full(&rt, rt.alloc(), &mut Table::new(rt.alloc())?)
 }
 
-// A batch that marks the addresses 1,024 to 2,047 in place of 0 to 1,023.
+// A batch that marks the addresses 1,024 to 2,047 as without transit, in place of 0 to 1,023.
 fn all_others(alloc: Global) -> Result<Batch, AllocError> {
     let mut changes = nodes(alloc, 1024, 2048, false)?;
     for router in 0..1024 {
@@ -327,7 +340,8 @@ fn all_others(alloc: Global) -> Result<Batch, AllocError> {
     Ok(Batch { number: 1, changes })
 }
 
-// Sets all marks, and then other marks in place of these. Whether the table has the other marks then.
+// Marks the addresses 0 to 1,023 as without transit, and then other addresses in place of these.
+// Returns whether 1,024 addresses are then marked, among them 1,024 and not 1,023.
 fn takes_others(alloc: Global, table: &mut Table) -> Result<bool, AllocError> {
     let is_filled = fill(alloc, table)?;
     table.absorb(&all_others(alloc)?);
@@ -341,7 +355,7 @@ fn all_marks_in_place_of_others(rt: HostRuntime) -> Result<(), Fail> {
     Ok(())
 }
 
-// Links from router 0 to the routers 1 to `count`.
+// Changes that put links from router 0 to the routers 1 to `count`.
 fn star(alloc: Global, count: u32) -> Result<Vec<Change>, Fail> {
     let mut changes = Vec::new(alloc);
     for to in 0..count {
@@ -351,7 +365,8 @@ fn star(alloc: Global, count: u32) -> Result<Vec<Change>, Fail> {
     Ok(changes)
 }
 
-// A batch of the links of a star, of marks for the routers from 0 on, and of more changes.
+// A batch that puts `links` links from router 0, marks the routers from 0 to `marks` - 1 as without
+// transit, and makes the changes `more`.
 fn star_with_marks(alloc: Global, links: u32, marks: u32, more: &[Edit]) -> Result<Batch, Fail> {
     let mut changes = star(alloc, links)?;
     for router in 0..marks {
@@ -363,8 +378,9 @@ fn star_with_marks(alloc: Global, links: u32, marks: u32, more: &[Edit]) -> Resu
     Ok(Batch { number: 1, changes })
 }
 
-// How many links and marks a batch has, more changes of the batch, and what an empty table answers. The
-// last number is how many marks, and how many routers, the table has then.
+// A batch, and what an empty table answers to it. The two numbers are how many links from router 0
+// the batch puts, and how many routers it marks as without transit. Further changes of the batch
+// follow. The last number is how many marks, and also how many routers, the table then has.
 type Star = (u32, u32, &'static [Edit], Result<(), Refusal>, usize);
 
 const STARS: &[Star] = &[
@@ -387,11 +403,12 @@ const STARS: &[Star] = &[
     ),
     (0, 4096, &[], TOO_MANY, 0),
     (0, 4096, &[Node(0, true)], Err(Refusal::TooLong), 0),
-    // as many marks and routers as a table keeps
+    // this batch makes as many routers, and as many addresses without transit, as a table may have
     (1023, 1024, &[], Ok(()), 1024),
 ];
 
-// Whether the table gives the wanted answer to the batch, and has `left` marks and `left` routers then.
+// Whether the table gives the wanted answer to the batch, and then has `left` routers, and as many
+// marks of routers without transit.
 fn takes(
     alloc: Global,
     table: &mut Table,
@@ -409,7 +426,8 @@ fn take_stars(rt: &impl Abort, alloc: Global, table: &mut Table) -> Result<(), F
     Ok(())
 }
 
-// Too many marks are the last reason for which a batch is refused.
+// If a batch would mark too many routers as without transit, and breaks another rule too, it is
+// refused for the other rule.
 #[test]
 fn marks_behind_other_refusals(rt: HostRuntime) -> Result<(), Fail> {
     let limits = MOST_MARKS == 1024 && MOST_CHANGES == 4096;
@@ -417,8 +435,8 @@ fn marks_behind_other_refusals(rt: HostRuntime) -> Result<(), Fail> {
     take_stars(&rt, rt.alloc(), &mut Table::new(rt.alloc())?)
 }
 
-// A drawn change. The change puts a new link between two of eight routers, drops a link of the table,
-// or sets whether one of twelve addresses has transit.
+// A change that is drawn at random. It puts a new link between two of eight routers, removes a link
+// of the table, or sets whether one of twelve addresses has transit.
 fn drawn_change(draw: &mut Draw, table: &Table) -> Result<Change, LinkError> {
     match (draw.below(6), draw.link_of(table)) {
         (0, Some(link)) => Ok(drop_of(link.from.number(), link.local.number())),
@@ -432,7 +450,8 @@ fn drawn_change(draw: &mut Draw, table: &Table) -> Result<Change, LinkError> {
     }
 }
 
-// A drawn batch of one to four changes. Two of the changes may have the same key.
+// A batch of one to four changes that are drawn at random. Two of the changes may have the same
+// key.
 fn drawn_batch(alloc: Global, draw: &mut Draw, table: &Table) -> Result<Batch, Fail> {
     let mut changes = Vec::new(alloc);
     for _ in 0..draw.below(4).wrapping_add(1) {
@@ -453,7 +472,7 @@ fn has_twins(changes: &[Change]) -> bool {
     false
 }
 
-// Makes the changes to these marks, one change after the other.
+// Makes the changes to the list of the addresses without transit, one change after the other.
 fn mark_plainly(marked: &mut [bool; 16], changes: &[Change]) {
     for change in changes {
         if let Change::Node { router, transit } = change {
@@ -462,7 +481,7 @@ fn mark_plainly(marked: &mut [bool; 16], changes: &[Change]) {
     }
 }
 
-// The numbers of the marked addresses.
+// The numbers of the addresses whose flags in `marked` are set.
 fn listed(alloc: Global, marked: &[bool; 16]) -> Result<Vec<u32>, AllocError> {
     let mut marks = Vec::new(alloc);
     for router in 0..16 {
@@ -473,8 +492,9 @@ fn listed(alloc: Global, marked: &[bool; 16]) -> Result<Vec<u32>, AllocError> {
     Ok(marks)
 }
 
-// Whether the table absorbs a batch if `fits` is true, and refuses it otherwise. After that the table
-// has to have the marks that an accepted batch makes.
+// Whether the table absorbs the batch if `fits` is true, and refuses it otherwise. After this, the
+// routers that the table marks as without transit have to be those of `marked`, with the changes of
+// the batch if it fits.
 fn absorbs(
     alloc: Global,
     table: &mut Table,
@@ -491,8 +511,9 @@ fn absorbs(
     Ok(answers && are_marks(table, &marks, routers))
 }
 
-// Absorbs drawn batches. The result is how many batches are refused, and the sum, over the batches, of
-// how many marks the table has after a batch.
+// Absorbs batches that are drawn at random. After each batch, the routers that the table marks as
+// without transit are counted. The result is how many batches are refused, and the sum of these
+// counts.
 fn absorb_drawn(rt: &impl Abort, alloc: Global, table: &mut Table) -> Result<(u32, usize), Fail> {
     let (mut marked, mut draw) = ([false; 16], Draw { state: 9 });
     let (mut refused, mut marks) = (0u32, 0usize);
@@ -515,8 +536,8 @@ fn marks_after_drawn_batches(rt: HostRuntime) -> Result<(), Fail> {
     Ok(())
 }
 
-// A batch of this many links of a star, and of changes to the marks of the routers 0 to 1,023. Each
-// second router, from `first` on, is marked, and the others lose their marks.
+// A batch that puts `links` links from router 0, and sets the transit of the routers 0 to 1,023.
+// Every second router, from `first` on, is marked as without transit, and the others get transit.
 fn each_second(alloc: Global, links: u32, first: u32) -> Result<Batch, Fail> {
     let mut changes = star(alloc, links)?;
     for router in 0..1024 {
@@ -525,7 +546,8 @@ fn each_second(alloc: Global, links: u32, first: u32) -> Result<Batch, Fail> {
     Ok(Batch { number: 1, changes })
 }
 
-// Whether each router has the same transit by its index as by its Router ID.
+// Whether, for each router, the table says the same about its transit by the router's index as by
+// its Router ID.
 fn are_alike(table: &Table) -> bool {
     for (at, router) in table.routers().iter().enumerate() {
         if table.transit_at(at) != table.transit(*router) {
@@ -535,8 +557,8 @@ fn are_alike(table: &Table) -> bool {
     true
 }
 
-// Absorbs a batch with this many links. Whether each second of 1,024 routers, from `first` on, is
-// marked then.
+// Absorbs a batch with `links` links. Returns whether every second one of 1,024 routers, from
+// `first` on, is then marked as without transit.
 fn marks_each_second(
     alloc: Global,
     table: &mut Table,
@@ -548,8 +570,8 @@ fn marks_each_second(
     Ok(transit && counts(table) == [512, 512, 1024] && are_alike(table))
 }
 
-// The routers are 0 to 1,023. Each second router is marked: first the even routers, then the odd
-// routers.
+// Of the routers 0 to 1,023, a first batch marks the even ones as without transit. A second batch
+// marks the odd ones, and gives transit to the even ones.
 fn mark_each_second(rt: &impl Abort, alloc: Global, table: &mut Table) -> Result<(), Fail> {
     let marks_even = marks_each_second(alloc, table, 1023, 0)?;
     assert_case(rt, "each second router from", 0, marks_even);

@@ -1,5 +1,5 @@
-//! Which routers own an address that a prefix covers, and in which rows a router's links are. Batches
-//! put and drop links and move rows.
+//! The table has to say which routers own an address that a prefix covers, and at which indexes a
+//! router's links are. Batches put and remove links, so that other links move to other indexes.
 use super::edits::Edit::{self, Put, Remove};
 use super::edits::{answer, assert_case, batch_of};
 use super::reverses::Draw;
@@ -17,8 +17,8 @@ const SECOND: u32 = 0x0a00_0002;
 
 const THIRD: u32 = 0x0a00_0003;
 
-// The interfaces 192.168.0.1, 192.168.1.1 and so on. The interface 172.16.0.1 is the remote interface
-// of each link.
+// The local addresses of the routers' interfaces: 192.168.0.1, 192.168.1.1 and so on. Each link has
+// the remote interface 172.16.0.1.
 const ZERO_1: u32 = 0xc0a8_0001;
 
 const ONE_1: u32 = 0xc0a8_0101;
@@ -33,14 +33,15 @@ const SEVEN_1: u32 = 0xc0a8_0701;
 
 const REMOTE: u32 = 0xac10_0001;
 
-// The indexes of the routers that own the prefix.
+// The indexes of the routers that own the prefix, as the table lists them.
 fn listed(alloc: Global, table: &Table, prefix: Prefix) -> Result<Vec<u16>, AllocError> {
     let mut owners = Vec::with_capacity(alloc, MOST_ROUTERS)?;
     table.list_owners(&mut owners, prefix);
     Ok(owners)
 }
 
-// Looks at each router. Whether exactly these routers own the prefix.
+// Looks at each router, and returns whether exactly the routers at the indexes `owners` own the
+// prefix.
 fn are_owners(table: &Table, owners: &[u16], prefix: Prefix) -> bool {
     let mut count = 0usize;
     for (at, router) in table.routers().iter().enumerate() {
@@ -54,7 +55,7 @@ fn are_owners(table: &Table, owners: &[u16], prefix: Prefix) -> bool {
     count == owners.len()
 }
 
-// A prefix by its address and length, and the indexes of the routers that own it.
+// The address and the length of a prefix, and the indexes of the routers that own it.
 type Case = (u32, u8, &'static [u16]);
 
 // Whether exactly the routers of a case own its prefix.
@@ -73,9 +74,9 @@ const LINKS: &[Edit] = &[
     Put(SECOND, TWO_1, THIRD, REMOTE),
 ];
 
-// Prefixes that routers own by their Router IDs. Prefixes that a router owns by an interface in its
-// first, last or middle row, or that another router or several routers own. Prefixes without an owner:
-// they cover no interface, or only a remote interface.
+// First come prefixes that routers own by their Router IDs. Then come prefixes that one or several
+// routers own by the local address of a router's first, last or middle link. Last come prefixes
+// without an owner, which cover no interface or only a remote interface.
 const OWNERS: &[Case] = &[
     (FIRST, 32, &[0]),
     (SECOND, 32, &[1]),
@@ -95,7 +96,8 @@ const OWNERS: &[Case] = &[
     (REMOTE, 32, &[]),
 ];
 
-// The highest interface of a router goes, and a lower interface comes.
+// The link from the highest local address of a router is removed, and a link from a lower local
+// address is put.
 const MOVE: &[Edit] = &[Remove(FIRST, SEVEN_1), Put(FIRST, ZERO_1, THIRD, REMOTE)];
 
 const OWNERS_AFTER_MOVE: &[Case] = &[
@@ -105,7 +107,7 @@ const OWNERS_AFTER_MOVE: &[Case] = &[
     (TWO_1, 32, &[1]),
 ];
 
-// A router goes with its links.
+// A router is removed with all its links.
 const GO: &[Edit] = &[
     Remove(FIRST, ONE_1),
     Remove(FIRST, ONE_5),
@@ -121,19 +123,20 @@ const OWNERS_AFTER_GO: &[Case] = &[
     (0, 0, &[0, 1]),
 ];
 
-// The name of a case, a batch after `LINKS`, and the owners after that batch.
+// The name of a case, a batch that comes after `LINKS`, and the owners after this batch.
 const STEPS: &[(&str, &[Edit], &[Case])] = &[
     ("owners", &[], OWNERS),
     ("owners after a move", MOVE, OWNERS_AFTER_MOVE),
     ("owners after a router goes", GO, OWNERS_AFTER_GO),
 ];
 
-// Whether the table accepts a batch of these changes, by one call.
+// Whether the table accepts a batch of these changes in the call `try_absorb`.
 fn takes(alloc: Global, table: &mut Table, edits: &[Edit]) -> Result<bool, Fail> {
     Ok(answer(table, &batch_of(alloc, edits)?, true) == Ok(()))
 }
 
-// Absorbs `LINKS` and then one batch, after which the owners have to be those of the case.
+// Absorbs `LINKS` and then the batch of a step. After this, the owners have to be those of the
+// step.
 fn make(
     rt: &impl Abort,
     alloc: Global,
@@ -148,7 +151,8 @@ fn make(
     Ok(())
 }
 
-// Makes the case with an empty table.
+// Absorbs `LINKS` and then the batch of a step into an empty table. After this, the owners have to
+// be those of the step.
 fn make_all(rt: &impl Abort, alloc: Global, step: &(&str, &[Edit], &[Case])) -> Result<(), Fail> {
     make(rt, alloc, &mut Table::new(alloc)?, step)
 }
@@ -161,7 +165,7 @@ fn owners_after_batches(rt: HostRuntime) -> Result<(), Fail> {
     Ok(())
 }
 
-// Whether exactly these links run from a router.
+// Whether `out` has exactly the links that run from the router.
 fn are_links_from(table: &Table, router: Addr, out: &[Link]) -> bool {
     let mut count = 0usize;
     for link in table.links() {
@@ -175,7 +179,7 @@ fn are_links_from(table: &Table, router: Addr, out: &[Link]) -> bool {
     count == out.len()
 }
 
-// Whether the links that the table gives for each router are those that a look at each link finds.
+// Whether the table gives for each router exactly the links that are found by looking at each link.
 fn are_spans(table: &Table) -> bool {
     for (at, router) in table.routers().iter().enumerate() {
         if !are_links_from(table, *router, table.out_at(at)) {
@@ -185,7 +189,8 @@ fn are_spans(table: &Table) -> bool {
     true
 }
 
-// How many routers own a prefix. The result is `None` if the table and a look at each router differ.
+// How many routers own a prefix. The result is `None` if the table's list differs from what a look
+// at each router finds.
 fn count_owners(
     alloc: Global,
     table: &Table,
@@ -201,11 +206,11 @@ fn count_owners(
     }
 }
 
-// The lengths of drawn prefixes.
+// The lengths of the prefixes that are drawn at random.
 const LENGTHS: &[u8] = &[0, 27, 29, 30, 31, 32];
 
-// Draws prefixes of each length. The result is the most owners that one of them has, or `None` if the
-// owners of one are wrong.
+// Draws prefixes of each length at random. The result is the number of owners of the prefix that
+// has the most owners, or `None` if the owners of a prefix are wrong.
 fn most_owners(alloc: Global, table: &Table, draw: &mut Draw) -> Result<Option<usize>, Fail> {
     let mut most = 0;
     for length in LENGTHS {
@@ -217,7 +222,8 @@ fn most_owners(alloc: Global, table: &Table, draw: &mut Draw) -> Result<Option<u
     Ok(Some(most))
 }
 
-// Absorbs drawn batches of a few changes. The result is the most routers that own a drawn prefix.
+// Absorbs batches of a few changes that are drawn at random. The result is the number of owners of
+// the drawn prefix that has the most owners.
 fn absorb_drawn(rt: &impl Abort, alloc: Global, table: &mut Table) -> Result<usize, Fail> {
     let mut draw = Draw { state: 11 };
     let mut owners = 0;

@@ -1,4 +1,5 @@
-//! The indexes of the reverses of links. Batches put and drop links and reverses, and move rows.
+//! The table has to give the index of each link's reverse. Batches put and remove links and
+//! reverses, so that other links move to other indexes.
 use super::edits::Edit::{self, Put, Remove};
 use super::edits::{answer, answers, assert_case, link};
 use cspf_addr::{Addr, Mask};
@@ -8,7 +9,8 @@ use std::alloc::{AllocError, Global};
 use std::process::Abort;
 use std::test::Fail;
 
-// The link back over the same two interfaces, with other attributes.
+// The reverse of `link`, with other attributes: it joins the same two interfaces in the other
+// direction.
 fn back(link: &Link) -> Result<Link, LinkError> {
     Link::new(
         link.to,
@@ -36,13 +38,13 @@ fn plain_reverse(links: &[Link], link: &Link) -> Option<usize> {
     None
 }
 
-// The index of a reverse, or `NO_LINK`.
+// The index of a reverse as the table gives it: `NO_LINK` stands for no reverse.
 fn index_of(reverse: Option<usize>) -> usize {
     reverse.unwrap_or(usize::from(NO_LINK))
 }
 
-// How many of these links have a reverse. The result is `None` if the table and a plain search differ
-// about the reverse of a link.
+// How many of the links `out` have a reverse. The result is `None` if the table and a plain search
+// differ about the reverse of one of them.
 fn count_out(table: &Table, out: &[Link], reverses: &[u16]) -> Option<u32> {
     let mut both = 0u32;
     for (link, reverse) in out.iter().zip(reverses) {
@@ -61,7 +63,7 @@ fn count_out(table: &Table, out: &[Link], reverses: &[u16]) -> Option<u32> {
 }
 
 // How many links of the table have a reverse. The result is `None` if the table and a plain search
-// differ about the reverse of a link.
+// differ about the reverse of one of them.
 fn count_reverses(table: &Table) -> Option<u32> {
     let mut both = 0u32;
     for at in 0..table.routers().len() {
@@ -71,7 +73,7 @@ fn count_reverses(table: &Table) -> Option<u32> {
     Some(both)
 }
 
-// The indexes of the reverses of all links, in order.
+// The indexes of the reverses of all links, in the order of the links.
 fn reverses_of(alloc: Global, table: &Table) -> Result<Vec<u16>, AllocError> {
     let routers = table.routers();
     let mut all = Vec::new(alloc);
@@ -81,24 +83,24 @@ fn reverses_of(alloc: Global, table: &Table) -> Result<Vec<u16>, AllocError> {
     Ok(all)
 }
 
-// A link and its reverse.
+// Changes that put a link and its reverse.
 const THERE: Edit = Put(20, 1, 30, 2);
 
 const BACK: Edit = Put(30, 2, 20, 1);
 
-// A batch that fits, the indexes of the reverses of all links after it, and whether the table then has
-// the reverse of `THERE`.
+// A batch that fits, and what the table has after this batch: the indexes of the reverses of all
+// its links, and whether it has the reverse of `THERE`.
 type Step = (&'static [Edit], &'static [u16], bool);
 
-// A link alone, and then its reverse in a later batch.
+// A link is put alone, and its reverse is put in a later batch.
 const COME: &[Step] = &[
     (&[], &[], false),
     (&[THERE], &[NO_LINK], false),
     (&[BACK], &[1, 0], true),
 ];
 
-// The link and its reverse come in two batches, and later in one batch. When only the link goes, the
-// table still has the reverse of a link that it lacks.
+// A link and its reverse are put in two batches, and later in one batch. When the link `THERE` is
+// removed alone, the table still has its reverse.
 const COME_AND_GO: &[Step] = &[
     (&[THERE], &[NO_LINK], false),
     (&[BACK], &[1, 0], true),
@@ -111,28 +113,30 @@ const COME_AND_GO: &[Step] = &[
 
 const REPLACED: &[Step] = &[
     (&[THERE, BACK], &[1, 0], true),
-    // one of the two links gets another remote address
+    // the link or its reverse gets another remote address
     (&[Put(20, 1, 30, 3)], &[NO_LINK, NO_LINK], true),
     (&[THERE], &[1, 0], true),
     (&[Put(30, 2, 20, 3)], &[NO_LINK, NO_LINK], false),
     (&[BACK], &[1, 0], true),
-    // one of the two links runs to another router
+    // the link or its reverse runs to another router
     (&[Put(20, 1, 40, 2)], &[NO_LINK, NO_LINK], true),
     (&[THERE], &[1, 0], true),
     (&[Put(30, 2, 10, 1)], &[NO_LINK, NO_LINK], false),
-    // links back between the same routers over other interfaces
+    // the links in the other direction join the same two routers by other interfaces, so no link
+    // has a reverse
     (
         &[Remove(30, 2), Put(30, 3, 20, 4), Put(30, 4, 20, 3)],
         &[NO_LINK, NO_LINK, NO_LINK],
         false,
     ),
-    // a link over a second pair of interfaces, which has its reverse
+    // a link is put between two other interfaces, and the table already has its reverse
     (&[Put(20, 4, 30, 3)], &[NO_LINK, 2, 1, NO_LINK], false),
 ];
 
 const MOVED: &[Step] = &[
     (&[THERE, BACK], &[1, 0], true),
-    // rows come before both links, between them, and after them
+    // other links are put, whose keys are before those of the two links, between them, and after
+    // them
     (
         &[Put(10, 1, 20, 7), Put(10, 2, 30, 7)],
         &[NO_LINK, NO_LINK, 3, 2],
@@ -149,7 +153,7 @@ const MOVED: &[Step] = &[
         true,
     ),
     (&[Remove(10, 2)], &[NO_LINK, 3, NO_LINK, 1, NO_LINK], true),
-    // a link comes as another goes, and the reverse comes of a link that stays
+    // a link is put while its reverse is removed, and another link is put whose reverse stays
     (
         &[Remove(10, 1), Put(20, 7, 10, 1), Put(20, 9, 40, 1)],
         &[4, NO_LINK, NO_LINK, 5, 0, 3],
@@ -162,7 +166,7 @@ const MOVED: &[Step] = &[
     ),
 ];
 
-// Whether the table accepts the step's batch, and then has the step's reverses.
+// Whether the table accepts the batch of a step, and then has the reverses that the step wants.
 fn takes(alloc: Global, table: &mut Table, step: &Step) -> Result<bool, Fail> {
     let (edits, reverses, has_back) = step;
     let answers = answers(alloc, table, edits, Ok(()))?;
@@ -171,7 +175,8 @@ fn takes(alloc: Global, table: &mut Table, step: &Step) -> Result<bool, Fail> {
     Ok(holds && found.as_slice() == *reverses && count_reverses(table).is_some())
 }
 
-// Takes the steps, one after the other.
+// Absorbs the batches of the steps into the table, one after the other. After each, the table has
+// to be as the step says.
 fn make(
     rt: &impl Abort,
     alloc: Global,
@@ -184,7 +189,8 @@ fn make(
     Ok(())
 }
 
-// Takes the steps with an empty table.
+// Absorbs the batches of the steps into an empty table, one after the other. After each, the table
+// has to be as the step says.
 fn make_all(rt: &impl Abort, alloc: Global, steps: &(&str, &[Step])) -> Result<(), Fail> {
     make(rt, alloc, &mut Table::new(alloc)?, steps)
 }
@@ -214,26 +220,27 @@ fn has_key(changes: &[Change], change: &Change) -> bool {
     false
 }
 
-// A put of a link with a third set of attributes.
+// A change that puts a link whose metric, group and unreserved bandwidths differ from those of
+// `link` and of `back`.
 fn turned(from: Addr, local: Addr, to: Addr, remote: Addr) -> Result<Change, LinkError> {
     let link = Link::new(from, local, to, remote, 30, Mask::new(4), [5; 8])?;
     Ok(Change::Put(link))
 }
 
-// Draws numbers, the same numbers in each run.
+// A source of pseudorandom numbers, which are the same in each run.
 #[derive(Drop)]
 pub(super) struct Draw {
     pub(super) state: u32,
 }
 
 impl Draw {
-    // A drawn number below `most`, or 0 if `most` is 0.
+    // A number below `most`, drawn at random, or 0 if `most` is 0.
     pub(super) fn below(&mut self, most: u32) -> u32 {
         self.state = self.state.wrapping_mul(1664525).wrapping_add(1013904223);
         (self.state >> 16).checked_rem(most).unwrap_or(0)
     }
 
-    // A drawn link of the table, if the table has links.
+    // A link of the table, drawn at random, or `None` if the table has no links.
     pub(super) fn link_of(&mut self, table: &Table) -> Option<Link> {
         let links = table.links();
         if links.is_empty() {
@@ -242,15 +249,16 @@ impl Draw {
         links.get(self.below(links.len() as u32) as usize).copied()
     }
 
-    // A drawn link between two of eight routers, each of which has this many interfaces.
+    // A link between two of eight routers, drawn at random. Each router has `interfaces`
+    // interfaces.
     fn new_link(&mut self, interfaces: u32) -> Result<Link, LinkError> {
         let from = self.below(8);
         let to = from.wrapping_add(1).wrapping_add(self.below(7)) % 8;
         link(from, self.below(interfaces), to, self.below(interfaces))
     }
 
-    // A drawn change to the table. The change puts a new link, a reverse, or a link back over other
-    // interfaces. Or it drops a link, or makes a link run to another router.
+    // A change to the table, drawn at random. It puts a new link, the reverse of a link, or a link
+    // back over other interfaces. Or it removes a link, or makes a link run to another router.
     fn change(&mut self, table: &Table, interfaces: u32) -> Result<Change, LinkError> {
         let kind = self.below(8);
         let Some(old) = self.link_of(table) else {
@@ -267,7 +275,8 @@ impl Draw {
         }
     }
 
-    // A drawn batch of this many changes that fits the table.
+    // A batch that fits the table, with `count` changes that are drawn at random. It has fewer
+    // changes if 100,000 draws don't give as many with different keys.
     pub(super) fn batch(
         &mut self,
         alloc: Global,
@@ -289,8 +298,9 @@ impl Draw {
     }
 }
 
-// Draws a batch of this many changes, and has the table absorb it. The result is how many links have
-// reverses then, or `None` if a reverse is wrong.
+// Draws a batch of `count` changes, and has the table absorb it. The result is how many links of
+// the table then have reverses. It is `None` if the batch has fewer changes, if the table refuses
+// it, or if a reverse is wrong.
 fn absorb_drawn(
     alloc: Global,
     table: &mut Table,
@@ -303,8 +313,8 @@ fn absorb_drawn(
     Ok(if fits { count_reverses(table) } else { None })
 }
 
-// Absorbs drawn batches of a few changes. The result is the sum, over the batches, of how many links
-// have reverses after a batch.
+// Absorbs batches of a few changes that are drawn at random. After each batch, the links that have
+// reverses are counted. The result is the sum of these counts.
 fn absorb_many(rt: &impl Abort, alloc: Global, table: &mut Table) -> Result<u32, Fail> {
     let mut draw = Draw { state: 7 };
     let mut all = 0u32;
@@ -324,8 +334,8 @@ fn reverses_after_drawn_batches(rt: HostRuntime) -> Result<(), Fail> {
     Ok(())
 }
 
-// Absorbs drawn batches of 300 changes. The result is how many links have reverses after the last
-// batch.
+// Absorbs batches of 300 changes that are drawn at random. The result is how many links have
+// reverses after the last batch.
 fn absorb_long(rt: &impl Abort, alloc: Global, table: &mut Table) -> Result<u32, Fail> {
     let mut draw = Draw { state: 8 };
     let mut last = 0;
@@ -337,7 +347,7 @@ fn absorb_long(rt: &impl Abort, alloc: Global, table: &mut Table) -> Result<u32,
     Ok(last)
 }
 
-// A batch of 300 changes rewrites all rows at once.
+// A batch of 300 changes rewrites all rows (links) of the table at once.
 #[test]
 fn reverses_after_a_long_batch(rt: HostRuntime) -> Result<(), Fail> {
     let both = absorb_long(&rt, rt.alloc(), &mut Table::new(rt.alloc())?)?;

@@ -7,7 +7,8 @@ use cspf_model::{Batch, Change, Link, LinkError};
 use std::alloc::Global;
 use std::test::Fail;
 
-// A link with its reverse, and marks of a router and of an address without links.
+// A link with its reverse. A router, and an address without links, are marked: the mark says that
+// it has no transit.
 const START: [Edit; 4] = [
     Put(1, 10, 2, 20),
     Put(2, 20, 1, 10),
@@ -15,50 +16,53 @@ const START: [Edit; 4] = [
     Node(9, false),
 ];
 
-// Changes of one batch that keep the shape.
+// Batches whose changes keep the shape of the database: they change at most unreserved bandwidths.
 const KEPT: [&[Edit]; 5] = [
-    // no change
+    // this batch has no changes
     &[],
-    // links that the table has
+    // this batch puts links that the table already has
     &[Put(1, 10, 2, 20), Put(2, 20, 1, 10)],
-    // marks that the table has
+    // this batch marks addresses that are already marked as without transit
     &[Node(1, false), Node(9, false)],
-    // transit for addresses that have it
+    // this batch gives transit to addresses that already have transit
     &[Node(2, true), Node(8, true)],
-    // changes of all these kinds
+    // this batch gives transit, puts a link and takes transit away, and each of these changes
+    // nothing
     &[Node(2, true), Put(1, 10, 2, 20), Node(9, false)],
 ];
 
-// Changes of one batch that change the shape.
+// Batches whose changes change more of the database than unreserved bandwidths.
 const CHANGED: [&[Edit]; 11] = [
-    // a link with another key
+    // each of these batches puts a link with another key
     &[Put(3, 10, 2, 20)],
     &[Put(1, 11, 2, 20)],
-    // a link that ends elsewhere
+    // each of these batches makes a link end at another router or interface
     &[Put(1, 10, 3, 20)],
     &[Put(1, 10, 2, 21)],
-    // one link less
+    // this batch removes a link
     &[Remove(1, 10)],
-    // one mark less
+    // each of these batches gives transit to an address that is marked as without transit
     &[Node(1, true)],
     &[Node(9, true)],
-    // one mark more
+    // each of these batches marks an address as without transit that wasn't marked before
     &[Node(2, false)],
     &[Node(8, false)],
-    // several changes, of which only the first or only the last changes the shape
+    // in each of these batches, only the first change or only the last one changes more than
+    // unreserved bandwidths
     &[Remove(1, 10), Put(2, 20, 1, 10), Node(1, false)],
     &[Node(1, false), Put(2, 20, 1, 10), Put(1, 10, 3, 20)],
 ];
 
-// A table with the links and marks of `START`.
+// A table with the links of `START`, and with its marks of routers without transit.
 fn started(alloc: Global) -> Result<Table, Fail> {
     let mut table = Table::new(alloc)?;
     table.absorb(&batch_of(alloc, &START)?);
     Ok(table)
 }
 
-// How many of the batches get the wanted answer, up to the first that doesn't. The answer says whether
-// a batch changes the shape.
+// How many batches come before the first one for which `changes_shape` doesn't return `wanted`. If
+// there is none, the result is the number of batches. `changes_shape` says whether a batch changes
+// more than unreserved bandwidths.
 fn right(alloc: Global, batches: &[&[Edit]], wanted: bool) -> Result<usize, Fail> {
     let table = started(alloc)?;
     for (at, edits) in batches.iter().enumerate() {
@@ -75,14 +79,16 @@ fn valued(metric: u32, group: u32, free: [u64; 8]) -> Result<Link, LinkError> {
     Link::new(from, local, to, remote, metric, Mask::new(group), free)
 }
 
-// Whether a batch of both links of `START`, the first with these values, changes the shape.
+// Whether `changes_shape` is true of a batch that puts both links of `START`, the first one with
+// these values.
 fn changes(alloc: Global, metric: u32, group: u32, free: [u64; 8]) -> Result<bool, Fail> {
     let first = Change::Put(valued(metric, group, free)?);
     let changes = vec![in alloc; put(2, 20, 1, 10)?, first]?;
     Ok(started(alloc)?.changes_shape(&Batch { number: 1, changes }))
 }
 
-// Whether a batch keeps the shape that changes one unreserved bandwidth, or all of them.
+// Whether `changes_shape` is false for each batch that changes one unreserved bandwidth, and for a
+// batch that changes all of them.
 fn bandwidth_keeps(alloc: Global) -> Result<bool, Fail> {
     for at in 0..8 {
         let mut free = [1000; 8];

@@ -1,4 +1,5 @@
-//! The faults that an audit finds in lines of replies, and the journals and requests that it refuses.
+//! The faults that an audit finds in lines of replies, and the journals and requests that it
+//! refuses.
 
 use super::assert_case;
 use cspf_audit::{Audit, AuditError, AuditFault, audit};
@@ -7,16 +8,18 @@ use cspf_rows::{RequestsError, RowError};
 use std::alloc::Global;
 use std::test::Fail;
 
-/// Version 1 has a link from 1.1.1.1 to 2.2.2.2, and its reverse without bandwidth.
+/// A journal whose version 1 has a link from 1.1.1.1 to 2.2.2.2, and the reverse link, which has no
+/// unreserved bandwidth.
 const JOURNAL: &[u8] = b"put,1.1.1.1,10.0.12.1,2.2.2.2,10.0.12.2,10,0x1,\
 1000,1000,1000,1000,1000,1000,1000,1000\n\
 put,2.2.2.2,10.0.12.2,1.1.1.1,10.0.12.1,10,0x1,0,0,0,0,0,0,0,0\nend,1,2\n";
 
-/// Two requests for a route over that link, with the ids 7 and 8.
+/// Two requests for a route over the link of `JOURNAL`, with the ids 7 and 8.
 const REQUESTS: &[u8] = b"ask,7,1.1.1.1,2.2.2.2,0,1000,0x0,0x0,0x0,\n\
 ask,8,1.1.1.1,2.2.2.2,0,1000,0x0,0x0,0x0,\n";
 
-/// Whether the audit of the replies counts this many good lines, and finds these faults.
+/// Whether the audit of these replies finds exactly `good` lines without a fault, and exactly these
+/// faults.
 fn finds(
     alloc: Global,
     replies: &[u8],

@@ -1,4 +1,4 @@
-//! The batches that a reader of a journal gives one after the other, and the end of the journal.
+//! The batches that a reader of a journal returns one after the other, and the end of the journal.
 
 ghost use Rattle.std.specs.Prelude.{◌≡◌, true, IfOk};
 ghost use Rattle.cspf_rows.specs.GivenBatches.{CanRead};
@@ -10,14 +10,16 @@ use std::alloc::{AllocError, Global};
 use std::io::Read;
 use std::test::Fail;
 
-/// The texts of three batches: the first has three changes, the second no change, and the third one change.
+/// The texts of three batches: the first has three changes, the second no change, and the third one
+/// change.
 const THREE: [&[u8]; 3] = [
     b"drop,1.1.1.1,0.0.0.0\nnode,1.1.1.1,0\ndrop,1.1.1.1,0.0.0.2\nend,1,3\n",
     b"end,2,0\n",
     b"node,2.2.2.2,1\nend,3,1\n",
 ];
 
-/// Texts after the three batches, and whether the reader then finds the journal clean or torn.
+/// Texts that come after the batches of `THREE`. With each text the journal is either clean, so no
+/// row follows its batches, or torn, so rows that are in no batch follow them.
 const BEHIND: &[(&[u8], Rest)] = &[
     (b"", Rest::Clean),
     (b"\r\n\n", Rest::Clean),
@@ -32,7 +34,7 @@ const BEHIND: &[(&[u8], Rest)] = &[
     ),
 ];
 
-/// The texts of the three batches, and this text after them.
+/// The texts of the three batches of `THREE`, followed by the text `behind`.
 fn text_of_three(alloc: Global, behind: &[u8]) -> Result<Vec<u8>, AllocError> {
     let mut text = Vec::new(alloc);
     for one in THREE {
@@ -42,7 +44,7 @@ fn text_of_three(alloc: Global, behind: &[u8]) -> Result<Vec<u8>, AllocError> {
     Ok(text)
 }
 
-/// Whether the reader gives another batch.
+/// Whether the reader returns one more batch.
 fn gives_batch<R: Read>(journal: &mut JournalReader<R>, batch: &mut Batch) -> bool
     requires { CanRead journal.old }
     ensures { result ≡ true → CanRead journal.new }
@@ -50,7 +52,7 @@ fn gives_batch<R: Read>(journal: &mut JournalReader<R>, batch: &mut Batch) -> bo
     journal.read_batch(batch) == Ok(JournalStep::Batch)
 }
 
-/// Whether the next batch that the reader gives is written as `text`.
+/// Whether the reader returns one more batch, and `text` is the text of this batch.
 fn gives<R: Read>(
     alloc: Global,
     journal: &mut JournalReader<R>,
@@ -63,8 +65,9 @@ fn gives<R: Read>(
     Ok(gives_batch(journal, batch) && has_text(alloc, batch, text)?)
 }
 
-/// Whether a reader gives the three batches, and then ends with `rest`. All are read into `batch`, which
-/// keeps its memory.
+/// Whether a reader of a journal returns the three batches of `THREE`, and then the end of the
+/// batches, with `rest` for what follows them. All batches are read into `batch`, whose memory is
+/// used again.
 fn gives_three(
     alloc: Global,
     journal: &mut JournalReader<Pieces<'_>>,
@@ -84,7 +87,8 @@ fn gives_three(
     )
 }
 
-/// Whether the reader of the three batches and the text `behind` gives them, and then ends with `rest`.
+/// Whether a reader of the texts of `THREE` and then the text `behind` returns the three batches,
+/// and then the end of the batches, with `rest` for what follows.
 fn are_given(alloc: Global, behind: &[u8], rest: Rest) -> Result<bool, AllocError> {
     let text = text_of_three(alloc, behind)?;
     let mut journal = JournalReader::new(alloc, by_bytes(text.as_slice()));
@@ -99,7 +103,7 @@ fn batch_after_batch(rt: HostRuntime) -> Result<(), Fail> {
     Ok(())
 }
 
-/// The answer to the first call of `read_batch`.
+/// The result of the first call of `read_batch`.
 fn first_answer(alloc: Global, reader: Pieces<'_>) -> Result<JournalStep, ReadError> {
     let mut journal = JournalReader::new(alloc, reader);
     journal.read_batch(&mut empty_batch(alloc))
@@ -113,14 +117,14 @@ fn rows_behind_batches_are_counted(rt: HostRuntime) {
     assert_case(&rt, b"more", more == Err(ReadError::TooManyRows));
 }
 
-/// Texts of a batch, some with more after it.
+/// Texts of one batch, some followed by more bytes.
 const FAILING: &[&[u8]] = &[
     b"end,1,0\n",
     b"end,1,0\nnode,1.1.1.1,0\n",
     b"end,1,0\nfoo\n",
 ];
 
-/// Whether a reader gives a batch, and then a read fails.
+/// Whether a reader of a journal returns a batch, and then a read fails.
 fn gives_and_fails(journal: &mut JournalReader<Pieces<'_>>, batch: &mut Batch) -> bool
     requires { CanRead journal.old }
 {

@@ -1,4 +1,4 @@
-//! Where reading ends: at a refused row, or at the first row above the limit.
+//! The reading of a text ends at a refused row, or at the first row above the limit.
 
 use super::assert_case;
 use cspf_rows::{MOST_ROWS, ReadError, RequestsError, RowError, read_journal, read_requests};
@@ -6,15 +6,15 @@ use std::alloc::Global;
 use std::io;
 use std::io::Read;
 
-/// How many rows a reader has after the last row that may be read.
+/// How many further rows of the text a reader gives after the last row that should be read.
 const MORE: u32 = 10;
 
-/// A reader that gives `row` `times` times and then `other`, one row in each read. `begun` counts the
-/// rows of which it gave a byte.
+/// A reader that first gives `row`, `times` times, and then gives `other`, one row in each read.
+/// `begun` is how many rows the reader has begun to give.
 ///
-/// `csv` reads the first byte alone, to look for a byte order mark. It reads again only when its buffer
-/// is empty and no record has ended. A record ends at its line feed, so each further row takes one read,
-/// and there is no read after the last row that was asked for.
+/// `csv` reads the first byte alone, to look for a byte order mark. It reads again only when its
+/// buffer is empty and no record has ended. A record ends at its line feed, so each further row
+/// takes one read, and there is no read after the last row that was asked for.
 #[derive(Drop)]
 struct RowByRow<'a> {
     row: &'a [u8],
@@ -56,8 +56,8 @@ impl<'a> Read for RowByRow<'a> {
 
 const ASK: &[u8] = b"ask,8,1.1.1.1,2.2.2.2,0,0,0x0,0x0,0x0,\n";
 
-/// Rows at which the reading of requests ends, each with its error. A row without an error is read, but
-/// isn't an `ask` row.
+/// Rows at which the reading of requests ends, each with its error. A row without an error is read,
+/// but isn't an `ask` row.
 const LAST: &[(&[u8], Option<RowError>)] = &[
     (b"foo\n", Some(RowError::Kind)),
     (
@@ -68,7 +68,7 @@ const LAST: &[(&[u8], Option<RowError>)] = &[
     (b"end,1,0\n", None),
 ];
 
-/// The error of reading requests that ends at this row.
+/// The error with which the reading of requests ends at the row with this number.
 fn at_row(error: Option<RowError>, row: u32) -> RequestsError {
     match error {
         Some(error) => RequestsError::Bad { row, error },
@@ -76,15 +76,15 @@ fn at_row(error: Option<RowError>, row: u32) -> RequestsError {
     }
 }
 
-/// Whether reading ends with this error at the row `last`, whose place is `place`, and reads no row
-/// after it.
+/// Whether reading ends with this error at the row `last`, which has the number `place`, counted
+/// from 1, and no row after `last` is read.
 fn end_at(alloc: Global, before: u32, last: &[u8], place: u32, error: RequestsError) -> bool {
     let mut rows = RowByRow::new(ASK, before, last);
     let found = read_requests(alloc, &mut rows).err();
     found == Some(error) && rows.begun == place
 }
 
-/// How many requests come before the last row, and the place of the last row.
+/// How many requests come before the last row, and the number of the last row, counted from 1.
 const PLACES: &[(u32, u32)] = &[(0, 1), (1, 2), (300, 301)];
 
 #[test]
@@ -104,8 +104,8 @@ fn requests_end_at_a_row_too_many(rt: HostRuntime) {
     assert_case(&rt, ASK, end_at(rt.alloc(), MOST_ROWS, ASK, place, error));
 }
 
-/// Whether a journal of copies of this row is refused for too many rows, and only one row above the limit
-/// is read.
+/// Whether a journal of copies of this row is refused for too many rows, and only one row above the
+/// limit is read.
 fn has_too_many(alloc: Global, row: &[u8]) -> bool {
     let mut rows = RowByRow::new(row, MOST_ROWS, b"end,1,0\n");
     let found = read_journal(alloc, &mut rows).err();

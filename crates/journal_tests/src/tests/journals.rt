@@ -1,4 +1,5 @@
-//! Journals: their texts, reading in pieces, at each cut and after failed reads, and the limit of rows.
+//! Tests of journals: the texts of batches, and journals that are read in pieces or that are cut
+//! after each byte. Some reads fail, and some journals have too many rows.
 
 use super::{Pieces, assert_case, by_bytes, failing, has_text, repeated};
 use cspf_addr::{Addr, Mask};
@@ -18,7 +19,8 @@ fn text_of(alloc: Global, journal: &Journal) -> Result<Vec<u8>, AllocError> {
     Ok(text)
 }
 
-/// Whether the journal has batches with these texts, and is clean if `clean` is set and torn otherwise.
+/// Whether the journal's batches have these texts, and the journal is clean (no row follows its
+/// batches) exactly if `clean` is set.
 fn is_journal<R: Read + Drop>(
     alloc: Global,
     reader: R,
@@ -34,7 +36,7 @@ fn is_journal<R: Read + Drop>(
 const ONE_PUT: &[u8] = b"put,1.1.1.1,10.0.12.1,2.2.2.2,10.0.12.2,10,0x00000001,\
 1000,1000,1000,1000,1000,1000,1000,1000\nend,1,1\n";
 
-/// The batch of `ONE_PUT`.
+/// The batch whose text is `ONE_PUT`.
 fn one_put(alloc: Global) -> Result<Batch, Fail> {
     let link = Link::new(
         Addr::new(0x0101_0101),
@@ -56,22 +58,25 @@ fn text_of_one_put(rt: HostRuntime) -> Result<(), Fail> {
     Ok(())
 }
 
-/// A batch of two puts. The first has the greatest bandwidth, the second the greatest metric.
+/// The text of a batch that puts two links. The first has the greatest bandwidth, and the second
+/// the greatest metric.
 const PUTS: &[u8] = b"put,1.1.1.1,10.0.12.1,2.2.2.2,10.0.12.2,10,0x00000001,\
 1,2,3,4,5,6,7,18446744073709551615\n\
 put,2.2.2.2,10.0.12.2,1.1.1.1,10.0.12.1,4294967295,0xffffff0a,0,0,0,0,0,0,0,0\nend,1,2\n";
 
-/// A batch of one removal.
+/// The text of a batch that removes one link.
 const DROP: &[u8] = b"drop,1.1.1.1,10.0.12.1\nend,2,1\n";
 
-/// A batch of twelve removals.
+/// The text of a batch of twelve changes, each of which removes a link.
 const DROPS: &[u8] = b"drop,1.1.1.1,0.0.0.0\ndrop,1.1.1.1,0.0.0.1\ndrop,1.1.1.1,0.0.0.2\n\
 drop,1.1.1.1,0.0.0.3\ndrop,1.1.1.1,0.0.0.4\ndrop,1.1.1.1,0.0.0.5\ndrop,1.1.1.1,0.0.0.6\n\
 drop,1.1.1.1,0.0.0.7\ndrop,1.1.1.1,0.0.0.8\ndrop,1.1.1.1,0.0.0.9\ndrop,1.1.1.1,0.0.0.10\n\
 drop,1.1.1.1,0.0.0.11\nend,3,12\n";
 
-/// What is read of the texts of the three batches if they are cut off. From this length on, up to the next
-/// length: how many bytes the whole batches have, and whether the journal is clean.
+/// What is read of the first bytes of the text `three_batches`. An item `(from, whole, clean)` is
+/// for each cut after `from` bytes or more, but before the `from` of the next item. The batches
+/// that are read then have the first `whole` bytes of the text, and `clean` says whether no row
+/// follows them.
 const THREE_BATCHES: [(usize, usize, bool); 7] = [
     (0, 0, true),
     (1, 0, false),
@@ -82,7 +87,8 @@ const THREE_BATCHES: [(usize, usize, bool); 7] = [
     (468, 469, true),
 ];
 
-/// As `THREE_BATCHES`, but for the texts of `NODES`.
+/// What is read of the first bytes of the text `NODES`. The items mean the same as those of
+/// `THREE_BATCHES`.
 const NODE_BATCHES: [(usize, usize, bool); 7] = [
     (0, 0, true),
     (1, 0, false),
@@ -93,8 +99,8 @@ const NODE_BATCHES: [(usize, usize, bool); 7] = [
     (114, 115, true),
 ];
 
-/// The length of the whole batches in a text that is cut off after `cut` bytes, and whether the journal is
-/// clean.
+/// How many bytes the texts of the whole batches have if a text is cut off after `cut` bytes, and
+/// whether no row follows these batches. `parts` says this in the form of `THREE_BATCHES`.
 fn whole_part(parts: &[(usize, usize, bool)], cut: usize) -> (usize, bool) {
     let mut found = (0, true);
     for &(from, whole, clean) in parts {
@@ -114,7 +120,8 @@ fn three_batches(alloc: Global) -> Result<Vec<u8>, AllocError> {
     Ok(text)
 }
 
-/// Whether the first `cut` bytes of the text are read as their whole batches, and as clean or torn.
+/// Whether the text's first `cut` bytes are read as `parts` says. `parts` says which batches are
+/// read, and whether no row follows these batches.
 fn is_cut(
     alloc: Global,
     text: &[u8],
@@ -126,7 +133,8 @@ fn is_cut(
     is_journal(alloc, text.get(..cut).unwrap_or(&[]), batches, clean)
 }
 
-/// Each prefix of the text is read as its whole batches.
+/// Asserts that each prefix of the text is read as `parts` says. `parts` says which batches are
+/// read, and whether no row follows these batches.
 fn assert_cuts(
     rt: &impl Abort,
     alloc: Global,
@@ -153,25 +161,26 @@ fn nodes_cut_at_each_byte(rt: HostRuntime) -> Result<(), Fail> {
     assert_cuts(&rt, rt.alloc(), NODES, &NODE_BATCHES)
 }
 
-/// Whether the router 1.1.1.1 has transit, and the text of a batch that sets this.
+/// Pairs: whether the router 1.1.1.1 has transit, and the text of a batch that says so.
 const ONE_NODE: &[(bool, &[u8])] = &[
     (false, b"node,1.1.1.1,0\nend,1,1\n"),
     (true, b"node,1.1.1.1,1\nend,1,1\n"),
 ];
 
-/// The change in the batch of `ONE_NODE`.
+/// The change in the batch `one_node(transit)`.
 fn node(transit: bool) -> Change {
     let router = Addr::new(0x0101_0101);
     Change::Node { router, transit }
 }
 
-/// The batch of `ONE_NODE`.
+/// The batch with the number 1 and the only change `node(transit)`. Its text is the one that
+/// `ONE_NODE` pairs with `transit`.
 fn one_node(alloc: Global, transit: bool) -> Result<Batch, AllocError> {
     let changes = Vec::from_slice(alloc, &[node(transit)])?;
     Ok(Batch { number: 1, changes })
 }
 
-/// Whether the journal is clean and has only the batch `one_node(transit)`.
+/// Whether the journal has only the batch `one_node(transit)`, and no row follows this batch.
 fn is_one_node(journal: &Journal, transit: bool) -> bool {
     if journal.rest != Rest::Clean || journal.batches.len() != 1 {
         return false;
@@ -180,7 +189,7 @@ fn is_one_node(journal: &Journal, transit: bool) -> bool {
     batch.number == 1 && batch.changes.as_slice() == [node(transit)].as_slice()
 }
 
-/// Whether the batch `one_node(transit)` is written as this text, and read from it.
+/// Whether the batch `one_node(transit)` is written as this text, and is read from this text.
 fn has_node_text(alloc: Global, transit: bool, text: &[u8]) -> Result<bool, Fail> {
     let is_text = has_text(alloc, &one_node(alloc, transit)?, text)?;
     Ok(is_text && is_one_node(&read_journal(alloc, text)?, transit))
@@ -195,12 +204,14 @@ fn a_journal_of_one_node(rt: HostRuntime) -> Result<(), Fail> {
     Ok(())
 }
 
-/// Three batches with changes of transit. The second also removes a link.
+/// Three batches, each of which says for one router or more whether the router has transit. The
+/// second batch also removes a link.
 const NODES: &[u8] = b"node,1.1.1.1,0\nend,1,1\n\
 node,2.2.2.2,0\ndrop,1.1.1.1,10.0.12.1\nnode,1.1.1.1,1\nend,2,3\n\
 node,255.255.255.255,1\nend,3,1\n";
 
-/// Journals, the texts of their whole batches, and whether they are clean.
+/// Journals, each with the texts of its whole batches, and with whether the journal is clean. A
+/// journal is clean if no row follows its whole batches.
 const JOURNALS: &[(&[u8], &[u8], bool)] = &[
     (b"", b"", true),
     (b"end,1,0", b"end,1,0\n", true),
@@ -258,7 +269,8 @@ fn journals_in_pieces(rt: HostRuntime) -> Result<(), Fail> {
 const CHANGES: &[u8] =
     b"drop,1.1.1.1,0.0.0.0\ndrop,1.1.1.1,0.0.0.1\ndrop,1.1.1.1,0.0.0.2\nend,1,3\n";
 
-/// Whether the journal has one batch of three changes, in memory for exactly three.
+/// Whether the journal has one batch of three changes, whose memory has room for exactly three
+/// changes.
 fn takes_three(journal: &Journal) -> bool {
     match journal.batches.as_slice() {
         [batch] => batch.changes.len() == 3 && batch.changes.capacity() == 3,
@@ -276,7 +288,7 @@ fn changes_take_the_room_they_need(rt: HostRuntime) -> Result<(), Fail> {
 /// A row that is read as a change.
 const CHANGE: &[u8] = b"drop,1.1.1.1,10.0.0.1\n";
 
-/// Whether the journal has no batch and is torn.
+/// Whether the journal has no whole batch, but has rows: it is torn.
 fn is_torn(journal: &Journal) -> bool {
     journal.batches.is_empty() && journal.rest == Rest::Torn
 }
@@ -301,7 +313,7 @@ fn one_row_more_than_is_read(rt: HostRuntime) {
     }
 }
 
-/// Texts after which reading fails.
+/// Texts of journals. The read after the last byte of each text fails.
 const FAILING: &[&[u8]] = &[
     b"end,1,0\nend,2,0\n",
     b"drop,1.1.1.1,0.0.0.0\nend,1,1\ndrop,1.1.1.1,0.0.0.1\nend,2,1\n",

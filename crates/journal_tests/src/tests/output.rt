@@ -1,4 +1,4 @@
-//! Texts that a writer takes in pieces, and what it has taken before a fault.
+//! Texts that a writer takes in pieces, and what the writer has taken when a write fails.
 
 use super::assert_case;
 use cspf_rows::put_all;
@@ -15,8 +15,8 @@ enum Fault {
     TakeNone,
 }
 
-/// A writer that takes at most `width` bytes in each write. Once it holds `most` bytes, the next write
-/// fails, and all later writes succeed. It counts its writes and flushes.
+/// A writer that takes at most `width` bytes in each write. Once it holds `most` bytes, the next
+/// write fails, and all later writes succeed. It counts its writes and flushes.
 #[derive(Drop)]
 struct Faulty {
     held: Vec<u8>,
@@ -55,8 +55,8 @@ impl Write for Faulty {
     }
 }
 
-/// Whether `put_all` returns `wanted` after `writes` writes and no flush, and the writer holds the first
-/// `most` bytes of the text.
+/// Whether `put_all` returns `wanted` after `writes` writes and no flush, and the writer then holds
+/// the first `most` bytes of the text.
 fn is_put(
     alloc: Global,
     width: usize,
@@ -101,11 +101,12 @@ const FAULTS: &[Fault] = &[
     Fault::Fail(ErrorKind::BrokenPipe),
 ];
 
-/// How many bytes the writer takes before the fault, three in each write, and how many writes there are.
-/// The failing write counts.
+/// Pairs: how many bytes the writer takes before a write fails, and how many writes there are,
+/// including the failing one. Each write takes at most three bytes.
 const FRONTS: &[(usize, usize)] = &[(0, 1), (3, 2), (7, 4), (21, 8), (23, 9)];
 
-/// After a failed write nothing is written, though the writer would take it, and nothing is flushed.
+/// After a failed write nothing more is written, though the writer would take more bytes, and
+/// nothing is flushed.
 #[test]
 fn no_write_behind_a_fault(rt: HostRuntime) {
     for fault in FAULTS {

@@ -6,10 +6,11 @@ use csv::ByteRecord;
 use std::alloc::Global;
 use std::test::Fail;
 
-/// More rows than any text of `TEXTS` has.
+/// How many rows of a text are read at most. Each text of `TEXTS` has fewer rows.
 const MOST: usize = 5;
 
-/// Texts and their rows. The fields of a row are joined by bars, and each row ends with a semicolon.
+/// Texts and their rows. The fields of a row are joined by bars, and each row ends with a
+/// semicolon.
 const TEXTS: &[(&[u8], &str)] = &[
     (b"", ""),
     (b"\n\r\n\n", ""),

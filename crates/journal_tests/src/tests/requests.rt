@@ -1,4 +1,4 @@
-//! Requests that are read or refused, the limit of their rows, and readers that fail.
+//! Requests are read or refused, a stream of requests has too many rows, and readers fail.
 
 use super::{Pieces, assert_case, by_bytes, failing, repeated};
 use cspf_model::Request;
@@ -40,7 +40,7 @@ fn requests_in_pieces(rt: HostRuntime) -> Result<(), Fail> {
     Ok(())
 }
 
-/// Streams of requests, and the errors that refuse them.
+/// Streams of requests that are refused, each with its error.
 const REFUSED: &[(&[u8], RequestsError)] = &[
     (
         b"put,1.1.1.1,10.0.12.1,2.2.2.2,10.0.12.2,10,0x1,\
@@ -100,7 +100,7 @@ fn requests_are_counted(rt: HostRuntime) -> Result<(), Fail> {
     Ok(())
 }
 
-/// Streams that fail at their end, and the error of reading their requests.
+/// Streams that fail after their last byte, each with the error that reading its requests returns.
 const FAILING: &[(&[u8], RequestsError)] = &[
     (
         b"ask,7,1.1.1.1,2.2.2.2,0,0,0x0,0x0,0x0,\n",

@@ -1,4 +1,5 @@
-//! What each kind of row is read as, and the words with which rows are refused.
+//! The tests say what each kind of row of the text formats is read as, and with which words rows
+//! are refused.
 
 use super::assert_case;
 use cspf_addr::{Addr, Mask, parse_hops};
@@ -9,8 +10,9 @@ use std::alloc::{AllocError, Global};
 use std::process::Abort;
 use std::test::Fail;
 
-/// One case in each line: the words of the refusal, or `read`, and then the row. `F` stands for eight
-/// bandwidths of 1000, `S` for seven, `Z` for three affinity masks of 0, and `H` for seven hops.
+/// One case in each line: the words with which the row is refused, or `read`, and then the row. `F`
+/// stands for eight bandwidths of 1000, `S` for seven, `Z` for three affinity masks of 0, and `H`
+/// for seven hops.
 const ROWS: &str = "kind: foo
 kind: foo,1.1.1.1,10.0.0.1
 kind: PUT
@@ -94,8 +96,9 @@ number 3: node,1.1.1.1,
 number 3: node,1.1.1.1,4294967296
 number 3: node,1.1.1.1,18446744073709551617";
 
-/// Cases as in `ROWS`, but each row is a hops field that begins as objects do, or nearly so. `U` stands
-/// for the digits of a subobject.
+/// Cases in the form of `ROWS`, but with only the field of the hops in place of a row. This field
+/// begins with `ero:`, or with a similar text. `U` stands for the digits of a subobject of an
+/// EXPLICIT_ROUTE object.
 const OBJECTS: &str = "hops 1: ero
 hops 1: ERO:
 hops hex: ero:0
@@ -116,7 +119,8 @@ hops ero prefix-length: ero:000c140101080a000c022100
 read: ero:003c1401UUUUUUU
 read: ero:000C140101080A000C022000";
 
-/// Splits a line of a table into the words and the row.
+/// Splits a line of `ROWS` or `OBJECTS` at its first `: `, into the words of the refusal, or
+/// `read`, and the row or field after them.
 fn case(line: &str) -> (&str, &[u8]) {
     let (words, row) = line.split_once(": ").unwrap_or((line, ""));
     (words, row.as_bytes())
@@ -133,7 +137,7 @@ fn only_row(alloc: Global, text: &[u8]) -> Result<Result<Row, RowError>, csv::Er
     Ok(Row::read(&fields))
 }
 
-/// The words of the row's refusal, or `read`.
+/// The words of the refusal if a row is refused, or `read` if it is read.
 fn words_of(alloc: Global, read: Result<Row, RowError>) -> Result<String, AllocError> {
     match read {
         Ok(_) => format!(in alloc; "read"),
@@ -141,12 +145,13 @@ fn words_of(alloc: Global, read: Result<Row, RowError>) -> Result<String, AllocE
     }
 }
 
-/// Whether the row of a text is refused with these words, or read if they are `read`.
+/// Whether the row of a text is refused with these words, or is read if the words are `read`.
 pub(super) fn is_said(alloc: Global, text: &[u8], words: &str) -> Result<bool, Fail> {
     Ok(words_of(alloc, only_row(alloc, text)?)?.as_str() == words)
 }
 
-/// The text of a row of a table, with `front` before it and its letters spelled out.
+/// The text `front`, followed by a row of `ROWS` or a field of `OBJECTS`. In the row or field, each
+/// of the letters `F`, `S`, `Z`, `H` and `U` is replaced by the text that it stands for.
 fn text_of(alloc: Global, front: &[u8], row: &[u8]) -> Result<Vec<u8>, AllocError> {
     let mut text = Vec::from_slice(alloc, front)?;
     for byte in row {
@@ -155,7 +160,8 @@ fn text_of(alloc: Global, front: &[u8], row: &[u8]) -> Result<Vec<u8>, AllocErro
     Ok(text)
 }
 
-/// The text that a byte of the table stands for.
+/// The text that a byte of a row in `ROWS` or `OBJECTS` stands for: a longer text for each of the
+/// letters `F`, `S`, `Z`, `H` and `U`, and otherwise the byte itself.
 fn spelled(byte: &u8) -> &[u8] {
     match *byte {
         b'F' => b"1000,1000,1000,1000,1000,1000,1000,1000",
@@ -167,7 +173,8 @@ fn spelled(byte: &u8) -> &[u8] {
     }
 }
 
-/// Each row of the table, with `front` before it, is read or refused as its line says.
+/// Asserts for each line of `table`: the text `front`, followed by the line's row, is refused with
+/// the line's words. If these words are `read`, this text has to be read.
 fn assert_table(rt: &impl Abort, alloc: Global, front: &[u8], table: &str) -> Result<(), Fail> {
     for line in table.lines() {
         let (words, row) = case(line);
@@ -188,7 +195,7 @@ fn objects_and_refusals(rt: HostRuntime) -> Result<(), Fail> {
     assert_table(&rt, rt.alloc(), front, OBJECTS)
 }
 
-/// The row of the text is read as `row`.
+/// Asserts that the row of the text is read as `row`.
 fn assert_row(rt: &impl Abort, alloc: Global, text: &[u8], row: Row) -> Result<(), Fail> {
     let found = only_row(alloc, text)?;
     assert_case(rt, text, found == Ok(row));
@@ -199,7 +206,7 @@ const ROUTER: u32 = 0x0102_0304; // 1.2.3.4
 
 const INTERFACE: u32 = 0x0a00_0c01; // 10.0.12.1
 
-/// A row that puts a link from `ROUTER` by `INTERFACE`.
+/// A row that puts a link from the router `ROUTER` and its interface `INTERFACE`.
 const PUT: &[u8] =
     b"put,1.2.3.4,10.0.12.1,2.2.2.2,10.0.12.2,4294967295,0xA,1,2,3,4,5,6,7,18446744073709551615";
 
@@ -212,7 +219,7 @@ fn put() -> Result<Row, LinkError> {
     Ok(Row::Put(link))
 }
 
-/// The row that marks `ROUTER` as without transit, or removes its mark.
+/// The row that says whether `ROUTER` has transit, so whether routes may pass through this router.
 fn node(transit: bool) -> Row {
     let router = Addr::new(ROUTER);
     Row::Node { router, transit }
@@ -231,7 +238,8 @@ fn what_changes_and_an_end_say(rt: HostRuntime) -> Result<(), Fail> {
     assert_row(&rt, alloc, b"node,1.2.3.4,1", node(true))
 }
 
-/// The row that asks for a route from `ROUTER` with this bandwidth, these affinity masks and these hops.
+/// The row that asks for a route from `ROUTER` with this bandwidth, these affinity masks and these
+/// hops.
 fn ask(bandwidth: u64, [exclude, any, all]: [u32; 3], hops: &[u8]) -> Result<Row, Fail> {
     let (from, to) = (Addr::new(ROUTER), Addr::new(0x0202_0202));
     let hops = parse_hops(hops)?;
@@ -240,7 +248,7 @@ fn ask(bandwidth: u64, [exclude, any, all]: [u32; 3], hops: &[u8]) -> Result<Row
     Ok(Row::Ask(request))
 }
 
-/// A request with a list of hops.
+/// A row that asks for a route with a list of hops.
 const LIST: &[u8] = b"ask,9,1.2.3.4,2.2.2.2,7,1000,0x1,0x2,0x4,10.9.0.1/16s 4.4.4.4/32l";
 
 const OBJECT: &[u8] =

@@ -1,4 +1,4 @@
-//! Snapshots of tables, and the tables that are made from snapshots.
+//! Snapshots of tables, and tables that are made from snapshots.
 
 mod replays;
 mod tables;
@@ -12,7 +12,7 @@ use std::process::Abort;
 use std::test::Fail;
 use tables::{node, put, table_of};
 
-/// Whether the batches are numbered 1, 2 and so on, and have this many changes.
+/// Whether the batches are numbered 1, 2 and so on, and have as many changes as `sizes` says.
 fn have_sizes(batches: &[Batch], sizes: &[usize]) -> bool {
     let mut number = 0u32;
     for (batch, size) in batches.iter().zip(sizes) {
@@ -24,7 +24,7 @@ fn have_sizes(batches: &[Batch], sizes: &[usize]) -> bool {
     batches.len() == sizes.len()
 }
 
-/// The changes of all batches.
+/// The changes of all batches, in order, in one list.
 fn changes_of(alloc: Global, batches: &[Batch]) -> Result<Vec<Change>, AllocError> {
     let mut changes = Vec::new(alloc);
     for batch in batches {
@@ -33,7 +33,8 @@ fn changes_of(alloc: Global, batches: &[Batch]) -> Result<Vec<Change>, AllocErro
     Ok(changes)
 }
 
-/// Whether the batches make a table with the same links and marks as `table`.
+/// Whether the batches make a table that has the same links as `table`, and that marks the same
+/// routers as without transit.
 fn make_again(alloc: Global, batches: &[Batch], table: &Table) -> bool {
     match replay(alloc, batches) {
         Ok(again) => again.links() == table.links() && again.marks() == table.marks(),
@@ -41,7 +42,8 @@ fn make_again(alloc: Global, batches: &[Batch], table: &Table) -> bool {
     }
 }
 
-/// Whether a table's snapshot has batches of these sizes with these changes, and makes the table again.
+/// Whether the batches of a table's snapshot have these sizes and these changes. They also have to
+/// make a table with the same links, and the same routers marked as without transit.
 fn has_snapshot(
     alloc: Global,
     table: &Table,
@@ -88,7 +90,8 @@ fn links_and_marks(rt: HostRuntime) -> Result<(), Fail> {
     Ok(())
 }
 
-/// Changes in order: puts of `links` links between 1,024 routers, then marks of `marks` routers.
+/// Changes in order: those that put `links` links between 1,024 routers, and then those that mark
+/// `marks` routers as without transit.
 fn full_changes(
     rt: &impl Abort,
     alloc: Global,
@@ -114,7 +117,7 @@ fn reversed(alloc: Global, changes: &[Change]) -> Result<Vec<Change>, AllocError
     Ok(reversed)
 }
 
-/// The table after these changes, applied from the last to the first.
+/// The table that these changes make from the empty table, if they are applied in reverse order.
 fn table_of_reversed(
     rt: &impl Abort,
     alloc: Global,
@@ -124,7 +127,8 @@ fn table_of_reversed(
     table_of(rt, alloc, &reversed)
 }
 
-/// Whether the snapshot of a table with this many links and marks has batches of these sizes.
+/// Whether the snapshot of a table with `links` links, and with `marks` routers marked as without
+/// transit, has batches of these sizes.
 fn has_sizes(
     rt: &impl Abort,
     alloc: Global,

@@ -1,4 +1,5 @@
-//! What the tests of streams share: an answerer of rows, a reader of rows and a writer of lines.
+//! The tests of streams share an `Answering` that answers rows, a reader of rows, and a writer of
+//! lines.
 
 mod dialogues;
 mod faults;
@@ -20,18 +21,20 @@ use std::io::{ErrorKind, Read, Write};
 /// Answers a refused row with the line of its refusal, and any other row with an empty line.
 #[derive(Drop)]
 struct Refusals {
-    /// How many rows were refused.
+    /// How many rows of the stream were refused.
     refused: u64,
-    /// The place of the row at which memory is refused.
+    /// The number of the row at which memory is refused. The first row has the number 1.
     no_memory_at: u64,
 }
 
 impl Answering<()> for Refusals {
+    type Fault = AllocError;
+
     ghost answers = { λ place s fields line t. MatchResult (row_of fields) (λ _. (line ≡ []) × (t ≡ s))
         (λ error. (line ≡ refused_row_line place error)
         × (t ≡ record s { refused = s.refused + 1 })) };
 
-    ghost fails = { λ place s fields t. Unit {0} };
+    ghost fails = { λ fault place s fields t. Unit {0} };
 
     ghost may_stand = { λ place s. s.refused < place };
 
@@ -56,7 +59,7 @@ impl Answering<()> for Refusals {
     }
 }
 
-/// What the reader and the writer of a stream record.
+/// What the reader and the writer note while a stream is answered.
 #[derive(Drop)]
 struct Events {
     /// How many bytes were written.
@@ -65,7 +68,7 @@ struct Events {
     flushed: Cell<usize>,
     /// How many flushes there were.
     flushes: Cell<u32>,
-    /// There was a read while written bytes weren't flushed.
+    /// Whether there was a read before all written bytes were flushed.
     is_late: Cell<bool>,
 }
 
@@ -78,13 +81,14 @@ fn no_events() -> Events {
     }
 }
 
-/// A reader that gives one row in each read. Then it ends, or fails if `fails` is set.
+/// A reader that gives one row in each read. After the last row the reader ends, or fails if
+/// `fails` is set.
 #[derive(Drop)]
 struct Rows<'a> {
     rows: &'a [&'a [u8]],
-    /// How many rows it has begun to give.
+    /// How many rows the reader has begun to give.
     at: usize,
-    /// The bytes of the last begun row that aren't given yet.
+    /// The bytes that the reader hasn't given yet of the last row that it began.
     rest: &'a [u8],
     fails: bool,
     events: &'a Events,
@@ -124,8 +128,8 @@ impl<'a> Read for Rows<'a> {
     }
 }
 
-/// A writer that takes `most` bytes, and no bytes after them. Its flushes fail after the first
-/// `most_flushes`.
+/// A writer that takes `most` bytes, and no bytes after these. After `most_flushes` flushes each
+/// further flush fails.
 #[derive(Drop)]
 struct Lines<'a> {
     held: Vec<u8>,

@@ -1,11 +1,13 @@
-//! A publisher and eight askers, each on another thread, over the Abilene network. Its circuits and
-//! metrics are those of `examples/abilene.rows`. Circuits fail and come back while the askers ask. Read
-//! `publish_and_ask` first, which starts the threads. `publish_all` is the work of the publisher's thread,
-//! and `ask_all` that of an asker's thread.
+//! Tests a publisher and eight askers over the Abilene network. An asker is the object that
+//! computes the answers to requests, and each asker is on a thread of its own. The network's
+//! circuits and metrics are those of `examples/abilene.rows`. Circuits fail and are restored while
+//! the askers answer requests. Read `publish_and_ask` first, which starts the threads.
+//! `publish_all` is the work of the publisher's thread, and `ask_all` that of an asker's thread.
 //!
-//! The threads wait for each other, so that each version is asked while the next one is made. They wait
-//! for a bounded number of turns, and no assertion depends on the waiting: an asker may end before the
-//! first batch is published.
+//! The threads wait for each other, so that the askers (which compute the answers) answer requests
+//! at each version while the publisher makes the next one. They wait for a bounded number of turns
+//! of a loop. No assertion depends on the waiting: an asker may end before the first batch is
+//! published.
 
 use super::fixtures::{assert_case, batch, is_same, request};
 use cspf_addr::{Addr, Mask};
@@ -22,7 +24,7 @@ use std::test::Fail;
 use std::thread;
 use std::thread::Threads;
 
-/// The circuits: the two routers, and the metric of the links in both directions. The routers are
+/// The circuits. Each has two routers, and one metric for its links in both directions. The routers are
 /// Seattle 1, Sunnyvale 2, Los Angeles 3, Denver 4, Kansas City 5, Houston 6, Chicago 7, Indianapolis 8,
 /// Atlanta 9, Washington 10 and New York 11.
 const CIRCUITS: [(u32, u32, u32); 14] = [
@@ -42,19 +44,21 @@ const CIRCUITS: [(u32, u32, u32); 14] = [
     (1, 2, 861),
 ];
 
-/// The last version. Version 1 has the whole network. From then on a circuit fails at each even version,
-/// and comes back at the next.
+/// The last version. Version 1 has the whole network. From then on a circuit fails at each even
+/// version, and is restored at the next version.
 const VERSIONS: u32 = 201;
 
 const ASKERS: usize = 8;
 
-/// How many requests each asker asks.
+/// How many requests each asker (which computes the answers) answers.
 const ASKS: u64 = 12_500;
 
-/// How many more requests of all askers the publisher waits for before each next batch.
+/// Before each next batch the publisher waits until all askers (which compute the answers) together
+/// have answered this many more requests.
 const ASKS_A_BATCH: u64 = 400;
 
-/// How many requests an asker asks before it waits for another batch.
+/// How many requests an asker (which computes the answers) answers before it waits for another
+/// batch.
 const ASKS_IN_A_ROW: u64 = 64;
 
 const SEATTLE: u32 = 0xc6336401; // 198.51.100.1
@@ -72,7 +76,7 @@ const COSTS: &[(usize, u64)] = &[
     (12, 4242),
 ];
 
-/// A router's address, 198.51.100.number.
+/// The address 198.51.100.`number` of a router.
 fn router(number: u32) -> Addr {
     Addr::new(0xc6336400u32.wrapping_add(number))
 }
@@ -97,7 +101,7 @@ fn link_of(from: u32, to: u32, metric: u32) -> Result<Link, LinkError> {
     )
 }
 
-/// The batch that puts the whole network.
+/// The batch that adds all links of the network.
 fn whole_network(alloc: Global) -> Result<Batch, Fail> {
     let mut changes = Vec::new(alloc);
     for (a, b, metric) in &CIRCUITS {
@@ -107,7 +111,7 @@ fn whole_network(alloc: Global) -> Result<Batch, Fail> {
     Ok(Batch { number: 1, changes })
 }
 
-/// The change by which a link fails, or comes back.
+/// The change by which a link fails, or is restored.
 fn change_of(link: Link, fails: bool) -> Change {
     if fails {
         Change::Remove {
@@ -119,7 +123,8 @@ fn change_of(link: Link, fails: bool) -> Change {
     }
 }
 
-/// The batch with this number: a circuit fails if it is even, and comes back if it is odd.
+/// The batch with this number. If the number is even, a circuit fails, and if it is odd, the
+/// circuit is restored.
 fn circuit_batch(alloc: Global, number: u32) -> Result<Batch, Fail> {
     let (a, b, metric) = CIRCUITS[(number / 2) as usize % CIRCUITS.len()];
     let fails = number % 2 == 0;
@@ -128,7 +133,7 @@ fn circuit_batch(alloc: Global, number: u32) -> Result<Batch, Fail> {
     Ok(batch(alloc, number, &[there, back])?)
 }
 
-/// All batches: the whole network, and then the batches in which circuits fail and come back.
+/// All batches: the whole network, and then the batches in which circuits fail and are restored.
 fn all_batches(alloc: Global) -> Result<Vec<Batch>, Fail> {
     let mut all = Vec::new(alloc);
     all.push(whole_network(alloc)?)?;
@@ -138,7 +143,8 @@ fn all_batches(alloc: Global) -> Result<Vec<Batch>, Fail> {
     Ok(all)
 }
 
-/// Adds the outcomes of the search in a table at version 0 and after each batch.
+/// Adds to the list the outcomes that the search finds in a table: without a batch, and then after
+/// each batch.
 fn add_outcomes(
     alloc: Global,
     table: &mut Table,
@@ -154,7 +160,7 @@ fn add_outcomes(
     Ok(())
 }
 
-/// The outcomes of the search in a table at version 0 and after each batch.
+/// The outcomes that the search finds in a table: without a batch, and then after each batch.
 fn outcomes_in_order(
     alloc: Global,
     batches: &[Batch],
@@ -182,20 +188,22 @@ enum Fault {
     WrongRoute { version: u32 },
 }
 
-/// What all threads share.
+/// What the threads of the publisher and of all askers use together. An asker computes the answers
+/// to requests.
 #[derive(Clone, Copy)]
 struct Shared<'a> {
     batches: &'a [Batch],
     request: &'a Request,
     /// The right outcome at each version.
     outcomes: &'a [Outcome],
-    /// How many requests the askers have asked.
+    /// How many requests the askers (which compute the answers) have answered, or tried to answer.
     asked: &'a AtomicU64,
     /// How many batches the publisher has published.
     published: &'a AtomicU64,
 }
 
-/// An asker, the version of its last answer, how many of its answers were right, and its first fault.
+/// An asker (which computes the answers to requests), the version of its last answer, how many of
+/// its answers were right, and its first fault.
 #[derive(Drop)]
 struct Client {
     asker: Asker,
@@ -214,8 +222,9 @@ fn wait_for(count: &AtomicU64, least: u64) {
     }
 }
 
-/// Asks once, and returns the version of the answer. An answer is right if its version isn't lower than
-/// that of the answer before, and its outcome is that of the search in a table at this version.
+/// Lets the client's asker (which computes the answers) answer the request once, and returns the
+/// version of the answer. An answer is right if its version isn't lower than that of the answer
+/// before. Its outcome must also be the one that the search finds in a table at this version.
 fn ask_once(alloc: Global, shared: &Shared<'_>, client: &mut Client) -> Result<u32, Fault> {
     let before = client.version;
     match client.asker.ask(alloc, shared.request) {
@@ -234,7 +243,7 @@ fn ask_once(alloc: Global, shared: &Shared<'_>, client: &mut Client) -> Result<u
     }
 }
 
-/// Asks until there is memory for the answer, at most a thousand times.
+/// Tries to answer the request until there is memory for the answer, at most a thousand times.
 fn ask_again(alloc: Global, shared: &Shared<'_>, client: &mut Client) -> Result<u32, Fault> {
     for _ in 0..1000 {
         let answered = ask_once(alloc, shared, client);
@@ -246,7 +255,7 @@ fn ask_again(alloc: Global, shared: &Shared<'_>, client: &mut Client) -> Result<
     Err(Fault::Memory)
 }
 
-/// The work of an asker's thread.
+/// The work of an asker's thread. The asker computes the answers to requests.
 fn ask_all(alloc: Global, shared: &Shared<'_>, client: &mut Client) {
     for number in 0..ASKS {
         wait_for(shared.published, number / ASKS_IN_A_ROW);
@@ -279,7 +288,8 @@ fn publish_all<W: Write, R: Wait>(
     last
 }
 
-/// Publishes on this thread while the askers ask on other threads.
+/// Publishes batches on this thread while the askers (which compute the answers) answer requests on
+/// other threads.
 fn publish_and_ask<W: Write, R: Threads + Wait + Sync>(
     rt: &R,
     alloc: Global,
@@ -299,7 +309,7 @@ fn publish_and_ask<W: Write, R: Threads + Wait + Sync>(
     thread::join_mut(rt, &mut asking, &mut publishing).1
 }
 
-/// A client for each asker.
+/// A client for each asker. The asker computes the client's answers.
 fn clients_of(alloc: Global, askers: Vec<Asker>) -> Result<Vec<Client>, AllocError> {
     let mut clients = Vec::new(alloc);
     for asker in askers {
@@ -313,7 +323,8 @@ fn clients_of(alloc: Global, askers: Vec<Asker>) -> Result<Vec<Client>, AllocErr
     Ok(clients)
 }
 
-/// Checks that all answers of an asker were right, and that the last had the last version.
+/// Checks that a client's asker (which computes its answers) gave only right answers, and that its
+/// last answer had the last version.
 fn assert_right<R: Abort>(rt: &R, number: usize, client: &Client) {
     if let Some(fault) = client.fault {
         panic!(rt; "asker {number}: {fault:?}")
@@ -322,14 +333,15 @@ fn assert_right<R: Abort>(rt: &R, number: usize, client: &Client) {
     assert_case(rt, "asker", number, is_last);
 }
 
-/// Checks each asker as `assert_right` does.
+/// Checks each client's asker (which computes its answers) as `assert_right` does.
 fn assert_all_right<R: Abort>(rt: &R, clients: &[Client]) {
     for (number, client) in clients.iter().enumerate() {
         assert_right(rt, number, client);
     }
 }
 
-/// A publisher that has published no batch, and a client for each of its askers.
+/// A publisher that has published no batch, and a client for each of its askers (which compute the
+/// answers).
 fn opened<R: Wait + Abort>(rt: &R, alloc: Global) -> (Publisher<Vec<u8>>, Vec<Client>) {
     match open(rt, alloc, Vec::<u8>::new(alloc), ASKERS) {
         Ok((publisher, askers)) => match clients_of(alloc, askers) {
@@ -340,14 +352,15 @@ fn opened<R: Wait + Abort>(rt: &R, alloc: Global) -> (Publisher<Vec<u8>>, Vec<Cl
     }
 }
 
-/// Each asker asks once more.
+/// Each client's asker (which computes its answers) answers the request once more.
 fn ask_last(alloc: Global, shared: &Shared<'_>, clients: &mut [Client]) {
     for client in clients.iter_mut() {
         client.version = ask_again(alloc, shared, client).unwrap_or(0);
     }
 }
 
-/// Publishes while the askers ask. Afterwards each asker asks once more, at the last version.
+/// Publishes batches while the askers (which compute the answers) answer requests. Afterwards each
+/// asker gives one more answer, with the last version.
 fn run<R: Threads + Wait + Abort + Sync>(rt: &R, alloc: Global, shared: &Shared<'_>) {
     let (mut publisher, mut clients) = opened(rt, alloc);
     let last = publish_and_ask(rt, alloc, shared, &mut clients, &mut publisher);
@@ -366,7 +379,8 @@ fn assert_costs<R: Abort>(rt: &R, outcomes: &[Outcome]) {
     }
 }
 
-/// Runs a publisher and its askers with these batches, this request and these outcomes.
+/// Runs a publisher and its askers (which compute the answers). Publishes these batches, lets the
+/// askers answer this request, and compares their answers with these outcomes.
 fn ask_of<R: Threads + Wait + Abort + Sync>(
     rt: &R,
     alloc: Global,

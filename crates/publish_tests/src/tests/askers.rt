@@ -1,4 +1,5 @@
-//! Askers that learn of versions, askers that don't, and askers that move to another thread.
+//! Tests askers (the objects that compute the answers to requests). Some askers learn of versions,
+//! some don't, and some move to another thread.
 ghost use Rattle.std.specs.Prelude.{◌≡◌, ◌≤◌, length};
 
 use super::fixtures::{
@@ -15,7 +16,7 @@ use std::test::Fail;
 use std::thread;
 use std::thread::Threads;
 
-/// A publisher that has published no batch, and its two askers.
+/// A publisher that has published no batch, and its two askers (which compute the answers).
 fn opened_for_two<R: Wait + Abort>(rt: &R, alloc: Global) -> (Publisher<Vec<u8>>, Asker, Asker)
     ensures first { result.1.source ≡ result.0.source }
     ensures second { result.2.source ≡ result.0.source }
@@ -29,8 +30,9 @@ fn opened_for_two<R: Wait + Abort>(rt: &R, alloc: Global) -> (Publisher<Vec<u8>>
     }
 }
 
-/// Publishes a batch and then an empty one. The asker learns of version 1, then of version 2, then of
-/// version 1 again. Returns the versions of the tokens, and the version that the asker knows after each.
+/// Publishes a batch and then an empty one. The asker (which computes the answers) learns of
+/// version 1, then of version 2, then of version 1 again. Returns the versions that the publisher
+/// reports to the asker, and after each report the version that the asker then knows.
 fn told_out_of_order<W: Write, R: Wait>(
     rt: &R,
     alloc: Global,
@@ -51,7 +53,8 @@ fn told_out_of_order<W: Write, R: Wait>(
     (told, (asker.seen(), asker.meet(t3), asker.meet(t2)))
 }
 
-/// Whether an asker that has learnt of no version answers `none` at version 2, and knows version 2 then.
+/// Whether an asker (which computes the answers) that has learnt of no version gives the answer
+/// `none` with version 2. It must then know version 2.
 fn asks_untold(alloc: Global, asker: &mut Asker, request: &Request) -> bool
     ensures { asker.new.source ≡ asker.old.source }
 {
@@ -60,13 +63,15 @@ fn asks_untold(alloc: Global, asker: &mut Asker, request: &Request) -> bool
     before == 0 && is_answered && asker.seen() == 2
 }
 
-/// Whether an asker of a closed publisher gets the error `NoEntry`, or still answers `none` at version 2.
+/// Whether the asker (which computes the answers) of a closed publisher gets the error `NoEntry`,
+/// or still gives the answer `none` with version 2.
 fn is_closed(alloc: Global, asker: &mut Asker, request: &Request) -> bool {
     let closed = asker.ask(alloc, request);
     matches!(closed, Err(AskError::NoEntry)) || says(&closed, request.id, 2, Said::NoRoute)
 }
 
-/// One asker learns of versions in and out of order. The other learns of no version, and asks.
+/// One asker (which computes the answers) learns of versions in and out of order. The other asker
+/// learns of no version, and answers a request.
 fn tells_and_asks<R: Wait + Abort>(rt: &R, alloc: Global, first: &Batch, request: &Request) {
     let (mut publisher, mut asker, mut untold) = opened_for_two(rt, alloc);
     let versions = told_out_of_order(rt, alloc, &mut publisher, &mut asker, first);
@@ -86,7 +91,8 @@ fn told_and_untold(rt: HostRuntime) -> Result<(), Fail> {
     Ok(())
 }
 
-/// Reads the count of published batches. It is at least the count at the time of the call.
+/// Lets the asker (which computes the answers) read the count of published batches, and returns
+/// this count. The count is at least what it was at the time of the call.
 fn read_after<W: Write>(publisher: &Publisher<W>, asker: &mut Asker) -> u32
     requires { asker.old.source ≡ publisher.now.source }
     ensures source { asker.new.source ≡ asker.old.source }
@@ -102,7 +108,8 @@ fn read_after<W: Write>(publisher: &Publisher<W>, asker: &mut Asker) -> u32
     asker.catch_up(&mut steps, row)
 }
 
-/// Whether an asker that has learnt of no version reads this count, and knows this version then.
+/// Whether an asker (which computes the answers) that has learnt of no version reads `version` as
+/// the count of published batches. The asker must then know this version.
 fn reads<W: Write>(publisher: &Publisher<W>, asker: &mut Asker, version: u32) -> bool
     requires { asker.old.source ≡ publisher.now.source }
     ensures { asker.new.source ≡ asker.old.source }
@@ -111,7 +118,8 @@ fn reads<W: Write>(publisher: &Publisher<W>, asker: &mut Asker, version: u32) ->
     read == version && asker.seen() == version
 }
 
-/// An asker that learns of no version reads the count at versions 0, 1 and 2.
+/// An asker (which computes the answers) that learns of no version reads the count of published
+/// batches: without a batch, after batch 1, and after batch 2.
 fn reads_each_count<R: Wait + Abort>(rt: &R, alloc: Global, first: &Batch) {
     let (mut publisher, mut asker) = opened(rt, alloc, Vec::<u8>::new(alloc));
     let none = reads(&publisher, &mut asker, 0);
@@ -130,7 +138,8 @@ fn caught_up_untold(rt: HostRuntime) -> Result<(), Fail> {
     Ok(())
 }
 
-/// An asker asks before the reverse of the link is removed, and afterwards.
+/// An asker (which computes the answers) answers a request before the reverse of the link is
+/// removed, and afterwards.
 fn asks_around_a_drop<R: Wait + Abort>(
     rt: &R,
     alloc: Global,
@@ -166,8 +175,9 @@ fn asked_once_the_reverse_is_dropped(rt: HostRuntime) -> Result<(), Fail> {
     Ok(())
 }
 
-/// Moves an asker to another thread, where it learns of `told` and asks. Returns the asker, and whether it
-/// answered with the route at version 1 and then knew version 1.
+/// Moves an asker (which computes the answers) to another thread, where it learns of the version in
+/// `told` and answers the request. Returns the asker, and whether its answer was the route, with
+/// version 1, and it then knew version 1.
 fn asked_elsewhere<R: Threads>(
     rt: &R,
     alloc: Global,
@@ -195,7 +205,8 @@ fn asked_elsewhere<R: Threads>(
     .0
 }
 
-/// An asker moves to another thread, asks there, and comes back.
+/// An asker (which computes the answers) moves to another thread, answers a request there, and is
+/// then used on this thread again.
 fn goes_and_comes_back<R: Threads + Wait + Abort>(
     rt: &R,
     alloc: Global,

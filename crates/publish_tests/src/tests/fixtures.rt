@@ -1,5 +1,5 @@
-//! What the tests share: the assertion, batches, requests, publishers, a short form of answers, and a
-//! writer that fails.
+//! Defines what the tests share: the assertion, batches, requests, publishers, a short form of
+//! answers, and a writer that fails.
 ghost use Rattle.std.specs.Prelude.{◌≡◌};
 
 use cspf_addr::{Addr, Hops, Mask};
@@ -12,7 +12,7 @@ use std::process::Abort;
 use std::sync::Wait;
 use std::test::Fail;
 
-/// Stops the test if the case doesn't hold, and prints its name and number.
+/// If the case doesn't hold, prints the case's name and number, and stops the test.
 pub(super) fn assert_case<R: Abort>(rt: &R, name: &str, number: usize, holds: bool) {
     assert!(rt; holds, "{name} {number}");
 }
@@ -26,8 +26,8 @@ pub(super) const TEXT: &[u8] = b"put,1.1.1.1,10.0.12.1,2.2.2.2,10.0.12.2,10,0x00
 1000,1000,1000,1000,1000,1000,1000,1000\n\
 put,2.2.2.2,10.0.12.2,1.1.1.1,10.0.12.1,10,0x00000001,0,0,0,0,0,0,0,0\nend,1,2\n";
 
-/// A link of metric 10 with 1,000 bytes per second unreserved, from 1.1.1.1 by 10.0.12.1 to
-/// 2.2.2.2.
+/// A link of metric 10 from 1.1.1.1 to 2.2.2.2, with 1,000 bytes per second unreserved. The address
+/// of its interface at 1.1.1.1 is 10.0.12.1.
 pub(super) fn only_link() -> Result<Link, LinkError> {
     let (from, local) = (Addr::new(ONE), Addr::new(0x0a000c01));
     let (to, remote) = (Addr::new(TWO), Addr::new(0x0a000c02));
@@ -42,7 +42,7 @@ pub(super) fn back() -> Result<Link, LinkError> {
     Link::new(from, local, to, remote, link.metric, link.group, [0; 8])
 }
 
-/// Puts of `only_link` and of its reverse.
+/// The two changes that set `only_link` and its reverse.
 pub(super) fn both_ways() -> Result<[Change; 2], LinkError> {
     Ok([Change::Put(only_link()?), Change::Put(back()?)])
 }
@@ -54,7 +54,7 @@ pub(super) fn batch(alloc: Global, number: u32, changes: &[Change]) -> Result<Ba
     })
 }
 
-/// Batch 1, which puts `only_link` and its reverse.
+/// Batch 1, which sets `only_link` and its reverse.
 pub(super) fn first_batch(alloc: Global) -> Result<Batch, Fail> {
     Ok(batch(alloc, 1, &both_ways()?)?)
 }
@@ -67,12 +67,12 @@ pub(super) fn empty_batch(alloc: Global, number: u32) -> Batch {
     }
 }
 
-/// Batch 1, and request 7, which asks for a route over its link.
+/// Batch 1, and request 7 for a route over the link of this batch.
 pub(super) fn batch_and_request(alloc: Global) -> Result<(Batch, Request), Fail> {
     Ok((first_batch(alloc)?, request(7, ONE, TWO, 1000)?))
 }
 
-/// The publisher's result for an empty batch with this number.
+/// Applies an empty batch with this number, and returns the publisher's result.
 pub(super) fn apply_empty<W: Write, R: Wait>(
     rt: &R,
     alloc: Global,
@@ -85,7 +85,7 @@ pub(super) fn apply_empty<W: Write, R: Wait>(
     publisher.apply(rt, alloc, &empty)
 }
 
-/// A publisher that has published no batch, and its only asker.
+/// A publisher that has published no batch, and its only asker (which computes the answers).
 pub(super) fn opened<W: Write + Drop, R: Wait + Abort>(
     rt: &R,
     alloc: Global,
@@ -102,7 +102,7 @@ pub(super) fn opened<W: Write + Drop, R: Wait + Abort>(
     }
 }
 
-/// An outcome in short.
+/// The short form of an outcome.
 #[derive(Clone, Copy, PartialEq, Eq)]
 pub(super) enum Said {
     /// A route, by its cost and its count of links.
@@ -141,7 +141,8 @@ pub(super) fn says(answer: &Result<Answer, AskError>, id: u64, version: u32, wan
     }
 }
 
-/// Whether an asker answers the request at this version with this outcome.
+/// Whether an asker (which computes the answers) gives the request an answer with this version and
+/// outcome.
 pub(super) fn is_answered(
     alloc: Global,
     asker: &mut Asker,

@@ -1,4 +1,4 @@
-//! The text of the journal, and faults of its writer.
+//! Tests the text of the journal, and faults of its writer.
 ghost use Rattle.std.specs.Prelude.{◌≡◌};
 
 use super::fixtures::{
@@ -15,7 +15,7 @@ use std::sync::Wait;
 use std::test::Fail;
 
 /// Whether a fault of the writer within the text of batch 1 stops the publisher, and the empty database
-/// stays the published one.
+/// stays published.
 fn stops_at<R: Wait + Abort>(
     rt: &R,
     alloc: Global,
@@ -34,11 +34,11 @@ fn stops_at<R: Wait + Abort>(
     is_stopped && is_answered && TEXT.get(..most) == Some(held.as_slice())
 }
 
-/// How a write goes wrong: with an error, by an interrupt, or by taking no bytes.
+/// How a write to the journal fails: with an error, by an interrupt, or because it takes no bytes.
 const FAULTS: &[Option<ErrorKind>] = &[Some(ErrorKind::Other), Some(ErrorKind::Interrupted), None];
 
-/// The writer fails at each byte of batch 1's text. In the writes before it takes one byte each, or all
-/// that fit.
+/// In turn the writer fails at each byte of batch 1's text. Until then each write takes one byte,
+/// or all bytes that fit.
 fn stop_at_each_byte<R: Wait + Abort>(rt: &R, alloc: Global, first: &Batch, request: &Request) {
     for most in 0..TEXT.len() {
         for fault in FAULTS {
@@ -58,8 +58,8 @@ fn faults_of_the_journal(rt: HostRuntime) -> Result<(), Fail> {
     Ok(())
 }
 
-/// The published version, the version of a new token, and the version that the asker knows after it learnt
-/// from the token.
+/// Three versions: the published one, the one that the publisher then reports to the asker (which
+/// computes the answers), and the one that the asker knows after that.
 fn versions<W: Write>(publisher: &mut Publisher<W>, asker: &mut Asker) -> (u32, u32, u32)
     requires { asker.old.source ≡ publisher.old.source }
 {
@@ -67,8 +67,8 @@ fn versions<W: Write>(publisher: &mut Publisher<W>, asker: &mut Asker) -> (u32, 
     (publisher.version(), told.version(), asker.meet(told))
 }
 
-/// Whether batch 2 is refused with the error of the journal, and later batches because the publisher is
-/// stopped.
+/// Whether batch 2 is refused with the error of the journal, and later batches are refused because the
+/// publisher is stopped.
 fn stops_at_batch_2<R: Wait>(rt: &R, alloc: Global, publisher: &mut Publisher<Narrow>) -> bool
     ensures { publisher.new.source ≡ publisher.old.source }
 {
@@ -79,7 +79,7 @@ fn stops_at_batch_2<R: Wait>(rt: &R, alloc: Global, publisher: &mut Publisher<Na
     failed == Err(ApplyError::Journal { written: 3 }) && again == stopped && next == stopped
 }
 
-/// Whether the publisher answers the request with the route at version 1.
+/// Whether the publisher's own answer to the request is the route, with version 1.
 fn is_answered_here<W: Write>(alloc: Global, publisher: &Publisher<W>, request: &Request) -> bool {
     let own = publisher
         .answer(alloc, request)
@@ -156,7 +156,7 @@ fn has_text(alloc: Global, batch: &Batch) -> Result<bool, AllocError> {
     Ok(batch_text(alloc, batch)?.as_slice() == TEXT)
 }
 
-/// The copy of a batch is written as the same text as the batch.
+/// A copy of a batch has the same text in the journal as the batch itself.
 #[test]
 fn text_of_a_copy(rt: HostRuntime) -> Result<(), Fail> {
     let copy = first_batch(rt.alloc())?.copy(rt.alloc())?;

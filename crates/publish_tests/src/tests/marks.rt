@@ -1,4 +1,4 @@
-//! Routers that are marked as without transit, and stay marked at later versions.
+//! Tests routers that are marked as carrying no transit, and that stay marked at later versions.
 
 use super::fixtures::{
     ONE, Said, TWO, assert_case, back, batch, empty_batch, is_answered, only_link, opened, request,
@@ -14,7 +14,8 @@ use std::test::Fail;
 
 const THREE: u32 = 0x03030303; // 3.3.3.3
 
-/// Puts of the link from 1.1.1.1 to 2.2.2.2, of a link from 2.2.2.2 to 3.3.3.3, and of their reverses.
+/// The changes that set the link from 1.1.1.1 to 2.2.2.2, a link from 2.2.2.2 to 3.3.3.3, and the
+/// reverses of both.
 fn two_links() -> Result<[Change; 4], LinkError> {
     let (link, back) = (only_link()?, back()?);
     let (two, local) = (Addr::new(TWO), Addr::new(0x0a001702));
@@ -36,8 +37,9 @@ fn node_batch(alloc: Global, number: u32, transit: bool) -> Result<Batch, AllocE
     batch(alloc, number, &[Change::Node { router, transit }])
 }
 
-/// The batch with this number: 1 puts two links, 2 marks the router between them, 5 removes the mark, and
-/// 3, 4 and 6 are empty.
+/// The batch with this number. Batch 1 adds two links, and batch 2 marks the router between them. A
+/// marked router carries no transit. Batch 5 removes the mark, and the batches 3, 4 and 6 are
+/// empty.
 fn batch_at(alloc: Global, number: u32) -> Result<Batch, Fail> {
     match number {
         1 => Ok(batch(alloc, 1, &two_links()?)?),
@@ -47,11 +49,12 @@ fn batch_at(alloc: Global, number: u32) -> Result<Batch, Fail> {
     }
 }
 
-/// The end of the journal after these batches.
+/// The text at the end of the journal after these batches.
 const LAST: &[u8] = b"end,1,4\nnode,2.2.2.2,0\nend,2,1\nend,3,0\nend,4,0\n\
 node,2.2.2.2,1\nend,5,1\nend,6,0\n";
 
-/// The outcome at a version: no route while 2.2.2.2 is marked, and a route through 2.2.2.2 otherwise.
+/// The outcome at a version: no route while 2.2.2.2 is marked as without transit, and a route
+/// through 2.2.2.2 otherwise.
 fn said_at(version: u32) -> Said {
     match version {
         2..=4 => Said::NoRoute,
@@ -59,8 +62,8 @@ fn said_at(version: u32) -> Said {
     }
 }
 
-/// An asker asks after each of the batches. The publisher publishes them alternately in its two copies of
-/// the database.
+/// An asker (which computes the answers) answers the request after each of the batches. The
+/// publisher writes the batches alternately to its two copies of the database.
 fn ask_after_each<W: Write, R: Wait + Abort>(
     rt: &R,
     alloc: Global,

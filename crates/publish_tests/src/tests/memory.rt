@@ -1,5 +1,6 @@
-//! A publisher and its asker while memory is refused: each call gives its whole answer, or the error that
-//! memory is refused. Once there is memory again, it gives its whole answer.
+//! Tests a publisher and its asker (which computes the answers) while memory is refused. Each call
+//! gives its whole answer, or the error that memory is refused. Once there is memory again, the
+//! call gives its whole answer.
 ghost use Rattle.std.specs.Prelude.{◌≡◌, IfSome};
 
 use super::fixtures::{
@@ -14,7 +15,7 @@ use std::process::Abort;
 use std::sync::Wait;
 use std::test::Fail;
 
-/// A journal that needs no memory, since it holds its bytes itself.
+/// A journal that allocates no memory: its bytes are in the value itself.
 #[derive(Drop)]
 struct InPlace {
     text: [u8; 200],
@@ -43,8 +44,9 @@ fn has_memory(alloc: Global) -> bool {
     }
 }
 
-/// A publisher over an empty journal, and its only asker. `None` if memory is refused and stays refused. If
-/// opening fails, the journal is given back unchanged.
+/// A publisher over an empty journal, and its only asker (which computes the answers). The result
+/// is `None` if memory is refused and stays refused. If opening fails, the journal is returned
+/// unchanged.
 fn opened_at_last<R: Wait + Abort>(rt: &R, alloc: Global) -> Option<(Publisher<InPlace>, Asker)>
     ensures { IfSome result (λ opened. opened.1.source ≡ opened.0.source) }
 {
@@ -69,8 +71,8 @@ fn opened_at_last<R: Wait + Abort>(rt: &R, alloc: Global) -> Option<(Publisher<I
     }
 }
 
-/// The publisher's result for a batch. If memory is refused but there is memory again, the result of a
-/// second try.
+/// The publisher's result for a batch. If memory is refused at first and there is memory again, it is the
+/// result of a second try.
 fn apply_at_last<W: Write, R: Wait>(
     rt: &R,
     alloc: Global,
@@ -86,7 +88,7 @@ fn apply_at_last<W: Write, R: Wait>(
     applied
 }
 
-/// Whether batch 1 is published, or isn't published and memory is still refused.
+/// Whether batch 1 is published, or memory is still refused and batch 1 isn't published.
 fn is_right(alloc: Global, applied: Result<u32, ApplyError>, version: u32) -> bool {
     match applied {
         Ok(1) => version == 1,
@@ -95,7 +97,7 @@ fn is_right(alloc: Global, applied: Result<u32, ApplyError>, version: u32) -> bo
     }
 }
 
-/// Whether the answer is the route over the link, at version 1.
+/// Whether the answer is the route over the link, with version 1.
 fn is_of_the_link(answer: &Result<Answer, AskError>, link: &Link) -> bool {
     let links = match answer {
         Ok(answer) => match &answer.outcome {
@@ -107,7 +109,8 @@ fn is_of_the_link(answer: &Result<Answer, AskError>, link: &Link) -> bool {
     links == [*link].as_slice() && says(answer, 7, 1, Said::Route(10, 1))
 }
 
-/// The asker's answer. If memory is refused but there is memory again, the answer at a second try.
+/// The answer that the asker computes. If memory is refused at first and there is memory again, it
+/// is the answer at a second try.
 fn ask_at_last(alloc: Global, asker: &mut Asker, request: &Request) -> Result<Answer, AskError>
     ensures { asker.new.source ≡ asker.old.source }
 {
@@ -117,7 +120,7 @@ fn ask_at_last(alloc: Global, asker: &mut Asker, request: &Request) -> Result<An
     }
 }
 
-/// Whether the answer is right at this version, 0 or 1, or memory is still refused.
+/// Whether the answer is right for this version, 0 or 1, or memory is still refused.
 fn is_answered(
     alloc: Global,
     answer: &Result<Answer, AskError>,
@@ -134,7 +137,8 @@ fn is_answered(
     }
 }
 
-/// Whether a publisher publishes a batch, and its asker learns of the version and answers at it.
+/// Whether a publisher publishes a batch, and its asker (which computes the answers) learns of the
+/// version and gives an answer with this version.
 fn answers_after<W: Write, R: Wait>(
     rt: &R,
     alloc: Global,
@@ -160,7 +164,8 @@ fn has_text(journal: &InPlace, version: u32) -> bool {
     journal.text.get(..journal.held) == Some(wanted)
 }
 
-/// Publishes a batch, lets the asker learn of it and ask, and checks the journal.
+/// Publishes a batch, and lets the asker (which computes the answers) learn of it and answer a
+/// request. Checks that the journal has the texts of the published batches.
 fn publish_and_answer<R: Wait + Abort>(
     rt: &R,
     alloc: Global,

@@ -1,5 +1,6 @@
-//! At each version an asker asks often enough that a tree is grown. Some batches change only unreserved
-//! bandwidths, and each of the others makes a cheaper route.
+//! Tests an asker, the object that computes the answers. At each version it answers so often that
+//! it makes a tree of lower bounds for its search. Some batches change only unreserved bandwidths,
+//! and each other batch makes a cheaper route.
 
 use super::fixtures::{ONE, Said, TWO, assert_case, batch, is_same, opened, said_by};
 use cspf_addr::{Addr, Hops, Mask};
@@ -17,7 +18,8 @@ const THREE: u32 = 0x03030303; // 3.3.3.3
 
 const FOUR: u32 = 0x04040404; // 4.4.4.4
 
-/// How often an asker asks at each version, which is often enough for answers by a tree.
+/// How many answers an asker (the object that computes them) gives at each version. These are
+/// enough that the asker makes and uses a tree of lower bounds.
 const ASKS: usize = 9;
 
 /// The two routers of a circuit, and the address of the first router's interface. The address of the second
@@ -36,7 +38,7 @@ const ONE_THREE: Circuit = (ONE, THREE, 0x0a000d00);
 
 const SECOND: Circuit = (ONE, THREE, 0x0a000d02);
 
-/// Puts of a circuit's two links.
+/// The two changes that set the links of a circuit.
 fn puts(circuit: Circuit, metric: u32, group: u32, free: u64) -> Result<[Change; 2], LinkError> {
     let (from, local) = (Addr::new(circuit.0), Addr::new(circuit.2));
     let (to, remote) = (Addr::new(circuit.1), Addr::new(circuit.2 ^ 1));
@@ -65,10 +67,10 @@ fn network(alloc: Global) -> Result<Vec<Change>, Fail> {
     Ok(all)
 }
 
-/// The batch with this number. Batch 1 puts the network, batch 2 takes all bandwidth from a circuit, and
-/// batch 3 restores it. Batch 4 gives 2.2.2.2 transit, batch 5 changes a circuit's group, and batch 6
-/// lowers a metric. Batch 7 puts a new circuit, batch 8 takes all bandwidth from it, and batch 9 restores
-/// it.
+/// The batch with this number. Batch 1 adds the network, batch 2 takes all bandwidth from a
+/// circuit, and batch 3 restores it. Batch 4 gives 2.2.2.2 transit, batch 5 changes a circuit's
+/// group, and batch 6 lowers a metric. Batch 7 adds a new circuit, batch 8 takes all bandwidth from
+/// it, and batch 9 restores it.
 fn batch_at(alloc: Global, number: u32) -> Result<Batch, Fail> {
     match number {
         1 => Ok(Batch {
@@ -122,8 +124,8 @@ fn is_right(answer: &Result<Answer, AskError>, version: u32, outcome: &Outcome) 
     }
 }
 
-/// Whether the search by rounds finds the wanted outcome in the table, and the asker gives the same outcome
-/// each time.
+/// Whether the search by rounds finds the wanted outcome in the table, and the asker (which
+/// computes the answers) gives the same outcome each time.
 fn answers_alike(
     alloc: Global,
     asker: &mut Asker,
@@ -139,7 +141,8 @@ fn answers_alike(
     Ok(is_alike)
 }
 
-/// Whether the asker's answers are right after a batch, and stay right after the next batch is refused.
+/// Whether the answers of the asker (the object that computes them) are right after a batch, and
+/// stay right after the next batch is refused.
 fn is_right_after<W: Write, R: Wait>(
     rt: &R,
     alloc: Global,
@@ -158,7 +161,7 @@ fn is_right_after<W: Write, R: Wait>(
     Ok(is_applied && is_alike && is_refused && is_still_alike)
 }
 
-/// Checks an asker's answers after each of the nine batches.
+/// Checks the answers that the asker computes after each of the nine batches.
 fn ask_after_each<W: Write, R: Wait + Abort>(
     rt: &R,
     alloc: Global,

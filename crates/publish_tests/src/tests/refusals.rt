@@ -1,4 +1,5 @@
-//! Batches that are refused, and numbers of askers that are refused.
+//! Tests batches that are refused, and counts of askers (which compute the answers) that are
+//! refused.
 
 use super::fixtures::{apply_empty, assert_case, batch, first_batch, is_text, only_link, opened};
 use cspf_model::{Batch, Change, Refusal};
@@ -20,8 +21,8 @@ fn unfit_batch(alloc: Global, number: u32) -> Result<Batch, Fail> {
     Ok(batch(alloc, number, &[absent])?)
 }
 
-/// Whether, after two batches, a batch is refused for a wrong number or an absent link, and the version
-/// stays the same.
+/// Whether a batch is refused for a wrong number or an absent link after two batches were published, and
+/// the version stays the same.
 fn refuses_batches<W: Write, R: Wait>(
     rt: &R,
     alloc: Global,
@@ -54,8 +55,8 @@ fn refused_batches(rt: HostRuntime) -> Result<(), Fail> {
     Ok(())
 }
 
-/// The error of opening a publisher with this number of askers, and the length of the journal that it gives
-/// back.
+/// The error of opening a publisher with this many askers (which compute the answers), and the
+/// length of the journal that `open` returns.
 fn open_error<R: Wait>(rt: &R, alloc: Global, askers: usize) -> Option<(OpenError, usize)> {
     match open(rt, alloc, Vec::<u8>::new(alloc), askers) {
         Ok((publisher, _)) => {
@@ -66,7 +67,8 @@ fn open_error<R: Wait>(rt: &R, alloc: Global, askers: usize) -> Option<(OpenErro
     }
 }
 
-/// Numbers of askers, and how each is refused: 1 and 64 are accepted, 0 and 65 are not.
+/// How many askers (which compute the answers) a publisher is opened with, and the error if this
+/// count is refused. The counts 1 and 64 are accepted, and 0 and 65 are refused.
 const ASKERS: &[(usize, Option<(OpenError, usize)>)] = &[
     (1, None),
     (64, None),
@@ -82,7 +84,7 @@ fn numbers_of_askers(rt: HostRuntime) {
     }
 }
 
-/// Publishes a million empty batches. Returns the number of the last that was published.
+/// Publishes a million empty batches. Returns the number of the last batch that was published.
 fn publish_all<W: Write, R: Wait>(rt: &R, alloc: Global, publisher: &mut Publisher<W>) -> u32 {
     let mut applied = 0u32;
     for number in 1..1_000_001u32 {

@@ -1,4 +1,4 @@
-//! The words with which errors are printed.
+//! Tests the texts as which errors are printed.
 
 use super::fixtures::assert_case;
 use cspf_model::Refusal;
@@ -8,12 +8,12 @@ use std::fmt::Display;
 use std::process::Abort;
 use std::test::Fail;
 
-/// Whether the error is printed with these words.
+/// Whether the error is printed as this text.
 fn has_words<D: Display + Copy>(alloc: Global, error: D, words: &str) -> Result<bool, AllocError> {
     Ok(error.to_string(alloc)?.as_str() == words)
 }
 
-/// Each error of a table is printed with the words beside it.
+/// Each error of a table is printed as the text beside it.
 fn have_words<D: Display + Copy, R: Abort>(
     rt: &R,
     alloc: Global,

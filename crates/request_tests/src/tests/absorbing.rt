@@ -1,5 +1,6 @@
-//! What a base batch does to four placements on the triangle. The placements 9, 2 and 7 take the link from 1.1.1.1
-//! to 3.3.3.3, and 3 goes through 2.2.2.2.
+//! What a batch of changes to the database does to four placements on the triangle of routers. The
+//! placements 9, 2 and 7 take the link from 1.1.1.1 to 3.3.3.3. The placement 3 goes through
+//! 2.2.2.2.
 
 use super::assert_case;
 use super::networks::Edit::{self, Drop, Node, Put, Turn};
@@ -12,38 +13,44 @@ use std::alloc::Global;
 /// The ids, bandwidths and holding priorities of the four placements.
 const PLACEMENTS: &[(u64, u64, u8)] = &[(9, 300, 5), (3, 800, 0), (2, 300, 5), (7, 300, 6)];
 
-/// A batch, and the ids of the placements that lose their routes by it, in the order in which they are reported.
+/// A batch, and the ids of the placements that lose their routes by it, in the order in which they
+/// are reported.
 type Loss = (&'static [Edit], &'static [u64]);
 
 const LOSSES: &[Loss] = &[
-    // the direct link or its reverse is removed, the link gets the group 1, or one of the two leads
-    // elsewhere
+    // the link from 1.1.1.1 to 3.3.3.3 or its reverse is removed; or the link gets the group 0,
+    // which the requests exclude, or ends at another router or interface
     (&[Drop(ONE, THREE)], &[7, 2, 9]),
     (&[Drop(THREE, ONE)], &[7, 2, 9]),
     (&[Put(ONE, THREE, 1, [1000; 8])], &[7, 2, 9]),
     (&[Turn(TWO, ONE)], &[7, 2, 9]),
     (&[Turn(THREE, TWO)], &[7, 2, 9]),
-    // the router between head-end and tail-end loses transit, or a link from or to it is removed
+    // 2.2.2.2, through which placement 3 goes, loses transit; or a link from or to 2.2.2.2 is
+    // removed
     (&[Node(TWO, false)], &[3]),
     (&[Drop(TWO, ONE)], &[3]),
     (&[Drop(TWO, THREE)], &[3]),
     (&[Drop(THREE, TWO)], &[3]),
-    // less bandwidth, another group, and marks of the head-end and the tail-end
+    // No placement loses its route. The link from 1.1.1.1 to 3.3.3.3 gets the group 1, which the
+    // requests don't exclude, and no bandwidth. Or both of these routers are marked as without
+    // transit.
     (&[Put(ONE, THREE, 2, [0; 8])], &[]),
     (&[Node(ONE, false), Node(THREE, false)], &[]),
-    // only the last change of a key counts
+    // if a batch has several changes of one link or one router, only the last of them counts
     (&[Drop(ONE, THREE), Put(ONE, THREE, 0, [0; 8])], &[]),
     (&[Put(ONE, THREE, 0, [0; 8]), Drop(ONE, THREE)], &[7, 2, 9]),
     (&[Drop(ONE, THREE), Node(TWO, false)], &[7, 2, 9, 3]),
     (&[Node(TWO, false), Node(TWO, true)], &[]),
 ];
 
-/// A batch, and where it leaves too little bandwidth: the router to which the link from 1.1.1.1 leads, and the
-/// priority at which more is counted than the link has.
+/// A batch, and where it leaves too little bandwidth. Each pair is a link from 1.1.1.1, given by
+/// the router at its other end, and a priority. At this priority, the placements take more
+/// bandwidth than the link has after the batch.
 type Shortage = (&'static [Edit], &'static [(u32, u8)]);
 
-/// On the link to 3.3.3.3 600 bytes per second are counted at priority 5, and 900 at 6 and 7. On the link
-/// to 2.2.2.2 800 bytes per second are counted at each priority, and on its reverse nothing is counted.
+/// On the link to 3.3.3.3 the placements take 600 bytes per second at priority 5, and 900 at
+/// priorities 6 and 7. On the link to 2.2.2.2 they take 800 bytes per second at each priority, and
+/// on its reverse they take nothing.
 const SHORTAGES: &[Shortage] = &[
     (
         &[Put(ONE, THREE, 0, [0, 0, 0, 0, 0, 599, 900, 899])],
@@ -61,7 +68,7 @@ const SHORTAGES: &[Shortage] = &[
     ),
 ];
 
-/// Places these requests, and returns whether all are placed.
+/// Places these requests in the book, and returns whether all of them are placed.
 fn are_placed(alloc: Global, book: &mut Book, placements: &[(u64, u64, u8)]) -> bool {
     for (id, bandwidth, hold) in placements {
         match placed(alloc, book, *id, *bandwidth, b"", *hold) {
@@ -72,7 +79,7 @@ fn are_placed(alloc: Global, book: &mut Book, placements: &[(u64, u64, u8)]) -> 
     true
 }
 
-/// A book with the four placements.
+/// A book on the triangle with the four placements of `PLACEMENTS`.
 fn full_book(alloc: Global) -> Option<Book> {
     let mut book = book(alloc)?;
     if are_placed(alloc, &mut book, PLACEMENTS) {
@@ -82,7 +89,7 @@ fn full_book(alloc: Global) -> Option<Book> {
     }
 }
 
-/// Whether just the placements with these ids lose their routes by the batch, in this order.
+/// Whether exactly the placements with the ids `ids` lose their routes by the batch, in this order.
 fn loses(alloc: Global, book: &Book, batch: &Batch, ids: &[u64]) -> bool {
     match book.lost(alloc, batch) {
         Ok(lost) => lost.as_slice() == ids,
@@ -90,7 +97,7 @@ fn loses(alloc: Global, book: &Book, batch: &Batch, ids: &[u64]) -> bool {
     }
 }
 
-/// Whether by each batch just the placements beside it lose their routes.
+/// Whether for each batch exactly the placements that are given with it lose their routes.
 fn are_losses(alloc: Global, book: &Book, losses: &[Loss]) -> bool {
     for (edits, ids) in losses {
         match batch(alloc, edits) {
@@ -101,7 +108,8 @@ fn are_losses(alloc: Global, book: &Book, losses: &[Loss]) -> bool {
     true
 }
 
-/// Whether these are links from 1.1.1.1, to the expected routers and at the expected priorities.
+/// Whether `overs` names exactly the links from 1.1.1.1 to the expected routers, each at its
+/// expected priority, in this order.
 fn are_overs(overs: &[Over], expected: &[(u32, u8)]) -> bool {
     let mut at = 0usize;
     for over in overs {
@@ -119,7 +127,8 @@ fn are_overs(overs: &[Over], expected: &[(u32, u8)]) -> bool {
     at == expected.len()
 }
 
-/// Whether the batch leaves too little bandwidth on just the expected links and priorities.
+/// Whether the batch leaves too little bandwidth on exactly the expected links, at exactly the
+/// expected priorities.
 fn is_short(alloc: Global, book: &Book, batch: &Batch, expected: &[(u32, u8)]) -> bool {
     match book.over(alloc, batch) {
         Ok(overs) => are_overs(overs.as_slice(), expected),
@@ -127,7 +136,8 @@ fn is_short(alloc: Global, book: &Book, batch: &Batch, expected: &[(u32, u8)]) -
     }
 }
 
-/// Whether each batch leaves too little bandwidth on just the links and priorities beside it.
+/// Whether each batch leaves too little bandwidth on exactly the links and at exactly the
+/// priorities that are given with it.
 fn are_shortages(alloc: Global, book: &Book, shortages: &[Shortage]) -> bool {
     for (edits, expected) in shortages {
         match batch(alloc, edits) {
@@ -158,7 +168,7 @@ fn over_by_batches(rt: HostRuntime) {
     assert_case(&rt, "over by batches", 0, is);
 }
 
-/// Whether a placement that has lost its route stays, and isn't reported as lost again.
+/// Whether a placement that has lost its route stays in the book, and isn't reported as lost again.
 fn is_lost_once(alloc: Global, book: &mut Book) -> bool {
     match batch(alloc, &[Drop(THREE, ONE)]) {
         Some(batch) => {

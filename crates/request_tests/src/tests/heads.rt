@@ -1,9 +1,10 @@
-//! Reply lines with a head (their request's id and their version), and lines without a head.
+//! Reply lines that begin with a head, which is the id of their request and their version, and
+//! lines without a head.
 
 use super::assert_case;
 use cspf_ero::reply_head;
 
-/// Lines, and the id and the version that each begins with.
+/// Reply lines, and the id and the version with which each of them begins.
 const HEADS: &[(&[u8], u64, u32)] = &[
     (b"ask 7 v1 none", 7, 1),
     (b"ask 0 v0 ", 0, 0),
@@ -15,7 +16,8 @@ const HEADS: &[(&[u8], u64, u32)] = &[
     ),
 ];
 
-/// The index of the first line that isn't read with its id and version, or the number of lines.
+/// The index of the first line of `HEADS` from which `reply_head` doesn't read the line's id and
+/// version, or the number of lines if it reads all.
 fn count_heads() -> usize {
     for (at, (line, id, version)) in HEADS.iter().enumerate() {
         match reply_head(line) {
@@ -52,7 +54,8 @@ const OTHERS: &[&[u8]] = &[
     b"ask 7 v4294967296 none",
 ];
 
-/// The index of the first line that has a head, or the number of lines.
+/// The index of the first line of `OTHERS` in which `reply_head` finds an id and a version, or the
+/// number of lines if it finds them in none.
 fn count_others() -> usize {
     for (at, line) in OTHERS.iter().enumerate() {
         if reply_head(line).is_some() {

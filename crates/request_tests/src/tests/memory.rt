@@ -1,6 +1,7 @@
-//! A book while memory is refused: a request isn't placed, and the book stays as it was. Once there is memory
-//! again, the request is placed. The same holds for the report of what a batch does to the placements. To absorb a
-//! batch and to release a placement takes no memory.
+//! Tests of a book of placements while memory is refused: then a request isn't placed, and the book
+//! stays as it was. Once memory is available again, the request is placed. The report of what a
+//! batch does to the placements also fails at first, and is given once there is memory. Accepting a
+//! batch and releasing a placement allocate no memory.
 
 use super::assert_case;
 use super::networks::Edit::Put;
@@ -17,18 +18,22 @@ fn has_memory(alloc: Global) -> bool {
     }
 }
 
-/// Whether just 600 bytes per second are taken on the direct link, at priorities 5 to 7.
+/// Whether exactly 600 bytes per second are taken on the link from 1.1.1.1 to 3.3.3.3, at the
+/// priorities 5 to 7.
 fn is_taken(book: &Book) -> bool {
     left(book, ONE, THREE) == [1000, 1000, 1000, 1000, 1000, 400, 400, 400]
 }
 
-/// Whether the request is refused for want of memory, and the book is as it was.
+/// Whether two facts hold: `why` says that memory was refused, and the book is as it was before the
+/// request. That is, it has version 1, and the link from 1.1.1.1 to 3.3.3.3 has all its bandwidth
+/// left.
 fn is_unplaced(book: &Book, why: PlaceError) -> bool {
     why == PlaceError::Memory && book.version() == 1 && left(book, ONE, THREE) == [1000; 8]
 }
 
-/// Whether 600 bytes per second are placed, at the second try if memory is there again. Also true if nothing is
-/// placed and memory is still refused.
+/// Whether a request for 600 bytes per second is placed, at the latest at the second try. If memory
+/// is refused at the first try, nothing may be placed then, and the second try has to place the
+/// request. The result is also true if memory is still refused before the second try.
 fn is_placed_at_last(alloc: Global, book: &mut Book) -> bool {
     match placed(alloc, book, 1, 600, b"", 5) {
         Some(Ok(_)) => return is_taken(book),
@@ -49,16 +54,18 @@ fn places_while_memory_is_refused(rt: HostRuntime) {
     assert_case(&rt, "placed without memory", 0, is);
 }
 
-/// How many priorities of links the batch leaves with too little bandwidth, and how many placements lose their
-/// routes.
+/// How many pairs of a link and a priority the batch leaves with too little bandwidth, and how many
+/// placements lose their routes.
 fn told(alloc: Global, book: &Book, batch: &Batch) -> Option<(usize, usize)> {
     let over = book.over(alloc, batch).ok()?.len();
     let lost = book.lost(alloc, batch).ok()?.len();
     Some((over, lost))
 }
 
-/// Whether three priorities and one placement are reported, at the second try if memory is there again.
-/// Also true if memory is still refused.
+/// Whether the book reports what the batch does: too little bandwidth at three priorities, and one
+/// placement that loses its route. If memory is refused at the first try, a second try has to
+/// report this. The result is also true if the request isn't placed, or memory is still refused
+/// before the second try.
 fn is_told_at_last(alloc: Global, book: &mut Book, batch: &Batch) -> bool {
     if placed(alloc, book, 1, 600, b"", 5) != Some(Ok(1)) {
         return true;
@@ -69,7 +76,9 @@ fn is_told_at_last(alloc: Global, book: &mut Book, batch: &Batch) -> bool {
     !has_memory(alloc) || told(alloc, book, batch) == Some((3, 1))
 }
 
-/// Whether the batch is absorbed, and the placement is released if it was placed.
+/// Tries to place a request, applies the batch, and tries to release the placement. Returns whether
+/// the book accepts the batch, and whether the release succeeds exactly if the request was placed.
+/// In the end, all bandwidth of the batch's link has to be left.
 fn goes_on(alloc: Global, book: &mut Book, batch: &Batch) -> bool {
     let is_placed = placed(alloc, book, 1, 600, b"", 5) == Some(Ok(1));
     let is_absorbed = is_absorbed(book, batch);
@@ -77,7 +86,8 @@ fn goes_on(alloc: Global, book: &mut Book, batch: &Batch) -> bool {
     is_absorbed && is_released == is_placed && left(book, ONE, THREE) == [599; 8]
 }
 
-/// A batch that puts the direct link in group 1, with 599 bytes per second at each priority.
+/// A batch that puts the link from 1.1.1.1 to 3.3.3.3 into group 0, with 599 bytes per second at
+/// each priority.
 fn less(alloc: Global) -> Option<Batch> {
     batch(alloc, &[Put(ONE, THREE, 1, [599; 8])])
 }

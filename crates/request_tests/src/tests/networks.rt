@@ -1,4 +1,4 @@
-//! A triangle of routers, and batches and requests on it.
+//! The tests use a triangle of routers, and batches and requests for it.
 
 use cspf_addr::{Addr, Mask, parse_hops};
 use cspf_book::{Book, PlaceError};
@@ -14,10 +14,12 @@ pub(super) const THREE: u32 = 0x0303_0303;
 /// A change of a link or a router of the triangle.
 #[derive(Clone, Copy)]
 pub(super) enum Edit {
-    /// Puts the link from the first router to the second, in these groups, with this unreserved bandwidth.
+    /// Puts the link from the first router to the second, in the groups of this mask, with this
+    /// unreserved bandwidth at each priority.
     Put(u32, u32, u32, [u64; 8]),
-    /// Puts the link from 1.1.1.1 to 3.3.3.3, but it leads to the first router given here. Its remote
-    /// address is that of the interface of 3.3.3.3 to the second router given here.
+    /// Puts the link that begins at the interface of 1.1.1.1 to 3.3.3.3, but lets it end at the
+    /// first router given here. Its remote address is that of the interface of 3.3.3.3 that leads
+    /// to the second router given here.
     Turn(u32, u32),
     /// Removes the link from the first router to the second.
     Drop(u32, u32),
@@ -29,7 +31,8 @@ use Edit::Put;
 
 const FREE: [u64; 8] = [1000; 8];
 
-/// A link between each two routers in both directions, with 1,000 bytes per second at each priority.
+/// The links between each two of three routers, in both directions, with 1,000 bytes per second at
+/// each priority.
 const TRIANGLE: &[Edit] = &[
     Put(ONE, TWO, 0, FREE),
     Put(TWO, ONE, 0, FREE),
@@ -39,7 +42,7 @@ const TRIANGLE: &[Edit] = &[
     Put(THREE, ONE, 0, FREE),
 ];
 
-/// The address of the first router's interface to the second router.
+/// The address of the interface at the router `from` that leads to the router `to`.
 pub(super) fn interface(from: u32, to: u32) -> Addr {
     Addr::new(from.wrapping_add(to.wrapping_mul(16)))
 }
@@ -111,12 +114,13 @@ pub(super) fn batch(alloc: Global, edits: &[Edit]) -> Option<Batch> {
     Some(Batch { number: 1, changes })
 }
 
-/// Whether the base of the book absorbs the batch.
+/// Whether the book accepts the batch and applies it to the book's base, which is the database
+/// without placements.
 pub(super) fn is_absorbed(book: &mut Book, batch: &Batch) -> bool {
     book.version() < MOST_VERSIONS && book.try_absorb(batch).is_ok()
 }
 
-/// A book on the triangle, or `None` if memory is refused.
+/// A book of placements on the database of the triangle, or `None` if memory is refused.
 pub(super) fn book(alloc: Global) -> Option<Book> {
     let batch = batch(alloc, TRIANGLE)?;
     let mut book = Book::new(alloc).ok()?;
@@ -127,7 +131,7 @@ pub(super) fn book(alloc: Global) -> Option<Book> {
     }
 }
 
-/// A request from 1.1.1.1 to 3.3.3.3 at setup priority 7, over links that aren't in group 1.
+/// A request from 1.1.1.1 to 3.3.3.3 at setup priority 7, over links that aren't in group 0.
 fn request(id: u64, bandwidth: u64, hops: &[u8]) -> Option<Request> {
     let none = Mask::new(0);
     let (from, to) = (Addr::new(ONE), Addr::new(THREE));
@@ -135,8 +139,8 @@ fn request(id: u64, bandwidth: u64, hops: &[u8]) -> Option<Request> {
     Request::new(id, from, to, 7, bandwidth, Mask::new(1), none, none, hops).ok()
 }
 
-/// Places a request made by `request`. Returns how many links its route has, 0 if there is no route, or why
-/// it isn't placed.
+/// Places a request that `request` makes. Returns how many links its route has, 0 if there is no
+/// route, or why the request isn't placed.
 pub(super) fn placed(
     alloc: Global,
     book: &mut Book,
@@ -156,12 +160,13 @@ pub(super) fn placed(
     }
 }
 
-/// Whether the placement with this id is released.
+/// Releases the placement with this id, and returns whether it was released.
 pub(super) fn is_released(book: &mut Book, id: u64) -> bool {
     book.version() < MOST_VERSIONS && book.release(id).is_ok()
 }
 
-/// The bandwidths that the effective database has left on the link from the first router to the second.
+/// The bandwidth at each priority that the placements leave on the link from the first router to
+/// the second. It is the link's unreserved bandwidth in the book's effective database.
 pub(super) fn left(book: &Book, from: u32, to: u32) -> [u64; 8] {
     match book.effective().find(Addr::new(from), interface(from, to)) {
         Some(link) => link.free,

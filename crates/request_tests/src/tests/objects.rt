@@ -1,5 +1,5 @@
-//! Objects that are read or refused: whole objects, objects cut after each byte, and objects with one other
-//! byte.
+//! Route objects that are read or refused: whole objects, objects that end too early, and objects
+//! of which one byte is changed.
 
 use super::assert_case;
 use cspf_addr::parse_hops;
@@ -7,7 +7,7 @@ use cspf_ero::{EroError, FIRST_BYTES, read_ero, read_ero_front};
 use std::alloc::Global;
 use std::test::Fail;
 
-/// Objects that spell hops, in hexadecimal digits, and the text of these hops.
+/// EXPLICIT_ROUTE objects in hexadecimal digits, each with the text of its hops.
 const OBJECTS: [(&str, &[u8]); 7] = [
     ("000c140181080a0a0a0a0801", b"10.0.0.0/8l"),
     ("000c140101080a000c022000", b"10.0.12.2/32s"),
@@ -25,7 +25,7 @@ const OBJECTS: [(&str, &[u8]); 7] = [
     ),
 ];
 
-/// Bytes that are refused, in hexadecimal digits, and the error.
+/// Bytes that are refused, in hexadecimal digits, and the error with which they are refused.
 const REFUSED: [(&str, EroError); 21] = [
     ("", EroError::Short),
     ("000c14", EroError::Short),
@@ -69,7 +69,8 @@ const REFUSED: [(&str, EroError); 21] = [
     ),
 ];
 
-/// Whether an object with these digits is read as the hops of this text, by `read_ero` and by `read_ero_front`.
+/// Whether an object with these digits is read as the hops of this text, by `read_ero` and by
+/// `read_ero_front`.
 fn spells(alloc: Global, digits: &str, text: &[u8]) -> Result<bool, Fail> {
     let (object, hops) = (hex::decode(alloc, digits)?, Ok(parse_hops(text)?));
     Ok(read_ero(&object) == hops && read_ero_front(&object, object.len()) == hops)
@@ -99,7 +100,7 @@ fn refusals(rt: HostRuntime) -> Result<(), Fail> {
     Ok(())
 }
 
-/// Whether the object is refused when it is cut after any of its bytes.
+/// Whether the object is refused if its last bytes are missing, however many bytes are left of it.
 fn is_refused_cut(object: &[u8]) -> bool {
     for size in 0..object.len() {
         let why = if size < 4 {
@@ -123,7 +124,8 @@ fn cut_objects(rt: HostRuntime) -> Result<(), Fail> {
     Ok(())
 }
 
-/// The error of an object of one strict hop that has this byte at this offset, or `None` if it is read.
+/// The error with which an object of one strict hop is refused if its byte at the offset `at` is
+/// `byte`. `None` if the object is read.
 fn refusal_of_one(at: usize, byte: u8) -> Option<EroError> {
     match (at, byte) {
         (0, 0) | (1, 12) | (2, 20) | (3, 1) | (4, 1 | 129) | (5, 8) | (10, 0..=32) => None,
@@ -139,7 +141,8 @@ fn refusal_of_one(at: usize, byte: u8) -> Option<EroError> {
     }
 }
 
-/// Whether the object is read or refused as `refusal_of_one` says, for each byte at this offset.
+/// Whether an object of one strict hop is read or refused as `refusal_of_one` says, for each value
+/// of the byte at this offset.
 fn is_answered_at(at: usize) -> bool {
     for byte in 0..=255 {
         let mut bytes = *b"\x00\x0c\x14\x01\x01\x08\x0a\x00\x0c\x02\x20\x00";
@@ -179,7 +182,8 @@ fn front_with(at: usize, byte: u8) -> [u8; FIRST_BYTES] {
     bytes
 }
 
-/// The bytes of an object after its first `FIRST_BYTES` don't change the answer.
+/// From the length and the first `FIRST_BYTES` bytes of a long object alone, `read_ero_front` finds
+/// why the object is refused.
 #[test]
 fn first_bytes_of_long_objects(rt: HostRuntime) {
     let same = front_with(3, 1);

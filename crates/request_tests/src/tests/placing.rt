@@ -1,4 +1,5 @@
-//! Placements on the triangle: the bandwidth that they take, what is left, and what a release gives back.
+//! Placements on the triangle: the bandwidth that they take, the bandwidth that is left, and what a
+//! release gives back.
 
 use super::assert_case;
 use super::networks::{ONE, THREE, TWO, book, interface, is_released, left, placed};
@@ -6,19 +7,20 @@ use cspf_addr::Addr;
 use cspf_book::{Book, PlaceError};
 use std::alloc::Global;
 
-/// A step of a test, with the answer that is wanted.
+/// A step of a test, with the answer that the book should give.
 #[derive(Clone, Copy)]
 enum Step {
-    /// Places a request with this id, bandwidth and holding priority. Its route has this many links, or 0 if there
-    /// is no route.
+    /// Places a request with this id, this bandwidth and this holding priority. The last number is
+    /// how many links the route has, or 0 if there is no route.
     Place(u64, u64, u8, usize),
-    /// Releases the placement with this id. The flag says whether there is such a placement.
+    /// Releases the placement with this id. The flag says whether the book has such a placement.
     Release(u64, bool),
 }
 
 use Step::{Place, Release};
 
-/// A step, and the bandwidths that are left on the direct link after it.
+/// A step, and the bandwidth that is then left on the link from 1.1.1.1 to 3.3.3.3 at each
+/// priority.
 type Case = (Step, [u64; 8]);
 
 const THIRD_TAKES_LONGER_WAY: &[Case] = &[
@@ -40,8 +42,8 @@ const THIRD_TAKES_LONGER_WAY: &[Case] = &[
     ),
 ];
 
-/// A request that is placed again may use the bandwidth of its earlier placement. If it doesn't fit, the earlier
-/// placement stays.
+/// A request that is placed again may use the bandwidth of its earlier placement. If there is too
+/// little bandwidth for the new placement, the earlier one stays.
 const MOVES_AND_RELEASES: &[Case] = &[
     (
         Place(1, 600, 5, 1),
@@ -71,7 +73,7 @@ const MOVES_AND_RELEASES: &[Case] = &[
     (Release(1, false), [1000; 8]),
 ];
 
-/// Whether the book gives the wanted answer to the step.
+/// Whether the book gives the answer that the step expects.
 fn is_answer(alloc: Global, book: &mut Book, step: Step) -> bool {
     match step {
         Place(id, bandwidth, hold, links) => {
@@ -81,7 +83,8 @@ fn is_answer(alloc: Global, book: &mut Book, step: Step) -> bool {
     }
 }
 
-/// Whether the book gives the wanted answer to each step, and has left the bandwidths beside it.
+/// Whether the book gives the expected answer to each step. After each step, the link from 1.1.1.1
+/// to 3.3.3.3 has to have the bandwidths left that are listed with this step.
 fn are_answers(alloc: Global, book: &mut Book, cases: &[Case]) -> bool {
     for (step, free) in cases {
         if !is_answer(alloc, book, *step) || left(book, ONE, THREE) != *free {
@@ -91,7 +94,8 @@ fn are_answers(alloc: Global, book: &mut Book, cases: &[Case]) -> bool {
     true
 }
 
-/// Whether the steps are answered as wanted, and the book then has this many placements and this version.
+/// Whether a book on the triangle gives the expected answer to each step, and after the last step
+/// has this many placements and this version.
 fn is_book_of(alloc: Global, cases: &[Case], placements: usize, version: u32) -> bool {
     match book(alloc) {
         Some(mut book) => {
@@ -114,8 +118,10 @@ fn moves_and_releases(rt: HostRuntime) {
     assert_case(&rt, "moves and releases", 0, is);
 }
 
-/// Whether 700 bytes per second, placed through 2.2.2.2 at holding priority 4, are counted on both links at
-/// priorities from 4 on, also at 255, but not at 3.
+/// Places 700 bytes per second through 2.2.2.2 at holding priority 4. Returns whether the book
+/// counts the right bandwidths. These are 700 on the first link at priority 4, 0 on this link at
+/// priority 3, and 700 on the second link. The second link is asked for at priority 255, which
+/// stands for priority 7. On the reverse of the first link the book has to count nothing.
 fn is_counted(alloc: Global, book: &mut Book) -> bool {
     let is_placed = placed(alloc, book, 1, 700, b"2.2.2.2/32s", 4) == Some(Ok(2));
     let first = Addr::new(ONE);
@@ -137,7 +143,7 @@ fn counted_along_route(rt: HostRuntime) {
     assert_case(&rt, "counted", 0, is);
 }
 
-/// Whether a route is refused that goes to 3.3.3.3, back to 1.1.1.1, and to 3.3.3.3 again.
+/// Whether a route that goes to 3.3.3.3, back to 1.1.1.1, and to 3.3.3.3 again is refused.
 fn is_refused(alloc: Global, book: &mut Book) -> bool {
     let why = placed(alloc, book, 1, 600, b"3.3.3.3/32s 1.1.1.1/32s", 7);
     why == Some(Err(PlaceError::Twice))

@@ -14,14 +14,15 @@ fn is_read(text: &[u8], address: u32, length: u8) -> bool {
     }
 }
 
-// Whether `all` covers the last address, and `site` covers 10.9.255.255 but not 10.10.0.0.
+// Whether `all` covers the last of all addresses, and `site` covers 10.9.255.255 but not 10.10.0.0.
 fn are_covering(all: Prefix, site: Prefix) -> bool {
     all.covers(Addr::new(u32::MAX))
         && site.covers(Addr::new(0x0a09_ffff))
         && !site.covers(Addr::new(0x0a0a_0000))
 }
 
-// Whether `all` is written as 0.0.0.0/0, `site` has the address 10.9.0.0, and both cover what they should.
+// Whether `all` is written as 0.0.0.0/0, `site` has the address 10.9.0.0, and both cover the
+// addresses that they should cover.
 fn are_prefixes(alloc: Global, all: Prefix, site: Prefix) -> bool {
     is_text(all.text(alloc), "0.0.0.0/0")
         && site.address() == Addr::new(0x0a09_0000)

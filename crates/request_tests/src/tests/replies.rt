@@ -1,4 +1,4 @@
-//! The objects of routes, and reply lines.
+//! Tests of the objects of routes, and of reply lines.
 
 ghost use Rattle.std.specs.Prelude.{◌≡◌, [], IfOk};
 
@@ -18,7 +18,7 @@ fn link(from: u32, local: u32, to: u32, remote: u32) -> Result<Link, Fail> {
     Ok(Link::new(from, local, to, remote, 10, Mask::new(1), [1000; 8])?)
 }
 
-/// Puts of a link and of its reverse, which has no unreserved bandwidth.
+/// Two changes that put a link and its reverse, which has no unreserved bandwidth.
 fn both_ways(link: Link) -> Result<[Change; 2], Fail> {
     let (from, local) = (link.to, link.remote);
     let (to, remote) = (link.from, link.local);
@@ -26,8 +26,8 @@ fn both_ways(link: Link) -> Result<[Change; 2], Fail> {
     Ok([Change::Put(link), Change::Put(back)])
 }
 
-/// The answer to a request from 1.1.1.1 to `to`. The table has links from 1.1.1.1 to 2.2.2.2 and from there to
-/// 3.3.3.3, and their reverses, or no link.
+/// The answer to a request from 1.1.1.1 to `to`. If `with_links` is set, the table has links from
+/// 1.1.1.1 to 2.2.2.2 and from 2.2.2.2 to 3.3.3.3, and their reverses. Otherwise it has no link.
 fn answered(alloc: Global, with_links: bool, to: u32, bandwidth: u64) -> Result<Outcome, Fail> {
     let mut changes = Vec::new(alloc);
     if with_links {
@@ -49,7 +49,7 @@ fn request(to: u32, bandwidth: u64) -> Result<Request, Fail>
     Ok(Request::new(7, from, to, 0, bandwidth, any, any, any, Hops::none())?)
 }
 
-/// Whether the answer is a route whose object is written with these digits.
+/// Whether the answer is a route whose object is written with these hexadecimal digits.
 fn has_object(alloc: Global, to: u32, digits: &str) -> Result<bool, Fail> {
     match answered(alloc, true, to, 1000)? {
         Outcome::Route(route) => {
@@ -72,8 +72,8 @@ fn object_of_a_route(rt: HostRuntime) -> Result<(), Fail> {
     Ok(())
 }
 
-/// A case: whether the table has links, the tail-end, the bandwidth, the id and the version, and the line
-/// that is wanted.
+/// A case: whether the table has links; the tail-end and the bandwidth of the request; the id and
+/// the version of the reply; and the line that is wanted.
 type Case = (bool, u32, u64, (u64, u32), &'static [u8]);
 
 const LINES: &[Case] = &[
@@ -103,7 +103,7 @@ const LINES: &[Case] = &[
     ),
 ];
 
-/// Whether the answer of a case is written as the line of the case.
+/// Whether the answer to the request of a case is written as the line of the case.
 fn has_line(alloc: Global, case: &Case) -> Result<bool, Fail> {
     let (with_links, to, bandwidth, (id, version), line) = case;
     let outcome = answered(alloc, *with_links, *to, *bandwidth)?;

@@ -1,5 +1,6 @@
-//! Drawn networks, in which both searches and the trees of the network have to agree. A network with marks gives the same answers as a
-//! network without marks that has no unreserved bandwidth on the links from the marked routers.
+//! Drawn networks, in which both searches and the trees of the network have to agree. In some
+//! networks, routers are marked as without transit. Such a network gives the same answers as one
+//! without marked routers, in which the links from those routers have no unreserved bandwidth.
 
 ghost use Rattle.cspf_trees.specs.Trees.{AreTreesOf};
 
@@ -11,7 +12,8 @@ use cspf_trees::{MOST_TREES, Trees};
 use std::alloc::{AllocError, Global};
 use std::test::Fail;
 
-// A metric, by the kind of the network: from 0 to 3, so that routes tie; always 1; or from 1 to 1,000.
+// A metric, which depends on the kind of the network: from 0 to 3, so that routes tie; always 1; or
+// from 1 to 1,000.
 fn drawn_metric(seed: &mut u32, kind: u32) -> u32 {
     match kind {
         0 => draw(seed) % 4,
@@ -20,14 +22,14 @@ fn drawn_metric(seed: &mut u32, kind: u32) -> u32 {
     }
 }
 
-// A link over two interfaces. One in eight has no unreserved bandwidth.
+// A link between two interfaces. One in eight of these links has no unreserved bandwidth.
 fn drawn_link(seed: &mut u32, kind: u32, from: (u32, u32), to: (u32, u32)) -> Row {
     let metric = drawn_metric(seed, kind);
     let free = if draw(seed) % 8 == 0 { 0 } else { 1000 };
     (router(from.0), from.1, router(to.0), to.1, metric, free)
 }
 
-// A network of 12 routers: 24 links, and the reverses of most of them.
+// The links of a network of 12 routers: 24 links, and the reverses of most of them.
 fn drawn(alloc: Global, seed: &mut u32) -> Result<Vec<Row>, Fail> {
     let kind = draw(seed) % 3;
     let mut rows = Vec::new(alloc);
@@ -44,7 +46,8 @@ fn drawn(alloc: Global, seed: &mut u32) -> Result<Vec<Row>, Fail> {
     Ok(rows)
 }
 
-// One to three marked routers in a third of the networks, and no marked routers in the others.
+// The routers of a network that are marked as without transit: one to three in a third of the
+// networks, and none in the others.
 fn drawn_marks(alloc: Global, seed: &mut u32) -> Result<Vec<u32>, AllocError> {
     let mut marks = Vec::new(alloc);
     let most = if draw(seed) % 3 == 0 {
@@ -61,9 +64,10 @@ fn drawn_marks(alloc: Global, seed: &mut u32) -> Result<Vec<u32>, AllocError> {
     Ok(marks)
 }
 
-// A table without marks that answers requests from `from` as the network with these marks does. It has no
-// unreserved bandwidth on the links from other marked routers, nor on those to `from`. With 0 for `from` it
-// answers the requests from all unmarked routers.
+// A table without marked routers that answers requests from `from` as the network does in which the
+// routers `marks` are without transit. It has no unreserved bandwidth on the links from these
+// routers, except `from`, nor on the links to `from`. With 0 for `from` it answers the requests
+// from all routers that aren't in `marks`.
 fn unmarked(alloc: Global, rows: &[Row], marks: &[u32], from: u32) -> Result<Table, Fail> {
     let mut open = Vec::new(alloc);
     for row in rows {
@@ -76,7 +80,8 @@ fn unmarked(alloc: Global, rows: &[Row], marks: &[u32], from: u32) -> Result<Tab
     one_way(alloc, &open)
 }
 
-// Routers 0 to 3 have addresses in 10.0.0.0/30, routers 4 to 11 in 10.0.0.0/28.
+// The address of a router. Routers 0 to 3 have addresses in 10.0.0.0/30, and routers 4 to 11 have
+// addresses in 10.0.0.0/28.
 fn router(number: u32) -> u32 {
     0x0a00_0000 + number % 12
 }
@@ -97,7 +102,8 @@ fn drawn_request(seed: &mut u32, hops: &[u8]) -> Result<Request, Fail> {
     request((router(from), router(to)), 0, (0, 0, 0), hops)
 }
 
-// A network, its marked routers, its table with the marks, and its table without marks, made by `unmarked`.
+// A network, and its routers that are marked as without transit. It has a table with these routers
+// marked, and a table that `unmarked` makes, in which no router is marked.
 #[derive(Drop)]
 struct DrawnNetwork {
     rows: Vec<Row>,
@@ -119,7 +125,8 @@ fn drawn_network(alloc: Global, seed: &mut u32) -> Result<DrawnNetwork, Fail> {
     })
 }
 
-// The answer of the table without marks.
+// The answer of a table in which no router is marked as without transit. The table is made so that
+// it answers as the network with its marked routers does.
 fn without_marks(
     alloc: Global,
     network: &DrawnNetwork,
@@ -134,7 +141,8 @@ fn without_marks(
     }
 }
 
-// Asks the trees six times for the request without its hops, so that its class gets a tree.
+// Asks the trees six times for the request without its hops. After this there is a tree for its
+// tail-end and affinities.
 fn ask_without_hops(
     alloc: Global,
     table: &Table,
@@ -151,7 +159,7 @@ fn ask_without_hops(
     Ok(())
 }
 
-// Fails unless the trees answer the request with this outcome, three times.
+// Fails unless the trees answer the request three times with this outcome.
 fn check_asks(
     alloc: Global,
     table: &Table,
@@ -169,8 +177,8 @@ fn check_asks(
     Ok(())
 }
 
-// Fails unless the trees answer the request with this outcome three times before its class has a tree, and
-// three times afterwards.
+// Fails unless the trees answer the request three times with this outcome before they have a tree
+// for it, and three times afterwards.
 fn check_trees(
     alloc: Global,
     table: &Table,
@@ -186,8 +194,9 @@ fn check_trees(
     check_asks(alloc, table, request, outcome, trees)
 }
 
-// Whether a request has a route. Fails unless the trees give the same answer. If the network has marks, the
-// table without marks has to give the same answer as well.
+// Whether a request has a route. Fails unless the trees give the same answer as the searches. If
+// routers of the network are marked as without transit, the table in which none is marked has to
+// give the same answer as well.
 fn has_route(
     alloc: Global,
     network: &DrawnNetwork,
@@ -208,7 +217,7 @@ fn has_route(
     Ok(matches!(outcome, Outcome::Route(_)))
 }
 
-// How many of 16 requests in a network have a route. `trees` is cleared first.
+// How many of 16 requests in a drawn network have a route. `trees` is cleared first.
 fn drawn_routes(alloc: Global, seed: &mut u32, trees: &mut Trees) -> Result<u32, Fail> {
     let network = drawn_network(alloc, seed)?;
     trees.clear();
@@ -222,7 +231,8 @@ fn drawn_routes(alloc: Global, seed: &mut u32, trees: &mut Trees) -> Result<u32,
     Ok(routes)
 }
 
-// In 125 networks, some with marked routers, both searches and the trees give the same answers to 2,000 requests.
+// In 125 networks, some with routers marked as without transit, both searches and the trees give
+// the same answers to 2,000 requests.
 #[test]
 fn drawn_networks(rt: HostRuntime) -> Result<(), Fail> {
     let mut seed = 2463534242;

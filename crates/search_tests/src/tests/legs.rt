@@ -1,6 +1,6 @@
-//! Requests whose legs are answered one after the other, each by a tree to the router of its hop. Some are
-//! asked in small networks with known routes, others in drawn ones, where the search by rounds has to
-//! agree.
+//! The requests have legs (parts of the route between hops) that are answered one after the other,
+//! each by a tree for the router of its hop. Some are asked in small networks with known routes.
+//! Others are asked in drawn networks, where the search by rounds has to agree.
 
 ghost use Rattle.std.specs.Prelude.{◌+◌, ◌<◌};
 
@@ -13,8 +13,8 @@ use cspf_trees::TreeTable;
 use std::alloc::Global;
 use std::test::Fail;
 
-// ONE reaches FOUR by TWO at a cost of 2, and by THREE at a cost of 4. The link between TWO and THREE has no
-// unreserved bandwidth.
+// A square of links. ONE reaches FOUR by TWO at a cost of 2, and by THREE at a cost of 4. The link
+// between TWO and THREE has no unreserved bandwidth.
 const SQUARE: [Row; 5] = [
     (ONE, 0x0a00_0c01, TWO, 0x0a00_0c02, 1, 1000),
     (TWO, 0x0a00_1802, FOUR, 0x0a00_1804, 1, 1000),
@@ -27,10 +27,10 @@ const BY_TWO: &[u32] = &[0x0a00_0c02, 0x0a00_1804];
 
 const BY_THREE: &[u32] = &[0x0a00_0d03, 0x0a00_2204];
 
-// The route by TWO to FOUR, on to THREE and back to FOUR.
+// The route from ONE by TWO to FOUR, on to THREE, and back to FOUR.
 const ROUND: &[u32] = &[0x0a00_0c02, 0x0a00_1804, 0x0a00_2203, 0x0a00_2204];
 
-// The route to TWO, back to ONE, and by THREE to FOUR.
+// The route from ONE to TWO, back to ONE, and by THREE to FOUR.
 const BACK: &[u32] = &[0x0a00_0c02, 0x0a00_0c01, 0x0a00_0d03, 0x0a00_2204];
 
 const SEVEN: &[u8] =
@@ -40,7 +40,8 @@ const CASES: [Case; 22] = [
     (&[], (ONE, FOUR), b"2.2.2.2/32l", Route(2, BY_TWO)),
     (&[], (ONE, FOUR), b"3.3.3.3/32l", Route(4, BY_THREE)),
     (&[], (ONE, FOUR), b"10.0.13.3/32l", Route(4, BY_THREE)),
-    // both ways from TWO to THREE cost 3, and the first local address decides
+    // the two ways from TWO to THREE both cost 3, so the first local address decides which way the
+    // route takes
     (&[], (ONE, FOUR), b"2.2.2.2/32l 3.3.3.3/32l", Again(6, BACK)),
     (
         &[ONE],
@@ -48,7 +49,8 @@ const CASES: [Case; 22] = [
         b"2.2.2.2/32l 3.3.3.3/32l",
         Again(6, ROUND),
     ),
-    // two hops in a row that one router meets, and hops that the head-end or the tail-end meets
+    // the next requests have two consecutive hops whose prefixes one router owns, or a hop whose
+    // prefix the head-end or the tail-end owns
     (
         &[],
         (ONE, FOUR),
@@ -76,11 +78,11 @@ const CASES: [Case; 22] = [
         b"2.2.2.2/32l 1.1.1.1/32l",
         Again(4, &[0x0a00_0c02, 0x0a00_0c01, 0x0a00_0c02, 0x0a00_1804]),
     ),
-    // two legs that meet at a marked router
+    // two legs (parts of the route between hops) meet at a router that is marked as without transit
     (&[TWO], (ONE, FOUR), b"2.2.2.2/32l", NoRoute),
     (&[ONE], (ONE, FOUR), b"2.2.2.2/32l 1.1.1.1/32l", NoRoute),
     (&[FOUR], (ONE, FOUR), b"4.4.4.4/32l 3.3.3.3/32l", NoRoute),
-    // a marked head-end or tail-end
+    // the head-end or the tail-end is marked as without transit
     (
         &[ONE],
         (ONE, FOUR),
@@ -94,10 +96,11 @@ const CASES: [Case; 22] = [
         b"3.3.3.3/32l 4.4.4.4/32l 10.0.34.4/32l",
         Route(4, BY_THREE),
     ),
-    // strict hops that a usable link leads to, and strict hops without such a link
+    // a usable link leads to the strict hop in some of these requests, and no such link in the
+    // others
     (&[], (ONE, FOUR), b"3.3.3.3/32s", Route(4, BY_THREE)),
     (&[], (ONE, FOUR), b"2.2.2.2/32l 3.3.3.3/32s", NoRoute),
-    // hops that two routers meet, and a hop that no router meets
+    // two routers own the prefix of a hop, or no router owns it
     (&[], (ONE, FOUR), b"2.0.0.0/7l", Route(2, BY_TWO)),
     (&[TWO], (ONE, FOUR), b"2.0.0.0/7l", Route(4, BY_THREE)),
     (&[], (ONE, FOUR), b"9.9.9.9/32l", NoRoute),
@@ -109,14 +112,14 @@ fn back(row: &Row) -> Row {
     (to, remote, from, local, metric, free)
 }
 
-// A table with trees after these changes, all of which fit.
+// A table with trees that has absorbed these changes. All of them fit.
 fn table_after(alloc: Global, changes: Vec<Change>) -> Result<TreeTable, Fail> {
     let mut table = TreeTable::new(alloc)?;
     table.try_absorb(&Batch { number: 1, changes })?;
     Ok(table)
 }
 
-// A table of `SQUARE` in which these routers are marked.
+// A table of `SQUARE` in which the routers `marks` are marked as without transit.
 fn square(alloc: Global, marks: &[u32]) -> Result<TreeTable, Fail> {
     let mut changes = Vec::new(alloc);
     for row in &SQUARE {
@@ -129,7 +132,8 @@ fn square(alloc: Global, marks: &[u32]) -> Result<TreeTable, Fail> {
     table_after(alloc, changes)
 }
 
-// Whether a case's request has the wanted answer nine times. A tree is grown at the sixth time.
+// Whether the request of a case gets the wanted answer nine times. At the sixth time a tree is
+// grown.
 fn holds(alloc: Global, case: &Case) -> Result<bool, Fail> {
     let (marks, ends, hops, wanted) = *case;
     let mut table = square(alloc, marks)?;
@@ -151,13 +155,14 @@ fn legs_in_a_square(rt: HostRuntime) -> Result<(), Fail> {
     Ok(())
 }
 
-// Puts a link from the router to FOUR. No request can use it, but its interface has the address of a hop.
+// A change that puts a link from the router to FOUR. No request can use this link, but its
+// interface has the address of a hop.
 fn put(router: u32, free: u64) -> Result<Change, Fail> {
     let row = (router, 0x0a00_6301, FOUR, 0x0a00_6302, 1, free);
     Ok(Change::Put(link(&row)?))
 }
 
-// Removes the link of `put`.
+// A change that removes the link which `put` puts.
 fn out(router: u32) -> Change {
     Change::Remove {
         from: Addr::new(router),
@@ -165,8 +170,8 @@ fn out(router: u32) -> Change {
     }
 }
 
-// One table answers the same request while its hop is at TWO, at TWO and THREE, at THREE, at TWO again, and at
-// no router.
+// One table answers the same request five times. The address of its hop is at TWO, then at TWO and
+// THREE, at THREE, at TWO again, and last at no router.
 #[test]
 fn hop_that_moves(rt: HostRuntime) -> Result<(), Fail> {
     let alloc = rt.alloc();
@@ -200,13 +205,13 @@ fn draw(seed: &mut u32, below: u32) -> u32
     (*seed >> 8) % below
 }
 
-// The address of one of ten routers.
+// The address of a router, drawn from ten routers.
 fn drawn_router(seed: &mut u32) -> u32 {
     0x0a00_0001 + draw(seed, 10)
 }
 
-// A link between drawn routers, with a metric from 0 to 2. Some have no unreserved bandwidth. No other link
-// has its interfaces.
+// A link between two drawn routers, with a metric from 0 to 2. Some of these links have no
+// unreserved bandwidth. No link with another number has the same interfaces.
 fn drawn_row(seed: &mut u32, number: u32) -> Row
     requires { number < 100 }
 {
@@ -225,7 +230,8 @@ fn drawn_row(seed: &mut u32, number: u32) -> Row
     )
 }
 
-// A table of 20 links and most of their reverses, with at most two marked routers.
+// A table of 20 drawn links and most of their reverses, with at most two routers that are marked as
+// without transit.
 fn drawn_table(alloc: Global, seed: &mut u32) -> Result<TreeTable, Fail> {
     let mut changes = Vec::new(alloc);
     for number in 0..20 {
@@ -242,7 +248,8 @@ fn drawn_table(alloc: Global, seed: &mut u32) -> Result<TreeTable, Fail> {
     table_after(alloc, changes)
 }
 
-// The address of an interface, of the head-end, of the tail-end, of the hop before, or of a router.
+// A drawn address for a hop: that of an interface, of the head-end, of the tail-end, of the hop
+// before, or of a router.
 fn drawn_address(seed: &mut u32, ends: (u32, u32), before: u32) -> u32 {
     match draw(seed, 8) {
         0 => 0x0a01_0000 + draw(seed, 40),
@@ -253,7 +260,8 @@ fn drawn_address(seed: &mut u32, ends: (u32, u32), before: u32) -> u32 {
     }
 }
 
-// One to seven hops. One in twenty is strict. One in twenty has a prefix of 30 bits, so up to four routers meet it.
+// One to seven drawn hops. One hop in twenty is strict. One hop in twenty has a prefix of 30 bits,
+// so up to four routers own its prefix.
 fn drawn_hops(seed: &mut u32, ends: (u32, u32)) -> Result<Hops, Fail> {
     let mut hops = Hops::none();
     let mut address = ends.0;
@@ -269,7 +277,8 @@ fn drawn_hops(seed: &mut u32, ends: (u32, u32)) -> Result<Hops, Fail> {
     Ok(hops)
 }
 
-// A request with hops. Its include-any mask is 0 or 0x2, so each tail-end has two classes of requests.
+// A drawn request with hops. Its include-any mask is 0 or 0x2. So the requests to one tail-end are
+// of two classes. A class shares a tree: it has one tail-end and one set of affinities.
 fn drawn_request(seed: &mut u32) -> Result<Request, Fail> {
     let from = draw(seed, 10);
     let to = (from + 1 + draw(seed, 9)) % 10;
@@ -306,7 +315,7 @@ fn routes_by_legs(alloc: Global, seed: &mut u32) -> Result<u32, Fail> {
     Ok(routes)
 }
 
-// In 50 networks, rounds and trees give the same answers to 2,000 requests.
+// In 50 networks, the search by rounds and the trees give the same answers to 2,000 requests.
 #[test]
 fn legs_in_drawn_networks(rt: HostRuntime) -> Result<(), Fail> {
     let mut seed = 2463534242;

@@ -1,4 +1,4 @@
-//! Routes in networks with routers without transit.
+//! Routes are found in networks in which some routers are marked as without transit.
 
 use super::Wanted::{Again, NoRoute, Route, UnknownFrom, UnknownTo};
 use super::{
@@ -7,7 +7,7 @@ use super::{
 };
 use std::test::Fail;
 
-// ONE reaches FOUR by TWO at a cost of 2, and by THREE at a cost of 4.
+// A square of links. ONE reaches FOUR by TWO at a cost of 2, and by THREE at a cost of 4.
 const SQUARE: &[Row] = &[
     (ONE, 0x0a00_0c01, TWO, 0x0a00_0c02, 1, 1000),
     (TWO, 0x0a00_1802, FOUR, 0x0a00_1804, 1, 1000),
@@ -22,41 +22,45 @@ const BY_THREE: &[u32] = &[0x0a00_0d03, 0x0a00_2204];
 // The address of no router.
 const NINE: u32 = 0x0909_0909;
 
-// Hops that make empty legs at the head-end and at the tail-end.
+// Hops that make legs (parts of the route between hops) without links at the head-end and at the
+// tail-end.
 const ENDS: &[u8] = b"1.1.1.1/32l 0.0.0.0/0s 1.1.1.1/32s 4.4.4.4/32l 0.0.0.0/0s";
 
 const ROUND: &[Case] = &[
     (&[], (ONE, FOUR), b"", Route(2, BY_TWO)),
     (&[TWO], (ONE, FOUR), b"", Route(4, BY_THREE)),
     (&[THREE], (ONE, FOUR), b"", Route(2, BY_TWO)),
-    // routes begin and end at marked routers
+    // routes begin and end at routers that are marked as without transit, but don't pass through
+    // them
     (&[ONE], (ONE, FOUR), b"", Route(2, BY_TWO)),
     (&[FOUR], (ONE, FOUR), b"", Route(2, BY_TWO)),
     (&[ONE, FOUR], (ONE, FOUR), b"", Route(2, BY_TWO)),
     (&[ONE, TWO, FOUR], (ONE, FOUR), b"", Route(4, BY_THREE)),
     (&[TWO, THREE], (ONE, FOUR), b"", NoRoute),
     (&[ONE, TWO, THREE, FOUR], (ONE, FOUR), b"", NoRoute),
-    // a marked head-end with a link to a marked tail-end
+    // a link leads from the head-end to the tail-end, and both are marked as without transit
     (
         &[ONE, TWO, THREE, FOUR],
         (ONE, TWO),
         b"",
         Route(1, &[0x0a00_0c02]),
     ),
-    // a hop that only a marked router meets, and a hop that another router meets too
+    // the hop's prefix is owned only by a router that is marked as without transit, or also by a
+    // router with transit
     (&[TWO], (ONE, FOUR), b"2.2.2.2/32l", NoRoute),
     (&[THREE], (ONE, FOUR), b"2.2.2.2/32l", Route(2, BY_TWO)),
     (&[ONE, FOUR], (ONE, FOUR), b"2.2.2.2/32l", Route(2, BY_TWO)),
     (&[TWO], (ONE, FOUR), b"2.0.0.0/7l", Route(4, BY_THREE)),
     (&[ONE, FOUR], (ONE, FOUR), ENDS, Route(2, BY_TWO)),
     (&[ONE, TWO, FOUR], (ONE, FOUR), ENDS, Route(4, BY_THREE)),
-    // a mark on an address without links makes no router
+    // an address without links that is marked as without transit is no router of the table
     (&[TWO, NINE], (NINE, ONE), b"", UnknownFrom),
     (&[TWO, NINE], (ONE, NINE), b"", UnknownTo),
 ];
 
-// ONE reaches FOUR by TWO and by THREE at the same cost, but no bandwidth is unreserved on the link to THREE.
-// So along the links by TWO the bounds of a tree fall by exactly the metric, even if TWO is marked.
+// ONE reaches FOUR by TWO and by THREE at the same cost, but no bandwidth is unreserved on the link
+// to THREE. So along the links by TWO the bounds of a tree fall by exactly the metrics, even if TWO
+// is marked as without transit.
 const EQUAL: &[Row] = &[
     (ONE, 0x0a00_0c01, TWO, 0x0a00_0c02, 1, 1000),
     (TWO, 0x0a00_1802, FOUR, 0x0a00_1804, 1, 1000),
@@ -77,11 +81,12 @@ fn routes_round_marked_routers(rt: HostRuntime) -> Result<(), Fail> {
 
 const BY_HOP: &[u8] = b"2.2.2.2/32l";
 
-// The least route by the hop comes back through the head-end, whether or not the tail-end is marked.
+// The least route by the hop comes back through the head-end, whether or not the tail-end is marked
+// as without transit.
 const BACK: &[u32] = &[0x0a00_0c02, 0x0a00_0c01, 0x0a00_0d03];
 
-// Links from ONE to TWO and back, and from both to THREE, with two choices of metrics. In the last network the
-// only way by the hop goes through the tail-end and comes back to it.
+// Links from ONE to TWO and back, and from both of them to THREE, with two choices of metrics. In
+// the last network, the only way by the hop goes through the tail-end and comes back to it.
 const WAYS_BACK: [Network; 5] = [
     (
         &[
@@ -103,7 +108,8 @@ const WAYS_BACK: [Network; 5] = [
             (&[TWO], (ONE, THREE), BY_HOP, NoRoute),
         ],
     ),
-    // without the link from TWO to THREE there is no route
+    // this network has the links of the network before, but not the link from TWO to THREE, so
+    // there is no route
     (
         &[
             (ONE, 0x0a00_0c01, TWO, 0x0a00_0c02, 0, 1000),
@@ -136,7 +142,8 @@ const WAYS_BACK: [Network; 5] = [
             (&[TWO], (ONE, THREE), BY_HOP, NoRoute),
         ],
     ),
-    // without the link from TWO to THREE there is no route
+    // this network has the links of the network before, but not the link from TWO to THREE, so
+    // there is no route
     (
         &[
             (ONE, 0x0a00_0c01, TWO, 0x0a00_0c02, 1, 1000),
@@ -174,7 +181,7 @@ fn ways_back_to_the_ends(rt: HostRuntime) -> Result<(), Fail> {
     assert_networks(&rt, rt.alloc(), &WAYS_BACK)
 }
 
-// A router whose mark is removed has transit again.
+// If a router is marked as without transit, and the mark is removed, the router has transit again.
 #[test]
 fn marks_that_go(rt: HostRuntime) -> Result<(), Fail> {
     let alloc = rt.alloc();

@@ -1,5 +1,5 @@
-//! Trees while memory is refused: each request gets its answer, or the error that memory is refused. Once
-//! there is memory again, it gets its answer.
+//! Trees while memory is refused: each request gets its answer, or the error that memory is
+//! refused. Once there is memory again, each request gets its answer.
 
 ghost use Rattle.cspf_trees.specs.Trees.{AreTreesOf};
 
@@ -18,7 +18,7 @@ fn has_memory(alloc: Global) -> bool {
     }
 }
 
-// Whether the request gets the route over the link nine times. A tree is grown at the sixth time.
+// Whether the request gets the route over the link nine times. At the sixth time a tree is grown.
 fn are_routes(
     alloc: Global,
     table: &Table,
@@ -35,7 +35,8 @@ fn are_routes(
     Ok(all)
 }
 
-// Whether the request gets this route nine times in a new table after these changes, with new trees.
+// Whether the request gets this route nine times in a new table that has absorbed these changes,
+// with new trees.
 fn are_routes_after(
     alloc: Global,
     changes: &[Change],

@@ -1,4 +1,5 @@
-//! Answers in small networks: ties, reverses, unknown head-ends and tail-ends, priorities, affinities and hops.
+//! Answers in small networks: ties, reverses, unknown head-ends and tail-ends, priorities,
+//! affinities and hops.
 
 use super::Wanted::{Again, NoRoute, Route, UnknownFrom, UnknownTo};
 use super::{
@@ -14,8 +15,9 @@ use std::test::Fail;
 // A link from ONE to TWO.
 const LINK: Row = (ONE, 0x0a00_0c01, TWO, 0x0a00_0c02, 10, 1000);
 
-// Routes of equal cost. Addresses compare as numbers. Fewer links go before smaller addresses. The first address
-// that differs decides, not the last.
+// Routes of equal cost. Of these, a route with fewer links comes first. Of routes with equally many
+// links, the order is decided by the first local address in which they differ, and not by the last
+// one. Addresses compare as numbers.
 const TIES: [Network; 3] = [
     (
         &[
@@ -55,7 +57,7 @@ const SEVEN: &[u8] =
     b"0.0.0.0/0l 0.0.0.0/0l 0.0.0.0/0l 0.0.0.0/0l 0.0.0.0/0l 0.0.0.0/0l 0.0.0.0/0l";
 
 const LINKS: [Network; 9] = [
-    // links of metric 0
+    // some links have the metric 0
     (
         &[
             (ONE, 0x0a00_0c01, TWO, 0x0a00_0c02, 0, 1000),
@@ -74,7 +76,7 @@ const LINKS: [Network; 9] = [
         &[LINK],
         true,
         &[
-            // seven hops that every router meets change nothing
+            // seven hops whose prefix every router owns change nothing in the route
             (&[], (ONE, TWO), SEVEN, Route(10, &[0x0a00_0c02])),
             // no bandwidth is unreserved on the reverse
             (&[], (TWO, ONE), b"", NoRoute),
@@ -83,10 +85,10 @@ const LINKS: [Network; 9] = [
             (&[], (ONE, FOUR), b"", UnknownTo),
         ],
     ),
-    // a link without a reverse
+    // the only link has no reverse
     (&[LINK], false, &[(&[], (ONE, TWO), b"", NoRoute)]),
-    // a link back isn't the reverse if it uses other interfaces at one end or at both, or leads to another
-    // router
+    // A link back isn't the reverse if it joins other interfaces at one end or at both ends. It
+    // isn't the reverse either if it leads to another router.
     (
         &[LINK, (TWO, 0x0a00_0d02, ONE, 0x0a00_0d01, 10, 1000)],
         false,
@@ -107,7 +109,7 @@ const LINKS: [Network; 9] = [
         false,
         &[(&[], (ONE, TWO), b"", NoRoute)],
     ),
-    // a reverse, whatever its metric and bandwidth
+    // a link back is the reverse, whatever its metric and bandwidth are
     (
         &[LINK, (TWO, 0x0a00_0c02, ONE, 0x0a00_0c01, 10, 1000)],
         false,
@@ -125,8 +127,8 @@ fn links_and_reverses(rt: HostRuntime) -> Result<(), Fail> {
     assert_networks(&rt, rt.alloc(), &LINKS)
 }
 
-// The route through the strict hop 10.9.0.0/16. Its leg may use both routers that the prefix covers, and no
-// other.
+// The route through the strict hop 10.9.0.0/16. The leg to this hop (the part of the route up to
+// it) may visit both routers that the prefix covers, and no others.
 const STRICT: &[u32] = &[0x0a00_0302, 0x0a00_0601, 0x0a00_0504];
 
 const HOPS: [Network; 3] = [
@@ -148,7 +150,7 @@ const HOPS: [Network; 3] = [
                 b"10.9.0.0/16l",
                 Route(3, &[0x0a00_0103, 0x0a00_0401, 0x0a00_0504]),
             ),
-            // the leg of the first hop is empty
+            // the leg to the first hop (the part of the route up to it) has no links
             (
                 &[],
                 (ONE, FOUR),
@@ -157,7 +159,7 @@ const HOPS: [Network; 3] = [
             ),
         ],
     ),
-    // the route is at the tail-end before it meets the hop, and again at its end
+    // the route passes the tail-end before it reaches the hop, and ends at the tail-end again
     (
         &[
             LINK,
@@ -194,14 +196,15 @@ fn hops(rt: HostRuntime) -> Result<(), Fail> {
     assert_networks(&rt, rt.alloc(), &HOPS)
 }
 
-// A table of the link and its reverse. The reverse has these groups.
+// A table of the link and of its reverse, which has these groups.
 fn with_reverse(alloc: Global, groups: u32) -> Result<Table, Fail> {
     let (there, mut back) = (link(&LINK)?, link(&reverse(&LINK))?);
     back.group = Mask::new(groups);
     Ok(table_of(alloc, &[Change::Put(there), Change::Put(back)])?)
 }
 
-// The groups of the reverse, the setup priority, the three affinity masks, and whether there is a route.
+// The groups of the reverse, the setup priority, the three affinity masks, and whether there is a
+// route.
 const AFFINITIES: [(u32, u8, (u32, u32, u32), bool); 8] = [
     (0x6, 0, (0, 0, 0), true),
     // no bandwidth is unreserved at priority 7
@@ -209,7 +212,7 @@ const AFFINITIES: [(u32, u8, (u32, u32, u32), bool); 8] = [
     (0x6, 0, (0x1, 0x2, 0x6), true),
     (0x6, 0, (0x0, 0x0, 0x7), false),
     (0x6, 0, (0x4, 0x0, 0x0), false),
-    // the groups of the reverse don't count
+    // the groups of the reverse don't count for the link
     (0x8, 0, (0x8, 0, 0), true),
     (0x8, 0, (0, 0x2, 0), true),
     (0x8, 0, (0, 0, 0x6), true),

@@ -1,4 +1,5 @@
-//! Networks of seven shapes. Trees that are grown at the first request have to answer as the search by rounds does.
+//! The tests draw networks of seven shapes. Requests that are answered with trees of lower bounds,
+//! grown at the first request, have to get the answers of the search by rounds.
 
 ghost use Rattle.cspf_trees.specs.Trees.{AreTreesOf};
 
@@ -17,30 +18,30 @@ const ROUTERS: u32 = 36;
 // How many circuits a network has at most.
 const CIRCUITS: u32 = 140;
 
-// The numbers of the two routers of a circuit, in a network of this shape. If both are the same, there is no such
-// circuit.
+// The numbers of the two routers that a circuit joins, in a network of this shape. If both numbers
+// are the same, there is no such circuit.
 fn circuit(seed: &mut u32, shape: u32, number: u32) -> (u32, u32) {
     match shape {
-        // a ring of all routers, and circuits between any two
+        // all routers form a cycle, and circuits join any two of them
         0 if number < 36 => (number, (number + 1) % 36),
         0 if number < 72 => (draw(seed) % 36, draw(seed) % 36),
-        // a ring of six routers with chords; 12 routers, each with two circuits to the ring; 18 routers,
-        // each with two circuits to those 12
+        // Six routers form a cycle with three chords. Each of 12 more routers has two circuits to
+        // this cycle, and each of 18 others has two circuits to these 12.
         1 if number < 6 => (number, (number + 1) % 6),
         1 if number < 9 => (number - 6, number - 3),
         1 if number < 33 => (6 + (number - 9) / 2, draw(seed) % 6),
         1 if number < 69 => (18 + (number - 33) / 2, 6 + draw(seed) % 12),
-        // a grid
+        // the routers form a grid
         2 if number < 30 => (number + number / 5, number + number / 5 + 1),
         2 if number < 60 => (number - 30, number - 24),
-        // a ladder
+        // the routers form a ladder
         3 if number < 34 => (number, number + 2),
         3 if number < 52 => (2 * (number - 34), 2 * (number - 34) + 1),
-        // six spines, and 30 leaves with three circuits each to them
+        // each of 30 leaves has three circuits to the six spines
         4 if number < 90 => (6 + number / 3, draw(seed) % 6),
-        // a ring
+        // the routers form a cycle
         5 if number < 36 => (number, (number + 1) % 36),
-        // four circuits from each router to the next
+        // each router has four circuits to the next one
         6 => (number / 4, number / 4 + 1),
         _ => (0, 0),
     }
@@ -51,7 +52,7 @@ fn router(number: u32) -> Addr {
     Addr::new(0x0a00_0000 + number % ROUTERS)
 }
 
-// A metric, by its kind: always 1, from 0 to 3, or from 1 to 1,000.
+// A drawn metric: always 1, from 0 to 3, or from 1 to 1,000, as `kind` says.
 fn metric(seed: &mut u32, kind: u32) -> u32 {
     match kind {
         0 => 1,
@@ -60,7 +61,8 @@ fn metric(seed: &mut u32, kind: u32) -> u32 {
     }
 }
 
-// A link that is in one or two of three groups. One in 32 has no unreserved bandwidth.
+// A link that is in one or two of three groups. One in 32 of these links has no unreserved
+// bandwidth.
 fn shaped_link(seed: &mut u32, kind: u32, from: (u32, u32), to: (u32, u32)) -> Result<Link, Fail> {
     let room = if draw(seed) % 32 == 0 { 0 } else { 1000 };
     let group = Mask::new(1 + draw(seed) % 3 * 2);
@@ -78,7 +80,8 @@ fn shaped_link(seed: &mut u32, kind: u32, from: (u32, u32), to: (u32, u32)) -> R
     Ok(link?)
 }
 
-// A table of a network of this shape, with metrics of this kind. One in three has a marked router.
+// A table of a network of this shape, with metrics of this kind. One in three of these networks has
+// a router that is marked as without transit.
 fn shaped_table(alloc: Global, seed: &mut u32, shape: u32, kind: u32) -> Result<Table, Fail> {
     let mut changes = Vec::new(alloc);
     for number in 0..CIRCUITS {
@@ -100,8 +103,8 @@ fn shaped_table(alloc: Global, seed: &mut u32, shape: u32, kind: u32) -> Result<
     Ok(table_of(alloc, &changes)?)
 }
 
-// Lists of hops. In the first three lists each hop is met by one router, in the others a hop is met by
-// several.
+// Lists of hops. In the first three lists, only one router owns the prefix of each hop. In the
+// other lists, several routers own the prefix of a hop.
 const HOPS: [&[u8]; 5] = [
     b"10.0.0.7/32l",
     b"10.0.0.7/32l 10.0.0.7/32l 10.0.0.30/32l",
@@ -113,7 +116,7 @@ const HOPS: [&[u8]; 5] = [
 // The affinity masks of requests: exclude-any, include-any and include-all.
 const MASKS: [(u32, u32, u32); 4] = [(0, 0, 0), (0, 0, 0), (4, 0, 0), (0, 6, 1)];
 
-// A request between two drawn routers. One in eight has hops.
+// A request between two drawn routers. One in eight of these requests has hops.
 fn shaped_request(seed: &mut u32) -> Result<Request, Fail> {
     let from = draw(seed) % ROUTERS;
     let to = from + 1 + draw(seed) % (ROUTERS - 1);
@@ -126,8 +129,8 @@ fn shaped_request(seed: &mut u32) -> Result<Request, Fail> {
     request(ends, 0, masks, hops)
 }
 
-// Whether the trees answer a request as the search by rounds does. A request with hops is first asked without
-// them, so that its class has a tree.
+// Whether the trees answer a request as the search by rounds does. A request with hops is first
+// asked without its hops, so that there is a tree for its tail-end and affinities.
 fn agree(alloc: Global, table: &Table, request: &Request, trees: &mut Trees) -> Result<bool, Fail>
     requires { AreTreesOf table.now trees.old }
     ensures { AreTreesOf table.now trees.new }
@@ -159,8 +162,8 @@ fn count_agreed(
     Ok(count)
 }
 
-// How many of 200 requests the trees answer as the search by rounds does, in a new network of this shape
-// with metrics of this kind. `trees` is cleared first.
+// How many of 200 requests the trees answer as the search by rounds does. They are asked in a new
+// network of this shape with metrics of this kind. `trees` is cleared first.
 fn agreed(
     alloc: Global,
     seed: &mut u32,
@@ -173,7 +176,8 @@ fn agreed(
     count_agreed(alloc, seed, &table, trees)
 }
 
-// Trees that are grown at the first request answer 100,800 requests in 504 networks as the search by rounds does.
+// Requests that are answered with trees of lower bounds, grown at the first request, get the
+// answers of the search by rounds. This is tried for 100,800 requests in 504 networks.
 #[test]
 fn shapes(rt: HostRuntime) -> Result<(), Fail> {
     let mut seed = 2463534242;

@@ -4,8 +4,8 @@ use super::Wanted::{NoRoute, Route};
 use super::{Case, FOUR, ONE, Row, THREE, TWO, assert_networks};
 use std::test::Fail;
 
-// ONE reaches FOUR by TWO at a cost of 2, and by THREE at a cost of 4. The link from TWO to THREE and its
-// reverse have no unreserved bandwidth.
+// ONE reaches FOUR by TWO at a cost of 2, and by THREE at a cost of 4. The link from TWO to THREE
+// and its reverse have no unreserved bandwidth.
 const ROWS: &[Row] = &[
     (ONE, 0x0a00_0c01, TWO, 0x0a00_0c02, 1, 1000),
     (TWO, 0x0a00_1802, FOUR, 0x0a00_1804, 1, 1000),
@@ -26,7 +26,8 @@ const CASES: &[Case] = &[
         b"3.3.3.3/32s 4.4.4.4/32s",
         Route(4, BY_THREE),
     ),
-    // the leg of a strict hop is empty if the router where the leg begins meets the hop
+    // the leg to a strict hop (the part of the route up to it) has no links if the leg begins at an
+    // owner of the hop's prefix
     (
         &[],
         (ONE, FOUR),
@@ -40,14 +41,15 @@ const CASES: &[Case] = &[
         b"0.0.0.0/0s 1.1.1.1/32s",
         Route(2, BY_TWO),
     ),
-    // TWO and THREE meet the first hop, and only THREE meets the second
+    // TWO and THREE own the prefix of the first hop, and of these two only THREE owns that of the
+    // second
     (
         &[],
         (ONE, FOUR),
         b"2.0.0.0/7s 10.0.13.0/24s",
         Route(4, BY_THREE),
     ),
-    // no link leads to the strict hop
+    // no link leads to the strict hop from the router where the leg to this hop begins
     (&[], (ONE, FOUR), b"4.4.4.4/32s", NoRoute),
     (
         &[],

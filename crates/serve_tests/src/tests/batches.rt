@@ -1,5 +1,5 @@
-//! Runs over a journal and requests that are read and written in pieces, and runs whose inputs or lines
-//! fail.
+//! Tests runs over a journal and requests that are read and written in pieces. In some of these
+//! runs reading the inputs or writing the lines fails.
 
 use super::{Narrow, bytes_of, in_pieces};
 use cspf_serve::{NoGate, RunError, run_batch};
@@ -8,16 +8,16 @@ use std::io::{Read, Write};
 use std::sync::Wait;
 use std::thread::Threads;
 
-/// Three batches. The first two put six links and two links, each with its reverse. The third puts one
-/// link again and takes one link out.
+/// Three batches. The first two add six links and two links (as `put` changes), each with its
+/// reverse. The third sets one link again and removes one link.
 const JOURNAL: &[u8] =
     b"put,1.1.1.1,10.0.1.1,3.3.3.3,10.0.1.3,1,0x1,F\nput,1.1.1.1,10.0.2.1,10.9.0.1,10.0.2.2,10,0x1,F\nput,1.1.1.1,10.0.3.1,10.9.0.2,10.0.3.2,2,0x1,F\nput,3.3.3.3,10.0.4.3,10.9.0.1,10.0.4.1,1,0x1,F\nput,10.9.0.1,10.0.5.1,4.4.4.4,10.0.5.4,1,0x1,F\nput,10.9.0.2,10.0.6.2,10.9.0.1,10.0.6.1,3,0x1,F\nput,3.3.3.3,10.0.1.3,1.1.1.1,10.0.1.1,1,0x1,O\nput,10.9.0.1,10.0.2.2,1.1.1.1,10.0.2.1,10,0x1,O\nput,10.9.0.2,10.0.3.2,1.1.1.1,10.0.3.1,2,0x1,O\nput,10.9.0.1,10.0.4.1,3.3.3.3,10.0.4.3,1,0x1,O\nput,4.4.4.4,10.0.5.4,10.9.0.1,10.0.5.1,1,0x1,O\nput,10.9.0.1,10.0.6.1,10.9.0.2,10.0.6.2,3,0x1,O\nend,1,12\nput,2.2.2.2,10.0.7.2,1.1.1.1,10.0.7.1,5,0x2,F\nput,4.4.4.4,10.0.8.4,2.2.2.2,10.0.8.2,5,0x1,F\nput,1.1.1.1,10.0.7.1,2.2.2.2,10.0.7.2,5,0x2,O\nput,2.2.2.2,10.0.8.2,4.4.4.4,10.0.8.4,5,0x1,O\nend,2,4\ndrop,3.3.3.3,10.0.4.3\nput,1.1.1.1,10.0.2.1,10.9.0.1,10.0.2.2,3,0x1,F\nend,3,2\n";
 
-/// Requests over these links.
+/// Requests for routes over the links of `JOURNAL`.
 const REQUESTS: &[u8] =
     b"ask,1,1.1.1.1,4.4.4.4,0,1,Z,10.9.0.0/16s\nask,2,1.1.1.1,4.4.4.4,0,1,Z,\nask,3,1.1.1.1,4.4.4.4,0,1,Z,10.9.0.2/32l\nask,4,2.2.2.2,4.4.4.4,7,1000,0x2,0x0,0x0,\nask,5,2.2.2.2,10.9.0.1,7,1000,0x0,0x2,0x0,\nask,6,5.5.5.5,1.1.1.1,0,1,Z,\nask,7,1.1.1.1,3.3.3.3,0,1001,Z,\nask,8,2.2.2.2,1.1.1.1,0,1000,0x0,0x2,0x0,\n";
 
-/// The lines of a run over this journal and these requests.
+/// The lines that a run over `JOURNAL` and `REQUESTS` writes.
 const LINES: &[u8] =
     b"version 1\nversion 2\nversion 3\nask 1 v3 route cost=4 hops=2 again=no ero=0014140101080a000202200001080a0005042000\nask 2 v3 route cost=4 hops=2 again=no ero=0014140101080a000202200001080a0005042000\nask 3 v3 route cost=6 hops=3 again=no ero=001c140101080a000302200001080a000601200001080a0005042000\nask 4 v3 none\nask 5 v3 none\nask 6 v3 unknown-from\nask 7 v3 none\nask 8 v3 route cost=5 hops=1 again=no ero=000c140101080a0007012000\n";
 
@@ -27,8 +27,8 @@ fn inputs(alloc: Global) -> Result<(Vec<u8>, Vec<u8>), AllocError> {
     Ok((journal, bytes_of(alloc, REQUESTS)?))
 }
 
-/// The answer of a run, and what its writer holds. The writer takes at most `width` bytes a write, and
-/// `most` bytes in all.
+/// The result of a run over a journal and requests, and what the run's writer holds. The writer
+/// takes at most `width` bytes a write, and `most` bytes in all.
 fn run_narrow<R: Read + Drop, Q: Read + Drop, T: Threads + Wait + Sync>(
     rt: &T,
     alloc: Global,
@@ -47,7 +47,8 @@ fn run_narrow<R: Read + Drop, Q: Read + Drop, T: Threads + Wait + Sync>(
     (found, held)
 }
 
-/// Whether a run that reads and writes a few bytes at a time writes the lines.
+/// Whether a run over the journal and the requests writes `LINES`, if it reads and writes only a
+/// few bytes at a time.
 fn is_answered_in_pieces<T: Threads + Wait + Sync>(
     rt: &T,
     alloc: Global,
@@ -67,8 +68,8 @@ fn runs_in_pieces(rt: HostRuntime) -> Result<(), AllocError> {
     Ok(())
 }
 
-/// Whether a run writes nothing if its journal fails after `kept` bytes or its requests after `asked`
-/// bytes.
+/// Whether a run writes nothing if reading its journal fails after `kept` bytes, or reading its
+/// requests after `asked` bytes.
 fn stops_at_a_read<T: Threads + Wait + Sync>(
     rt: &T,
     alloc: Global,
@@ -81,7 +82,7 @@ fn stops_at_a_read<T: Threads + Wait + Sync>(
     found == Err(RunError::Device) && held.is_empty()
 }
 
-/// The journal or the requests fail after some bytes.
+/// Reading the journal or the requests fails after some bytes.
 #[test]
 fn faults_of_the_inputs(rt: HostRuntime) -> Result<(), AllocError> {
     let (journal, requests) = inputs(rt.alloc())?;
@@ -96,7 +97,8 @@ fn faults_of_the_inputs(rt: HostRuntime) -> Result<(), AllocError> {
     Ok(())
 }
 
-/// Whether a run whose writer takes `most` bytes fails, and has written a prefix of the lines.
+/// Whether a run over a journal and requests fails if its writer takes only `most` bytes, and has
+/// then written a prefix of the lines.
 fn stops_at_a_write<T: Threads + Wait + Sync>(
     rt: &T,
     alloc: Global,
@@ -107,7 +109,8 @@ fn stops_at_a_write<T: Threads + Wait + Sync>(
     found == Err(RunError::Device) && held.len() == most && LINES.starts_with(held.as_slice())
 }
 
-/// Whether a run over a torn journal fails if its line isn't taken whole.
+/// Whether a run over a journal with a row after its batches fails, if the writer doesn't take the
+/// whole line of the journal's refusal.
 fn stops_at_a_torn_line<T: Threads + Wait + Sync>(rt: &T, alloc: Global, requests: &[u8]) -> bool {
     let torn: &[u8] = b"x\n";
     let (found, _held) = run_narrow(rt, alloc, torn, requests, 100, 5);

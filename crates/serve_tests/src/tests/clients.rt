@@ -1,5 +1,5 @@
-//! What the tests of clients share: a publisher with its batches, and a writer that takes a given
-//! number of bytes.
+//! Defines what the tests of clients share: a publisher with its batches, and a writer that takes a
+//! given number of bytes.
 
 mod closed;
 mod dialogues;
@@ -19,9 +19,9 @@ use std::process::Abort;
 use std::sync::Wait;
 use std::test::Fail;
 
-/// The batch with this number. The batch puts a link of metric 10 with 1,000 bytes per second
-/// unreserved, from 1.1.1.1 by 10.0.12.1 to 2.2.2.2. The batch also puts the link's reverse, with no
-/// bandwidth.
+/// The batch with this number. It sets a link of metric 10 from 1.1.1.1 to 2.2.2.2, with 1,000
+/// bytes per second unreserved. The address of the link's interface at 1.1.1.1 is 10.0.12.1. The
+/// batch also sets the link's reverse, with no bandwidth.
 fn link_batch(alloc: Global, number: u32) -> Result<Batch, Fail> {
     let (from, local) = (Addr::new(0x01010101), Addr::new(0x0a000c01));
     let (to, remote) = (Addr::new(0x02020202), Addr::new(0x0a000c02));
@@ -95,7 +95,8 @@ impl Write for Narrow {
     }
 }
 
-/// The state of a client with these requests, which ran after batch 1 was published.
+/// Applies the batch `first`, and then runs a client with these requests. Returns the client's
+/// result.
 fn served<R: Wait + Abort>(
     rt: &R,
     alloc: Global,

@@ -1,4 +1,6 @@
-//! The most links, marks and changes of a run, its counts, long rows, and the names of refusals.
+//! Tests runs over rows with as many links, marked routers and changes as are allowed, and with
+//! more. A marked router carries no transit. Also tests the counts that a run returns, long rows,
+//! and the names of refusals.
 
 use super::scripts::is_answered;
 use cspf_model::Refusal;
@@ -6,13 +8,13 @@ use cspf_serve::BatchRefusal;
 use std::alloc::{AllocError, Global};
 use std::fmt::Write;
 
-/// A row that puts a link whose local address has this number.
+/// Appends a `put` row, which adds a link or replaces it. The link's local address has this number.
 fn put_link(text: &mut String, number: u32) -> Result<(), AllocError> {
     let [a, b, c, d] = number.to_be_bytes();
     write_put(text, [a, b, c, d])
 }
 
-/// A row that puts a link with this local address.
+/// Appends a `put` row, which adds a link or replaces it. The link has this local address.
 fn write_put(text: &mut String, [a, b, c, d]: [u8; 4]) -> Result<(), AllocError> {
     write!(
         text,
@@ -20,8 +22,9 @@ fn write_put(text: &mut String, [a, b, c, d]: [u8; 4]) -> Result<(), AllocError>
     )
 }
 
-/// A script made of parts. Each part puts links, by the numbers of their local addresses, and then has
-/// these rows.
+/// A script (rows of changes, batches and requests) that is made of parts, each of which has two
+/// numbers and a text. A part sets one link for each number from the first one up to the second
+/// one, which is left out. The number is the link's local address. Then the part has its text.
 fn script_of(alloc: Global, parts: &[(u32, u32, &str)]) -> Result<String, AllocError> {
     let mut text = String::new(alloc);
     for part in parts {
@@ -33,14 +36,15 @@ fn script_of(alloc: Global, parts: &[(u32, u32, &str)]) -> Result<String, AllocE
     Ok(text)
 }
 
-/// Whether a run over a script writes these lines and has these counts.
+/// Whether a run over a script (rows of changes, batches and requests) writes these lines and has
+/// these counts.
 fn is_run(alloc: Global, script: &str, lines: &str, counts: [u32; 4]) -> bool {
     let all = usize::MAX;
     is_answered(alloc, script.as_bytes(), all, all, lines.as_bytes(), counts)
 }
 
-/// A batch that is too long, then four batches that fill the table. One more link is refused, unless its
-/// batch takes a link out.
+/// Parts of a script (rows of changes, batches and requests). One batch is too long, and the next
+/// four batches fill the table. One more link is refused, unless its batch removes a link.
 const LINKS: [(u32, u32, &str); 7] = [
     (0, 4097, "end,1,4097\n"),
     (0, 4096, "end,1,4096\n"),
@@ -62,13 +66,15 @@ fn as_many_links_as_are_kept(rt: HostRuntime) -> Result<(), AllocError> {
     Ok(())
 }
 
-/// A row that marks the router whose address has this number.
+/// Appends a row that marks the router whose address has this number. The router then carries no
+/// transit.
 fn write_mark(text: &mut String, number: u32) -> Result<(), AllocError> {
     let [a, b, c, d] = number.to_be_bytes();
     write!(text, "node,{a}.{b}.{c}.{d},0\n")
 }
 
-/// Three batches: as many marks as a table keeps, one mark more, and one mark in place of another.
+/// The rows of three batches. The first marks as many routers as a table keeps marks of, and the
+/// second marks one more router. The third marks one router in place of another.
 fn script_of_marks(alloc: Global) -> Result<String, AllocError> {
     let mut text = String::new(alloc);
     for number in 0..1024 {
@@ -88,8 +94,8 @@ fn as_many_marks_as_are_kept(rt: HostRuntime) -> Result<(), AllocError> {
     Ok(())
 }
 
-/// More changes than a batch may have: with a wrong count, with the right count, and without an end
-/// row.
+/// More changes than a batch may have, in three parts of a script (rows of changes, batches and
+/// requests). The parts have a wrong count, the right count, and no end row.
 const CHANGES: [(u32, u32, &str); 3] = [
     (0, 5000, "end,1,4097\n"),
     (0, 5000, "end,1,5000\n"),
@@ -133,7 +139,7 @@ fn long_rows(rt: HostRuntime) -> Result<(), AllocError> {
     Ok(())
 }
 
-/// Whether a refusal is written as this word.
+/// Whether a refusal is printed as this text.
 fn has_word(alloc: Global, refusal: BatchRefusal, word: &str) -> Result<bool, AllocError> {
     let found = refusal.to_string(alloc)?;
     Ok(found.as_str() == word)

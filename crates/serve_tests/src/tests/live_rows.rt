@@ -1,4 +1,5 @@
-//! Live runs whose lines or whose journal fail.
+//! Tests live runs (batches are applied while workers answer requests) in which writing the lines
+//! or writing the journal fails.
 
 use super::{Narrow, bytes_of, cut, cut_bytes, numbers_of};
 use cspf_serve::{NoGate, RunError, run_live_rows};
@@ -6,16 +7,17 @@ use std::alloc::{AllocError, Global};
 use std::sync::Wait;
 use std::thread::Threads;
 
-/// The text that the journal gets for the batch of `P`.
+/// The text that the journal gets for a batch whose only change is the row `P`, which sets a link.
 const TEXT: &[u8] =
     b"put,1.1.1.1,10.0.12.1,2.2.2.2,10.0.12.2,10,0x00000001,1000,1000,1000,1000,1000,1000,1000,1000\nend,1,1\n";
 
-/// The texts that the journal gets for that batch and for an empty batch.
+/// The texts that the journal gets for a batch whose only change is the row `P`, and for an empty
+/// batch.
 const BOTH: &[u8] =
     b"put,1.1.1.1,10.0.12.1,2.2.2.2,10.0.12.2,10,0x00000001,1000,1000,1000,1000,1000,1000,1000,1000\nend,1,1\nend,2,0\n";
 
-/// Whether a run of two batches over a journal that takes `most` bytes writes these lines, fills
-/// the journal with a prefix of the text, and answers this status.
+/// Whether a run that gets two batches writes these lines and returns this status. The run's
+/// journal takes `most` bytes, and has to be full of a prefix of the batches' text afterwards.
 fn fills_up<T: Threads + Wait + Sync>(
     rt: &T,
     alloc: Global,
@@ -39,8 +41,8 @@ fn fills_up<T: Threads + Wait + Sync>(
         && BOTH.starts_with(kept.as_slice())
 }
 
-/// One fault per line: how many bytes a journal takes, the status, and the lines of two batches over
-/// that journal.
+/// One fault per line: how many bytes a journal takes, and then the status and the lines of a run
+/// that gets two batches and this journal.
 const FAULTS: &str = "\
 0 2 > applied 0|batch 1 refused: journal 0|
 5 2 > applied 0|batch 1 refused: journal 5|
@@ -50,7 +52,7 @@ const FAULTS: &str = "\
 110 0 > applied 2|
 ";
 
-/// Whether a run has the fault of this line.
+/// Whether a run that gets two batches has the fault that this line of the table names.
 fn has_fault<T: Threads + Wait + Sync>(
     rt: &T,
     alloc: Global,
@@ -73,8 +75,8 @@ fn faults_of_the_journal(rt: HostRuntime) -> Result<(), AllocError> {
     Ok(())
 }
 
-/// Runs one batch with a writer of lines that takes `most` bytes. Whether the run fails, has written a
-/// prefix of the line, and has the batch in the journal.
+/// Gives one batch to a run whose writer of lines takes `most` bytes. Returns whether the run
+/// fails, has written a prefix of the line, and has the batch in the journal.
 fn keeps_the_journal<T: Threads + Wait + Sync>(
     rt: &T,
     alloc: Global,
@@ -105,7 +107,8 @@ fn keeps_the_journal<T: Threads + Wait + Sync>(
         && b"applied 1\n".starts_with(held.as_slice())
 }
 
-/// Whatever the writer of lines takes, its fault ends the run, and the journal is given back.
+/// However many bytes the writer of lines takes before it fails, its fault ends the run, and the
+/// journal is returned.
 #[test]
 fn faults_of_the_lines(rt: HostRuntime) -> Result<(), AllocError> {
     let updates = bytes_of(rt.alloc(), b"P\nend,1,1\n")?;

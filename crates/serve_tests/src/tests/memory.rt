@@ -1,4 +1,4 @@
-//! Runs and workers while memory is refused.
+//! Tests runs over rows, and workers, while memory is refused.
 
 mod runs;
 mod workers;

@@ -1,11 +1,13 @@
-//! Runs over a stream of rows: their lines, faults of the device, and the most rows.
+//! Tests runs over a stream of rows: the lines that they write, reads and writes that fail, and the
+//! limit on the number of rows.
 
 use super::{Narrow, Pieces, bytes_of, copies, cut, cut_bytes, in_pieces, numbers_of};
 use cspf_serve::{SolveError, Summary, run_solve};
 use std::alloc::{AllocError, Global};
 
-/// One script per line, unless the line begins with `#`. A line has the counts of rows, versions,
-/// answers and refusals, then the script's rows, and then the lines that the run writes.
+/// One script (rows of changes, batches and requests) per line, unless the line begins with `#`. A
+/// line has the counts of rows, versions, answers and refusals, then the script's rows, and then
+/// the lines that the run over these rows writes.
 const RUNS: &str = "\
 # Nothing.
 0 0 0 0 > _ > _
@@ -75,7 +77,7 @@ const RUNS: &str = "\
 4 1 0 3 > askN|X,1|end,Y(,1|end,1,0| > row 1 refused: kind|row 2 refused: kind|row 3 refused: number 2|version 1|
 ";
 
-/// The summary of a run with these counts.
+/// The summary of a run over rows, with these counts.
 fn summary_of([rows, version, answers, refused]: [u32; 4], too_many: bool) -> Summary {
     Summary {
         rows,
@@ -86,7 +88,7 @@ fn summary_of([rows, version, answers, refused]: [u32; 4], too_many: bool) -> Su
     }
 }
 
-/// The answer of a run over pieces of a text, and what the run's writer holds.
+/// The result of a run over rows that are read in pieces, and what the run's writer holds.
 fn run_pieces(
     alloc: Global,
     reader: Pieces<'_>,
@@ -103,7 +105,8 @@ fn run_pieces(
     (found, held)
 }
 
-/// Whether a run over a script, in small reads and writes, gives these lines and counts.
+/// Whether a run over a script (rows of changes, batches and requests) writes these lines and has
+/// these counts. The run reads at most `read` bytes and writes at most `write` bytes at a time.
 pub(super) fn is_answered(
     alloc: Global,
     script: &[u8],
@@ -125,7 +128,9 @@ pub(super) fn is_answered(
     }
 }
 
-/// Whether the script of a line of the table gives its lines, both whole and in pieces.
+/// Whether a run over the script (rows of changes, batches and requests) in a line of the table
+/// writes the lines that the table gives. The script is read and the lines are written once whole,
+/// and once in pieces.
 fn has_line(alloc: Global, line: &str) -> Result<bool, AllocError> {
     let (counts, fields) = cut(line);
     let (script, fields) = cut_bytes(alloc, fields)?;
@@ -152,17 +157,19 @@ fn runs(rt: HostRuntime) -> Result<(), AllocError> {
 const FRONT: &[u8] =
     b"P\nend,1,1\nput,2.2.2.2,10.0.12.2,1.1.1.1,10.0.12.1,10,0x1,F\nask,8,2.2.2.2,1.1.1.1,0,1,Z,\n";
 
-/// The lines that are written for these rows.
+/// The lines that are written for the rows of `FRONT`.
 const FIRST_LINES: &[u8] = b"version 1\nask 8 v1 none\n";
 
-/// Whether a run whose reads fail after a text has written its lines.
+/// Whether a run over rows writes the lines of all rows of a text, if reading fails after this
+/// text.
 fn stops_at_a_read(alloc: Global, text: &[u8]) -> bool {
     let reader = in_pieces(text, 7, text.len());
     let (found, held) = run_pieces(alloc, reader, 100, usize::MAX);
     found == Err(SolveError::Read) && held.as_slice() == FIRST_LINES
 }
 
-/// Whether a run fails whose writer takes `most` bytes, and has written these bytes.
+/// Whether a run over rows fails if its writer takes only `most` bytes, and has then written these
+/// bytes.
 fn stops_at_a_write(alloc: Global, text: &[u8], most: usize) -> bool {
     let reader = in_pieces(text, 100, text.len());
     let (found, held) = run_pieces(alloc, reader, 4, most);
@@ -183,7 +190,7 @@ fn device_faults(rt: HostRuntime) -> Result<(), AllocError> {
     Ok(())
 }
 
-/// Whether a run over `left` changes has this summary, and writes this line.
+/// Whether a run over `left` copies of the row of a change has this summary, and writes this line.
 fn ends(alloc: Global, left: u32, wanted: Summary, line: &[u8]) -> bool {
     let reader = copies(b"drop,1.1.1.1,10.0.0.1\n", left);
     let (found, held) = run_pieces(alloc, reader, usize::MAX, usize::MAX);

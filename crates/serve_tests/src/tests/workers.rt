@@ -1,5 +1,6 @@
-//! Workers: what they answer, which worker answers, in which order askers learn and ask, and what a
-//! gate sees. Workers are tested alone and within the runs over rows.
+//! Tests what workers answer, which worker answers, and in which order they learn of batches and
+//! answer requests. Also tests what workers report to a gate (callbacks before and after each
+//! request). Workers are tested alone and within the runs over rows.
 
 mod alone;
 mod counts;

@@ -2,25 +2,23 @@
 LSAs (RFC 7684 3) have the adjacency SIDs (RFC 8665 6.1)."""
 from __future__ import annotations
 
-import dataclasses
-import math
 import socket
 import struct
-from collections.abc import Callable, Iterator
-from typing import Any, NamedTuple
+from collections.abc import Callable
+from typing import NamedTuple
 
-from ...model.rows import Key, Link, Mark, Row
+from ...model.rows import Key, Link
+from ..links import MAX_METRIC, OSPF_SID, Network, Tlvs, label_of, rates, tlvs
 
 ROUTER_LSA, AREA_OPAQUE_LSA = 1, 10
 TE_OPAQUE, LINK_TLV = 1, 2
 EXTENDED_LINK_OPAQUE, EXTENDED_LINK_TLV, ADJACENCY_SID = 8, 1, 2
-BACKUP, IS_LABEL, IS_LOCAL, IS_GROUP = 0x80, 0x40, 0x20, 0x10  # flags of an adjacency SID
-FIRST_LABEL = 16  # those below have meanings of their own (RFC 3032)
 POINT_TO_POINT = 1  # in all these kinds of LSA
 STUB_NETWORK = 3  # in a router LSA
-MAX_METRIC = 0xffff  # of links that nothing is to pass through the router by (RFC 6987)
 MAX_AGE = 3600
-ABSENT, UNREAD = "absent", "unread"  # in the place of an LSA's content
+SIZES = {kind: range(least, 1 << 16) for kind, least in ((1, 1), (2, 4), (3, 4), (4, 4), (5, 4), (6, 4), (8, 32), (9, 4))}  # of sub-TLVs
+PADDED = 4  # values of TLVs are padded to so many bytes (RFC 3630 2.3.2)
+UNREAD = "unread"  # in the place of an LSA's content
 LSA_HEADER = struct.Struct(">HBB4s4siHH")  # age, options, type, id, router, sequence number, checksum, length
 BEFORE_LSA = 12  # bytes of a message's body: address of an interface, area, is it the router's own, padding
 # What ospfd announces where nothing is configured for a circuit of so many Gbit/s, since the bits a
@@ -38,15 +36,15 @@ class RouterLinks(NamedTuple):
 
 
 class TeLsa(NamedTuple):
-    """What a TE LSA tells of a link, None where it doesn't."""
+    """What a TE LSA tells of a link; empty, or 0, where it doesn't."""
 
-    kind: int | None
-    neighbor: str | None
-    local: str | None
-    remote: str | None
-    metric: int | None
+    kind: bytes
+    neighbor: str
+    local: str
+    remote: str
+    metric: int
     group: int
-    free: tuple[float, ...] | None
+    free: bytes  # eight floats
     most: float | None
 
 
@@ -66,57 +64,30 @@ class Lsa(NamedTuple):
 
 
 LsaKey = tuple[str, int, bytes, str]  # area, type, id and router
-# Rows of links and marks by their keys, what is left out by its reason, and bandwidths that look wrapped.
-Look = tuple[dict[Key, Row], dict[str, list[Key]], dict[Key, float]]
 
 
 def dotted(data: bytes) -> str:
     return socket.inet_ntoa(data[:4])
 
 
-def tlvs(data: bytes) -> Iterator[tuple[int, bytes]]:
-    """Types and values, each padded to four bytes (RFC 3630 2.3.2)."""
-    while data:
-        kind, length = struct.unpack_from(">HH", data)
-        if len(data) < 4 + length:
-            raise struct.error("a value that is cut")
-        yield kind, data[4:4 + length]
-        data = data[4 + (length + 3) // 4 * 4:]
-
-
 def te_link(body: bytes) -> TeLsa | None:
     """The link of a TE LSA, None where it has none."""
-    values = next((value for kind, value in tlvs(body) if kind == LINK_TLV), None)
+    values = next((value for kind, value in tlvs(body, align=PADDED) if kind == LINK_TLV), None)
     if values is None:
         return None
-    of = dict(tlvs(values))
-
-    def value(kind: int, form: str) -> Any:
-        return struct.unpack_from(form, of[kind])[0] if kind in of else None
-
-    def address(kind: int) -> str | None:
-        raw = value(kind, "4s")
-        return dotted(raw) if raw not in (None, bytes(4)) else None
-
-    return TeLsa(value(1, "B"), address(2), address(3), address(4), value(5, ">I"), value(9, ">I") or 0,
-                 struct.unpack_from(">8f", of[8]) if 8 in of else None, value(6, ">f"))
+    of = Tlvs(values, SIZES, PADDED)
+    most = struct.unpack(">f", of.first(6))[0] if 6 in of else None
+    return TeLsa(of.first(1, 1), of.address(2), of.address(3), of.address(4), of.number(5), of.number(9), of.first(8, 32), most)
 
 
 def link_sid(body: bytes) -> LinkSid | None:
-    """The adjacency SID of the point-to-point link of an extended link LSA, None where it has none. A SID of a backup or of a group
-    of links isn't the link's own."""
-    value = next((value for kind, value in tlvs(body) if kind == EXTENDED_LINK_TLV), None)
+    """The adjacency SID of the point-to-point link of an extended link LSA, None where it has none."""
+    value = next((value for kind, value in tlvs(body, align=PADDED) if kind == EXTENDED_LINK_TLV), None)
     if value is None:
         return None
-    (kind, local), found = struct.unpack_from(">B7x4s", value), None
-    for part, sid in tlvs(value[12:]):
-        if part == ADJACENCY_SID:
-            flags, raw = struct.unpack_from(">B3x3s", sid)
-            label = int.from_bytes(raw, "big") & 0xfffff
-            is_own = flags & (BACKUP | IS_LABEL | IS_LOCAL | IS_GROUP) == IS_LABEL | IS_LOCAL
-            if is_own and len(sid) == 7 and label >= FIRST_LABEL and not found:
-                found = LinkSid(dotted(local), label)
-    return found if kind == POINT_TO_POINT else None
+    kind, local = struct.unpack_from(">B7x4s", value)
+    label = label_of(Tlvs(value[12:], {ADJACENCY_SID: range(7, 1 << 16)}, PADDED).get(ADJACENCY_SID, []), OSPF_SID)
+    return LinkSid(dotted(local), label) if label and kind == POINT_TO_POINT else None
 
 
 def router_links(body: bytes) -> RouterLinks:
@@ -135,11 +106,6 @@ def router_links(body: bytes) -> RouterLinks:
     return RouterLinks(found, costs == {MAX_METRIC})
 
 
-def whole(rate: float) -> int | None:
-    """Bytes per second, rounded down; None for what is no rate of a row."""
-    return math.floor(rate) if 0 <= rate < 2**64 else None
-
-
 class Lsdb:
     """The LSAs of a router that are needed, and the rows of the links that they show. With `has_sids` it keeps adjacency SIDs,
     too, and with a group (0 to 31) exactly the links that have one are in that administrative group."""
@@ -148,11 +114,9 @@ class Lsdb:
         self.opaque: dict[int, Callable[[bytes], Content]] = {TE_OPAQUE: te_link}
         if has_sids or group is not None:
             self.opaque[EXTENDED_LINK_OPAQUE] = link_sid
-        self.bit = 0 if group is None else 1 << group
-        self.sids: dict[Key, int] = {}  # labels by the key of the link, as the last look found them
+        self.group = group
         self.lsas: dict[LsaKey, Lsa] = {}
-        self.before: dict[LsaKey, Content | str] = {}  # contents at the last look, of the LSAs that something came for since
-        self.looked: Look = ({}, {}, {})  # what that look found
+        self.looked: Network | None = None  # what the last look found, if nothing has changed since
 
     def take(self, body: bytes, is_removal: bool) -> bool:
         """One event; whether anything changed."""
@@ -164,11 +128,11 @@ class Lsdb:
             return False
         key = (area, kind, number, dotted(router))
         had = self.lsas.get(key)
-        self.before.setdefault(key, had.content if had else ABSENT)
         if is_removal or age & 0x7fff >= MAX_AGE:
             if had is None or had.sequence > sequence:  # the removal of an older instance
                 return False
             del self.lsas[key]
+            self.looked = None
             return True
         content: Content | str
         try:
@@ -177,28 +141,28 @@ class Lsdb:
         except struct.error:
             content = UNREAD
         self.lsas[key] = Lsa(sequence, content)
-        return had is None or had.content != content
+        if had and had.content == content:
+            return False
+        self.looked = None
+        return True
 
-    def network(self) -> Look:
+    def network(self) -> Network:
         """As `look` says. LSAs that were only refreshed need no new look."""
-        now = {key: self.lsas[key].content if key in self.lsas else ABSENT for key in self.before}
-        if now != self.before:
-            self.looked = self.look()
-        self.before = {}
+        self.looked = self.looked or self.look()
         return self.looked
 
-    def look(self) -> Look:
+    def look(self) -> Network:
         """What the LSAs show now."""
         up: dict[Area, dict[str, tuple[str, int]]] = {}
         stubs: dict[str, list[bool]] = {}
-        left: dict[str, list[Key]] = {}
         labels: dict[tuple[str, str, str], dict[bytes, int]] = {}
         links: list[tuple[str, str, TeLsa, str]] = []
+        network = Network()
         for (area, kind, number, router), lsa in self.lsas.items():
             if lsa.content == UNREAD:
                 is_extended = kind == AREA_OPAQUE_LSA and number[0] == EXTENDED_LINK_OPAQUE
                 which = "router LSA" if kind == ROUTER_LSA else f"{'extended link' if is_extended else 'TE'} LSA {dotted(number)}"
-                left.setdefault("an LSA that can't be read", []).append((router, which))
+                network.leave("an LSA that can't be read", router, which)
             elif isinstance(lsa.content, RouterLinks):
                 up[area, router] = lsa.content.adjacent
                 stubs.setdefault(router, []).append(lsa.content.is_stub)
@@ -206,36 +170,26 @@ class Lsdb:
                 labels.setdefault((area, router, lsa.content.local), {})[number] = lsa.content.label
             elif isinstance(lsa.content, TeLsa):
                 links.append((area, router, lsa.content, lsa.content.local or f"TE LSA {dotted(number)}"))
-        made: dict[Key, set[Link]] = {}
-        wrapped: dict[Key, float] = {}
-        sids: dict[Key, int] = {}
         for area, router, told, name in links:
             link = link_of(up, area, router, told)
             if isinstance(link, str):
-                left.setdefault(link, []).append((router, name))
+                network.leave(link, router, name)
                 continue
-            if (area, router, name) in labels:
-                sids[link.key] = min(labels[area, router, name].items())[1]  # that of the smallest number (RFC 7684 3)
-            made.setdefault(link.key, set()).add(grouped(link, self.bit, link.key in sids))
+            sids = labels.get((area, router, name), {})
+            network.put(link, sids[min(sids)] if sids else 0)  # that of the smallest number (RFC 7684 3)
             if told.most in WRAPPED:
-                wrapped[link.key] = told.most
+                network.notes[link.key] = note_of(link.key, told.most)
         announced = {(area, router, name) for area, router, _, name in links}
         for (area, router), locals_up in up.items():
             for local in locals_up:
                 if (area, router, local) not in announced:
-                    left.setdefault("no TE LSA", []).append((router, local))
-        for key in [key for key, rows in made.items() if len(rows) > 1]:
-            del made[key]
-            sids.pop(key, None)
-            left.setdefault("two TE LSAs that differ", []).append(key)
-        self.sids = sids
-        marks: dict[Key, Row] = {(router,): Mark(router) for router, areas in stubs.items() if all(areas)}
-        return {key: rows.pop() for key, rows in made.items()} | marks, left, wrapped
+                    network.leave("no TE LSA", router, local)
+        return network.finish("TE LSAs", self.group, {router for router, areas in stubs.items() if all(areas)})
 
 
 def link_of(up: dict[Area, dict[str, tuple[str, int]]], area: str, router: str, told: TeLsa) -> Link | str:
     """The link of a TE LSA; else why it makes none."""
-    if told.kind != POINT_TO_POINT:
+    if told.kind != bytes([POINT_TO_POINT]):
         return "not point-to-point"
     if not told.local or not told.remote or not told.neighbor:
         return "no addresses"
@@ -250,14 +204,11 @@ def link_of(up: dict[Area, dict[str, tuple[str, int]]], area: str, router: str, 
         return "a link to itself"
     if up.get((area, neighbor), {}).get(told.remote, ("",))[0] != router:
         return "no adjacency back"
-    if told.free is None:
-        return "no unreserved bandwidth"
-    free = [rate for rate in map(whole, told.free) if rate is not None]
-    if len(free) < len(told.free):
-        return "an unreserved bandwidth that is no number of a row"
-    return Link(router, told.local, neighbor, told.remote, told.metric or cost, told.group, tuple(free))
+    free = rates(told.free)
+    return free if isinstance(free, str) else Link(router, told.local, neighbor, told.remote, told.metric or cost, told.group, free)
 
 
-def grouped(link: Link, bit: int, is_in: bool) -> Link:
-    """The link in or out of the group of this bit."""
-    return dataclasses.replace(link, group=link.group & ~bit | bit * is_in)
+def note_of(key: Key, most: float) -> str:
+    """That a link's bandwidth looks like a default that lost its high bits."""
+    return (f"{' '.join(key)}: its bandwidth of {most:.0f} bytes per second looks like the default of a circuit of "
+            f"{WRAPPED[most]} Gbit/s, counted in 32 bits; it is put as announced")

@@ -3,6 +3,6 @@ use Rattle.cspf_model.specs.Changes.{after_changes}
 use Rattle.cspf_book.specs.Following.{AreRanksOfLost}
 use Rattle.cspf_book.proofs.lost.list_ranks.Given as goal
 
-abbrev pub invariant-loop-placement : goal.invariant-loop-placement
-invariant-loop-placement l =
-    AreRanksOfLost l.base (after_changes l.base l.changes) (take l.placement-index l.placements) l.ranks.items
+abbrev pub invariant-loop-i : goal.invariant-loop-i
+invariant-loop-i l =
+    AreRanksOfLost l.base (after_changes l.base l.changes) (take l.i l.placements) l.ranks.items

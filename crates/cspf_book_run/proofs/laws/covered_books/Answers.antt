@@ -1,19 +1,20 @@
-use Rattle.cspf_book_run.proofs.BookCovered.{covered_at_first, rows_keep_covered, rows_cover_or_say}
+use Rattle.cspf_book_run.proofs.BookCovered.{covered_at_first, rows_cover_since}
+use Rattle.cspf_book_run.proofs.OverExact.{base_lines_exact}
+use Rattle.cspf_book_run.proofs.OverOnly.{only_batches_say}
 use Rattle.cspf_book_run.proofs.laws.covered_books.Goals as goal
 
 pub returns-clause-start : goal.returns-clause-start
 returns-clause-start c = covered_at_first
 
-pub returns-clause-placed : goal.returns-clause-placed
-returns-clause-placed c = rows_keep_covered (record {
+pub returns-clause-since : goal.returns-clause-since
+returns-clause-since c = rows_cover_since (record {
   placing = c.covered_links.ensures.placing;
   releasing = c.covered_links.ensures.releasing;
   absorbing = c.covered_links.ensures.absorbing;
 })
 
-pub returns-clause-said : goal.returns-clause-said
-returns-clause-said c = rows_cover_or_say (record {
-  placing = c.covered_links.ensures.placing;
-  releasing = c.covered_links.ensures.releasing;
-  absorbing = c.covered_links.ensures.absorbing;
-})
+pub returns-clause-exact : goal.returns-clause-exact
+returns-clause-exact c = base_lines_exact c.covered_links.ensures.absorbing c.addresses_are_spelled_once.ensures.one
+
+pub returns-clause-only : goal.returns-clause-only
+returns-clause-only c = only_batches_say

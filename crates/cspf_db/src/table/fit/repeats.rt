@@ -25,7 +25,7 @@ fn first_repeat(changes: &[Change]) -> Option<usize>
     None
 }
 
-/// Lists the keys of the changes.
+/// Writes the keys of the changes into `keys`.
 fn list_keys(keys: &mut [(Addr, Option<Addr>)], changes: &[Change])
     requires { length keys.old ≡ length changes.now }
     ensures { keys.new ≡ map key_changed changes.now }
@@ -54,7 +54,7 @@ fn rise(keys: &[(Addr, Option<Addr>)]) -> bool
     true
 }
 
-/// Whether no two changes have the same key. `keys` is room for sorting their keys.
+/// Whether no two changes have the same key. The keys are sorted in the memory `keys`.
 fn are_apart_in(keys: &mut [(Addr, Option<Addr>)], changes: &[Change]) -> bool
     requires { length keys.old ≡ length changes.now }
     ensures { result ≡ true → AreOnceEach changes.now }
@@ -64,7 +64,8 @@ fn are_apart_in(keys: &mut [(Addr, Option<Addr>)], changes: &[Change]) -> bool
     rise(keys)
 }
 
-/// Whether no two changes have the same key. It sorts the keys instead of comparing all pairs.
+/// Whether no two changes have the same key. The keys are sorted, so not all pairs of them are
+/// compared.
 fn are_apart(changes: &[Change]) -> bool
     requires { length changes.now ≤ MOST_CHANGES }
     ensures { result ≡ true → AreOnceEach changes.now }
@@ -73,13 +74,14 @@ fn are_apart(changes: &[Change]) -> bool
     are_apart_in(&mut keys[..changes.len()], changes)
 }
 
-/// Up to this many changes, all pairs are compared and no keys are sorted. Up to this many, it is
-/// also checked for each change whether a router leaves with it.
+/// If there are at most this many changes, all pairs of them are compared, and no keys are sorted.
+/// Only then `fit_by_one` is called, which may look for a router that has no link after the
+/// changes.
 pub(super) const FEW: usize = 16;
 
-/// The index of the first change that has the same key as an earlier change, if there is one.
-/// `apart` says that it is already known that there is none. Among many changes the keys are first
-/// sorted to find out whether there is one, and only then all pairs are compared.
+/// The index of the first change that has the same key as an earlier change, if there is one. If
+/// `apart` is true, it is already known that there is none. Among many changes, the keys are first
+/// sorted to find out whether two are the same. Only if so, all pairs are compared.
 pub(super) fn repeat(changes: &[Change], apart: bool) -> Option<usize>
     requires short { length changes.now ≤ MOST_CHANGES }
     requires known { apart ≡ true → AreOnceEach changes.now }

@@ -19,8 +19,8 @@ use crate::table::fit::tally::count_brought;
 use cspf_columns::Columns;
 use cspf_model::{Change, Link, MOST_ROUTERS};
 
-/// Adds the endpoints of the rows that aren't changed. Returns false if there would be more than
-/// 1,024 routers.
+/// Adds the endpoints of the rows (links) that no change affects to the set of routers. Returns
+/// false if the set would have more than 1,024 routers.
 fn add_rows(routers: &mut Routers, rows: &[Link], changes: &[Change]) -> bool
     requires { set.len routers.old ≤ MOST_ROUTERS }
     ensures added { OnTrue result
@@ -40,8 +40,8 @@ fn add_rows(routers: &mut Routers, rows: &[Link], changes: &[Change]) -> bool
     true
 }
 
-/// Adds the endpoints of the links that the changes put. Returns false if there would be more than
-/// 1,024 routers.
+/// Adds the endpoints of the links that the changes put to the set of routers. Returns false if the
+/// set would have more than 1,024 routers.
 fn add_puts(routers: &mut Routers, changes: &[Change]) -> bool
     requires { set.len routers.old ≤ MOST_ROUTERS }
     ensures added { OnTrue result (routers.new ≡ with_ends routers.old (links_put changes.now)) }
@@ -58,9 +58,9 @@ fn add_puts(routers: &mut Routers, changes: &[Change]) -> bool
     true
 }
 
-/// Whether a quick count shows that there are at most 1,024 routers after the changes. Either there
-/// are at most 1,024 routers if all stay and each new router is counted once. Or there would be
-/// 1,025, and some router leaves.
+/// Whether a quick count shows that there are at most 1,024 routers after the changes. It adds the
+/// number of new routers to the number of routers before the changes. The sum is at most 1,024, or
+/// it is 1,025 and some router has no link after the changes.
 fn fit_by_one(columns: &Columns, changes: &[Change]) -> bool
     requires columns { AreColumns columns.now }
     requires short { length changes.now ≤ MOST_CHANGES }
@@ -73,7 +73,8 @@ fn fit_by_one(columns: &Columns, changes: &[Change]) -> bool
 }
 
 /// Whether there are more than 1,024 routers after the changes. `brought` is at least the number of
-/// new routers. Often a quick count decides. Otherwise all endpoints of the rows are counted.
+/// new routers. First one or two quick counts are tried. If they don't show that there are at most
+/// 1,024 routers, the endpoints of all links are counted.
 pub(super) fn has_too_many_routers(columns: &Columns, changes: &[Change], brought: usize) -> bool
     requires columns { AreColumns columns.now }
     requires short { length changes.now ≤ MOST_CHANGES }

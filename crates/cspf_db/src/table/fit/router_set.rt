@@ -1,4 +1,4 @@
-//! A set of routers in arrays of fixed size. The routers after a batch are counted with it.
+//! A set of routers in arrays of fixed size. It is used to count the routers after a batch.
 
 ghost use Rattle.std.specs.Prelude.{◌≡◌, true, ◌<◌, ◌≤◌, [], ◌∷◌, length};
 ghost use Rattle.std.specs.Bool.{OnTrue, OnFalse};
@@ -8,15 +8,16 @@ ghost use Rattle.std.specs.Ordering.{nat_cmp};
 use cspf_model::{Link, MOST_ROUTERS};
 use std::marker::Model;
 
-/// How many slots the hash table of the set has.
+/// How many slots the hash table of the set has. A slot has a router's index in `found`, counted
+/// from 1, or is free.
 const SLOTS: usize = 4096;
 
-/// How many slots are tried at most for a router.
+/// How many slots are tried at most for one router.
 const TRIES: u32 = 16;
 
-/// A set of at most 1,024 routers, kept as numbers in `found`. `places` is a hash table: a slot has
-/// the place of a router in `found`, counted from 1, or 0 if the slot is free. The place of a
-/// router is in the first slot, from its hash on, that was free.
+/// A set of at most 1,024 routers, whose numbers are in `found`. `places` is a hash table: a slot
+/// has the place of a router in `found`, counted from 1, or 0 if the slot is free. The place of a
+/// router is in the first of its slots that was free when the router was added.
 #[derive(Drop)]
 pub struct Routers {
     found: [u32; MOST_ROUTERS],
@@ -24,15 +25,15 @@ pub struct Routers {
     places: [u16; SLOTS],
 }
 
-/// The slot that is tried for the router with this number after `others` other slots.
+/// The slot that is tried for the router with the number `router` after `others` other slots.
 fn slot(router: u32, others: u32) -> usize
     ensures { result < SLOTS }
 {
     ((router.wrapping_mul(2654435761) >> 16).wrapping_add(others) % SLOTS as u32) as usize
 }
 
-/// Writes the place of a router into the first of its slots that is free, if one of its slots is
-/// free.
+/// Writes `place`, which is the router's index in `found` counted from 1, into the first of the
+/// router's slots that is free. If none of its slots is free, nothing is written.
 fn note(places: &mut [u16], router: u32, place: u16)
     requires { length places.old ≡ SLOTS }
     ensures { length places.new ≡ SLOTS }
@@ -72,7 +73,7 @@ impl Routers {
         Routers::kept_in([0; MOST_ROUTERS], [0; SLOTS])
     }
 
-    /// The empty set, kept in these arrays.
+    /// The empty set, which is kept in these two arrays.
     fn kept_in(found: [u32; MOST_ROUTERS], places: [u16; SLOTS]) -> Self
         ensures { result ≡ set.empty }
     {
@@ -83,7 +84,8 @@ impl Routers {
         }
     }
 
-    /// Adds the router with this number. Returns false if there would be more than 1,024 routers.
+    /// Adds the router with the number `router`. Returns false if the set would have more than
+    /// 1,024 routers.
     fn add(&mut self, router: u32) -> bool
         ensures added { OnTrue result (self.new ≡ set.insert self.old router) }
         ensures full { OnFalse result (MOST_ROUTERS < set.len (set.insert self.old router)) }
@@ -104,8 +106,9 @@ impl Routers {
         true
     }
 
-    /// Whether a slot has the place of the router with this number. It may be false for a router of
-    /// the set, but this is rare.
+    /// Whether the hash table finds the router with the number `router`: one of its slots has the
+    /// router's index in `found`. The result may be false for a router of the set, but this is
+    /// rare.
     fn has(&self, router: u32) -> bool
         ensures { result ≡ true → self.now ≡ set.insert self.now router }
     {
@@ -121,14 +124,15 @@ impl Routers {
         false
     }
 
-    /// Whether both endpoints of a link are found in their slots, so that they need not be added.
+    /// Whether both endpoints of a link are found in slots of the hash table. If so, they need not
+    /// be added.
     pub(super) fn has_ends(&self, link: &Link) -> bool
         ensures { result ≡ true → self.now ≡ with_ends self.now (link.now ∷ []) }
     {
         self.has(link.from.number()) && self.has(link.to.number())
     }
 
-    /// Adds both endpoints of a link. Returns false if there would be more than 1,024 routers.
+    /// Adds both endpoints of a link. Returns false if the set would have more than 1,024 routers.
     pub(super) fn add_ends(&mut self, link: &Link) -> bool
         ensures added { OnTrue result (self.new ≡ with_ends self.old (link.now ∷ [])) }
         ensures full { OnFalse result (MOST_ROUTERS < set.len (with_ends self.old (link.now ∷ []))) }

@@ -1,5 +1,5 @@
-//! What the changes of a batch do to the rows and to the number of routers. Each change takes one
-//! search.
+//! What the changes of a batch do to the rows (links) and to the number of routers. Finding this
+//! out takes one search for each change.
 ghost use Rattle.std.specs.Prelude.{◌≡◌, ℕ, ◌*◌, ◌<◌, ◌≤◌, ◌⊎◌, cond, true, [], ◌∷◌, Contains, length, IfOk, IfErr, IfSome, IfNone, IsSomeAnd};
 ghost use Rattle.std.specs.List.{list_any};
 ghost use Rattle.cspf_model.specs.Changes.{IsPresent};
@@ -21,22 +21,24 @@ use cspf_columns::routers::is_among;
 use cspf_columns::rows::{index_of, is_alike};
 use cspf_model::{Change, Link, MOST_LINKS};
 
-/// What some changes do. It has how many links they add, and how many endpoints of these links are
-/// new routers. An endpoint of several added links is counted for each of them. It also says
-/// whether no row moves, and whether no row is changed twice.
+/// What some changes do: how many links they add, and how many endpoints of the links that they put
+/// are new routers. An endpoint of several of these links is counted for each of them. Also whether
+/// each change replaces a link between the same two interfaces, and whether no two changes affect
+/// the same row (a link).
 #[derive(Clone, Copy, Debug)]
 pub struct Tally {
-    /// How many changes put a link at a key without a link.
+    /// How many changes put a link at a key at which there is no link.
     pub added: usize,
-    /// How many endpoints of the put links aren't among the routers.
+    /// How many endpoints of the links that the changes put aren't among the routers of the table.
+    /// An endpoint of several of these links is counted for each of them.
     pub brought: usize,
-    /// Whether each change puts a link over a link that runs between the same interfaces.
+    /// Whether each change puts a link in place of a link that joins the same two interfaces.
     pub alike: bool,
-    /// Whether it is known that no two changes affect the same row.
+    /// Whether it is known that no two changes affect the same row (a link).
     pub apart: bool,
 }
 
-/// The index of the row with the change's key, if there is one.
+/// The index of the row (a link) with the change's key, if there is one.
 fn row_of(rows: &[Link], change: &Change) -> Option<usize>
     requires { AreByKey rows.now }
     ensures { IsRowOf rows.now change.now result }
@@ -48,7 +50,7 @@ fn row_of(rows: &[Link], change: &Change) -> Option<usize>
     index_of(rows, key.0, local)
 }
 
-/// 0 if the router is among the routers, and otherwise 1.
+/// 1 if the router isn't among `routers`, and otherwise 0.
 fn count_new(routers: &[Addr], router: Addr) -> usize
     requires { AreRising routers.now }
     ensures few { result ≤ 1 }
@@ -57,8 +59,8 @@ fn count_new(routers: &[Addr], router: Addr) -> usize
     if is_among(routers, router) { 0 } else { 1 }
 }
 
-/// 0 if the router to which the link runs is among the routers, and otherwise 1. If the row at the
-/// index runs to the same router, no search is needed.
+/// 1 if the router to which the link runs isn't among the routers of the table, and otherwise 0. If
+/// the row (a link) at the index `at` runs to the same router, no search is needed.
 fn count_new_end(columns: &Columns, at: usize, link: &Link) -> usize
     requires columns { AreColumns columns.now }
     requires bound { at < length columns.now.rows.items }
@@ -72,7 +74,8 @@ fn count_new_end(columns: &Columns, at: usize, link: &Link) -> usize
     }
 }
 
-/// What a put does. `row` is the index of the row with the link's key, if there is one.
+/// The counts and flags of a change that puts `link`. `row` is the index of the row (a link) with
+/// the link's key, if there is such a row.
 fn tally_put(columns: &Columns, link: &Link, row: Option<usize>) -> Tally
     requires columns { AreColumns columns.now }
     requires row { IsRowOf columns.now.rows.items (Change.Put link.now) row }
@@ -100,8 +103,8 @@ fn tally_put(columns: &Columns, link: &Link, row: Option<usize>) -> Tally
     }
 }
 
-/// What a change does, or `None` if it removes a link that isn't there. `row` is the index of the
-/// row with the change's key, if there is one.
+/// The counts and flags of a change, or `None` if it removes a link that the table doesn't have.
+/// `row` is the index of the row (a link) with the change's key, if there is such a row.
 fn tally_one(columns: &Columns, change: &Change, row: Option<usize>) -> Option<Tally>
     requires columns { AreColumns columns.now }
     requires row { IsRowOf columns.now.rows.items change.now row }
@@ -139,8 +142,8 @@ fn tally_one(columns: &Columns, change: &Change, row: Option<usize>) -> Option<T
     }
 }
 
-/// Marks a row as seen. Returns false if there is no row, if `seen` has no place for it, or if it
-/// was seen already.
+/// Sets the flag of a row (a link) in `seen`, which says that a change affects this row. Returns
+/// false if there is no row, if `seen` has no item for the row, or if the flag was already set.
 fn see(seen: &mut [bool], row: Option<usize>) -> bool
     ensures { result ≡ true → IsSomeAnd row (IsSeenAt seen.old seen.new) }
 {
@@ -154,8 +157,8 @@ fn see(seen: &mut [bool], row: Option<usize>) -> bool
     true
 }
 
-/// What the changes do. If a change removes a link that isn't there, returns the index of the first
-/// such change. `seen` marks each row that was seen.
+/// What the changes do. If a change removes a link that the table doesn't have, returns the index
+/// of the first such change. `seen` gets a flag for each row (a link) that a change affects.
 fn tally_each(columns: &Columns, changes: &[Change], seen: &mut [bool]) -> Result<Tally, usize>
     requires columns { AreColumns columns.now }
     requires short { length changes.now ≤ MOST_CHANGES }
@@ -184,9 +187,9 @@ fn tally_each(columns: &Columns, changes: &[Change], seen: &mut [bool]) -> Resul
     })
 }
 
-/// What the changes do. If a change removes a link that isn't there, returns the index of the first
-/// such change. Whether no two changes affect the same row is found out only for more than `FEW`
-/// changes.
+/// What the changes do. If a change removes a link that the table doesn't have, returns the index
+/// of the first such change. Whether two changes affect the same row (a link) is found out only if
+/// there are more than `FEW` changes.
 pub(super) fn tally_all(columns: &Columns, changes: &[Change]) -> Result<Tally, usize>
     requires columns { AreColumns columns.now }
     requires short { length changes.now ≤ MOST_CHANGES }
@@ -199,7 +202,7 @@ pub(super) fn tally_all(columns: &Columns, changes: &[Change]) -> Result<Tally, 
     tally_each(columns, changes, &mut [false; MOST_LINKS])
 }
 
-/// 0 if the router is among the routers or an endpoint of a link that the changes put, and
+/// 0 if the router is among `routers` or is an endpoint of a link that the changes put, and
 /// otherwise 1.
 fn count_first(routers: &[Addr], changes: &[Change], router: Addr) -> usize
     requires { AreRising routers.now }
@@ -214,8 +217,8 @@ fn count_first(routers: &[Addr], changes: &[Change], router: Addr) -> usize
     }
 }
 
-/// How many endpoints of the link that the change puts are new: neither among the routers, nor
-/// endpoints of a link that another change puts.
+/// How many endpoints of the link that the change puts are new. An endpoint is new if it is neither
+/// among `routers` nor an endpoint of a link that a change of `others` puts.
 fn count_first_ends(routers: &[Addr], others: &[Change], change: &Change) -> usize
     requires { AreRising routers.now }
     ensures few { result ≤ 2 }
@@ -229,8 +232,8 @@ fn count_first_ends(routers: &[Addr], others: &[Change], change: &Change) -> usi
     }
 }
 
-/// How many endpoints of the links that the changes put aren't among the routers, each counted
-/// once. It takes as long as comparing all pairs of changes.
+/// How many endpoints of the links that the changes put aren't among `routers`. Each endpoint is
+/// counted once. The call takes as long as comparing all pairs of changes.
 pub(super) fn count_brought(routers: &[Addr], changes: &[Change]) -> usize
     requires rising { AreRising routers.now }
     requires short { length changes.now ≤ MOST_CHANGES }

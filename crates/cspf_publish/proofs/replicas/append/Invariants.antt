@@ -1,7 +1,7 @@
 use Rattle.std.proofs.Common.{◌≡◌, drop}
 use Rattle.cspf_publish.proofs.replicas.append.Given as goal
 
--- the loop has changed nothing, and has the same operation
+-- the loop has changed nothing, and still has the operation that it appends
 abbrev pub invariant-loop : goal.invariant-loop
 invariant-loop g l =
     (goal.iterator-loop g).can_next l.iterator' × (goal.iterator-loop g).is_finite l.iterator'

@@ -3,6 +3,6 @@ use Rattle.std.specs.Fmt.{decimal}
 use Rattle.cspf_rows.specs.BatchText.{fields_after}
 use Rattle.cspf_rows.proofs.batch.write_bandwidths.Given as goal
 
--- the bandwidths before `bandwidth-index` are written
+-- the bandwidths whose index is below `bandwidth-index` are written
 abbrev pub invariant-loop-bandwidth : goal.invariant-loop-bandwidth
 invariant-loop-bandwidth l = l.text.items ≡ l.fn.text.items ++ fields_after (map decimal (take l.bandwidth-index l.free))

@@ -7,7 +7,7 @@ use Rattle.cspf_search.proofs.Cuts.{last_target}
 use Rattle.cspf_graph.proofs.RouterIndexes.{one_place}
 use Rattle.cspf_search.proofs.bounds.search_back.Goals as goal
 
--- The last leg has only one target.
+-- The only target of the last leg is the tail-end, and the tail-end's bound is 0.
 pub returns-then-leg_index-len-clause-targets : goal.returns-then-leg_index-len-clause-targets
 returns-then-leg_index-len-clause-targets c =
     on_ok_weaker c.grow.result

@@ -77,7 +77,8 @@ overflow_cast-label-3 c =
     let few = few_rows d c.requires.source.query.listed (c.args.source.state % 1024) in
     omega (arith, within, few)
 
--- The label that is offered for the link.
+-- The label that is offered to the state at the link's end. A state is a router in a leg, and a
+-- label holds the best walk found so far to a state.
 abbrev label_of : goal.After-offer-arg-3-1 → Label
 label_of c = record { rank = c.args.source.rank + c.from.result * 16384 + 1; parent = c.args.source.at; place = c.args.source.state % 1024; row = c.args.edge.row }
 

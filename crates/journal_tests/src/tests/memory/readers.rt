@@ -1,5 +1,5 @@
-//! Readers while memory is refused: each call gives the whole answer, or the error `Memory`. Once there
-//! is memory again, it gives the whole answer.
+//! Readers while memory is refused: each call returns the whole result, or the error `Memory`. Once
+//! there is memory again, the call returns the whole result.
 
 ghost use Rattle.cspf_rows.specs.GivenBatches.{CanRead};
 
@@ -20,11 +20,12 @@ fn has_memory(alloc: Global) -> bool {
     }
 }
 
-/// A journal of one batch. The row after it is cut off.
+/// A journal of one batch, followed by a row that is cut off.
 const TORN: &[u8] = b"put,1.1.1.1,10.0.12.1,2.2.2.2,10.0.12.2,10,0x1,\
 1000,1000,1000,1000,1000,1000,1000,1000\nend,1,1\nput,2.2.2.2,10.0.1";
 
-/// Whether the journal is read as torn, with a batch that puts the link.
+/// Whether `TORN` is read as a journal of one batch, which puts the link. The journal has to be
+/// torn: rows that are in no batch follow the batch.
 fn is_read(alloc: Global, link: &Link) -> Result<bool, ReadError> {
     let journal = read_journal(alloc, TORN)?;
     if journal.batches.len() != 1 || journal.rest != Rest::Torn {
@@ -34,8 +35,8 @@ fn is_read(alloc: Global, link: &Link) -> Result<bool, ReadError> {
     Ok(batch.number == 1 && batch.changes.as_slice() == [Change::Put(*link)].as_slice())
 }
 
-/// Whether the journal is read at the first try, or at the second try if memory is there again. Also
-/// true if memory is refused both times.
+/// Whether the journal is read. If memory is refused, the journal has to be read at a second try,
+/// unless there is still no memory for one byte.
 fn is_read_at_last(alloc: Global, link: &Link) -> bool {
     let read = is_read(alloc, link);
     if read == Err(ReadError::Memory) {
@@ -54,7 +55,8 @@ fn journals_while_memory_is_refused(rt: HostRuntime) -> Result<(), Fail> {
     Ok(())
 }
 
-/// Whether a reader gives the batch that puts the link, and then finds the journal torn.
+/// Whether a reader of `TORN` returns the batch that puts the link, and then says that no batch is
+/// left, but that rows follow which are in no batch.
 fn gives(
     journal: &mut JournalReader<&[u8]>,
     batch: &mut Batch,
@@ -71,7 +73,8 @@ fn gives(
     Ok(journal.read_batch(batch)? == JournalStep::End(Rest::Torn))
 }
 
-/// Whether a new reader of the journal gives the batch and finds the journal torn.
+/// Whether a new reader of `TORN` returns its batch, and then says that no batch is left, but that
+/// rows follow which are in no batch.
 fn is_given(alloc: Global, link: &Link) -> Result<bool, ReadError> {
     gives(
         &mut JournalReader::new(alloc, TORN),
@@ -80,8 +83,8 @@ fn is_given(alloc: Global, link: &Link) -> Result<bool, ReadError> {
     )
 }
 
-/// Whether the batch is given at the first try, or at the second try if memory is there again. Also true
-/// if memory is refused both times.
+/// Whether a reader returns the batch of `TORN`. If memory is refused, a second reader has to
+/// return this batch, unless there is still no memory for one byte.
 fn is_given_at_last(alloc: Global, link: &Link) -> bool {
     let given = is_given(alloc, link);
     if given == Err(ReadError::Memory) {
@@ -90,12 +93,12 @@ fn is_given_at_last(alloc: Global, link: &Link) -> bool {
     given == Ok(true)
 }
 
-/// Three requests: without hops, with a list of hops, and with an object.
+/// Three requests: without hops, with a list of hops, and with an EXPLICIT_ROUTE object.
 const ASKS: &[u8] = b"ask,7,1.1.1.1,2.2.2.2,0,1000,0x1,0x2,0x4,\n\
 ask,8,1.1.1.1,2.2.2.2,0,1000,0x1,0x2,0x4,10.0.0.0/8l 4.4.4.4/32s\n\
 ask,9,1.1.1.1,2.2.2.2,0,1000,0x1,0x2,0x4,ero:0014140181080a00000008010108040404042000";
 
-/// A request that differs from those of `ASKS` at most in its number and hops.
+/// A request that differs from the requests of `ASKS` at most in its id and its hops.
 fn request(id: u64, hops: Hops) -> Result<Request, RequestError> {
     let (from, to) = (Addr::new(0x0101_0101), Addr::new(0x0202_0202));
     let (exclude_any, include_any) = (Mask::new(1), Mask::new(2));
@@ -118,8 +121,8 @@ fn are_read(alloc: Global, wanted: &[Request]) -> Result<bool, RequestsError> {
     Ok(read_requests(alloc, ASKS)?.as_slice() == wanted)
 }
 
-/// Whether the requests are read at the first try, or at the second try if memory is there again. Also
-/// true if memory is refused both times.
+/// Whether the requests are read. If memory is refused, the requests have to be read at a second
+/// try, unless there is still no memory for one byte.
 fn are_read_at_last(alloc: Global, wanted: &[Request]) -> bool {
     let read = are_read(alloc, wanted);
     if read == Err(RequestsError::Memory) {

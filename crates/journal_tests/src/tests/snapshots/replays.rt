@@ -10,7 +10,7 @@ use std::alloc::{AllocError, Global};
 use std::process::Abort;
 use std::test::Fail;
 
-/// A change that removes the link from router 1 by this interface.
+/// A change that removes the link that begins at router 1 and at this interface.
 fn remove(local: u32) -> Change {
     Change::Remove {
         from: Addr::new(1),
@@ -26,7 +26,8 @@ fn three_batches(rt: &impl Abort, alloc: Global) -> Result<Vec<Batch>, AllocErro
     batches(alloc, &[(3, &first), (3, &second), (1, &third)])
 }
 
-/// Whether a table has just these two links and this mark.
+/// Whether a table has exactly the links that these two changes put, and marks exactly the router
+/// `mark` as without transit.
 fn has(table: &Table, links: [Change; 2], mark: Addr) -> bool {
     match (table.links(), table.marks()) {
         ([first, second], [marked]) => {

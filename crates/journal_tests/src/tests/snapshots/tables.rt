@@ -7,7 +7,7 @@ use cspf_model::{Batch, Change, Link, MOST_CHANGES};
 use std::alloc::{AllocError, Global};
 use std::process::Abort;
 
-/// A put of the link from router `from` by its interface `local` to router `to`.
+/// A change that puts the link from the interface `local` of router `from` to router `to`.
 pub(crate) fn put(rt: &impl Abort, from: u32, local: u32, to: u32) -> Change {
     let (from, to, address) = (Addr::new(from), Addr::new(to), Addr::new(local));
     match Link::new(from, address, to, address, 10, Mask::new(1), [1000; 8]) {
@@ -24,7 +24,7 @@ pub(crate) fn node(router: u32, transit: bool) -> Change {
     }
 }
 
-/// A batch of these changes.
+/// A batch with this number and these changes.
 fn batch(alloc: Global, number: u32, changes: &[Change]) -> Result<Batch, AllocError> {
     Ok(Batch {
         number,
@@ -41,7 +41,8 @@ pub(crate) fn batches(alloc: Global, given: &[(u32, &[Change])]) -> Result<Vec<B
     Ok(made)
 }
 
-/// The table after these changes, all of which fit.
+/// The table that these changes make from the empty table, batch by batch. Asserts that each batch
+/// fits the table before it.
 pub(crate) fn table_of(
     rt: &impl Abort,
     alloc: Global,

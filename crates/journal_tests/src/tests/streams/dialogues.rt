@@ -16,7 +16,7 @@ const ROWS: [&[u8]; 5] = [
 
 const ANSWERS: &[u8] = b"row 2 refused: fields\nrow 3 refused: fields\nrow 4 refused: kind\n";
 
-/// Whether all lines are written, and each is flushed once, before the next read.
+/// Whether all lines are written, and each line is flushed once before the next read.
 fn is_flushed_in_time(alloc: Global) -> bool {
     let events = no_events();
     let reader = rows_of(&ROWS, false, &events);
@@ -27,15 +27,15 @@ fn is_flushed_in_time(alloc: Global) -> bool {
     };
     let mut rows = open_records(alloc, reader);
     let found = answer_rows(&(), alloc, &mut rows, &mut writer, &mut answering);
-    found == Ok(())
+    found.is_ok()
         && writer.held.as_slice() == ANSWERS
         && !events.is_late.get()
         && events.flushes.get() == 3
         && answering.refused == 3
 }
 
-/// The line of each row is written and flushed before the next row is read. For a row with an empty line
-/// nothing is written or flushed.
+/// The line of each row is written and flushed before the next row is read. For a row with an empty
+/// line nothing is written or flushed.
 #[test]
 fn lines_before_the_next_row(rt: HostRuntime) {
     assert_case(&rt, ANSWERS, is_flushed_in_time(rt.alloc()));
@@ -50,7 +50,7 @@ fn is_answered_nothing(alloc: Global, text: &[u8]) -> bool {
     };
     let mut rows = open_records(alloc, text);
     let found = answer_rows(&(), alloc, &mut rows, &mut written, &mut answering);
-    found == Ok(()) && written.is_empty() && answering.refused == 0
+    found.is_ok() && written.is_empty() && answering.refused == 0
 }
 
 /// Nothing is written for a stream without rows.

@@ -1,4 +1,5 @@
-//! What was read and written when a read, a row, a write or a flush fails.
+//! The tests say what was read and written when a read, the answer to a row, a write or a flush
+//! fails.
 
 use super::{Refusals, lines_of, no_events, rows_of};
 use crate::tests::assert_case;
@@ -10,21 +11,22 @@ const ROWS: [&[u8]; 3] = [b"a\n", b"end,1,0\n", b"b\n"];
 
 const ANSWERS: &[u8] = b"row 1 refused: kind\nrow 3 refused: kind\n";
 
-/// A fault of a stream, and what was read and written by then.
+/// A fault of a stream, and what is read and written when it stops the stream.
 struct Fault {
-    /// How many bytes the writer takes.
+    /// How many bytes the writer takes before a write fails.
     most: usize,
     /// How many flushes the writer makes before one fails.
     most_flushes: u32,
-    /// The place of the row at which memory is refused.
+    /// The number of the row at which memory is refused, or 0 if it isn't refused. The first row
+    /// has the number 1.
     no_memory_at: u64,
-    /// The error of the run. The read after all rows fails in each case.
+    /// The error with which the stream stops. In each case the read after the last row fails.
     error: StreamError,
     /// How many bytes are written.
     written: usize,
-    /// How many rows were read.
+    /// How many rows of the stream were read.
     read: usize,
-    /// How many rows were refused.
+    /// How many rows of the stream were refused.
     refused: u64,
 }
 
@@ -94,7 +96,8 @@ const FAULTS: [Fault; 7] = [
     },
 ];
 
-/// Whether a run over the rows ends with the fault's error, after as many bytes and rows as the fault says.
+/// Whether the stream of `ROWS` stops with the error of `fault`, and as many bytes are written,
+/// rows are read and rows are refused as `fault` says.
 fn is_stopped(alloc: Global, fault: &Fault) -> bool {
     let events = no_events();
     let mut reader = rows_of(&ROWS, true, &events);
@@ -105,7 +108,7 @@ fn is_stopped(alloc: Global, fault: &Fault) -> bool {
     };
     let mut rows = open_records(alloc, &mut reader);
     let found = answer_rows(&(), alloc, &mut rows, &mut writer, &mut answering);
-    found == Err(fault.error)
+    found.map_err(|stop| StreamError::from(stop)) == Err(fault.error)
         && writer.held.len() == fault.written
         && ANSWERS.starts_with(writer.held.as_slice())
         && rows.get_ref().at == fault.read

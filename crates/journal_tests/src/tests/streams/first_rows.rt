@@ -1,4 +1,4 @@
-//! A stream with a limit of rows: only the first rows are answered, and nothing is flushed.
+//! If a stream has a limit on its rows, only the first rows are answered, and nothing is flushed.
 
 use super::{Refusals, lines_of, no_events, rows_of};
 use crate::tests::assert_case;
@@ -8,11 +8,11 @@ use std::alloc::Global;
 
 const ROWS: [&[u8]; 3] = [b"a\n", b"end,1,0\n", b"b\n"];
 
-/// The lines of all rows.
+/// The lines that answer all rows of `ROWS`.
 const ANSWERS: &[u8] = b"row 1 refused: kind\nrow 3 refused: kind\n";
 
-/// Whether a run with this limit of rows returns `wanted`, and writes the first `length` bytes of the
-/// lines.
+/// Whether a stream with this limit on its rows is answered with the result `wanted`, and the first
+/// `length` bytes of `ANSWERS` are written.
 fn ends(alloc: Global, limit: u64, wanted: Result<(), StreamError>, length: usize) -> bool {
     let events = no_events();
     let reader = rows_of(&ROWS, false, &events);
@@ -31,7 +31,7 @@ fn ends(alloc: Global, limit: u64, wanted: Result<(), StreamError>, length: usiz
         &mut writer,
         &mut answering,
     );
-    ended == wanted
+    ended.map_err(|stop| StreamError::from(stop)) == wanted
         && written == length as u128
         && writer.held.len() == length
         && ANSWERS.starts_with(writer.held.as_slice())

@@ -1,4 +1,5 @@
-//! The lines of refused rows, of batches and of open changes, compared with texts written by hand.
+//! The lines that answer refused rows, batches and open changes are compared with texts written by
+//! hand.
 
 use crate::tests::assert_case;
 use cspf_addr::{Addr, HopsError};
@@ -40,7 +41,7 @@ fn lines_of_refused_rows(rt: HostRuntime) -> Result<(), AllocError> {
     Ok(())
 }
 
-/// Whether this is the line of a row that is refused with this error at this place.
+/// Whether `line` is the line of the row with the number `place` that is refused with this error.
 fn is_line_of(alloc: Global, place: u64, error: RowError, line: &[u8]) -> Result<bool, AllocError> {
     let found = refused_row(alloc, place, error)?;
     Ok(found.as_slice() == line)
@@ -80,7 +81,8 @@ fn has_text(alloc: Global, line: StreamLine, text: &[u8]) -> Result<bool, AllocE
     Ok(found.as_slice() == text)
 }
 
-/// `count` open changes, of which only the first nine are kept.
+/// Open changes, which no `end` row follows: `count` of them, but at most nine. Each of them marks
+/// a router as without transit.
 fn opened(alloc: Global, count: u32) -> Result<OpenChanges, AllocError> {
     let mut changes = OpenChanges::new(alloc);
     for _ in 0..count {
@@ -94,8 +96,9 @@ fn opened(alloc: Global, count: u32) -> Result<OpenChanges, AllocError> {
     Ok(changes)
 }
 
-/// Whether this is the last line for `count` open changes, and the last line is empty once they are
-/// cleared.
+/// Whether `text` is the last line of a stream that ends with `count` open changes, which are
+/// changes that no `end` row follows. After these changes are cleared, the last line also has to be
+/// empty.
 fn has_last_line(alloc: Global, count: u32, text: &[u8]) -> Result<bool, AllocError> {
     let mut changes = opened(alloc, count)?;
     let line = changes.last_line(alloc)?;
@@ -104,7 +107,8 @@ fn has_last_line(alloc: Global, count: u32, text: &[u8]) -> Result<bool, AllocEr
     Ok(line.as_slice() == text && cleared.is_empty())
 }
 
-/// Changes are open until they are cleared.
+/// The last line says how many changes are open at the end of a stream: those that no `end` row
+/// follows. It is empty if no change is open.
 #[test]
 fn lines_of_open_changes(rt: HostRuntime) -> Result<(), AllocError> {
     let none = has_last_line(rt.alloc(), 0, b"")?;

@@ -1,4 +1,4 @@
-//! A client that asks after its publisher was closed.
+//! Tests a client that sends a request after its publisher was closed.
 
 use super::{Narrow, is_left, link_batch, seated};
 use cspf_client::{ClientError, ServedClient};
@@ -8,8 +8,8 @@ use std::process::Abort;
 use std::sync::Wait;
 use std::test::Fail;
 
-/// The state of a client that asks after batch 1 was published and counted, and after its publisher was
-/// closed.
+/// The final state of a client that sends its request after batch 1 was published, and after its
+/// publisher was closed.
 fn left_closed<R: Wait + Abort>(rt: &R, alloc: Global, first: &Batch) -> ServedClient<Narrow> {
     let requests = b"end,2,0\nask,7,1.1.1.1,2.2.2.2,0,1000,0x0,0x0,0x0,\nend,2,0\n";
     let (mut publisher, mut serving) = seated(rt, alloc, requests, 1000);
@@ -22,8 +22,8 @@ fn left_closed<R: Wait + Abort>(rt: &R, alloc: Global, first: &Batch) -> ServedC
     serving.close(known)
 }
 
-/// Rows are refused up to the first request. That request has no entry, so the client ends with
-/// `NoEntry`.
+/// The rows before the first request are refused. At this request the client can't read a copy of
+/// the published database, so it ends with `NoEntry`.
 #[test]
 fn client_of_a_closed_publisher(rt: HostRuntime) -> Result<(), Fail> {
     let first = link_batch(rt.alloc(), 1)?;

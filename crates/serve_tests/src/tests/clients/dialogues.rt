@@ -1,5 +1,5 @@
-//! What a client is answered: to requests, to other rows, at version 0, and when its writer takes too
-//! few bytes.
+//! Tests what a client is answered: to requests, to other rows, before the first batch is
+//! published, and when its writer takes too few bytes.
 
 use super::{is_left, link_batch, served};
 use cspf_client::ClientError;
@@ -16,8 +16,9 @@ ask,9,2.2.2.2,1.1.1.1,0,1000,0x0,0x0,0x0,\n";
 const REPLIES: &[u8] = b"ask 7 v1 route cost=10 hops=1 again=no ero=000c140101080a000c022000\n\
 row 2 refused: kind\nrow 3 refused: fields\nask 9 v1 none\n";
 
-/// Publishes the batch `first`, if the publisher accepts it, and runs a client. Whether the client has
-/// the first `most` bytes of these replies, and this end.
+/// Publishes the batch `first`, if the publisher accepts it, and runs a client. Returns whether the
+/// client's writer has the first `most` bytes of these replies. The client must also have ended
+/// with `end`, and `refused` of its rows must have been refused.
 fn is_answered<R: Wait + Abort>(
     rt: &R,
     alloc: Global,
@@ -39,7 +40,7 @@ fn requests_and_other_rows(rt: HostRuntime) -> Result<(), Fail> {
     Ok(())
 }
 
-/// A batch that isn't accepted leaves version 0, which has no routers.
+/// If a batch isn't accepted, version 0 stays published, and version 0 has no routers.
 #[test]
 fn version_0(rt: HostRuntime) -> Result<(), Fail> {
     let second = link_batch(rt.alloc(), 2)?;
@@ -49,8 +50,8 @@ ask 9 v0 unknown-from\n";
     Ok(())
 }
 
-/// A client's writer takes only `most` bytes. The client has written these bytes alone, and the failed
-/// write ends the client.
+/// A client's writer takes only `most` bytes. Exactly these bytes of the replies are written, and
+/// the write that fails ends the client.
 #[test]
 fn replies_that_are_not_taken(rt: HostRuntime) -> Result<(), Fail> {
     let first = link_batch(rt.alloc(), 1)?;

@@ -39,7 +39,7 @@ fn run_beside<R: Threads + Wait + Sync>(
     thread::join_mut(rt, &mut answer, &mut publish);
 }
 
-/// The state of a client that asked while a publisher ran.
+/// The final state of a client that sends requests while a publisher runs.
 fn served_beside<R: Threads + Wait + Abort + Sync>(
     rt: &R,
     alloc: Global,
@@ -54,7 +54,7 @@ fn served_beside<R: Threads + Wait + Abort + Sync>(
     serving.close(known)
 }
 
-/// Whether both rows have their lines, and the first row is answered at version 0 or at version 1.
+/// Whether both rows have their lines. The reply to the first row has version 0 or version 1.
 fn is_at_a_version(left: &ServedClient<Narrow>) -> bool {
     let before: &[u8] = b"ask 7 v0 unknown-from\nrow 2 refused: kind\n";
     let after: &[u8] = b"ask 7 v1 route cost=10 hops=1 again=no ero=000c140101080a000c022000\n\

@@ -1,7 +1,7 @@
-//! Runs while memory is refused. Each test passes with ample memory, and also if any one of its
-//! allocations is refused, alone or with all later ones. Then the run ends with its whole output and
-//! its status, or with the named refusal. Before the run a test allocates only its writer. If memory
-//! for the writer is refused, the test ends.
+//! Tests runs over rows while memory is refused. Each test passes with ample memory, and also if
+//! any one of its allocations is refused, alone or with all later ones. In each case the run ends
+//! with its whole output and its status, or with the named refusal. Before the run a test allocates
+//! only its writer. If memory for the writer is refused, the test ends.
 
 use cspf_serve::{
     Client, ClientError, NoGate, RunError, ServeError, Served, ServedClient, ServedError,
@@ -11,17 +11,17 @@ use std::alloc::Global;
 use std::sync::Wait;
 use std::thread::Threads;
 
-/// More bytes than any run here writes, so that a writer takes no memory.
+/// More bytes than any run here writes. A writer with this room takes no more memory.
 const ROOM: usize = 200;
 
-/// A batch that puts the link and its reverse, and then a row that is cut off.
+/// A batch that sets the link and its reverse, and then a row that is cut off.
 const TORN: &[u8] =
     b"put,1.1.1.1,10.0.12.1,2.2.2.2,10.0.12.2,10,0x1,1000,1000,1000,1000,1000,1000,1000,1000\nput,2.2.2.2,10.0.12.2,1.1.1.1,10.0.12.1,10,0x1,0,0,0,0,0,0,0,0\nend,1,2\nput,2.2.2.2,10.0.1";
 
 /// A request for all of the link's bandwidth.
 const REQUEST: &[u8] = b"ask,7,1.1.1.1,2.2.2.2,0,1000,0x0,0x0,0x0,\n";
 
-/// The link, its reverse and the request.
+/// The rows that set the link and its reverse, and the row of the request.
 const ONE_LINK: &[u8] =
     b"put,1.1.1.1,10.0.12.1,2.2.2.2,10.0.12.2,10,0x1,1000,1000,1000,1000,1000,1000,1000,1000\nput,2.2.2.2,10.0.12.2,1.1.1.1,10.0.12.1,10,0x1,0,0,0,0,0,0,0,0\nend,1,2\nask,7,1.1.1.1,2.2.2.2,0,1000,0x0,0x0,0x0,\n";
 
@@ -64,8 +64,8 @@ fn solves_a_loose_hop(rt: HostRuntime) {
     assert!(rt; ends_whole_or_refused(rt.alloc(), LOOSE_HOP, 6, LINES_OF_LOOSE_HOP));
 }
 
-/// What a run by two workers over the torn journal and the request answers, and what it writes. The
-/// result is `None` if memory for the writer is refused.
+/// Runs two workers over the journal `TORN` and the request. Returns the run's result and what the
+/// run wrote, or `None` if memory for the writer is refused.
 fn run_torn<T: Threads + Wait + Sync>(
     rt: &T,
     alloc: Global,
@@ -97,11 +97,11 @@ fn accepts_a_torn_journal(rt: HostRuntime) {
     }
 }
 
-/// A batch that puts the link and its reverse.
+/// A batch that sets the link and its reverse.
 const UPDATES: &[u8] =
     b"put,1.1.1.1,10.0.12.1,2.2.2.2,10.0.12.2,10,0x1,1000,1000,1000,1000,1000,1000,1000,1000\nput,2.2.2.2,10.0.12.2,1.1.1.1,10.0.12.1,10,0x1,0,0,0,0,0,0,0,0\nend,1,2\n";
 
-/// The text that the journal gets for that batch.
+/// The text that the journal gets for the batch of `UPDATES`.
 const JOURNAL: &[u8] =
     b"put,1.1.1.1,10.0.12.1,2.2.2.2,10.0.12.2,10,0x00000001,1000,1000,1000,1000,1000,1000,1000,1000\nput,2.2.2.2,10.0.12.2,1.1.1.1,10.0.12.1,10,0x00000001,0,0,0,0,0,0,0,0\nend,1,2\n";
 
@@ -115,19 +115,20 @@ fn makes_a_snapshot(rt: HostRuntime) {
     }
 }
 
-/// The line of the published batch, and its line if memory is refused for it.
+/// The line of the batch if it is published, and its line if memory is refused for it.
 const PUBLISHED: &[u8] = b"version 1\n";
 
 const UNPUBLISHED: &[u8] = b"batch 1 refused: memory\n";
 
-/// The reply to the request before the batch is in effect, and the reply after that.
+/// The reply to the request before the batch is published, and the reply after that.
 const REPLY_BEFORE: &[u8] = b"ask 7 v0 unknown-from\n";
 
 const REPLY_BEHIND: &[u8] =
     b"ask 7 v1 route cost=10 hops=1 again=no ero=000c140101080a000c022000\n";
 
-/// Whether the batch is published and has its line. If memory was refused, the batch is unpublished, or
-/// the updates ended.
+/// Whether the batch is published, and answered by the line of its version. If memory was refused,
+/// the journal has to be empty. Then the batch has the line of its refusal, or the updates ended
+/// without a line.
 fn is_published_or_refused(said: &[u8], journal: &[u8], ended: Result<(), StreamError>) -> bool {
     match ended {
         Ok(()) => {
@@ -137,8 +138,8 @@ fn is_published_or_refused(said: &[u8], journal: &[u8], ended: Result<(), Stream
     }
 }
 
-/// Whether a client was answered at version 0 or 1, or memory was refused for the client. An entry is
-/// never refused.
+/// Whether the reply to a client has version 0 or 1, or memory was refused for the client. The
+/// client can always read a copy of the published database.
 fn is_answered_or_refused(client: &ServedClient<Vec<u8>>) -> bool {
     let replies = client.replies.as_slice();
     match client.end {
@@ -147,7 +148,8 @@ fn is_answered_or_refused(client: &ServedClient<Vec<u8>>) -> bool {
     }
 }
 
-/// A client with the request. The result is `None` if memory is refused.
+/// A list of one client, whose only request is `REQUEST`. The result is `None` if memory is
+/// refused.
 fn clients(alloc: Global) -> Option<Vec<Client<&'static [u8], Vec<u8>>>> {
     let replies = Vec::with_capacity(alloc, ROOM).ok()?;
     let mut clients = Vec::with_capacity(alloc, 1).ok()?;
@@ -167,8 +169,7 @@ fn is_refused(error: ServedError) -> bool {
     error == ServedError::Run(RunError::Memory) || error == ServedError::NoThread { client: 1 }
 }
 
-/// Whether a run ended with the batch published and the client answered, or with memory refused for
-/// them.
+/// Whether a run published the batch and answered the client, except where memory was refused.
 fn is_served(served: Served<Vec<u8>, Vec<u8>, Vec<u8>>) -> bool {
     let Served {
         status: _,
@@ -181,8 +182,9 @@ fn is_served(served: Served<Vec<u8>, Vec<u8>, Vec<u8>>) -> bool {
     is_published_or_refused(&said, &journal, updates) && clients.iter().all(is_answered_or_refused)
 }
 
-/// Whether a run over the updates and one client is served. If memory is refused, the writers and the
-/// client have to come back untouched.
+/// Whether a run over the updates and one client publishes the batch and answers the client, as
+/// `is_served` checks. If memory is refused before the run begins, the writers and the client have
+/// to be returned unchanged.
 fn serves<T: Threads + Wait + Sync>(
     rt: &T,
     alloc: Global,
@@ -200,8 +202,8 @@ fn serves<T: Threads + Wait + Sync>(
     }
 }
 
-/// Whether a run over the updates and one client ends as it should. The result is `None` if memory for
-/// a writer or the client is refused.
+/// What `serves` returns for a run over the updates and one client. The result is `None` if memory
+/// for a writer or the client is refused.
 fn serves_one<T: Threads + Wait + Sync>(rt: &T, alloc: Global) -> Option<bool> {
     let clients = clients(alloc)?;
     Some(serves(rt, alloc, writers(alloc)?, clients))

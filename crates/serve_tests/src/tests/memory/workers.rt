@@ -1,6 +1,6 @@
-//! Workers while memory is refused, as by `rt try --test --fail-alloc N -- memory`. A call answers in
-//! full, or says that memory is refused, and then its askers still answer. If memory is refused before
-//! the call, the test ends.
+//! Tests workers while memory is refused, as by `rt try --test --fail-alloc N -- memory`. A call
+//! answers in full, or says that memory is refused. After that its askers (which compute the
+//! workers' answers) still answer. If memory is refused before the call, the test ends.
 ghost use Rattle.std.specs.Prelude.{◌≡◌, ◌≤◌, All, IfOk, length, vec_len};
 
 use crate::tests::workers::fixtures::{both_ways, request};
@@ -23,8 +23,8 @@ put,2.2.2.2,10.0.12.2,1.1.1.1,10.0.12.1,20,0x00000001,0,0,0,0,0,0,0,0\nend,2,2\n
 /// How many bytes each of the two texts has.
 const TEXT: usize = 172;
 
-/// The batch with this number, 1 or 2. The batch puts a link with 10 times this number as its metric,
-/// and the link's reverse.
+/// The batch with this number, 1 or 2. The batch sets a link with 10 times this number as its
+/// metric, and the link's reverse.
 fn batch<R: Abort>(rt: &R, alloc: Global, number: u32) -> Result<Batch, AllocError> {
     let metric = if number == 1 { 10 } else { 20 };
     let Ok(changes) = both_ways(metric) else {
@@ -36,8 +36,8 @@ fn batch<R: Abort>(rt: &R, alloc: Global, number: u32) -> Result<Batch, AllocErr
     })
 }
 
-/// This many requests, each with its index as its id. Requests with an even id are from 1.1.1.1, the
-/// others from 9.9.9.9.
+/// `count` requests, each with its index as its id. Requests with an even id are from 1.1.1.1, and the
+/// others are from 9.9.9.9.
 fn requests<R: Abort>(rt: &R, alloc: Global, count: usize) -> Result<Vec<Request>, AllocError>
     ensures { IfOk result (λ all. vec_len all ≤ 1000) }
 {
@@ -57,8 +57,9 @@ fn requests<R: Abort>(rt: &R, alloc: Global, count: usize) -> Result<Vec<Request
     Ok(all)
 }
 
-/// A publisher without a batch, and two askers. The publisher's journal has room for both texts, so it
-/// takes no more memory.
+/// A publisher that has published no batch, and its two askers (which compute the workers'
+/// answers). The publisher's journal has room for the texts of both batches, so the journal takes
+/// no more memory.
 fn opened<R: Wait + Abort>(
     rt: &R,
     alloc: Global,
@@ -76,7 +77,8 @@ fn opened<R: Wait + Abort>(
     }
 }
 
-/// Whether this is the answer to the request with this index, at the version that the answer names.
+/// Whether this is the right answer to the request with this index, in the database of the version
+/// that the answer names.
 fn is_right(index: usize, answer: &Answer) -> bool {
     let right = match &answer.outcome {
         Outcome::Route(route) => {
@@ -93,7 +95,8 @@ fn is_right(index: usize, answer: &Answer) -> bool {
     right && answer.id == index as u64
 }
 
-/// Whether these are the answers to `count` requests, each at a version from `least` to `most`.
+/// Whether these are the answers to `count` requests, each with a version between `least` and
+/// `most`.
 fn are_right(list: &[Answer], count: usize, least: u32, most: u32) -> bool {
     for (index, answer) in list.iter().enumerate() {
         if !is_right(index, answer) || answer.version < least || answer.version > most {
@@ -103,7 +106,7 @@ fn are_right(list: &[Answer], count: usize, least: u32, most: u32) -> bool {
     list.len() == count
 }
 
-/// Whether each of `count` indexes was drawn once, by one of two workers.
+/// Whether each of `count` indexes was drawn from the counter once, by one of two workers.
 fn are_drawn_once(drawn: &[Vec<usize>], count: usize) -> bool {
     let [first, second] = drawn else {
         return false;
@@ -116,7 +119,8 @@ fn are_drawn_once(drawn: &[Vec<usize>], count: usize) -> bool {
     first.len().wrapping_add(second.len()) == count
 }
 
-/// Whether an asker answers each request at this version, or says that memory is refused.
+/// Whether an asker (which computes a worker's answers) gives each request an answer with this
+/// version, or says that memory is refused.
 fn still_answers(alloc: Global, asker: &mut Asker, requests: &[Request], version: u32) -> bool {
     for (index, request) in requests.iter().enumerate() {
         let right = match asker.ask(alloc, request) {
@@ -130,7 +134,7 @@ fn still_answers(alloc: Global, asker: &mut Asker, requests: &[Request], version
     true
 }
 
-/// Whether these are two askers that still answer.
+/// Whether these are two askers (which compute the workers' answers) that still answer.
 fn still_answer(alloc: Global, askers: &mut [Asker], requests: &[Request], version: u32) -> bool {
     let [first, second] = askers else {
         return false;
@@ -139,8 +143,8 @@ fn still_answer(alloc: Global, askers: &mut [Asker], requests: &[Request], versi
         && still_answers(alloc, second, requests, version)
 }
 
-/// Whether two workers answer in full at this version, or memory is refused. The askers are returned,
-/// too.
+/// Whether two workers give all answers, each with this version, or memory is refused. Also returns
+/// the askers, which compute the workers' answers.
 fn answered<R: Threads + Sync>(
     rt: &R,
     alloc: Global,
@@ -185,7 +189,7 @@ fn answer_after<R: Threads + Wait + Sync>(
     published && version <= 1 && right && answered
 }
 
-/// Publishes the batch. Whether two workers then answer `count` requests.
+/// Publishes the batch. Returns whether two workers then answer `count` requests.
 fn answers<R: Threads + Wait + Abort + Sync>(
     rt: &R,
     alloc: Global,
@@ -201,13 +205,14 @@ fn two_requests(rt: HostRuntime) {
     assert!(rt; answers(&rt, rt.alloc(), 2) != Ok(false));
 }
 
-/// The list of each worker's answers grows while the other worker asks.
+/// The list of each worker's answers grows while the other worker computes its answers.
 #[test]
 fn hundred_requests(rt: HostRuntime) {
     assert!(rt; answers(&rt, rt.alloc(), 100) != Ok(false));
 }
 
-/// Whether a live run over some requests and batches is right, and its publisher and askers. It is
+/// Returns whether a live run (batches are applied while workers answer requests) is right. Also
+/// returns the run's publisher, and the askers, which compute the workers' answers. The run is
 /// right if all batches are applied, or all before a batch for which memory was refused. The askers
 /// know the applied batches.
 fn parts_of(
@@ -237,8 +242,8 @@ fn parts_of(
     (right, publisher, askers)
 }
 
-/// Whether two workers answer requests while batches are applied, and their askers still answer after
-/// that.
+/// Whether two workers answer requests while batches are applied, and their askers (which compute
+/// the answers) still answer after that.
 fn answer_beside<R: Threads + Wait + Sync>(
     rt: &R,
     alloc: Global,

@@ -1,4 +1,4 @@
-//! Workers alone: what they answer, in which order, and which worker answers.
+//! Tests workers alone: what they answer, in which order, and which worker answers.
 ghost use Rattle.std.specs.Prelude.{◌<◌, ◌≤◌, length};
 ghost use Rattle.cspf_publish.specs.declared.limits.TheConstants.{MOST_ASKERS};
 ghost use Rattle.cspf_work.specs.declared.limits.TheConstants.{MOST_REQUESTS};
@@ -34,7 +34,8 @@ pub(crate) fn answered_with_a_link<G: Gate + Sync, R: Threads + Wait + Abort + S
     answered.ok()
 }
 
-/// Whether `count` workers answered one request each, at the version of the link.
+/// Whether `count` workers answered one request each, and computed the answers from the version
+/// that has the link.
 fn is_one_each(answers: &Answers, count: usize) -> bool {
     answers.list.len() == count
         && answers.drawn.len() == count
@@ -53,7 +54,7 @@ fn are_of_the_link(list: &[Answer]) -> bool {
     true
 }
 
-/// Whether each worker drew one index.
+/// Whether each worker drew the index of one request from the counter.
 fn have_one_each(drawn: &[Vec<usize>]) -> bool {
     drawn.iter().all(|indexes| indexes.len() == 1)
 }
@@ -75,8 +76,8 @@ fn answer_one_each<R: Threads + Wait + Abort + Sync>(
     }
 }
 
-/// Whether `count` workers run at once on `count` requests. Each request is held until all requests are
-/// reached.
+/// Whether `count` workers run at once on `count` requests. Before it computes its answer, each
+/// worker waits until the indexes of all requests are drawn from the counter.
 fn answer_at_once<R: Threads + Wait + Abort + Sync>(
     rt: &R,
     alloc: Global,
@@ -97,14 +98,14 @@ fn at_once(rt: HostRuntime) -> Result<(), Fail> {
     Ok(())
 }
 
-/// Which answers are wanted.
+/// Which answers of the workers a test expects.
 #[derive(Clone, Copy)]
 enum Wanted {
-    /// No answer, with three workers.
+    /// No answer: three workers have no request.
     Nothing,
-    /// One answer, given by one of the most workers that are allowed.
+    /// One answer: one of 64 workers, the most that are allowed, answers the only request.
     One,
-    /// The answers to 1,000 requests in the requests' order, with 64 workers.
+    /// The answers of 64 workers to 1,000 requests, in the order of the requests.
     InOrder,
 }
 
@@ -117,7 +118,8 @@ fn is_wanted(answers: &Answers, wanted: Wanted) -> bool {
     }
 }
 
-/// Whether there are `workers` workers, and `wanted` of them drew at least one index.
+/// Whether there are `workers` workers, and `wanted` of them drew the index of a request from the
+/// counter.
 fn have_drawn(drawn: &[Vec<usize>], workers: usize, wanted: usize) -> bool {
     let mut count = 0usize;
     for indexes in drawn {
@@ -146,8 +148,8 @@ fn gives<R: Threads + Wait + Abort + Sync>(
     }
 }
 
-/// Without requests there are no answers, and the askers are given back. One request is answered by one
-/// worker.
+/// Without requests there are no answers, and the askers (the objects that compute the workers'
+/// answers) are returned. One request is answered by one worker.
 #[test]
 fn no_requests_and_one(rt: HostRuntime) -> Result<(), Fail> {
     assert!(rt; gives(&rt, rt.alloc(), 3, &[], Wanted::Nothing)?);
@@ -190,7 +192,7 @@ fn are_in_order(list: &[Answer]) -> bool {
     true
 }
 
-/// The requests are answered by 64 workers in the requests' order.
+/// 64 workers answer the requests, and the answers are in the order of the requests.
 #[test]
 fn in_order(rt: HostRuntime) -> Result<(), Fail> {
     let all = requests_of_three_kinds(rt.alloc())?;
@@ -199,7 +201,8 @@ fn in_order(rt: HostRuntime) -> Result<(), Fail> {
     Ok(())
 }
 
-/// Whether two workers answer at the last version, and their askers then know it.
+/// Whether the answers of two workers have the last version, and the workers' askers (which compute
+/// the answers) then know this version.
 fn answer_at_the_last<R: Threads + Wait + Abort + Sync>(
     rt: &R,
     alloc: Global,

@@ -1,19 +1,21 @@
-//! A gate that counts requests, and how a gate waits.
+//! Defines a gate (callbacks before and after each request of a worker) that counts requests, and
+//! how a gate waits.
 
 use cspf_serve::Gate;
 use std::alloc::{AllocError, Global};
 use std::sync::atomic::{AtomicU64, Ordering};
 use std::thread;
 
-/// How many turns a gate waits before it notes a fault.
+/// How many turns of a loop a gate (callbacks before and after each request) waits before it notes
+/// a fault.
 const TURNS: u32 = 1_000_000;
 
-/// Counts for each request how often it is reached and answered.
+/// Counts for each request how often workers draw its index, and how often they get its answer.
 #[derive(Drop)]
 pub(crate) struct Counts {
     reached: Vec<AtomicU64>,
     answered: Vec<AtomicU64>,
-    /// How many requests have to be reached before any request is asked.
+    /// How many indexes of requests the workers have to draw before they compute the first answer.
     all: u64,
     came: AtomicU64,
     faults: AtomicU64,
@@ -30,7 +32,8 @@ impl Counts {
         })
     }
 
-    /// Whether each request was reached once and answered once, and no wait took too long.
+    /// Whether the index of each request was drawn once, each request was answered once, and no
+    /// wait took too long.
     pub(crate) fn is_whole(&self) -> bool {
         self.faults.load(Ordering::SeqCst) == 0
             && self.came.load(Ordering::SeqCst) == self.all
@@ -56,7 +59,8 @@ pub(crate) fn zeros(alloc: Global, count: usize) -> Result<Vec<AtomicU64>, Alloc
     Ok(zeros)
 }
 
-/// Waits until the counter is at least `least`. Notes a fault if that takes too many turns.
+/// Waits until the number in `word` is at least `least`. Notes a fault if the waiting loop takes
+/// too many turns.
 pub(crate) fn wait_for(word: &AtomicU64, least: u64, faults: &AtomicU64) {
     for _ in 0..TURNS {
         if word.load(Ordering::SeqCst) >= least {
@@ -67,7 +71,7 @@ pub(crate) fn wait_for(word: &AtomicU64, least: u64, faults: &AtomicU64) {
     faults.fetch_add(1, Ordering::SeqCst);
 }
 
-/// Holds each request until all requests are reached.
+/// Lets each worker wait before it computes an answer, until the indexes of all requests are drawn.
 impl Gate for Counts {
     fn reached(&self, _worker: usize, index: usize) {
         if index < self.reached.len() {

@@ -1,4 +1,4 @@
-//! Workers that ask once their publisher is closed.
+//! Tests workers that get requests after their publisher was closed.
 
 ghost use Rattle.std.specs.Prelude.{◌<◌, ◌≤◌, length};
 ghost use Rattle.cspf_work.specs.declared.limits.TheConstants.{MOST_REQUESTS};
@@ -13,8 +13,8 @@ use std::sync::Wait;
 use std::test::Fail;
 use std::thread::Threads;
 
-/// What three askers answer after their publisher is closed. Only the first asker has learnt of the
-/// publisher's batch.
+/// The result of three workers that answer requests after their publisher is closed. Only the first
+/// worker's asker (which computes its answers) has learnt of the publisher's batch.
 fn ask_closed<R: Threads + Wait + Abort + Sync>(
     rt: &R,
     alloc: Global,
@@ -31,7 +31,8 @@ fn ask_closed<R: Threads + Wait + Abort + Sync>(
     answer_all(rt, alloc, askers, requests, &NoGate)
 }
 
-/// Whether these are three askers, of which only the first knows a batch.
+/// Whether these are three askers (which compute the workers' answers), of which only the first
+/// knows a batch.
 fn are_as_told(askers: &[Asker]) -> bool {
     match askers {
         [first, second, third] => first.seen() == 1 && second.seen() == 0 && third.seen() == 0,
@@ -39,7 +40,8 @@ fn are_as_told(askers: &[Asker]) -> bool {
     }
 }
 
-/// Whether the askers have no entry, and are given back as they were.
+/// Whether the workers can't read a copy of the published database, and their askers (which compute
+/// the answers) are returned unchanged.
 fn have_no_entry<R: Threads + Wait + Abort + Sync>(
     rt: &R,
     alloc: Global,
@@ -54,7 +56,8 @@ fn have_no_entry<R: Threads + Wait + Abort + Sync>(
     }
 }
 
-/// After the publisher is closed, the askers have no entry and are given back as they were.
+/// After the publisher is closed, the workers can't read a copy of the published database. Their
+/// askers (which compute the answers) are returned unchanged.
 #[test]
 fn no_entry(rt: HostRuntime) -> Result<(), Fail> {
     let batch = link_batch(rt.alloc(), 1)?;

@@ -1,4 +1,4 @@
-//! What the tests share: a link, batches, requests and publishers.
+//! Defines what the tests of workers share: a link, batches, requests and publishers.
 ghost use Rattle.std.specs.Prelude.{◌≡◌, ◌≤◌, All, IfOk, vec_len};
 ghost use Rattle.cspf_work.specs.declared.limits.TheConstants.{MOST_REQUESTS};
 
@@ -11,14 +11,15 @@ use std::process::Abort;
 use std::sync::Wait;
 use std::test::Fail;
 
-/// A link of this metric with 1,000 bytes per second unreserved, from 1.1.1.1 by 10.0.12.1 to 2.2.2.2.
+/// A link of this metric from 1.1.1.1 to 2.2.2.2, with 1,000 bytes per second unreserved. The
+/// address of its interface at 1.1.1.1 is 10.0.12.1.
 fn link(metric: u32) -> Result<Link, LinkError> {
     let (from, local) = (Addr::new(0x01010101), Addr::new(0x0a000c01));
     let (to, remote) = (Addr::new(0x02020202), Addr::new(0x0a000c02));
     Link::new(from, local, to, remote, metric, Mask::new(1), [1000; 8])
 }
 
-/// Puts of the link of this metric and of its reverse, which has no bandwidth.
+/// The two changes that set the link of this metric and the link's reverse, which has no bandwidth.
 pub(crate) fn both_ways(metric: u32) -> Result<[Change; 2], LinkError> {
     let link = link(metric)?;
     let (from, local) = (link.to, link.remote);
@@ -27,7 +28,7 @@ pub(crate) fn both_ways(metric: u32) -> Result<[Change; 2], LinkError> {
     Ok([Change::Put(link), Change::Put(back)])
 }
 
-/// The batch with this number that puts the link of metric 10, and its reverse.
+/// A batch with this number, which sets the link of metric 10 and the link's reverse.
 pub(crate) fn link_batch(alloc: Global, number: u32) -> Result<Batch, Fail> {
     Ok(Batch {
         number,
@@ -67,7 +68,8 @@ pub(crate) fn cost(outcome: &Outcome) -> u64 {
     }
 }
 
-/// A publisher without a batch, and some askers.
+/// A publisher that has published no batch, and some of its askers (which compute the workers'
+/// answers).
 pub(crate) fn opened<W: Write + Drop, R: Wait + Abort>(
     rt: &R,
     alloc: Global,

@@ -1,4 +1,5 @@
-//! What workers report to their gate, and how many workers run at once.
+//! Tests what workers report to their gate (callbacks before and after each request), and how many
+//! workers run at once.
 
 ghost use Rattle.std.specs.Prelude.{◌<◌, ◌≤◌, length};
 ghost use Rattle.cspf_publish.specs.declared.limits.TheConstants.{MOST_ASKERS};
@@ -18,7 +19,7 @@ use std::sync::atomic::{AtomicU64, Ordering};
 use std::test::Fail;
 use std::thread::Threads;
 
-/// Which run answers requests.
+/// Which kind of run over rows answers the requests.
 #[derive(Clone, Copy)]
 enum Run {
     /// `run_batch` over an empty journal.
@@ -36,7 +37,7 @@ fn rows_of(alloc: Global, count: usize) -> Result<String, AllocError> {
     Ok(rows)
 }
 
-/// The lines of a run over these rows.
+/// The lines that a run writes for the rows of `rows_of`.
 fn lines_of(alloc: Global, run: Run, count: usize) -> Result<String, AllocError> {
     let mut lines = String::new(alloc);
     for id in 0..count {
@@ -66,7 +67,7 @@ fn batch_run_writes<G: Gate + Sync, T: Threads + Wait + Sync>(
     found == Ok(0) && held.as_slice() == lines
 }
 
-/// Whether a run over no updates and some requests writes these lines, and no journal.
+/// Whether a run over no updates and some requests writes these lines, and nothing to its journal.
 fn live_run_writes<G: Gate + Sync, T: Threads + Wait + Sync>(
     rt: &T,
     alloc: Global,
@@ -105,8 +106,8 @@ fn answers<G: Gate + Sync, T: Threads + Wait + Sync>(
     })
 }
 
-/// Whether `count` workers answer `count` requests. Each request is held until all requests are
-/// reached.
+/// Whether `count` workers answer `count` requests. Before it computes its answer, each worker
+/// waits until the indexes of all requests are drawn from the counter.
 fn answers_at_once<T: Threads + Wait + Sync>(
     rt: &T,
     alloc: Global,
@@ -119,7 +120,8 @@ fn answers_at_once<T: Threads + Wait + Sync>(
     Ok(answers(rt, alloc, run, count, count, &gate)? && gate.is_whole())
 }
 
-/// All workers run at once, and they report to the gate that the caller gives.
+/// All workers run at once, and they report to the gate (callbacks before and after each request)
+/// that the caller gives.
 #[test]
 fn at_once(rt: HostRuntime) -> Result<(), AllocError> {
     for count in [2, 64] {
@@ -132,12 +134,13 @@ fn at_once(rt: HostRuntime) -> Result<(), AllocError> {
     Ok(())
 }
 
-/// Counts how often the gate is called with each index. The gate holds no request.
+/// Counts how often the callbacks of the gate are called with each request's index. No worker waits
+/// in these callbacks.
 #[derive(Drop)]
 struct Tally {
     reached: Vec<AtomicU64>,
     answered: Vec<AtomicU64>,
-    /// How often the gate is called with an index that no request has.
+    /// How often a callback of the gate is called with an index that no request has.
     others: AtomicU64,
 }
 
@@ -150,7 +153,7 @@ impl Tally {
         })
     }
 
-    /// Whether the gate is called once before and once after the ask of each request.
+    /// Whether each callback of the gate was called once for each request.
     fn is_whole(&self) -> bool {
         are_ones(&self.reached)
             && are_ones(&self.answered)
@@ -170,7 +173,7 @@ impl Gate for Tally {
     }
 }
 
-/// Whether the gate is called once before and once after the ask of each of `count` requests.
+/// Whether each callback of the gate is called once for each of `count` requests.
 fn tells_of_each<T: Threads + Wait + Sync>(
     rt: &T,
     alloc: Global,
@@ -180,21 +183,23 @@ fn tells_of_each<T: Threads + Wait + Sync>(
     Ok(answers(rt, alloc, Run::Batch, count, 3, &tally)? && tally.is_whole())
 }
 
-/// There are more requests than a run answers before it writes lines. The gate is called with the index
-/// of a request among all requests.
+/// The run reads its requests in parts, and writes a part's lines before it answers the next part.
+/// There are more requests than one part has. The callbacks of the gate still get each request's
+/// index among all requests.
 #[test]
 fn what_workers_tell_of_many_rows(rt: HostRuntime) -> Result<(), AllocError> {
     assert!(rt; tells_of_each(&rt, rt.alloc(), 32_768 * 2 + 3)?);
     Ok(())
 }
 
-/// Notes the reports of each worker in order, as hexadecimal digits. The digits 1, 3, 5 and 7 stand for
-/// reaching the requests 0 to 3, and 2, 4, 6 and 8 for their answers. Request 0 is held until the
-/// requests 1 to 3 are answered.
+/// Notes the reports of each worker in order, as hexadecimal digits. The digits 1, 3, 5 and 7 say
+/// that the indexes of the requests 0 to 3 were drawn. The digits 2, 4, 6 and 8 say that these
+/// requests were answered. The worker of request 0 computes its answer after the requests 1 to 3
+/// are answered.
 #[derive(Drop)]
 struct Notes {
     words: Vec<AtomicU64>,
-    /// The reports of workers that don't exist.
+    /// How many reports came with the number of a worker that doesn't exist.
     others: AtomicU64,
     /// How many of the requests 1 to 3 are answered.
     answered: AtomicU64,
@@ -217,7 +222,8 @@ impl Notes {
         word.store(noted.wrapping_mul(16).wrapping_add(digit), Ordering::SeqCst);
     }
 
-    /// Whether one worker asks request 0, and meanwhile the other worker asks the requests 1, 2 and 3.
+    /// Whether one worker answers request 0, and meanwhile the other worker answers the requests 1,
+    /// 2 and 3.
     fn are_of_four_requests(&self) -> bool {
         match self.words.as_slice() {
             [first, second] => {
@@ -247,7 +253,7 @@ impl Gate for Notes {
     }
 }
 
-/// Whether one worker drew request 0, and the other worker the requests 1, 2 and 3.
+/// Whether one worker drew the index 0 of a request, and the other worker the indexes 1, 2 and 3.
 fn are_zero_and_the_others(drawn: &[Vec<usize>]) -> bool {
     let [first, second] = drawn else {
         return false;
@@ -260,7 +266,8 @@ fn are_zero_and_the_others(drawn: &[Vec<usize>]) -> bool {
     zero.as_slice() == [0].as_slice() && others.as_slice() == [1, 2, 3].as_slice()
 }
 
-/// Whether one of two workers draws request 0, and the other worker draws the other three requests.
+/// Whether one of two workers answers request 0, and the other worker answers the other three
+/// requests.
 fn tell_of_four<R: Threads + Wait + Abort + Sync>(
     rt: &R,
     alloc: Global,
@@ -285,8 +292,8 @@ fn what_workers_tell(rt: HostRuntime) -> Result<(), Fail> {
     Ok(())
 }
 
-/// Whether one worker of a live run asks request 0, and the other worker asks the requests 1, 2 and 3.
-/// The run applies a batch.
+/// Whether one worker answers request 0, and the other worker answers the requests 1, 2 and 3,
+/// while the run applies a batch.
 fn tell_of_four_live<R: Threads + Wait + Abort + Sync>(
     rt: &R,
     alloc: Global,
@@ -310,8 +317,8 @@ fn what_live_workers_tell(rt: HostRuntime) -> Result<(), Fail> {
     Ok(())
 }
 
-/// Whether one worker of a run over rows asks request 0, and the other worker asks the requests 1, 2
-/// and 3.
+/// Whether one worker of a run over rows answers request 0, and the other worker answers the
+/// requests 1, 2 and 3.
 fn tell_of_rows<T: Threads + Wait + Sync>(
     rt: &T,
     alloc: Global,

@@ -1,4 +1,5 @@
-//! Live runs: what is applied while workers answer, and what the run leaves.
+//! Tests live runs, in which batches are applied while workers answer requests. The tests look at
+//! which batches are applied, and at the publisher, the answers and the journal afterwards.
 ghost use Rattle.std.specs.Prelude.{◌≡◌, ◌<◌, ◌≤◌, length, All, vec_len};
 ghost use Rattle.cspf_publish.specs.declared.limits.TheConstants.{MOST_ASKERS};
 ghost use Rattle.cspf_work.specs.declared.limits.TheConstants.{MOST_REQUESTS};
@@ -17,7 +18,8 @@ use std::sync::atomic::{AtomicU64, Ordering};
 use std::test::Fail;
 use std::thread::Threads;
 
-/// What a live run leaves once its publisher is closed.
+/// What a live run (batches are applied while workers answer requests) leaves once its publisher is
+/// closed.
 #[derive(Drop)]
 pub(crate) struct Closed<W> {
     pub(crate) journal: W,
@@ -29,7 +31,7 @@ pub(crate) struct Closed<W> {
     pub(crate) fault: Option<ApplyError>,
 }
 
-/// Runs live, and closes the publisher.
+/// Publishes batches while workers answer requests, and then closes the publisher.
 pub(crate) fn run_and_close<W: Write + Drop, G: Gate + Sync, R: Threads + Wait + Abort + Sync>(
     rt: &R,
     alloc: Global,
@@ -64,7 +66,7 @@ pub(crate) fn run_and_close<W: Write + Drop, G: Gate + Sync, R: Threads + Wait +
     }
 }
 
-/// The second request and the journal's first write wait for each other.
+/// The worker of the second request and the journal's first write wait for each other.
 #[derive(Drop)]
 struct Meeting {
     asked: AtomicU64,
@@ -120,7 +122,7 @@ fn applies_alone(rt: HostRuntime) -> Result<(), Fail> {
     Ok(())
 }
 
-/// Whether a live run leaves only one answer: the route over the link, at a version from 1 to the
+/// Whether there is only one answer: the route over the link, with a version between 1 and the
 /// published version.
 fn is_one_answer(list: &[Answer], version: u32) -> bool {
     match list {
@@ -167,7 +169,7 @@ fn applies_beside<R: Threads + Wait + Abort + Sync>(
     Ok(applied_beside(rt, alloc, &first, &batches, all.as_slice()) == wanted)
 }
 
-/// The next batch is applied, and a batch with another number is refused.
+/// A batch with the next number is applied, and a batch with another number is refused.
 #[test]
 fn applies_the_next(rt: HostRuntime) -> Result<(), Fail> {
     assert!(rt; applies_beside(&rt, rt.alloc(), 2, (1, 2, None))?);
@@ -176,7 +178,7 @@ fn applies_the_next(rt: HostRuntime) -> Result<(), Fail> {
     Ok(())
 }
 
-/// Whether the first of two answers is at version 0, and the second at version 0 or 1.
+/// Whether the first of two answers has version 0, and the second has version 0 or 1.
 fn are_around_a_batch(list: &[Answer]) -> bool {
     match list {
         [first, last] => {

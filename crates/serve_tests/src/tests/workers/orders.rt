@@ -1,5 +1,5 @@
-//! In which order workers reach a request, ask and answer. Also, any number of workers answers all
-//! requests.
+//! Tests in which order a worker draws a request's index, reports it, and gets the answer. Also,
+//! any number of workers answers all requests.
 
 ghost use Rattle.std.specs.Prelude.{◌<◌, ◌≤◌, length};
 ghost use Rattle.cspf_publish.specs.declared.limits.TheConstants.{MOST_ASKERS};
@@ -21,14 +21,15 @@ use std::sync::atomic::{AtomicU64, Ordering};
 use std::test::Fail;
 use std::thread::Threads;
 
-/// How many bytes the text of the batch of a link and its reverse has.
+/// How many bytes the journal gets for a batch of a link and its reverse.
 const TEXT: usize = 172;
 
-/// Holds each worker before or after its asks until the first batch is published. Holds the first batch
-/// until a worker is held.
+/// A gate (callbacks before and after each request) in which each worker waits, before or after it
+/// computes an answer, until the first batch is published. The publisher keeps the first batch back
+/// until a worker waits.
 #[derive(Drop)]
 struct Order {
-    /// Whether workers are held before their asks, and not after them.
+    /// Whether workers wait before they compute an answer, and not after it.
     before: bool,
     there: AtomicU64,
     published: AtomicU64,
@@ -50,7 +51,8 @@ impl Order {
         wait_for(&self.published, 1, &self.faults);
     }
 
-    /// Whether `count` asks were held, and no wait took too long.
+    /// Whether workers waited `count` times in the callbacks of the gate, and no wait took too
+    /// long.
     fn has_held(&self, count: u64) -> bool {
         self.faults.load(Ordering::SeqCst) == 0 && self.there.load(Ordering::SeqCst) == count
     }
@@ -70,7 +72,8 @@ impl Gate for Order {
     }
 }
 
-/// A journal in memory. It waits for a held worker at the first batch, and fails at the second batch.
+/// A journal in memory. Its write of the first batch waits until a worker waits in a callback of
+/// the gate. Its write of the second batch fails.
 #[derive(Drop)]
 struct OrderJournal<'a> {
     held: Vec<u8>,
@@ -94,7 +97,7 @@ impl<'a> Write for OrderJournal<'a> {
     }
 }
 
-/// Whether these are two answers at these versions.
+/// Whether these are two answers with these versions.
 fn are_of(list: &[Answer], versions: (u32, u32)) -> bool {
     match list {
         [first, second] => first.version == versions.0 && second.version == versions.1,
@@ -102,8 +105,8 @@ fn are_of(list: &[Answer], versions: (u32, u32)) -> bool {
     }
 }
 
-/// Holds two requests of one worker before or after their asks. Whether their answers are at these
-/// versions.
+/// Lets one worker wait before or after it computes each of two answers. Returns whether the
+/// answers have these versions.
 fn are_held<R: Threads + Wait + Abort + Sync>(
     rt: &R,
     alloc: Global,
@@ -127,9 +130,10 @@ fn are_held<R: Threads + Wait + Abort + Sync>(
         && are_of(&left.list, versions)
 }
 
-/// If the first batch waits until the gate is called with the answer, the first request is asked before
-/// that batch is published. If the request waits at the gate before its ask, it is asked after the
-/// batch is published.
+/// The worker waits in a callback of the gate until the first batch is published. If it waits after
+/// each answer, the first answer is computed before this batch is published, and the second answer
+/// after it. If it waits before each answer, both answers are computed after this batch is
+/// published.
 #[test]
 fn reached_and_answered_are_around_the_ask(rt: HostRuntime) -> Result<(), Fail> {
     let batches = [link_batch(rt.alloc(), 1)?, link_batch(rt.alloc(), 2)?];
@@ -143,7 +147,7 @@ fn reached_and_answered_are_around_the_ask(rt: HostRuntime) -> Result<(), Fail> 
     Ok(())
 }
 
-/// Two batches of one link. The first batch also puts the link's reverse.
+/// Two batches of one link. The first batch also sets the link's reverse.
 const UPDATES: &[u8] =
     b"put,1.1.1.1,10.0.12.1,2.2.2.2,10.0.12.2,10,0x1,1000,1000,1000,1000,1000,1000,1000,1000
 put,2.2.2.2,10.0.12.2,1.1.1.1,10.0.12.1,10,0x1,0,0,0,0,0,0,0,0
@@ -163,8 +167,8 @@ fn request_rows(alloc: Global) -> Result<String, AllocError> {
     Ok(rows)
 }
 
-/// The lines of these requests at version 1. One batch is published, and one batch is refused by the
-/// journal.
+/// The lines of a run whose answers to the requests of `request_rows` have version 1. The run
+/// publishes one batch, and writing the next batch to the journal fails.
 fn lines_at_version_1(alloc: Global) -> Result<String, AllocError> {
     let mut lines = String::new(alloc);
     for id in 0..COUNT {
@@ -177,8 +181,9 @@ fn lines_at_version_1(alloc: Global) -> Result<String, AllocError> {
     Ok(lines)
 }
 
-/// Workers are held until the first of two batches is published. The result is the run's answer, its
-/// lines, and whether each request was held.
+/// Before it computes an answer, each worker waits until the first of two batches is published.
+/// Returns the result of the run over the requests, its lines, and whether a worker waited at each
+/// request.
 fn run_held<T: Threads + Wait + Sync>(
     rt: &T,
     alloc: Global,
@@ -201,7 +206,8 @@ fn run_held<T: Threads + Wait + Sync>(
     (found, lines, whole)
 }
 
-/// Whether this many workers write these lines.
+/// Whether `run_held` with this many workers writes these lines and returns the status 2, and a
+/// worker waited at each request.
 fn is_held<T: Threads + Wait + Sync>(
     rt: &T,
     alloc: Global,

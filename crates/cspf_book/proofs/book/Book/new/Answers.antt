@@ -4,6 +4,7 @@ use Rattle.cspf_model.specs.Database.{Database}
 use Rattle.cspf_book.specs.Effective.{effective}
 use Rattle.cspf_book.specs.BookState.{links_placed}
 use Rattle.cspf_book.specs.Kept.{IsCountOf}
+use Rattle.cspf_book.specs.ById.{AreIdsOf}
 use Rattle.cspf_book.specs.Inside.{HaveDistinctIds}
 use Rattle.cspf_book.proofs.Currents.{effective-no_links}
 use Rattle.cspf_book.proofs.book.Book.new.Goals as goal
@@ -13,13 +14,14 @@ unfolding IsDistinct
 invariant_of-result c =
     record {
       current =
-          c.in_ok-new-2.ensures ∙ effective-no_links c.new-5.result.items
-          ∙ ap (λ (d : Database). effective d c.new-5.result.items) (sym c.in_ok-new.ensures);
-      sums = subst (IsCountOf c.new-6.result) (sym c.new-5.ensures.items) c.new-6.ensures;
-      small = λ k p. rw c.new-5.ensures.items (omega arith);
-      own_ids = subst HaveDistinctIds (sym c.new-5.ensures.items) tt;
-      few = omega (arith, ap length c.new-5.ensures.items);
-      links = sym (ap links_placed c.new-5.ensures.items);
+          c.in_ok-new-2.ensures ∙ effective-no_links c.new-6.result.items
+          ∙ ap (λ (d : Database). effective d c.new-6.result.items) (sym c.in_ok-new.ensures);
+      sums = subst (IsCountOf c.new-5.result) (sym c.new-6.ensures.items) c.new-5.ensures;
+      small = λ k p. rw c.new-6.ensures.items (omega arith);
+      ids = subst (AreIdsOf c.new-7.result 0) (sym c.new-6.ensures.items) c.new-7.ensures;
+      own_ids = subst HaveDistinctIds (sym c.new-6.ensures.items) tt;
+      few = omega (arith, ap length c.new-6.ensures.items);
+      links = sym (ap links_placed c.new-6.ensures.items);
       few_links = omega arith;
       one = rw (c.in_ok-push.ensures.items, c.new-changes.ensures.items) refl;
     }

@@ -1,4 +1,4 @@
-use Rattle.std.proofs.Common.{◌+◌, ◌-◌, ◌*◌, ◌^◌, ◌≤◌, ◌++◌, [], ◌∷◌, length, remove, refl, sym, ap, subst, ◌∙◌, arith}
+use Rattle.std.proofs.Common.{Option, IfSome, ◌+◌, ◌-◌, ◌*◌, ◌^◌, ◌≤◌, ◌++◌, [], ◌∷◌, length, remove, refl, sym, ap, subst, ◌∙◌, arith}
 use Rattle.std.proofs.lemmas.List.{length_push}
 use Rattle.std.proofs.lemmas.Result.{err_from_is_err_and}
 use Rattle.std.proofs.lemmas.List.Sums.{sum_by_push}
@@ -6,7 +6,7 @@ use Rattle.cspf_model.specs.Database.{Database}
 use Rattle.cspf_model.specs.Best.{IsBestAnswer}
 use Rattle.cspf_model.specs.Outcome.{answer_of}
 use Rattle.cspf_book.specs.declared.placement.Placement.{Placement}
-use Rattle.cspf_book.specs.Placements.{index_of_id, others, counted}
+use Rattle.cspf_book.specs.Placements.{others, counted}
 use Rattle.cspf_book.specs.Kept.{IsCountOf}
 use Rattle.cspf_book.proofs.Covered.{counted-others}
 use Rattle.cspf_book.proofs.KeptSums.{sums_small, small_with, counted-placed}
@@ -16,71 +16,81 @@ use Rattle.cspf_book.specs.Inside.{HaveDistinctIds}
 use Rattle.cspf_book.specs.Offers.{IsOffered, IsOfferRefused}
 use Rattle.cspf_book.proofs.Ids.{index_of-le, remove-index_of, remove-behind, own_ids-placed, few_kept}
 use Rattle.cspf_model.specs.declared.request.Request.{Request}
+use Rattle.cspf_book.specs.ById.{AreIdsOf, HasEntered}
+use Rattle.cspf_book.proofs.ById.{ids_same, ids_placed}
 use Rattle.cspf_book.proofs.StateParts.{state_of}
 use Rattle.cspf_book.proofs.Placing.{offered_of, answer_placed, place_error}
 use Rattle.cspf_book.proofs.book.Book.place.Goals as goal
+use Rattle.cspf_book.proofs.book.Book.place.Goals.{in-Ok+in-None, in-Err}
 
 pub returns-then-at-eq-MOST_PLACEMENTS-clause-why :
     goal.returns-then-at-eq-MOST_PLACEMENTS-clause-why
 returns-then-at-eq-MOST_PLACEMENTS-clause-why c =
     let ps = c.self.inside.placements.items in
     let id = c.args.request.now.id in
-    let at = c.index_of-at.ensures ∙ ap (index_of_id id) c.deref.ensures.value in
+    let at = c.index_of-at.ensures c.self.inside.version ps c.self.invariant.ids in
     let le = index_of-le id ps in
     let few = c.self.invariant.few in
     let behind : length ps ≤ c.index_of-at.result = omega (arith, at, le, few, c.if-at-eq-MOST_PLACEMENTS.true) in
     let same = sym (remove-behind ps c.index_of-at.result behind) ∙ ap (remove ps) at ∙ remove-index_of id ps c.self.invariant.own_ids in
     rw (← c.self.view_is) (omega (arith, ap length same, at, le, few, c.if-at-eq-MOST_PLACEMENTS.true))
 
-pub returns-in-Some-clause-best : goal.returns-in-Some-clause-best
-returns-in-Some-clause-best c =
+pub returns-in_err-reserve-clause-why : goal.returns-in_err-reserve-clause-why
+returns-in_err-reserve-clause-why c =
     let ps = c.self.inside.placements.items in
-    let base = c.self.inside.base in
     let id = c.args.request.now.id in
-    let at = c.index_of-at.ensures ∙ ap (index_of_id id) c.deref.ensures.value in
-    let rest = ap (λ qs. remove qs c.index_of-at.result) (c.deref-4.ensures.value ∙ c.in_ok-reserve.ensures.items) ∙ ap (remove ps) at ∙ remove-index_of id ps c.self.invariant.own_ids in
-    let eff = c.set_aside.ensures.current ∙ ap (effective base) rest in
-    rw (← c.self.view_is) (subst (λ (d : Database). IsBestAnswer d c.args.request.now (answer_of c.in-Ok.outcome)) eff c.in-Ok.ensures.best)
+    let at = c.index_of-at.ensures c.self.inside.version ps c.self.invariant.ids in
+    let gone = ap (remove ps) at ∙ remove-index_of id ps c.self.invariant.own_ids in
+    let kept = few_kept ps c.index_of-at.result 65536 (omega (arith, at, index_of-le id ps)) c.self.invariant.few c.if-at-eq-MOST_PLACEMENTS.false in
+    let refused = err_from_is_err_and c.from_residual.result c.from_residual.ensures.1 in
+    rw (refused.1, refused.2) (rw (← c.self.view_is) (omega (arith, kept, ap length gone)))
 
-pub returns-in-None-clause-best : goal.returns-in-None-clause-best
-returns-in-None-clause-best c =
+pub returns-in_err-reserve-2-clause-why : goal.returns-in_err-reserve-2-clause-why
+returns-in_err-reserve-2-clause-why c =
     let ps = c.self.inside.placements.items in
-    let base = c.self.inside.base in
     let id = c.args.request.now.id in
-    let at = c.index_of-at.ensures ∙ ap (index_of_id id) c.deref.ensures.value in
-    let rest = ap (λ qs. remove qs c.index_of-at.result) (c.deref-4.ensures.value ∙ c.in_ok-reserve.ensures.items) ∙ ap (remove ps) at ∙ remove-index_of id ps c.self.invariant.own_ids in
-    let eff = c.set_aside.ensures.current ∙ ap (effective base) rest in
-    rw (← c.self.view_is) (subst (λ (d : Database). IsBestAnswer d c.args.request.now (answer_of c.in-Ok.outcome)) eff c.in-Ok.ensures.best)
+    let at = c.index_of-at.ensures c.self.inside.version ps c.self.invariant.ids in
+    let gone = ap (remove ps) at ∙ remove-index_of id ps c.self.invariant.own_ids in
+    let kept = few_kept ps c.index_of-at.result 65536 (omega (arith, at, index_of-le id ps)) c.self.invariant.few c.if-at-eq-MOST_PLACEMENTS.false in
+    let refused = err_from_is_err_and c.from_residual-in_err-reserve-2.result c.from_residual-in_err-reserve-2.ensures.1 in
+    rw (refused.1, refused.2) (rw (← c.self.view_is) (omega (arith, kept, ap length gone)))
+
+pub returns-in_err-enter_at-clause-why : goal.returns-in_err-enter_at-clause-why
+returns-in_err-enter_at-clause-why c =
+    let ps = c.self.inside.placements.items in
+    let id = c.args.request.now.id in
+    let at = c.index_of-at.ensures c.self.inside.version ps c.self.invariant.ids in
+    let gone = ap (remove ps) at ∙ remove-index_of id ps c.self.invariant.own_ids in
+    let kept = few_kept ps c.index_of-at.result 65536 (omega (arith, at, index_of-le id ps)) c.self.invariant.few c.if-at-eq-MOST_PLACEMENTS.false in
+    let refused = err_from_is_err_and c.from_residual-in_err-enter_at.result c.from_residual-in_err-enter_at.ensures.1 in
+    rw (refused.1, refused.2) (rw (← c.self.view_is) (omega (arith, kept, ap length gone)))
 
 pub put_in-requires-clause-room : goal.put_in-requires-clause-room
 put_in-requires-clause-room c =
     let ps = c.self.inside.placements.items in
     let id = c.args.request.now.id in
-    let at = c.index_of-at.ensures ∙ ap (index_of_id id) c.deref.ensures.value in
+    let at = c.index_of-at.ensures c.self.inside.version ps c.self.invariant.ids in
     let le = index_of-le id ps in
     let many = ap length c.in_ok-reserve.ensures.items in
     let kept = few_kept c.reserve.new.self.items c.index_of-at.result (length c.reserve.new.self.items + 1) (omega (arith, at, le, many)) (omega arith) (λ e. omega (arith, at, le, many, e)) in
     omega
     (arith, c.take_out.new.placements.ok.0, c.reserve.new.self.ok.0, c.in_ok-reserve.ensures.ok, c.take_out.ensures.room, ap length c.take_out.ensures.items, kept)
 
-pub returns-in-Err-clause-why : goal.returns-in-Err-clause-why
-returns-in-Err-clause-why c =
+pub put_in-requires-clause-small : goal.put_in-requires-clause-small
+put_in-requires-clause-small c =
     let ps = c.self.inside.placements.items in
-    let base = c.self.inside.base in
     let id = c.args.request.now.id in
-    let room = 1048576 - (c.self.inside.links - c.links_at.result) in
-    let at = c.index_of-at.ensures ∙ ap (index_of_id id) c.deref.ensures.value in
-    let gone = ap (remove ps) at ∙ remove-index_of id ps c.self.invariant.own_ids in
-    let rest = ap (λ qs. remove qs c.index_of-at.result) (c.deref-4.ensures.value ∙ c.in_ok-reserve.ensures.items) ∙ gone in
-    let eff = c.set_aside.ensures.current ∙ ap (effective base) rest in
-    let all = c.deref-3.ensures.value ∙ c.in_ok-reserve.ensures.items in
-    let held = rw all at c.links_at.ensures in
-    let kept = few_kept ps c.index_of-at.result 65536 (omega (arith, at, index_of-le id ps)) c.self.invariant.few c.if-at-eq-MOST_PLACEMENTS.false in
-    rw (← c.self.view_is)
-    (place_error (record { base = base; version = c.self.inside.version; placements = ps }) c.args.request.now room c.in-Err.why
-    (omega (arith, kept, ap length gone))
-    (omega (arith, held, ap links_placed gone, c.self.invariant.links, c.self.invariant.few_links))
-    (subst (λ (d : Database). IsOfferRefused d c.args.request.now room c.in-Err.why) eff c.in-Err.ensures.refused))
+    let at = c.index_of-at.ensures c.self.inside.version ps c.self.invariant.ids in
+    let rest = ap (λ qs. remove qs c.index_of-at.result) (c.deref-3.ensures.value ∙ c.in_ok-reserve.ensures.items) ∙ ap (remove ps) at ∙ remove-index_of id ps c.self.invariant.own_ids in
+    sums_small c.set_aside.new.self.counts c.offer_counted.new.counts ps (others id ps) c.self.inside.version c.offer_counted.ensures.sums
+    (subst (IsCountOf c.set_aside.new.self.counts) rest c.set_aside.ensures.counted) (counted-others id ps) c.self.invariant.small
+    (rw (← c.self.view_is) at c.requires.room)
+
+pub replace-requires-clause-room : goal.replace-requires-clause-room
+replace-requires-clause-room c = rw c.in-Ok.ensures.versions c.in_ok-reserve-2.ensures.room
+
+pub replace-requires-clause-more : goal.replace-requires-clause-more
+replace-requires-clause-more c = rw c.in-Ok.ensures.bits c.in_ok-reserve-2.ensures.more
 
 pub invariant_of-self-in-Some : goal.invariant_of-self-in-Some
 invariant_of-self-in-Some c =
@@ -88,14 +98,15 @@ invariant_of-self-in-Some c =
     let id = c.args.request.now.id in
     let p = c.in-Some.placement in
     let room = 1048576 - (c.self.inside.links - c.links_at.result) in
-    let at = c.index_of-at.ensures ∙ ap (index_of_id id) c.deref.ensures.value in
+    let at = c.index_of-at.ensures c.self.inside.version ps c.self.invariant.ids in
     let le = index_of-le id ps in
     let gone = ap (remove ps) at ∙ remove-index_of id ps c.self.invariant.own_ids in
     let rest = c.take_out.ensures.items ∙ ap (λ qs. remove qs c.index_of-at.result) c.in_ok-reserve.ensures.items ∙ gone in
     let items = c.put_in.ensures.items ∙ ap (λ qs. qs ++ p ∷ []) rest in
+    let listed = c.put_in.ensures.items ∙ ap (λ qs. qs ++ p ∷ []) (c.take_out.ensures.items ∙ ap (λ qs. remove qs c.index_of-at.result) c.in_ok-reserve.ensures.items) in
     let offered = offered_of c.args.request.now c.args.hold room (answer_of c.in-Ok.outcome) p (subst (IsOffered c.args.request.now c.args.hold room (answer_of c.in-Ok.outcome)) c.in-Some.is c.in-Ok.ensures.placement) in
     let same_id = ap (λ (q : Request). q.id) offered.0 in
-    let all = c.deref-3.ensures.value ∙ c.in_ok-reserve.ensures.items in
+    let all = c.deref-2.ensures.value ∙ c.in_ok-reserve.ensures.items in
     let held = rw all at c.links_at.ensures in
     let few_left = offered.1 in
     let pushed = sum_by_push (λ (q : Placement). length q.route) (others id ps) p in
@@ -104,6 +115,11 @@ invariant_of-self-in-Some c =
       current = c.put_in.ensures.current;
       sums = c.put_in.ensures.counted;
       small = λ k q. subst (λ qs. counted qs k q ≤ (c.self.inside.version + 1) * 2 ^ 64) (sym items) (small_with c.self.inside.version _ _ p.request.bandwidth (c.self.invariant.small k q) c.put_in.ensures.narrow (counted-placed id ps p k q));
+      ids = subst (AreIdsOf c.replace.new.self (c.self.inside.version + 1)) (sym listed)
+          (ids_placed c.reserve-2.new.self c.offer_counted.new.ids c.replace.new.self c.self.inside.version c.index_of-at.result id c.bits_of.result ps p
+          (ids_same c.self.inside.ids c.reserve-2.new.self c.self.inside.version ps c.self.invariant.ids c.in_ok-reserve-2.ensures.same)
+          c.self.invariant.own_ids at same_id (ap (λ v. v.items) c.in-Ok.ensures.versions) (ap (λ v. v.items) c.in-Ok.ensures.bits) c.bits_of.ensures
+          (subst (λ (o : Option Placement). IfSome o (λ _. HasEntered c.reserve-2.new.self c.offer_counted.new.ids id (c.self.inside.version + 1))) c.in-Some.is c.in-Ok.ensures.entered) c.replace.ensures);
       own_ids = subst HaveDistinctIds (ap (λ i. others i ps ++ p ∷ []) same_id ∙ sym items) (own_ids-placed ps p c.self.invariant.own_ids);
       few = omega (arith, ap length items, length_push (others id ps) p, kept, ap length gone);
       links = omega (arith, held, ap links_placed gone, ap links_placed items, pushed, ap length c.links.ensures.value, c.self.invariant.links);
@@ -111,87 +127,99 @@ invariant_of-self-in-Some c =
       one = c.put_in.ensures.one;
     }
 
+pub returns-in-Some-clause-best : goal.returns-in-Some-clause-best
+returns-in-Some-clause-best c =
+    let ps = c.self.inside.placements.items in
+    let base = c.self.inside.base in
+    let id = c.args.request.now.id in
+    let at = c.index_of-at.ensures c.self.inside.version ps c.self.invariant.ids in
+    let rest = ap (λ qs. remove qs c.index_of-at.result) (c.deref-3.ensures.value ∙ c.in_ok-reserve.ensures.items) ∙ ap (remove ps) at ∙ remove-index_of id ps c.self.invariant.own_ids in
+    let eff = c.set_aside.ensures.current ∙ ap (effective base) rest in
+    rw (← c.self.view_is) (subst (λ (d : Database). IsBestAnswer d c.args.request.now (answer_of c.in-Ok.outcome)) eff c.in-Ok.ensures.best)
+
+pub returns-in-Some-clause-few : goal.returns-in-Some-clause-few
+returns-in-Some-clause-few c =
+    let ps = c.self.inside.placements.items in
+    let id = c.args.request.now.id in
+    let at = c.index_of-at.ensures c.self.inside.version ps c.self.invariant.ids in
+    let gone = ap (remove ps) at ∙ remove-index_of id ps c.self.invariant.own_ids in
+    let kept = few_kept ps c.index_of-at.result 65536 (omega (arith, at, index_of-le id ps)) c.self.invariant.few c.if-at-eq-MOST_PLACEMENTS.false in
+    rw (← c.self.view_is) (omega (arith, kept, ap length gone))
+
 pub returns-in-Some-clause-placed : goal.returns-in-Some-clause-placed
 returns-in-Some-clause-placed c =
     let ps = c.self.inside.placements.items in
     let id = c.args.request.now.id in
     let p = c.in-Some.placement in
     let room = 1048576 - (c.self.inside.links - c.links_at.result) in
-    let at = c.index_of-at.ensures ∙ ap (index_of_id id) c.deref.ensures.value in
+    let at = c.index_of-at.ensures c.self.inside.version ps c.self.invariant.ids in
     let gone = ap (remove ps) at ∙ remove-index_of id ps c.self.invariant.own_ids in
     let rest = c.take_out.ensures.items ∙ ap (λ qs. remove qs c.index_of-at.result) c.in_ok-reserve.ensures.items ∙ gone in
     let items = c.put_in.ensures.items ∙ ap (λ qs. qs ++ p ∷ []) rest in
-    let all = c.deref-3.ensures.value ∙ c.in_ok-reserve.ensures.items in
+    let all = c.deref-2.ensures.value ∙ c.in_ok-reserve.ensures.items in
     let held = rw all at c.links_at.ensures in
     rw (← c.self.view_is)
     (answer_placed (state_of c.self.inside.base c.self.inside.version ps) (state_of c.self.inside.base (c.self.inside.version + 1) c.put_in.new.placements.items) c.args.request.now c.args.hold room (answer_of c.in-Ok.outcome) p
     (subst (IsOffered c.args.request.now c.args.hold room (answer_of c.in-Ok.outcome)) c.in-Some.is c.in-Ok.ensures.placement)
     (omega (arith, held, ap links_placed gone, c.self.invariant.links, c.self.invariant.few_links)) items refl refl)
 
-pub returns-in-Some-clause-few : goal.returns-in-Some-clause-few
-returns-in-Some-clause-few c =
-    let ps = c.self.inside.placements.items in
-    let id = c.args.request.now.id in
-    let at = c.index_of-at.ensures ∙ ap (index_of_id id) c.deref.ensures.value in
-    let gone = ap (remove ps) at ∙ remove-index_of id ps c.self.invariant.own_ids in
-    let kept = few_kept ps c.index_of-at.result 65536 (omega (arith, at, index_of-le id ps)) c.self.invariant.few c.if-at-eq-MOST_PLACEMENTS.false in
-    rw (← c.self.view_is) (omega (arith, kept, ap length gone))
-
-pub returns-in-None-clause-few : goal.returns-in-None-clause-few
-returns-in-None-clause-few c =
-    let ps = c.self.inside.placements.items in
-    let id = c.args.request.now.id in
-    let at = c.index_of-at.ensures ∙ ap (index_of_id id) c.deref.ensures.value in
-    let gone = ap (remove ps) at ∙ remove-index_of id ps c.self.invariant.own_ids in
-    let kept = few_kept ps c.index_of-at.result 65536 (omega (arith, at, index_of-le id ps)) c.self.invariant.few c.if-at-eq-MOST_PLACEMENTS.false in
-    rw (← c.self.view_is) (omega (arith, kept, ap length gone))
-
-pub put_in-requires-clause-small : goal.put_in-requires-clause-small
-put_in-requires-clause-small c =
-    let ps = c.self.inside.placements.items in
-    let id = c.args.request.now.id in
-    let at = c.index_of-at.ensures ∙ ap (index_of_id id) c.deref.ensures.value in
-    let rest = ap (λ qs. remove qs c.index_of-at.result) (c.deref-4.ensures.value ∙ c.in_ok-reserve.ensures.items) ∙ ap (remove ps) at ∙ remove-index_of id ps c.self.invariant.own_ids in
-    sums_small c.set_aside.new.counts c.offer_counted.new.counts ps (others id ps) c.self.inside.version c.offer_counted.ensures.sums
-    (subst (IsCountOf c.set_aside.new.counts) rest c.set_aside.ensures.counted) (counted-others id ps) c.self.invariant.small
-    (rw (← c.self.view_is) at c.requires.room)
-
 pub set_back-requires-clause-small : goal.set_back-requires-clause-small
 set_back-requires-clause-small c =
     let ps = c.self.inside.placements.items in
     let id = c.args.request.now.id in
-    let at = c.index_of-at.ensures ∙ ap (index_of_id id) c.deref.ensures.value in
-    let rest = ap (λ qs. remove qs c.index_of-at.result) (c.deref-4.ensures.value ∙ c.in_ok-reserve.ensures.items) ∙ ap (remove ps) at ∙ remove-index_of id ps c.self.invariant.own_ids in
-    sums_small c.set_aside.new.counts c.offer_counted.new.counts ps (others id ps) c.self.inside.version c.offer_counted.ensures.sums
-    (subst (IsCountOf c.set_aside.new.counts) rest c.set_aside.ensures.counted) (counted-others id ps) c.self.invariant.small
+    let at = c.index_of-at.ensures c.self.inside.version ps c.self.invariant.ids in
+    let rest = ap (λ qs. remove qs c.index_of-at.result) (c.deref-3.ensures.value ∙ c.in_ok-reserve.ensures.items) ∙ ap (remove ps) at ∙ remove-index_of id ps c.self.invariant.own_ids in
+    sums_small c.set_aside.new.self.counts c.offer_counted.new.counts ps (others id ps) c.self.inside.version c.offer_counted.ensures.sums
+    (subst (IsCountOf c.set_aside.new.self.counts) rest c.set_aside.ensures.counted) (counted-others id ps) c.self.invariant.small
     (rw (← c.self.view_is) at c.requires.room)
 
-pub set_back-requires-in-Err-clause-small : goal.set_back-requires-in-Err-clause-small
-set_back-requires-in-Err-clause-small c =
+pub returns-clause-best : goal.returns-clause-best
+returns-clause-best c =
     let ps = c.self.inside.placements.items in
+    let base = c.self.inside.base in
     let id = c.args.request.now.id in
-    let at = c.index_of-at.ensures ∙ ap (index_of_id id) c.deref.ensures.value in
-    let rest = ap (λ qs. remove qs c.index_of-at.result) (c.deref-4.ensures.value ∙ c.in_ok-reserve.ensures.items) ∙ ap (remove ps) at ∙ remove-index_of id ps c.self.invariant.own_ids in
-    sums_small c.set_aside.new.counts c.offer_counted.new.counts ps (others id ps) c.self.inside.version c.offer_counted.ensures.sums
-    (subst (IsCountOf c.set_aside.new.counts) rest c.set_aside.ensures.counted) (counted-others id ps) c.self.invariant.small
-    (rw (← c.self.view_is) at c.requires.room)
+    let at = c.index_of-at.ensures c.self.inside.version ps c.self.invariant.ids in
+    let gone = ap (remove ps) at ∙ remove-index_of id ps c.self.invariant.own_ids in
+    let rest = ap (λ qs. remove qs c.index_of-at.result) (c.deref-3.ensures.value ∙ c.in_ok-reserve.ensures.items) ∙ gone in
+    let eff = c.set_aside.ensures.current ∙ ap (effective base) rest in
+    elim c.match-offer_counted.branch [
+      | in-Ok+in-None w ↦
+          rw w.answer-is (rw (← c.self.view_is) (subst (λ (d : Database). IsBestAnswer d c.args.request.now (answer_of w.in-Ok.outcome)) eff w.in-Ok.ensures.best))
+      | in-Err w ↦ rw w.answer-is tt
+    ]
 
-pub returns-in_err-reserve-clause-why : goal.returns-in_err-reserve-clause-why
-returns-in_err-reserve-clause-why c =
+pub returns-clause-few : goal.returns-clause-few
+returns-clause-few c =
     let ps = c.self.inside.placements.items in
     let id = c.args.request.now.id in
-    let at = c.index_of-at.ensures ∙ ap (index_of_id id) c.deref.ensures.value in
+    let at = c.index_of-at.ensures c.self.inside.version ps c.self.invariant.ids in
     let gone = ap (remove ps) at ∙ remove-index_of id ps c.self.invariant.own_ids in
     let kept = few_kept ps c.index_of-at.result 65536 (omega (arith, at, index_of-le id ps)) c.self.invariant.few c.if-at-eq-MOST_PLACEMENTS.false in
-    let refused = err_from_is_err_and c.from_residual.result c.from_residual.ensures.1 in
-    rw (refused.1, refused.2) (rw (← c.self.view_is) (omega (arith, kept, ap length gone)))
+    elim c.match-offer_counted.branch [
+      | in-Ok+in-None w ↦ rw w.answer-is (rw (← c.self.view_is) (omega (arith, kept, ap length gone)))
+      | in-Err w ↦ rw w.answer-is tt
+    ]
 
-pub returns-in_err-enter_at-clause-why : goal.returns-in_err-enter_at-clause-why
-returns-in_err-enter_at-clause-why c =
+pub returns-clause-why : goal.returns-clause-why
+returns-clause-why c =
     let ps = c.self.inside.placements.items in
+    let base = c.self.inside.base in
     let id = c.args.request.now.id in
-    let at = c.index_of-at.ensures ∙ ap (index_of_id id) c.deref.ensures.value in
+    let at = c.index_of-at.ensures c.self.inside.version ps c.self.invariant.ids in
     let gone = ap (remove ps) at ∙ remove-index_of id ps c.self.invariant.own_ids in
+    let room = 1048576 - (c.self.inside.links - c.links_at.result) in
+    let rest = ap (λ qs. remove qs c.index_of-at.result) (c.deref-3.ensures.value ∙ c.in_ok-reserve.ensures.items) ∙ gone in
+    let eff = c.set_aside.ensures.current ∙ ap (effective base) rest in
+    let all = c.deref-2.ensures.value ∙ c.in_ok-reserve.ensures.items in
+    let held = rw all at c.links_at.ensures in
     let kept = few_kept ps c.index_of-at.result 65536 (omega (arith, at, index_of-le id ps)) c.self.invariant.few c.if-at-eq-MOST_PLACEMENTS.false in
-    let refused = err_from_is_err_and c.from_residual-in_err-enter_at.result c.from_residual-in_err-enter_at.ensures.1 in
-    rw (refused.1, refused.2) (rw (← c.self.view_is) (omega (arith, kept, ap length gone)))
+    elim c.match-offer_counted.branch [
+      | in-Ok+in-None w ↦ rw w.answer-is tt
+      | in-Err w ↦
+          rw w.answer-is
+          (rw (← c.self.view_is)
+          (place_error (record { base = base; version = c.self.inside.version; placements = ps }) c.args.request.now room w.in-Err.why
+          (omega (arith, kept, ap length gone))
+          (omega (arith, held, ap links_placed gone, c.self.invariant.links, c.self.invariant.few_links))
+          (subst (λ (d : Database). IsOfferRefused d c.args.request.now room w.in-Err.why) eff w.in-Err.ensures.refused)))
+    ]

@@ -1,8 +1,12 @@
 use Rattle.std.proofs.Common.{◌+◌, ◌<◌, ◌≤◌, length, remove, sym, ap, subst, ◌∙◌, arith}
 use Rattle.std.proofs.lemmas.Bool.{false≢true}
+use Rattle.std.proofs.lemmas.List.{length-map}
 use Rattle.std.proofs.lemmas.List.Edits.{length-remove}
-use Rattle.cspf_book.specs.Placements.{index_of_id, counted}
+use Rattle.cspf_book.specs.Placements.{counted}
 use Rattle.cspf_book.specs.Kept.{IsCountOf}
+use Rattle.cspf_book.specs.ById.{AreIdsOf}
+use Rattle.cspf_book.specs.RouterBits.{bits_of}
+use Rattle.cspf_book.proofs.ById.{ids_forgotten}
 use Rattle.cspf_book.proofs.Covered.{counted-others}
 use Rattle.cspf_book.proofs.KeptSums.{count_same, small_after}
 use Rattle.cspf_book.specs.Effective.{effective}
@@ -14,30 +18,47 @@ use Rattle.cspf_book.proofs.book.Book.release.Goals as goal
 pub returns-then-at-len-clause-absent : goal.returns-then-at-len-clause-absent
 returns-then-at-len-clause-absent c =
     let ps = c.self.inside.placements.items in
-    let at = c.index_of-at.ensures ∙ ap (index_of_id c.args.id) c.deref.ensures.value in
-    let many = ap length c.deref.ensures.value in
-    let none = none-behind c.args.id ps (omega (arith, at, many, c.if-at-len.true, c.len.ensures, c.deref.ensures.len)) in
+    let at = c.index_of-at.ensures c.self.inside.version ps c.self.invariant.ids in
+    let many = c.self.inside.placements.ok.0 in
+    let none = none-behind c.args.id ps (omega (arith, at, many, c.if-at-len.true, c.len.ensures)) in
     rw (← c.self.view_is) (λ has. false≢true (sym none ∙ has))
+
+pub forget-requires-clause-versions : goal.forget-requires-clause-versions
+forget-requires-clause-versions c =
+    let ps = c.self.inside.placements.items in
+    let at = c.index_of-at.ensures c.self.inside.version ps c.self.invariant.ids in
+    let le = index_of-le c.args.id ps in
+    omega (arith, at, le, c.self.inside.placements.ok.0, c.self.invariant.ids.many, c.if-at-len.false, c.len.ensures)
+
+pub forget-requires-clause-bits : goal.forget-requires-clause-bits
+forget-requires-clause-bits c =
+    let ps = c.self.inside.placements.items in
+    let at = c.index_of-at.ensures c.self.inside.version ps c.self.invariant.ids in
+    let le = index_of-le c.args.id ps in
+    let many = ap length c.self.invariant.ids.bits ∙ length-map ps bits_of in
+    omega (arith, at, le, c.self.inside.placements.ok.0, many, c.if-at-len.false, c.len.ensures)
 
 pub invariant_of-self : goal.invariant_of-self
 invariant_of-self c =
     let ps = c.self.inside.placements.items in
-    let at = c.index_of-at.ensures ∙ ap (index_of_id c.args.id) c.deref.ensures.value in
-    let many = ap length c.deref.ensures.value in
+    let at = c.index_of-at.ensures c.self.inside.version ps c.self.invariant.ids in
+    let many = c.self.inside.placements.ok.0 in
     let le = index_of-le c.args.id ps in
-    let within : c.index_of-at.result < length ps = omega (arith, at, le, many, c.if-at-len.false, c.len.ensures, c.deref.ensures.len) in
+    let within : c.index_of-at.result < length ps = omega (arith, at, le, many, c.if-at-len.false, c.len.ensures) in
     let gone = c.take_out.ensures.items ∙ ap (remove ps) at ∙ remove-index_of c.args.id ps c.self.invariant.own_ids in
-    let held = rw c.deref-4.ensures.value at c.links_at.ensures in
+    let held = rw c.deref-3.ensures.value at c.links_at.ensures in
     let left = ap links_placed c.take_out.ensures.items in
     record {
       current =
           c.set_aside.ensures.current
-          ∙ ap (λ qs. effective c.self.inside.base (remove qs c.index_of-at.result)) c.deref-2.ensures.value
+          ∙ ap (λ qs. effective c.self.inside.base (remove qs c.index_of-at.result)) c.deref.ensures.value
           ∙ ap (effective c.self.inside.base) (sym c.take_out.ensures.items);
       sums =
-          count_same c.set_aside.new.counts c.forget_at.new.counts c.take_out.new.placements.items c.forget_at.ensures
-          (subst (IsCountOf c.set_aside.new.counts) (ap (λ qs. remove qs c.index_of-at.result) c.deref-2.ensures.value ∙ sym c.take_out.ensures.items) c.set_aside.ensures.counted);
+          count_same c.set_aside.new.self.counts c.forget_at.new.counts c.take_out.new.placements.items c.forget_at.ensures
+          (subst (IsCountOf c.set_aside.new.self.counts) (ap (λ qs. remove qs c.index_of-at.result) c.deref.ensures.value ∙ sym c.take_out.ensures.items) c.set_aside.ensures.counted);
       small = λ k p. small_after c.self.inside.version _ _ (c.self.invariant.small k p) (subst (λ qs. counted qs k p ≤ counted ps k p) (sym gone) (counted-others c.args.id ps k p));
+      ids = subst (AreIdsOf c.forget.new.self (c.self.inside.version + 1)) (sym c.take_out.ensures.items)
+          (ids_forgotten c.self.inside.ids c.forget.new.self c.self.inside.version c.index_of-at.result c.args.id ps c.self.invariant.ids c.self.invariant.own_ids at c.forget.ensures);
       own_ids = rw gone (own_ids-others c.args.id ps c.self.invariant.own_ids);
       few = omega (arith, ap length c.take_out.ensures.items, length-remove ps c.index_of-at.result within, c.self.invariant.few);
       links = omega (arith, held, left, c.self.invariant.links);
@@ -48,14 +69,14 @@ invariant_of-self c =
 pub returns-clause-ok : goal.returns-clause-ok
 returns-clause-ok c =
     let ps = c.self.inside.placements.items in
-    let at = c.index_of-at.ensures ∙ ap (index_of_id c.args.id) c.deref.ensures.value in
-    let many = ap length c.deref.ensures.value in
+    let at = c.index_of-at.ensures c.self.inside.version ps c.self.invariant.ids in
+    let many = c.self.inside.placements.ok.0 in
     let le = index_of-le c.args.id ps in
-    rw (← c.self.view_is) (id_at-index_of c.args.id ps (omega (arith, at, le, many, c.if-at-len.false, c.len.ensures, c.deref.ensures.len)))
+    rw (← c.self.view_is) (id_at-index_of c.args.id ps (omega (arith, at, le, many, c.if-at-len.false, c.len.ensures)))
 
 pub returns-clause-released : goal.returns-clause-released
 returns-clause-released c =
     let ps = c.self.inside.placements.items in
-    let at = c.index_of-at.ensures ∙ ap (index_of_id c.args.id) c.deref.ensures.value in
+    let at = c.index_of-at.ensures c.self.inside.version ps c.self.invariant.ids in
     let gone = c.take_out.ensures.items ∙ ap (remove ps) at ∙ remove-index_of c.args.id ps c.self.invariant.own_ids in
     rw (← c.self.view_is) (same_state c.self.inside.base (c.self.inside.version + 1) _ _ gone)

@@ -3,13 +3,14 @@ use Rattle.cspf_model.specs.Database.{AreAtTheirKeys}
 use Rattle.cspf_model.specs.Numbered.{NumberedChanges}
 use Rattle.cspf_book.proofs.AlikeDatabases.{alike_changes, alike_fits}
 use Rattle.cspf_book.proofs.Currents.{alike_current, current_at_all, current_changes}
+use Rattle.cspf_book.proofs.ById.{ids_later}
 use Rattle.cspf_book.proofs.KeptSums.{small_after}
 use Rattle.cspf_book.proofs.book.Book.try_absorb.Goals as goal
 
 pub refresh_puts-requires-clause-alike : goal.refresh_puts-requires-clause-alike
 refresh_puts-requires-clause-alike c =
     let base = c.self.inside.base in
-    let table = c.self.inside.effective in
+    let table = c.self.inside.held.effective in
     let batch = c.args.batch.now in
     let changed = c.in_ok-try_absorb.ensures.changed in
     let alike = alike_current base c.self.inside.placements.items table c.self.invariant.current in
@@ -21,7 +22,7 @@ pub invariant_of-self-2 : goal.invariant_of-self-2
 invariant_of-self-2 c =
     let base = c.self.inside.base in
     let ps = c.self.inside.placements.items in
-    let table = c.self.inside.effective in
+    let table = c.self.inside.held.effective in
     let batch = c.args.batch.now in
     let changed = c.in_ok-try_absorb.ensures.changed in
     let alike = alike_current base ps table c.self.invariant.current in
@@ -34,6 +35,7 @@ invariant_of-self-2 c =
           (rw (changed, absorbed, all) (current_changes base ps table batch.changes (current_at_all base ps table c.self.invariant.current)));
       sums = c.self.invariant.sums;
       small = λ k p. small_after c.self.inside.version _ _ (c.self.invariant.small k p) (omega arith);
+      ids = ids_later c.self.inside.ids c.self.inside.version ps c.self.invariant.ids;
       own_ids = c.self.invariant.own_ids;
       few = c.self.invariant.few;
       links = c.self.invariant.links;

@@ -51,7 +51,7 @@ of_spec 𝓤 𝓛 𝓜 𝓡 wired =
     move ! (1 ∷ []) $ use0 𝓛 (raw (fact 𝓤 ([] ⊑ []))) (fact_i 𝓤 ([] ⊑ []) (emp 𝓤) (⊑_refl [])) $ join ! $
     use0 𝓛 (raw (fact 𝓤 ([] ⊑ []))) (fact_i 𝓤 ([] ⊑ []) (emp 𝓤) (⊑_refl [])) $ join ! $
     move ! (1 ∷ []) $ join ! $ use1 𝓛 (raw (G.pre z)) (id⊢ 𝓤 _) $
-    -- [the argument of `into_raw`; the locals]
+    -- here the proof holds two items: the argument of `into_raw`, and the locals of `of`
     enter ! _ _ _ _ _ $ alloc_all ! (λ l. pass_all ! refl (box_typed b.ptr, tt) $
     sets ! (of_opd ! (get ! refl)) refl (box_typed b.ptr) $
     calls_at ! (framed 𝓤 𝓛.H 𝓜 (tables 𝓤 𝓛.H 𝓜 𝓡 𝓡.env)) G

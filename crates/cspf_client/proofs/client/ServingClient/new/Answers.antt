@@ -7,6 +7,5 @@ returns-clause-ready g c = record {
   unread = c.args.client.requests;
   held = refl;
   refused = ap (λ (s : SessionState). s.refused) c.new.ensures.state;
-  entry = ap (λ (s : SessionState). s.no_entry) c.new.ensures.state;
   end = refl;
 }

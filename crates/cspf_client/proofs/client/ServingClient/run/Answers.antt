@@ -1,4 +1,4 @@
-use Rattle.std.proofs.Common.{sym, subst}
+use Rattle.std.proofs.Common.{refl, sym, subst}
 use Rattle.cspf_client.specs.ClientRuns.{IsClientRun}
 use Rattle.cspf_client.specs.ServingStates.{ServingState}
 use Rattle.cspf_client.proofs.Forward.{forward_stream}
@@ -7,7 +7,7 @@ use Rattle.cspf_client.proofs.client.ServingClient.run.Goals as goal
 
 pub returns-clause-run : goal.returns-clause-run
 returns-clause-run g c =
-    let e = c.answer_all-ended.ensures in
+    let e = c.answer_all-self-inside.ensures in
     let before : ServingState g.row.Q.Denot g.row.V.Denot = record {
       state = c.self.inside.session;
       requests = c.self.inside.requests;
@@ -15,17 +15,17 @@ returns-clause-run g c =
       end = c.self.inside.end;
     } in
     let after : ServingState g.row.Q.Denot g.row.V.Denot = record {
-      state = c.answer_all-ended.new.session;
+      state = c.answer_all-self-inside.new.session;
       requests = c.take.new.self;
       replies = c.end.new.self;
-      end = c.end_of-self-inside.result;
+      end = c.answer_all-self-inside.result;
     } in
     subst (λ (s : ServingState g.row.Q.Denot g.row.V.Denot). IsClientRun g.Q.Read.remaining g.V.Write.contents s after) c.self.view_is
-    (run_of g.Q.Read.remaining g.V.Write.contents before after c.in-Some.requests (sym c.in-Some.ensures.value) c.answer_all-ended.result
-    (rw c.has_no_entry.ensures at c.end_of-self-inside.ensures) (rw (c.end.ensures.same, sym c.open_records-rows.ensures.rows) e.whole) (rw (c.end.ensures.same, sym c.open_records-rows.ensures.rows) e.stopped))
+    (run_of g.Q.Read.remaining g.V.Write.contents before after c.in-Some.requests (sym c.in-Some.ensures.value) c.answer_all-self-inside.result
+    refl (rw (c.end.ensures.same, sym c.open_records-rows.ensures.rows) e.whole) (rw (c.end.ensures.same, sym c.open_records-rows.ensures.rows) e.stopped))
 
 pub returns-clause-forward : goal.returns-clause-forward
 returns-clause-forward g c =
-    let e = c.answer_all-ended.ensures in
+    let e = c.answer_all-self-inside.ensures in
     rw (← c.self.view_is)
-    (forward_stream _ c.self.inside.session c.answer_all-ended.new.session _ _ c.answer_all-ended.result e.whole e.stopped)
+    (forward_stream _ c.self.inside.session c.answer_all-self-inside.new.session _ _ c.answer_all-self-inside.result e.whole e.stopped)

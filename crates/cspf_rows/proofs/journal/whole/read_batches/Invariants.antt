@@ -2,7 +2,7 @@ use Rattle.std.proofs.Common.{◌-◌, ◌≤◌, ℕ, List, [], length, Option}
 use Rattle.cspf_rows.specs.GivenBatches.{CanRead, HasGiven}
 use Rattle.cspf_rows.proofs.journal.whole.read_batches.Given as goal
 
--- the reader has returned the batches in the list
+-- the reader has returned exactly the batches that are in the list so far
 abbrev pub invariant-loop-batch : goal.invariant-loop-batch
 invariant-loop-batch g l = record {
   can : CanRead l.journal;

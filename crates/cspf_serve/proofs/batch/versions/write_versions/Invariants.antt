@@ -4,7 +4,7 @@ use Rattle.cspf_model.specs.Numbered.{NumberedChanges, AreNumberedFrom}
 use Rattle.cspf_serve.specs.BatchRun.{version_lines}
 use Rattle.cspf_serve.proofs.batch.versions.write_versions.Given as goal
 
--- the first `made` versions are written
+-- the lines of the first `made` versions are written
 abbrev pub invariant-loop-made : goal.invariant-loop-made
 invariant-loop-made g l =
     (batches : List NumberedChanges) → AreNumberedFrom 1 batches → length batches ≡ l.count

@@ -1,0 +1,125 @@
+-- The bits of routers: which bits a placement has, and when no router of its route is affected.
+use Rattle.std.proofs.Common.{◌≡◌, ℕ, zero, suc, ◌+◌, ◌*◌, ◌/◌, ◌%◌, ◌^◌, ◌<◌, ◌&&◌, Bool, true, false, not, nat_eq, eqb-true, List, [], ◌∷◌, map, remove, refl, sym, ap, ◌∙◌, arith}
+use Rattle.std.specs.Int.Bits.{bit_and, bit_or, and_zero_l, and_self}
+use Rattle.std.specs.List.{AllByRecursion}
+use Rattle.std.proofs.lemmas.Bool.{false≢true, false_from_ne_true}
+use Rattle.std.proofs.lemmas.Nat.{or_comm, and_assoc, and_or_self, and_shr, and_mod, pow_pos, pow_below, mod_below}
+use Rattle.cspf_model.specs.declared.link.Link.{Link}
+use Rattle.cspf_model.specs.declared.batch.Change.{Change}
+use Rattle.cspf_book.specs.declared.placement.Placement.{Placement}
+use Rattle.cspf_book.specs.Following.{changes_router}
+use Rattle.cspf_book.specs.RouterBits.{one_of_32, four_bits, bits_with, bits_of, IsAmong, has_quarters}
+
+-- A bit that is among some bits is among them with further bits, too.
+pub among_more : (bits more bit : ℕ) → bit_and bits bit ≡ bit → bit_and (bit_or bits more) bit ≡ bit
+among_more bits more bit is =
+    ap (bit_and (bit_or bits more)) (sym is)
+    ∙ sym (and_assoc bit (bit_or bits more) bits)
+    ∙ ap (λ b. bit_and b bit) (ap (λ b. bit_and b bits) (or_comm bits more) ∙ and_or_self bits more)
+    ∙ is
+
+-- A bit that is added to some bits is among them.
+pub among_added : (bits router : ℕ) → IsAmong (bit_or bits (four_bits router)) router
+among_added bits router = and_or_self (four_bits router) bits
+
+-- The bits of the routers to which links run are added to other bits, and these are kept.
+among_with : (bits router : ℕ) (ls : List Link) → IsAmong bits router → IsAmong (bits_with bits ls) router
+among_with bits router [] is = is
+among_with bits router (l ∷ ls) is =
+    among_with (bit_or bits (four_bits l.to)) router ls (among_more bits (four_bits l.to) (four_bits router) is)
+
+-- If the changes affect no router whose bit is among these bits, with the bits of the routers to
+-- which the links run, they affect no router to which a link runs.
+off_links : (cs : List Change) (bits : ℕ) (ls : List Link) → ((router : ℕ) → IsAmong (bits_with bits ls) router → changes_router cs router ≡ false)
+    → AllByRecursion (λ l. changes_router cs l.to ≡ false) ls
+off_links cs bits [] off = tt
+off_links cs bits (l ∷ ls) off = (
+  off l.to (among_with (bit_or bits (four_bits l.to)) l.to ls (among_added bits l.to)),
+  off_links cs (bit_or bits (four_bits l.to)) ls off,
+)
+
+-- One of 32 bits isn't 0, and is below 2 ^ 32.
+bit_some : (n : ℕ) → (0 < one_of_32 n) × (one_of_32 n < 2 ^ 32)
+bit_some n = (pow_pos (n % 32), pow_below (n % 32) 32 (mod_below n 32 (omega arith)))
+
+-- A number that isn't 0 passes the test for it.
+tells : (n : ℕ) → 0 < n → not (nat_eq n 0) ≡ true
+tells n some =
+    elim (nat_eq n 0) as (λ b. nat_eq n 0 ≡ b → not b ≡ true) [
+      | true ↦ λ none. absurd (let never = eqb-true n 0 none in omega (arith, never, some))
+      | false ↦ λ _. refl
+    ] refl
+
+-- Four numbers below 2 ^ 32 that aren't 0, one for each quarter, have a bit in each quarter.
+quarters_some : (x y z w : ℕ) → (0 < x) × (x < 2 ^ 32) → (0 < y) × (y < 2 ^ 32) → (0 < z) × (z < 2 ^ 32) → (0 < w) × (w < 2 ^ 32)
+    → has_quarters (x + y * 2 ^ 32 + (z + w * 2 ^ 32) * 2 ^ 64) ≡ true
+quarters_some x y z w a b c d =
+    let n = x + y * 2 ^ 32 + (z + w * 2 ^ 32) * 2 ^ 64 in
+    let first : 0 < n % 2 ^ 32 = omega (arith, a.0, a.1) in
+    let second : 0 < n / 2 ^ 32 % 2 ^ 32 = omega (arith, a.1, b.0, b.1) in
+    let third : 0 < n / 2 ^ 64 % 2 ^ 32 = omega (arith, a.1, b.1, c.0, c.1) in
+    let fourth : 0 < n / 2 ^ 96 % 2 ^ 32 = omega (arith, a.1, b.1, c.1, d.0, d.1) in
+    rw (tells (n % 2 ^ 32) first, tells (n / 2 ^ 32 % 2 ^ 32) second, tells (n / 2 ^ 64 % 2 ^ 32) third, tells (n / 2 ^ 96 % 2 ^ 32) fourth) refl
+
+-- The four bits of a router have one bit in each quarter.
+four_quarters : (router : ℕ) → has_quarters (four_bits router) ≡ true
+unfolding four_bits
+four_quarters router =
+    let n = router * 2654435769 in
+    quarters_some (one_of_32 (n / 2 ^ 27)) (one_of_32 (n / 2 ^ 22)) (one_of_32 (n / 2 ^ 17)) (one_of_32 (n / 2 ^ 12)) (bit_some (n / 2 ^ 27)) (bit_some (n / 2 ^ 22)) (bit_some (n / 2 ^ 17)) (bit_some (n / 2 ^ 12))
+
+-- If a number has no bit in a quarter, neither have the bits that it shares with another number.
+lost_quarter : (a b k : ℕ) → nat_eq (a / 2 ^ k % 2 ^ 32) 0 ≡ true → nat_eq (bit_and a b / 2 ^ k % 2 ^ 32) 0 ≡ true
+lost_quarter a b k none =
+    let shared = ap (λ n. n % 2 ^ 32) (and_shr a b k) ∙ and_mod (a / 2 ^ k) (b / 2 ^ k) 32 in
+    ap (λ n. nat_eq n 0) (shared ∙ ap (λ n. bit_and n (b / 2 ^ k % 2 ^ 32)) (eqb-true (a / 2 ^ k % 2 ^ 32) 0 none) ∙ and_zero_l (b / 2 ^ k % 2 ^ 32))
+
+lost_first : (a b : ℕ) → nat_eq (a % 2 ^ 32) 0 ≡ true → nat_eq (bit_and a b % 2 ^ 32) 0 ≡ true
+lost_first a b none =
+    ap (λ n. nat_eq n 0) (and_mod a b 32 ∙ ap (λ n. bit_and n (b % 2 ^ 32)) (eqb-true (a % 2 ^ 32) 0 none) ∙ and_zero_l (b % 2 ^ 32))
+
+-- If a number doesn't have a bit in each quarter, neither have the bits that it shares with another
+-- number.
+quarters_lost : (a b : ℕ) → has_quarters a ≡ false → has_quarters (bit_and a b) ≡ false
+quarters_lost a b = fewer _ _ _ _ _ _ _ _ (lost_first a b) (lost_quarter a b 32) (lost_quarter a b 64) (lost_quarter a b 96)
+  where
+    fewer : (p q r s t u v w : Bool) → (p ≡ true → t ≡ true) → (q ≡ true → u ≡ true) → (r ≡ true → v ≡ true) → (s ≡ true → w ≡ true)
+        → (not p && not q && not r && not s) ≡ false → (not t && not u && not v && not w) ≡ false
+    fewer true q r s t u v w one two three four none = ap (λ b. not b && not u && not v && not w) (one refl)
+    fewer false true r s true u v w one two three four none = refl
+    fewer false true r s false u v w one two three four none = ap (λ b. not b && not v && not w) (two refl)
+    fewer false false true s true u v w one two three four none = refl
+    fewer false false true s false true v w one two three four none = refl
+    fewer false false true s false false v w one two three four none = ap (λ b. not b && not w) (three refl)
+    fewer false false false true true u v w one two three four none = refl
+    fewer false false false true false true v w one two three four none = refl
+    fewer false false false true false false true w one two three four none = refl
+    fewer false false false true false false false w one two three four none = ap not (four refl)
+    fewer false false false false t u v w one two three four none = absurd (false≢true (sym none))
+
+-- The bits of changes and of a placement don't share a bit in each quarter. If the changes affect a
+-- router, its four bits aren't among the bits of the placement.
+pub apart_bits : (all bits router : ℕ) (cs : List Change) → has_quarters (bit_and all bits) ≡ false → (changes_router cs router ≡ true → IsAmong all router)
+    → IsAmong bits router → changes_router cs router ≡ false
+apart_bits all bits router cs apart has is =
+    false_from_ne_true (changes_router cs router) (λ affected.
+    let own = sym (has affected)
+    ∙ ap (bit_and all) (sym is)
+    ∙ sym (and_assoc (four_bits router) all bits) in
+    false≢true (sym (ap has_quarters own ∙ quarters_lost (bit_and all bits) (four_bits router) apart) ∙ four_quarters router))
+
+-- The changes affect no router whose bit the placement has. Then they affect neither the head-end
+-- of the placement nor a router to which a link of its route runs.
+pub off_route : (cs : List Change) (p : Placement) → ((router : ℕ) → IsAmong (bits_of p) router → changes_router cs router ≡ false)
+    → (changes_router cs p.request.from ≡ false) × AllByRecursion (λ l. changes_router cs l.to ≡ false) p.route
+off_route cs p off = (
+  off p.request.from (among_with (four_bits p.request.from) p.request.from p.route (and_self (four_bits p.request.from))),
+  off_links cs (four_bits p.request.from) p.route off,
+)
+
+-- The bits of the other placements are left if a placement and its bits are removed at one index.
+pub bits-remove : (ps : List Placement) (index : ℕ) → remove (map bits_of ps) index ≡ map bits_of (remove ps index)
+bits-remove [] zero = refl
+bits-remove [] (suc index) = refl
+bits-remove (p ∷ ps) zero = refl
+bits-remove (p ∷ ps) (suc index) = ap (λ bs. bits_of p ∷ bs) (bits-remove ps index)

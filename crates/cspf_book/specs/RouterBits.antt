@@ -1,0 +1,40 @@
+-- Private: the bits of routers, by which most placements are passed over if the base changes.
+use Rattle.std.specs.Prelude.{◌≡◌, ℕ, Bool, ◌+◌, ◌*◌, ◌/◌, ◌%◌, ◌^◌, ◌&&◌, not, List, [], ◌∷◌, nat_eq}
+use Rattle.std.specs.Int.Bits.{bit_and, bit_or}
+use Rattle.cspf_model.specs.declared.link.Link.{Link}
+use Rattle.cspf_book.specs.declared.placement.Placement.{Placement}
+
+-- one of 32 bits
+abbrev pub one_of_32 : ℕ → ℕ
+one_of_32 number = 2 ^ (number % 32)
+
+-- four bits, one in each quarter of 128 bits
+abbrev pub four_of : ℕ → ℕ
+four_of n =
+    one_of_32 (n / 2 ^ 27) + one_of_32 (n / 2 ^ 22) * 2 ^ 32
+    + (one_of_32 (n / 2 ^ 17) + one_of_32 (n / 2 ^ 12) * 2 ^ 32) * 2 ^ 64
+
+-- the four bits of a router; other routers may have the same bits
+unfoldable pub four_bits : ℕ → ℕ
+four_bits router = four_of (router * 2654435769)
+
+-- these bits, with the four bits of each router to which one of the links runs
+abbrev pub bits_with : ℕ → List Link → ℕ
+bits_with bits [] = bits
+bits_with bits (l ∷ ls) = bits_with (bit_or bits (four_bits l.to)) ls
+
+-- the bits of all routers on the placement's route, from the head-end on
+abbrev pub bits_of : Placement → ℕ
+bits_of p = bits_with (four_bits p.request.from) p.route
+
+-- The router's four bits are among these bits.
+abbrev pub IsAmong : ℕ → ℕ → Type 0
+IsAmong bits router = bit_and bits (four_bits router) ≡ four_bits router
+
+-- There is a bit in each quarter.
+abbrev pub has_quarters : ℕ → Bool
+has_quarters bits =
+    not (nat_eq (bits % 2 ^ 32) 0)
+    && not (nat_eq (bits / 2 ^ 32 % 2 ^ 32) 0)
+    && not (nat_eq (bits / 2 ^ 64 % 2 ^ 32) 0)
+    && not (nat_eq (bits / 2 ^ 96 % 2 ^ 32) 0)

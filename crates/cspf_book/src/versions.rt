@@ -1,0 +1,131 @@
+//! The index of the placement with an id, found by the version of the book in which it was placed,
+//! and the bits of the routers on each placement's route.
+
+ghost use Rattle.std.specs.Prelude.{◌≡◌, ◌<◌, ◌++◌, ℕ, [], ◌∷◌, List, length, vec_len, remove, OnOk, OnErr};
+ghost use Rattle.std.specs.Vec.{vec_capacity};
+ghost use Rattle.std.specs.List.Sorted.{IsNonDecreasing};
+ghost use Rattle.cspf_book.specs.declared.placement.Placement.{Placement as Placed};
+ghost use Rattle.cspf_book.specs.Placements.{index_of_id};
+ghost use Rattle.cspf_book.specs.ById.{AreIdsOf, IsIndexIn, HasSameIds, HasEntered, HasReplaced, HasForgotten};
+
+use std::alloc::{AllocError, Global};
+use std::collections::BTreeMap;
+
+/// The versions in which the placements of a book were placed.
+#[derive(Drop)]
+pub(crate) struct Ids {
+    /// The versions in the order of the placements. Each is greater than the one before it.
+    versions: Vec<u32>,
+    /// The bits of the routers on each placement's route, in the same order.
+    bits: Vec<u128>,
+    /// The version of each placement, by the placement's id.
+    by_id: BTreeMap<u64, u32>,
+}
+
+impl Ids {
+    /// Returns the versions of a book without placements. The call takes no memory.
+    pub(crate) fn new(alloc: Global) -> Ids
+        ensures { AreIdsOf result 0 [] }
+    {
+        Ids {
+            versions: Vec::new(alloc),
+            bits: Vec::new(alloc),
+            by_id: BTreeMap::new(alloc),
+        }
+    }
+
+    /// The index of the placement with this id. If no placement has the id, the result is the
+    /// number of placements.
+    pub(crate) fn index_of(&self, id: u64) -> usize
+        ensures { (version : ℕ) (placements : List Placed) → AreIdsOf self.now version placements
+            → result ≡ index_of_id id placements }
+    {
+        match self.by_id.get(&id) {
+            Some(version) => index_in(&self.versions, *version),
+            None => self.versions.len(),
+        }
+    }
+
+    /// The bits of the routers on each placement's route, in the order of the placements.
+    pub(crate) fn bits(&self) -> &[u128]
+        ensures { result.now ≡ self.now.bits.items }
+    {
+        self.bits.as_slice()
+    }
+
+    /// Takes memory for the version and the bits of one more placement.
+    pub(crate) fn reserve(&mut self) -> Result<(), AllocError>
+        ensures same { HasSameIds self.old self.new }
+        ensures room { OnOk result (vec_len self.new.versions < vec_capacity self.new.versions) }
+        ensures more { OnOk result (vec_len self.new.bits < vec_capacity self.new.bits) }
+    {
+        self.versions.reserve(1)?;
+        self.bits.reserve(1)
+    }
+
+    /// Enters in the map by ids the version in which the placement with this id is placed. After an
+    /// error nothing has changed.
+    pub(crate) fn enter(&mut self, id: u64, version: u32) -> Result<(), AllocError>
+        ensures versions { self.new.versions ≡ self.old.versions }
+        ensures bits { self.new.bits ≡ self.old.bits }
+        ensures ok { OnOk result (HasEntered self.old self.new id version) }
+        ensures err { OnErr result (HasSameIds self.old self.new) }
+    {
+        self.by_id.insert(id, version)?;
+        Ok(())
+    }
+
+    /// Removes the version and the bits at an index from their lists, if there are any, and adds this
+    /// version and these bits at the ends. The call takes no memory.
+    pub(crate) fn replace(&mut self, at: usize, version: u32, bits: u128)
+        requires room { vec_len self.old.versions < vec_capacity self.old.versions }
+        requires more { vec_len self.old.bits < vec_capacity self.old.bits }
+        ensures { HasReplaced self.old self.new at version bits }
+    {
+        replace_version(&mut self.versions, at, version);
+        replace_bits(&mut self.bits, at, bits);
+    }
+
+    /// Removes the version of the placement with this id from the map by ids. Removes the version
+    /// and the bits of the placement from their lists, in which they are at this index.
+    pub(crate) fn forget(&mut self, id: u64, at: usize)
+        requires versions { at < length self.old.versions.items }
+        requires bits { at < length self.old.bits.items }
+        ensures { HasForgotten self.old self.new id at }
+    {
+        self.versions.remove(at);
+        self.bits.remove(at);
+        let _ = self.by_id.remove(&id);
+    }
+}
+
+/// Removes the version at an index, if there is one, and adds this version at the end. The call
+/// takes no memory.
+fn replace_version(versions: &mut Vec<u32>, at: usize, version: u32)
+    requires { vec_len versions.old < vec_capacity versions.old }
+    ensures { versions.new.items ≡ remove versions.old.items at ++ version ∷ [] }
+{
+    if at < versions.len() {
+        versions.remove(at);
+    }
+    versions.push_reserved(version);
+}
+
+/// Removes the bits at an index, if there are any, and adds these bits at the end. The call takes no
+/// memory.
+fn replace_bits(list: &mut Vec<u128>, at: usize, bits: u128)
+    requires { vec_len list.old < vec_capacity list.old }
+    ensures { list.new.items ≡ remove list.old.items at ++ bits ∷ [] }
+{
+    if at < list.len() {
+        list.remove(at);
+    }
+    list.push_reserved(bits);
+}
+
+/// How many of the versions are lower than this version. The versions have to be in rising order.
+fn index_in(versions: &[u32], version: u32) -> usize
+    ensures { IsNonDecreasing versions.now → IsIndexIn versions.now version result }
+{
+    versions.partition_point(|other| *other < version)
+}

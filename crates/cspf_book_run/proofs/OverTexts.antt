@@ -1,0 +1,226 @@
+-- An `over` line (it reports too little bandwidth) is found among the lines of a base batch only
+-- where it was written.
+use Rattle.std.proofs.Common.{◌≡◌, ◌≢◌, ℕ, zero, suc, ◌+◌, ◌/◌, ◌%◌, ◌<◌, ◌^◌, Bool, true, false, cond, ◌||◌, ◌==◌, List, [], ◌∷◌, ◌++◌, map, codes, refl, sym, ◌∙◌, append_assoc, append-nil, lt-ltb, ne_eqb, arith}
+use Rattle.std.proofs.lemmas.Bool.{eqb-false}
+use Rattle.std.proofs.lemmas.Fmt.{decimal_injective}
+use Rattle.std.proofs.lemmas.List.{append_cancel_left}
+use Rattle.std.proofs.lemmas.List.Folds.{list_any-append}
+use Rattle.std.specs.Fmt.{decimal, digits, digits_onto, digit_glyph}
+use Rattle.std.specs.Int.{w32, to_be_bytes}
+use Rattle.std.specs.List.{Contains, flat_map, join_with_byte, list_any}
+use Rattle.cspf_addr.specs.AddressText.{address_text, IsAddressTextInjective}
+use Rattle.cspf_book.specs.declared.over.Over.{Over}
+use Rattle.cspf_book_run.specs.BookLines.{over_line, lost_line, base_line}
+
+-- ---- texts that lack a certain byte
+
+-- No byte of the text is `mark`.
+abbrev pub IsFree : ℕ → List ℕ → Type 0
+IsFree mark text = list_any (λ byte. byte == mark) text ≡ false
+
+both_false : (x y : Bool) → x ≡ false → y ≡ false → (x || y) ≡ false
+both_false true y a b = a
+both_false false y a b = b
+
+pub each_false : (x y : Bool) → (x || y) ≡ false → (x ≡ false) × (y ≡ false)
+each_false true y both = absurd (cc)
+each_false false y both = (refl, both)
+
+-- The byte `mark` is no digit and no point.
+pub record IsMark (mark : ℕ) : Type 0 where
+  digit : (d : ℕ) → d < 10 → 48 + d ≢ mark
+  point : (46 == mark) ≡ false
+
+feed : IsMark 10
+feed = record { digit = λ d small same. omega (arith, small, same); point = refl }
+
+space : IsMark 32
+space = record { digit = λ d small same. omega (arith, small, same); point = refl }
+
+comma : IsMark 44
+comma = record { digit = λ d small same. omega (arith, small, same); point = refl }
+
+pub letter_o : IsMark 111
+letter_o = record { digit = λ d small same. omega (arith, small, same); point = refl }
+
+module _ (mark : ℕ) (no : IsMark mark) where
+  free_append : (xs ys : List ℕ) → IsFree mark xs → IsFree mark ys → IsFree mark (xs ++ ys)
+  free_append xs ys a b = rw (list_any-append (λ byte. byte == mark) xs ys) (both_false _ _ a b)
+
+  free_glyph : (d : ℕ) → d < 10 → (digit_glyph false d == mark) ≡ false
+  free_glyph d small = rw (lt-ltb d 10 small) (ne_eqb (48 + d) mark (no.digit d small))
+
+  free_onto : (k n : ℕ) (more : List ℕ) → IsFree mark more → IsFree mark (digits_onto k 10 false n more)
+  free_onto zero n more free = free
+  free_onto (suc k) n more free =
+      let small : n % 10 < 10 = omega arith in
+      let next : IsFree mark (digit_glyph false (n % 10) ∷ more) = both_false _ _ (free_glyph (n % 10) small) free in
+      elim (n / 10 == 0) as (λ b. IsFree mark (cond b (digit_glyph false (n % 10) ∷ more) (digits_onto k 10 false (n / 10) (digit_glyph false (n % 10) ∷ more)))) [
+        | true ↦ next
+        | false ↦ free_onto k (n / 10) (digit_glyph false (n % 10) ∷ more) next
+      ]
+
+  pub free_decimal : (n : ℕ) → IsFree mark (decimal n)
+  unfolding digits
+  free_decimal n = free_onto 64 n [] refl
+
+  abbrev AreFree : List (List ℕ) → Type 0
+  AreFree [] = Unit {0}
+  AreFree (x ∷ xs) = IsFree mark x × AreFree xs
+
+  free_join : (xs : List (List ℕ)) → AreFree xs → IsFree mark (join_with_byte 46 xs)
+  free_join [] all = refl
+  free_join (x ∷ []) all = all.0
+  free_join (x ∷ y ∷ ys) all = free_append x (46 ∷ join_with_byte 46 (y ∷ ys)) all.0 (both_false _ _ no.point (free_join (y ∷ ys) all.1))
+
+  free_decimals : (ns : List ℕ) → AreFree (map decimal ns)
+  free_decimals [] = tt
+  free_decimals (n ∷ ns) = (free_decimal n, free_decimals ns)
+
+  free_address : (n : ℕ) → IsFree mark (address_text n)
+  unfolding address_text
+  free_address n = free_join (map decimal (to_be_bytes w32 n)) (free_decimals (to_be_bytes w32 n))
+
+-- There is only one way to cut a text at its first byte `mark`.
+cut_once : (mark : ℕ) (u v r q : List ℕ) → IsFree mark u → IsFree mark v → u ++ mark ∷ r ≡ v ++ mark ∷ q → (u ≡ v) × (r ≡ q)
+cut_once mark [] [] r q a b same = let rest : r ≡ q = cc in (refl, rest)
+cut_once mark [] (d ∷ v) r q a b same =
+    let head : d ≡ mark = cc in absurd (eqb-false d mark (each_false _ _ b).0 head)
+cut_once mark (c ∷ u) [] r q a b same =
+    let head : c ≡ mark = cc in absurd (eqb-false c mark (each_false _ _ a).0 head)
+cut_once mark (c ∷ u) (d ∷ v) r q a b same =
+    let head : c ≡ d = cc in
+    let rest : u ++ mark ∷ r ≡ v ++ mark ∷ q = cc in
+    let more = cut_once mark u v r q (each_false _ _ a).1 (each_false _ _ b).1 rest in
+    let front : c ∷ u ≡ d ∷ v = λ i. head i ∷ more.0 i in
+    (front, more.1)
+
+-- ---- the words of an `over` line
+
+-- the text of an `over` line (it reports too little bandwidth) between its first two letters and
+-- its line feed
+abbrev pub words : Over → List ℕ
+words o = codes "er " ++ address_text o.from ++ codes "," ++ address_text o.local ++ codes " " ++ decimal o.priority
+
+words_of : (o : Over) → over_line o ≡ 111 ∷ 118 ∷ (words o ++ 10 ∷ [])
+words_of o = refl
+
+module _ (mark : ℕ) (no : IsMark mark) (word : IsFree mark (codes "er ")) (between : IsFree mark (codes ",")) (blank : IsFree mark (codes " ")) where
+  free_words : (o : Over) → IsFree mark (words o)
+  free_words o =
+      free_append mark no (codes "er " ++ address_text o.from ++ codes "," ++ address_text o.local ++ codes " ") (decimal o.priority)
+      (free_append mark no (codes "er " ++ address_text o.from ++ codes "," ++ address_text o.local) (codes " ")
+      (free_append mark no (codes "er " ++ address_text o.from ++ codes ",") (address_text o.local)
+      (free_append mark no (codes "er " ++ address_text o.from) (codes ",")
+      (free_append mark no (codes "er ") (address_text o.from) word (free_address mark no o.from)) between) (free_address mark no o.local)) blank)
+      (free_decimal mark no o.priority)
+
+-- the words are the text before the comma, the comma, the address after it, the last space, and the
+-- priority
+words_cut : (o : Over) → words o ≡ (codes "er " ++ address_text o.from) ++ 44 ∷ (address_text o.local ++ 32 ∷ decimal o.priority)
+words_cut o =
+    let first : List ℕ = codes "er " ++ address_text o.from in
+    append_assoc (first ++ codes "," ++ address_text o.local) (codes " ") (decimal o.priority)
+    ∙ append_assoc (first ++ codes ",") (address_text o.local) (32 ∷ decimal o.priority)
+    ∙ append_assoc first (codes ",") (address_text o.local ++ 32 ∷ decimal o.priority)
+
+-- If the words of two `over` lines (they report too little bandwidth) are equal, the lines have the
+-- same router, address and priority.
+pub words_once : IsAddressTextInjective → (x y : Over) → x.from < 2 ^ 32 → x.local < 2 ^ 32 → x.priority < 8 → y.from < 2 ^ 32 → y.local < 2 ^ 32 → y.priority < 8
+    → words x ≡ words y → (x.from ≡ y.from) × (x.local ≡ y.local) × (x.priority ≡ y.priority)
+words_once one x y xf xl xp yf yl yp same =
+    let first = cut_once 44 (codes "er " ++ address_text x.from) (codes "er " ++ address_text y.from) (address_text x.local ++ 32 ∷ decimal x.priority) (address_text y.local ++ 32 ∷ decimal y.priority)
+    (free_append 44 comma (codes "er ") (address_text x.from) refl (free_address 44 comma x.from)) (free_append 44 comma (codes "er ") (address_text y.from) refl (free_address 44 comma y.from))
+    (sym (words_cut x) ∙ same ∙ words_cut y) in
+    let second = cut_once 32 (address_text x.local) (address_text y.local) (decimal x.priority) (decimal y.priority) (free_address 32 space x.local) (free_address 32 space y.local) first.1 in
+    let from = append_cancel_left (codes "er ") (address_text x.from) (address_text y.from) first.0 in
+    (one x.from y.from xf yf from, one x.local y.local xl yl second.0, decimal_injective x.priority y.priority (omega arith) (omega arith) second.1)
+
+-- ---- where an `over` line may begin
+
+-- The letters `ov`, with which an `over` line begins, begin nowhere within this text, whatever text
+-- comes after it.
+abbrev pub Skips : List ℕ → Type 0
+Skips text = (rest before z : List ℕ) → text ++ rest ≡ before ++ 111 ∷ 118 ∷ z → (other : List ℕ) × (rest ≡ other ++ 111 ∷ 118 ∷ z)
+
+pub skips_none : Skips []
+skips_none rest before z same = (before, same)
+
+pub skips_byte : (c : ℕ) (text : List ℕ) → (c == 111) ≡ false → Skips text → Skips (c ∷ text)
+skips_byte c text apart skips rest [] z same = let head : c ≡ 111 = cc in absurd (eqb-false c 111 apart head)
+skips_byte c text apart skips rest (b ∷ before) z same =
+    let tail : text ++ rest ≡ before ++ 111 ∷ 118 ∷ z = cc in skips rest before z tail
+
+pub skips_free : (text : List ℕ) → IsFree 111 text → Skips text
+skips_free [] free = skips_none
+skips_free (c ∷ text) free = skips_byte c text (each_false _ _ free).0 (skips_free text (each_false _ _ free).1)
+
+pub skips_append : (v w : List ℕ) → Skips v → Skips w → Skips (v ++ w)
+skips_append v w first second rest before z same =
+    let one = first (w ++ rest) before z (sym (append_assoc v w rest) ∙ same) in second rest one.0 z one.1
+
+-- The letter `c` is neither `v` nor `o`. If the letters `ov` begin nowhere within a text (`Skips`),
+-- they begin nowhere within an `o`, the letter `c` and this text together.
+skips_o : (c : ℕ) (text : List ℕ) → c ≢ 118 → (c == 111) ≡ false → Skips text → Skips (111 ∷ c ∷ text)
+skips_o c text other apart skips rest [] z same = let second : c ≡ 118 = cc in absurd (other second)
+skips_o c text other apart skips rest (b ∷ before) z same =
+    let tail : (c ∷ text) ++ rest ≡ before ++ 111 ∷ 118 ∷ z = cc in skips_byte c text apart skips rest before z tail
+
+skips_lost : (id : ℕ) → Skips (lost_line id)
+skips_lost id =
+    skips_append (codes "lost " ++ decimal id) (codes "\n")
+    (skips_append (codes "lost ") (decimal id)
+    (skips_byte 108 (codes "ost ") refl (skips_o 115 (codes "t ") (λ same. omega (arith, same)) refl (skips_free (codes "t ") refl)))
+    (skips_free (decimal id) (free_decimal 111 letter_o id)))
+    (skips_free (codes "\n") refl)
+
+skips_losts : (ids : List ℕ) → Skips (flat_map lost_line ids)
+skips_losts [] = skips_none
+skips_losts (id ∷ ids) = skips_append (lost_line id) (flat_map lost_line ids) (skips_lost id) (skips_losts ids)
+
+skips_base : (number version : ℕ) → Skips (base_line number version)
+skips_base number version =
+    skips_free (base_line number version)
+    (free_append 111 letter_o (codes "base " ++ decimal number ++ codes " v" ++ decimal version) (codes "\n")
+    (free_append 111 letter_o (codes "base " ++ decimal number ++ codes " v") (decimal version)
+    (free_append 111 letter_o (codes "base " ++ decimal number) (codes " v")
+    (free_append 111 letter_o (codes "base ") (decimal number) refl (free_decimal 111 letter_o number)) refl) (free_decimal 111 letter_o version)) refl)
+
+pub none_left : (other z : List ℕ) → [] ≡ other ++ 111 ∷ 118 ∷ z → ⊥
+none_left [] z same = cc
+none_left (b ∷ other) z same = cc
+
+-- Take `over` lines (they report too little bandwidth), and after them a text that has no `over`
+-- line. An `over` line that is found in the whole text has the words of one of these lines.
+found : (os : List Over) (tail : List ℕ) → Skips tail → (x : Over) (before after : List ℕ)
+    → flat_map over_line os ++ tail ≡ before ++ 111 ∷ 118 ∷ ((words x ++ 10 ∷ []) ++ after) → (y : Over) × Contains os y × (words y ≡ words x)
+found [] tail skips x before after same =
+    let left = skips [] before ((words x ++ 10 ∷ []) ++ after) (append-nil tail ∙ same) in absurd (none_left left.0 _ left.1)
+found (y ∷ os) tail skips x [] after same =
+    let rest : List ℕ = flat_map over_line os ++ tail in
+    let joined : 111 ∷ 118 ∷ ((words y ++ 10 ∷ []) ++ rest) ≡ 111 ∷ 118 ∷ ((words x ++ 10 ∷ []) ++ after) =
+    sym (append_assoc (over_line y) (flat_map over_line os) tail) ∙ same in
+    let inner : (words y ++ 10 ∷ []) ++ rest ≡ (words x ++ 10 ∷ []) ++ after = cc in
+    let cut = cut_once 10 (words y) (words x) rest after (free_words 10 feed refl refl refl y) (free_words 10 feed refl refl refl x)
+    (sym (append_assoc (words y) (10 ∷ []) rest) ∙ inner ∙ append_assoc (words x) (10 ∷ []) after) in
+    (y, (0, omega arith, refl), cut.0)
+found (y ∷ os) tail skips x (b ∷ before) after same =
+    let z : List ℕ = (words x ++ 10 ∷ []) ++ after in
+    let rest : List ℕ = flat_map over_line os ++ tail in
+    let joined : 111 ∷ 118 ∷ ((words y ++ 10 ∷ []) ++ rest) ≡ b ∷ (before ++ 111 ∷ 118 ∷ z) =
+    sym (append_assoc (over_line y) (flat_map over_line os) tail) ∙ same in
+    let behind : 118 ∷ ((words y ++ 10 ∷ []) ++ rest) ≡ before ++ 111 ∷ 118 ∷ z = cc in
+    let skipped = skips_byte 118 (words y ++ 10 ∷ []) refl
+    (skips_append (words y) (10 ∷ []) (skips_free (words y) (free_words 111 letter_o refl refl refl y)) (skips_free (10 ∷ []) refl)) rest before z behind in
+    let more = found os tail skips x skipped.0 after skipped.1 in
+    (more.0, (suc more.1.0, omega (arith, more.1.1), more.1.2), more.2)
+
+-- An `over` line (it reports too little bandwidth) that is found among the lines of a base batch
+-- has the words of an `over` line that the batch wrote.
+pub named_among : (os : List Over) (ids : List ℕ) (number version : ℕ) (x : Over) (before after : List ℕ)
+    → flat_map over_line os ++ flat_map lost_line ids ++ base_line number version ≡ before ++ over_line x ++ after
+    → (y : Over) × Contains os y × (words y ≡ words x)
+named_among os ids number version x before after same =
+    let tail : List ℕ = flat_map lost_line ids ++ base_line number version in
+    found os tail (skips_append (flat_map lost_line ids) (base_line number version) (skips_losts ids) (skips_base number version)) x before after
+    (sym (append_assoc (flat_map over_line os) (flat_map lost_line ids) (base_line number version)) ∙ same ∙ append_assoc before (over_line x) after)

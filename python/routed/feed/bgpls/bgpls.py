@@ -1,0 +1,205 @@
+"""Feeds a network to `routed` as it is and as it changes, by BGP-LS (RFC 9552), from a router or a route reflector.
+
+The feed is a BGP speaker that announces nothing. It connects to the peer, or waits for the peer where --listen is given.
+Where rows go, and what the other options are, is as for the feed from OSPF. docs/run/FEED.md has what is taken from where.
+"""
+from __future__ import annotations
+
+import argparse
+import socket
+import time
+
+from ...model.rows import ADDRESS
+from ...net.endpoints import Door, Endpoint, tried
+from ...net.loop import READ, WRITE, Stopped
+from ...net.stream import Stream
+from ...pcep.keys import keys, set_key
+from ...program import number
+from ..feed import AGAIN, Feed, Lost, Once, options, run
+from ..links import Network
+from .lsdb import FULL, PROTOCOLS, Lsdb
+from .messages import KEEPALIVE, NOTIFICATION, OPEN, UPDATE, Fault, accepted, message, next_message, opening, update_of
+
+OPENING = 30.0  # seconds that the peer has for its Open
+TICK = 1.0  # seconds from one look at the timers to the next
+FULL_AGAIN = 60.0  # seconds until the peer is tried again that had more NLRIs than are taken
+SHUTDOWN, COLLISION = message(NOTIFICATION, bytes([6, 2])), message(NOTIFICATION, bytes([6, 7]))  # RFC 4486
+CODES = {1: "message header", 2: "Open", 3: "Update", 4: "hold timer expired", 5: "state", 6: "cease"}
+
+
+class Peer:
+    """A session with a BGP speaker."""
+
+    def __init__(self, asked: argparse.Namespace, feed: Feed | Once) -> None:
+        self.asked, self.feed, self.peer_as = asked, feed, asked.peer_as or asked.number
+        self.lsdb = Lsdb(asked)
+        self.stream: Stream | None = None
+        self.door: Door | None = None
+        self.wanted = OPEN  # the message that has to come; UPDATE once the session is up
+        self.hold, self.width, self.heard_at, self.sent_at, self.identifier = OPENING, 4, 0.0, 0.0, b""
+        if asked.key and not asked.secret:
+            asked.secret = dict(keys(asked.key)).get(asked.peer.address[0])
+            if not asked.secret:
+                raise Stopped(f"--key {asked.key}: it has no key of {asked.peer.address[0]}")
+        if asked.listen:
+            listener = asked.listen.bind(0o600)
+            self.use_key(listener)
+            self.door = Door(feed.loop, listener, self.let_in)
+            return
+        try:
+            self.begin(asked.peer.begin(feed.loop, self.use_key))
+            if self.stream and self.stream.fault:
+                raise self.stream.fault
+        except OSError as fault:
+            self.close()
+            raise Lost(fault.strerror or fault) from None
+
+    def use_key(self, made: socket.socket) -> None:
+        """From now on the peer has to use the key of TCP-MD5, if there is one."""
+        with tried("--key"):
+            if self.asked.secret:
+                set_key(made, self.asked.peer.address[0], self.asked.secret)
+
+    def network(self) -> Network:
+        return self.lsdb.network()
+
+    def named(self) -> str:
+        return self.asked.where
+
+    def fail(self) -> None:
+        self.feed.lose("an exception has ended it")
+
+    def close(self, last: bytes = SHUTDOWN) -> None:
+        """Ends the session, by its last message if the connection is still there."""
+        (stream, self.stream), (door, self.door) = (self.stream, None), (self.door, None)
+        if door:
+            door.shut()
+            door.listener.close()
+        if stream and (stream.is_ended or stream.fault):
+            stream.close()
+        elif stream:
+            stream.hang_up(last)
+
+    def let_in(self, stream: Stream) -> None:
+        if stream.peer()[0] != self.asked.peer.address[0]:
+            stream.close()
+        elif self.stream:
+            stream.hang_up(COLLISION)
+        else:
+            self.begin(stream)
+
+    def begin(self, stream: Stream) -> None:
+        assert stream.socket
+        self.stream, self.heard_at = stream, time.monotonic()
+        stream.give(self, self.take)
+        self.identifier = socket.inet_aton(self.asked.id or stream.socket.getsockname()[0])
+        self.send(opening(self.asked.number, self.identifier))
+        self.feed.loop.after(TICK, self.tend, self)
+
+    def send(self, data: bytes) -> None:
+        assert self.stream
+        self.sent_at = time.monotonic()
+        self.stream.write(data)
+        self.stream.wait(True)
+
+    def tend(self) -> None:
+        """Sends a Keepalive when it is time, and looks whether the peer does."""
+        now = time.monotonic()
+        if not self.stream:
+            return
+        if now >= self.heard_at + self.hold:
+            self.end(Fault(4, 0, f"the peer was silent for {self.hold:g} s"))
+            return
+        if self.wanted == UPDATE and now >= self.sent_at + self.hold / 3 and not self.stream.waiting:
+            self.send(message(KEEPALIVE))
+        self.feed.loop.after(min(TICK, self.heard_at + self.hold - now), self.tend, self)
+
+    def end(self, fault: Fault) -> None:
+        """Ends the session by the fault's Notification."""
+        self.close(fault.message)
+        self.feed.lose(fault, FULL_AGAIN if fault.code == FULL else AGAIN)
+
+    def take(self, events: int) -> None:
+        """Takes what the peer sent."""
+        stream = self.stream
+        if not stream:
+            return
+        if events & WRITE:
+            stream.flush()
+        data = stream.unread + (stream.read() if events & READ and not stream.fault else b"")
+        try:
+            if stream.is_ended or stream.fault:
+                raise Lost(stream.why() if stream.fault else f"the peer closed the connection{' in the midst of a message' * bool(data)}")
+            stream.unread = data[self.take_messages(data):]
+        except Fault as fault:
+            self.end(fault)
+        except Lost as lost:
+            self.feed.lose(lost)
+        else:
+            stream.wait(True)
+
+    def take_messages(self, data: bytes) -> int:
+        """Takes the whole messages at the front of bytes. How many bytes these are."""
+        at = updates = 0
+        has_changed = is_end = False
+        while found := next_message(data, at):
+            kind, body, at = found
+            self.heard_at = time.monotonic()
+            if kind == NOTIFICATION:
+                raise Lost(f"the peer ended the session by Notification {body[0]}/{body[1]}, {CODES.get(body[0], 'unknown')}")
+            if kind != self.wanted and (kind, self.wanted) != (KEEPALIVE, UPDATE):
+                raise Fault(5, {OPEN: 1, KEEPALIVE: 2, UPDATE: 3}[self.wanted], f"a message of kind {kind} out of turn")
+            if kind == OPEN:
+                self.hold, self.width = accepted(body, self.peer_as, self.asked.number, self.identifier)
+                self.wanted = KEEPALIVE
+                self.send(message(KEEPALIVE))
+            elif kind == UPDATE:
+                update = update_of(body, self.width, self.peer_as == self.asked.number)
+                updates += 1
+                has_changed |= self.lsdb.take(update)
+                is_end |= update.is_end
+            elif self.wanted == KEEPALIVE:
+                self.wanted = UPDATE
+                self.feed.up(self)
+        if self.wanted == UPDATE and at:
+            self.feed.heard(updates, has_changed)
+            if is_end:
+                self.feed.complete()
+        return at
+
+
+def address(text: str) -> str:
+    if not ADDRESS.fullmatch(text):
+        raise ValueError
+    return text
+
+
+def place(text: str) -> Endpoint:
+    """An IPv4 address, and a port that is 179 where none is given."""
+    found = Endpoint(text if ":" in text else f"{text}:179")
+    if not found.port or not address(str(found.address[0])):
+        raise ValueError
+    return found
+
+
+def main(words: list[str] | None = None) -> int:
+    """Takes the words of a command line, and answers the status."""
+    asked = argparse.ArgumentParser(prog="bgpls", description=__doc__.split("\n\n")[0])
+    asked.add_argument("--peer", type=place, required=True, metavar="ADDRESS[:PORT]", help="the router or route reflector (port 179)")
+    asked.add_argument("--as", type=number("number", 1, 2**32 - 1), required=True, dest="number", metavar="N", help="the feed's own AS")
+    asked.add_argument("--peer-as", type=number("number", 1, 2**32 - 1), metavar="N", help="the peer's AS, if it is another one")
+    asked.add_argument("--id", type=address, metavar="ADDRESS", help="the feed's BGP identifier (its address towards the peer)")
+    asked.add_argument("--key", metavar="FILE", help="lines `ADDRESS KEY`; the peer's line has the key of TCP-MD5 (RFC 2385)")
+    asked.add_argument("--listen", type=place, metavar="ADDRESS[:PORT]", help="wait there for the peer, and don't connect to it")
+    asked.add_argument("--protocol", choices=PROTOCOLS, help="take links and nodes of this protocol alone")
+    asked.add_argument("--instance", type=number("number", 0, 2**64 - 1), metavar="N", help="take links and nodes of this instance alone")
+    asked.add_argument("--unreserved", choices=["announced", "maximum"], default="announced",
+                       help="maximum: take the maximum bandwidth of links, from which no router takes away what is reserved")
+    asked.add_argument("--quiet", type=number("seconds", 0, 86400, float), metavar="S",
+                       help="seconds without an Update after which all has been told (2)")
+    asked.add_argument("--most", type=number("number", 1, 2**20), default=65536, metavar="N",
+                       help="nodes and links that the peer may announce")
+    asked.add_argument("--srlgs", metavar="FILE",
+                       help="where SRLGs are told, as lines srlg,VERSION,ROUTER,LOCAL,GROUP GROUP ..; it is made anew")
+    options(asked, where="{0.peer.address[0]} port {0.peer.address[1]}", quiet=2.0, secret=None)
+    return run("bgpls", asked, words, Peer)

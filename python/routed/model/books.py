@@ -1,0 +1,122 @@
+"""Follows a book by its rows and the lines of `routed book` (docs/run/FORMATS.md): the base, the placements, and what they leave."""
+from __future__ import annotations
+
+from collections.abc import Iterator
+from dataclasses import dataclass, replace
+
+from .database import Database
+from .journals import records
+from .rows import FIELDS, Batch, Key, Link, Refused, Reply, Request
+
+PRIORITIES = 8
+CHANGES = ("put", "drop", "node")
+
+
+@dataclass(frozen=True)
+class Placement:
+    """A tunnel: its request, whose setup priority is the holding priority, its reply, and the links of its route as it was placed."""
+
+    request: Request
+    reply: Reply
+    links: tuple[Link, ...]
+
+
+class Book:
+    """A book after each row, whose lines are given in turn."""
+
+    def __init__(self) -> None:
+        self.base, self.version = Database(), 0
+        self.placements: dict[int, Placement] = {}
+        self.unplaced: dict[int, Request] = {}  # the last place row of an id found no route, or was refused, and nothing is placed
+        self.refused: list[str] = []  # lines
+        self.changes: list[list[str]] = []
+
+    def take(self, number: int, fields: list[str], lines: Iterator[str]) -> None:
+        """Takes the row of this number. `lines` gives the lines from its own first one on, if it has any."""
+        if fields[0] in CHANGES:
+            self.changes.append(fields)  # a refused one is taken away by `refuse`
+            return
+        line = next(lines, None)
+        while line is not None and line.startswith(("over ", "lost ")):
+            line = next(lines, None)
+        if line is None:
+            raise Refused(f"row {number} has no line: these aren't the lines of this book")
+        if " refused: " in line:
+            self.refused.append(line)
+        if fields[0] == "end":
+            rows, self.changes = [*self.changes, fields], []
+            if line.startswith("base "):
+                self.base.apply(Batch.parse(rows))
+                self.version = int(line.rpartition(" v")[2])
+        elif fields[0] == "place" and not line.startswith("row "):
+            self.place(Request.parse(fields), Reply.parse(line))
+        elif fields[0] == "release" and line.startswith("released "):
+            del self.placements[int(fields[1])]
+            self.version = int(line.rpartition(" v")[2])
+
+    def place(self, request: Request, reply: Reply | None) -> None:
+        if reply and reply.why is None:
+            self.version = reply.version
+            self.placements[request.id] = Placement(request, reply, tuple(self.walk(request, reply)))
+            self.unplaced.pop(request.id, None)
+        elif request.id not in self.placements:
+            self.unplaced[request.id] = request
+
+    def walk(self, request: Request, reply: Reply) -> Iterator[Link]:
+        """The links of a route in the base as it is now."""
+        at, any_rate = request.head, replace(request, bandwidth=0)
+        for count, far in enumerate(reply.fars):
+            links = self.base.usable(at, far, any_rate, count > 0)
+            if not links:
+                raise Refused(f"the base has no link from {at} to {far}: these aren't the lines of this book")
+            yield links[0]
+            at = links[0].neighbor
+
+    def is_lost(self, placement: Placement) -> bool:
+        """Whether the base doesn't admit the route any more, whatever the bandwidths."""
+        request = replace(placement.request, bandwidth=0)
+        for count, old in enumerate(placement.links):
+            link = self.base.rows.get(old.key)
+            if not isinstance(link, Link) or link.neighbor != old.neighbor or self.base.why_not(link, request, count > 0):
+                return True
+        return False
+
+    def counted(self) -> dict[Key, list[int]]:
+        """What placements take of each link, at each priority."""
+        sums: dict[Key, list[int]] = {}
+        for placement in self.placements.values():
+            for link in placement.links:
+                held = sums.setdefault(link.key, [0] * PRIORITIES)
+                for priority in range(placement.request.setup, PRIORITIES):
+                    held[priority] += placement.request.bandwidth
+        return sums
+
+
+def left_of(link: Link, held: list[int]) -> list[int]:
+    """What a link of the base has left at each priority: the least of what it has left at this one and at more important ones."""
+    found: list[int] = []
+    for unreserved, taken in zip(link.unreserved, held):
+        found.append(min([max(0, unreserved - taken), *found[-1:]]))
+    return found
+
+
+def follow(rows: bytes, lines: list[str]) -> Book:
+    """The book that rows make, by all their lines."""
+    book, told = Book(), iter(lines)
+    coming = next(told, None)
+
+    def rest() -> Iterator[str]:
+        nonlocal coming
+        while coming is not None:
+            line, coming = coming, next(told, None)
+            yield line
+
+    for number, fields in enumerate(records(rows), 1):
+        if coming is not None and coming.startswith(f"row {number} refused: "):
+            book.refused.append(next(rest()))
+        elif fields[0] in (*FIELDS, "place", "release"):
+            book.take(number, fields, rest())
+        else:
+            raise Refused(f"row {number} has no line: these aren't the lines of this book")
+    book.refused += [line for line in rest() if not line.startswith("version ")]
+    return book

@@ -1,0 +1,1 @@
+"""`routed-tools show` and `book-report`: tables of a network and of a book."""
