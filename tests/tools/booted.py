@@ -131,7 +131,8 @@ def machine(room):
         file.write('APT::Get::Assume-Yes "true";\nDpkg::Options { "--force-confold"; };\n')
     before = groups()
     words = ["systemd-nspawn", "--quiet", f"--directory={top}", "--boot", "--private-network", "--register=no", "--keep-unit",
-             "--console=pipe", "--capability=CAP_BPF", f"--machine=routed-test-{os.getpid()}", f"--bind-ro={room}/packages:/packages"]
+             "--console=pipe", "--capability=CAP_BPF", "--system-call-filter=bpf", f"--machine=routed-test-{os.getpid()}",
+             f"--bind-ro={room}/packages:/packages"]
     with open(os.path.join(room, "console"), "wb") as console:
         env = {**os.environ, "SYSTEMD_NSPAWN_UNIFIED_HIERARCHY": "1"}  # which IPAddressDeny needs
         with subprocess.Popen(words, env=env, stdin=subprocess.DEVNULL, stdout=console, stderr=subprocess.STDOUT) as child:
