@@ -158,9 +158,7 @@ module _ (d : Database) (q : Request) (tree : Tree) (listed : AreListed d) (is :
       }
 
   module _ (from : ℕ) (there : IsIndexOf d q.from from) where
-    -- The walk without links is a tight walk from the head-end to itself. Each link of a tight walk
-    -- is tight: the tree's bound at its start exceeds the bound at its end by exactly the link's
-    -- metric, and the tree's number of links exceeds that at its end by one.
+    -- The walk without links meets `IsTightWalk`: it leads from the head-end to itself.
     pub tight_none : IsTightWalk d q tree from [] from
     tight_none = record {
       within = there.within;

@@ -1,5 +1,5 @@
-//! The settled walks of a search. A node keeps only the last link of its walk, and the index of the
-//! node whose walk ends before this link. So no walk is copied.
+//! The settled walks of a search. A node stands for one walk, and keeps only the last link of this
+//! walk and the index of the node for the rest of it. So no walk is copied.
 
 ghost use Rattle.cspf_search.specs.declared.limits.TheConstants.{COST_WEIGHT};
 ghost use Rattle.std.specs.Prelude.{◌≡◌, ◌-◌, ◌/◌, ◌%◌, ◌<◌, IfOk, length};
@@ -14,8 +14,8 @@ use cspf_model::Link;
 use std::alloc::{AllocError, Global};
 use std::cmp::Ordering;
 
-/// A walk that the search has settled at its state: the walk's last link, and the index of the node
-/// that has the walk before this link. A node has 24 bytes. A state is a router in a leg.
+/// A walk that the search has settled at its state (a router in a leg). The node keeps the walk's
+/// last link, and the index of the node for the walk without this link. A node has 24 bytes.
 #[derive(Drop)]
 pub(crate) struct Node<'a> {
     /// The rank of the walk: its cost times `COST_WEIGHT`, plus its number of links, plus 1.

@@ -39,8 +39,8 @@ fn joins(query: Query<'_>, leg_index: usize, place: u16) -> bool
     false
 }
 
-/// Whether the leg to a hop is strict and no route can pass it. `starts` are the routers at which
-/// the leg begins, by their indexes in the list of routers.
+/// Whether the leg to the hop at the index `leg_index` is strict and no route can pass it. `starts`
+/// are the routers at which the leg begins, by their indexes in the list of routers.
 pub(crate) fn is_broken(query: Query<'_>, leg_index: usize, starts: &[u16]) -> bool
     requires query { IsQuery query }
     requires leg { leg_index < length query.request.now.hops }
@@ -58,8 +58,9 @@ pub(crate) fn is_broken(query: Query<'_>, leg_index: usize, starts: &[u16]) -> b
     true
 }
 
-/// The routers at which the leg to a hop begins, by their indexes in the list of routers. The first
-/// leg begins at the head-end, and each other leg at the targets of the leg before it.
+/// The routers at which the leg to the hop at the index `leg_index` begins, by their indexes in the
+/// list of routers. The first leg begins at the head-end, and each other leg begins at the targets
+/// of the leg before it. A leg's targets are the routers where it may end.
 pub(crate) fn starts_of<'a>(query: Query<'a>, head: &'a [u16], leg_index: usize) -> &'a [u16]
     requires query { IsQuery query }
     requires head { AreTargetsOf query.table.now query.request.now 0 head.now }
@@ -73,8 +74,8 @@ pub(crate) fn starts_of<'a>(query: Query<'a>, head: &'a [u16], leg_index: usize)
     }
 }
 
-/// The index of the hop of the first strict leg that no route can pass. `head` has one item: the
-/// index of the head-end in the list of routers.
+/// The index of the first hop whose leg is strict and can be passed by no route. `head` has one
+/// element: the index of the head-end in the list of routers.
 pub(crate) fn first_broken(query: Query<'_>, head: &[u16]) -> Option<usize>
     requires query { IsQuery query }
     requires head { AreTargetsOf query.table.now query.request.now 0 head.now }
