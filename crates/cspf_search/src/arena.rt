@@ -24,13 +24,15 @@ pub(crate) struct Node<'a> {
     pub(crate) by: Last<'a>,
     /// The router that the walk has reached.
     pub(crate) router: Addr,
-    /// The index of the node (the record of a walk) whose walk this node continues.
+    /// The index of the node (the record of a walk) for this walk without its last link. The first
+    /// node has its own index, 0.
     pub(crate) parent: u16,
     /// The leg of the request that the walk has reached. The first leg is leg 1.
     pub(crate) leg: u16,
 }
 
-/// The number of links of a walk of this rank (its cost and number of links as one number).
+/// The number of links of a walk with the rank `rank`, which packs the walk's cost and its number
+/// of links into one number.
 fn links_in(rank: u64) -> usize
     requires { 0 < rank }
     ensures { result ≡ (rank - 1) % COST_WEIGHT }
@@ -83,9 +85,9 @@ pub(crate) fn links_to(
     Ok(links)
 }
 
-/// Compares the local addresses of two walks with the same number of links, from the first link on.
-/// The function goes back over both walks from their last links, and stops where both continue the
-/// same node (the record of a walk).
+/// Compares the local addresses of two walks with the same number of links, beginning at their
+/// first links. The function follows both walks back from their last links, and stops when both
+/// continue the same node (the record of a walk).
 pub(crate) fn locals<'a>(nodes: &[Node<'a>], a: &Node<'a>, b: &Node<'a>) -> Ordering
     requires arena { AreNodes nodes.now }
     requires first { IsNext nodes.now a.now }

@@ -30,12 +30,10 @@ fn are_settled(query: Query<'_>, labels: &[Label], at: usize) -> bool
 }
 
 /// The floor after the state at the index `at` is settled. All states at indexes below the floor
-/// are in closed legs. If `at` is the last target of a leg to a hop that had to be settled, this
-/// leg and all earlier legs are closed, and the floor becomes the first index of the next leg.
-/// Otherwise the floor doesn't change.
-///
-/// A leg is closed once all its targets at which a route may go on to the next leg are settled. A
-/// state is a router in a leg, and a leg's targets are the routers where it may end.
+/// are in closed legs. A leg is closed once all its targets at which a route may go on to the next
+/// leg are settled, and then all earlier legs are closed too. If `at` is the last such target of a
+/// leg to a hop, the floor becomes the first index of the next leg. Otherwise the floor doesn't
+/// change. A state is a router in a leg, and a leg's targets are the routers where it may end.
 pub(crate) fn raised(query: Query<'_>, labels: &[Label], floor: usize, at: usize) -> usize
     requires query { IsQuery query }
     requires within { at < length query.roles.now }

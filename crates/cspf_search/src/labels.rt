@@ -129,11 +129,11 @@ fn is_live(goal: Goal<'_>, labels: &[Label], key: u64, at: usize) -> bool
     at >= goal.floor && labels[at].rank == key - lift(goal, at)
 }
 
-/// Pops keys from the heap until one still counts, and returns the index of this key's state. It is
-/// the waiting state with the least key. A key no longer counts if its state has another label now,
-/// or if its state is in a closed leg, below the floor. A state is a router in a leg, and a label
-/// holds the best walk found so far to a state. The floor is the first index after the states of
-/// the closed legs.
+/// Pops keys from the heap up to the first key that still counts, and returns the index of this
+/// key's state. It is the waiting state with the least key. A key no longer counts if its state has
+/// another label now, or if its state is in a closed leg, below the floor. A state is a router in a
+/// leg, and a label holds the best walk found so far to a state. The floor is the first index after
+/// the states of the closed legs.
 pub(crate) fn least(
     table: &Table,
     request: &Request,
