@@ -65,8 +65,8 @@ four_bytes (a ∷ b ∷ c ∷ d ∷ rest) whole = refl
 with_class : (field written rest : List ℕ) → field ≡ written → field ++ 20 ∷ 1 ∷ rest ≡ (written ++ 20 ∷ 1 ∷ []) ++ rest
 with_class field written rest same = ap (λ (front : List ℕ). front ++ 20 ∷ 1 ∷ rest) same ∙ sym (append_assoc written (20 ∷ 1 ∷ []) rest)
 
--- If a test `b` that gives the error `e` when it is true lets the value `x` through, `b` is false,
--- and `r` has the value `x`.
+-- Let a result be the error `e` if the test `b` is true, and `r` otherwise. If this result is the
+-- value `x`, then `b` is false, and `r` is the value `x`.
 refused_by : {A : Type 0} (b : Bool) (e : EroError) (r : Result A EroError) (x : A) → cond b (Err e) r ≡ Ok x → (b ≡ false) × (r ≡ Ok x)
 refused_by true e r x same = absurd (cc)
 refused_by false e r x same = (refl, same)

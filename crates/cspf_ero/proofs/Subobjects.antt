@@ -12,8 +12,8 @@ use Rattle.cspf_ero.specs.declared.ero_error.EroError.{EroError}
 use Rattle.cspf_ero.specs.Objects.{type_byte, subobject, SpellsHop}
 use Rattle.cspf_ero.specs.Reading.{address_in, hop_at}
 
--- If a test `b` that gives the error `e` when it is false lets the value `x` through, `b` is true,
--- and `r` has the value `x`.
+-- Let a result be `r` if the test `b` is true, and the error `e` otherwise. If this result is the
+-- value `x`, then `b` is true, and `r` is the value `x`.
 pub passed : {A : Type 0} (b : Bool) (r : Result A EroError) (e : EroError) (x : A) → cond b r (Err e) ≡ Ok x → (b ≡ true) × (r ≡ Ok x)
 passed true r e x same = (refl, same)
 passed false r e x same = absurd (cc)

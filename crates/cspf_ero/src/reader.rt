@@ -7,7 +7,7 @@ ghost use Rattle.cspf_ero.specs.Reading.{ero_of, sized_ero_of, subobject_hops, h
 use crate::ero_error::EroError;
 use cspf_addr::{Addr, Hop, Hops, MOST_HOPS, Prefix};
 
-/// The first bytes of an object that decide which hops it has: this many are enough. A header and
+/// How many bytes at the start of an object are enough to decide which hops it has. A header and
 /// `MOST_HOPS` subobjects have fewer bytes.
 pub const FIRST_BYTES: usize = 64;
 

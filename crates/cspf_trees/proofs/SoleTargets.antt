@@ -26,8 +26,8 @@ alone [] one = absurd (omega arith)
 alone (x ∷ []) one = refl
 alone (x ∷ (y ∷ xs)) one = absurd (omega arith)
 
--- if the list of a prefix's owners has only one element, the router at this index is the only owner
--- of the prefix
+-- if the list of the indexes of a prefix's owners has only one element, the router at this index is
+-- the only owner of the prefix
 pub sole_owner_at : (d : Database) (prefix : PrefixParts) (places : List ℕ) → length places ≡ 1 → AreOwners d prefix places
     → ((router : ℕ) → Contains (router_list d) router ↔ IsRouterOf d router) → IsSoleOwner d prefix (slice_index (router_list d) (slice_index places 0))
 sole_owner_at d prefix places one are known =

@@ -21,7 +21,7 @@ use std::alloc::{AllocError, Global};
 /// What follows for the request's routes from the answer to one more leg.
 enum LegStep {
     /// The walk now leads to the target of the leg (a router where it may end). It is the least
-    /// walk to this target.
+    /// walk through the legs so far.
     On,
     /// The request has no route.
     NoRoute,

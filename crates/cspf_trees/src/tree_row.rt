@@ -25,9 +25,9 @@ pub(crate) struct TreeRow {
     pub(crate) generation: u64,
     /// The class of the row: all requests with one tail-end and the same affinities.
     pub(crate) class: Class,
-    /// The number of requests of the row's class that are counted, minus the number of requests of
-    /// other classes that came to this row. It is at least 0 and at most `MOST_ASKS`. A class is
-    /// all requests with one tail-end and the same affinities.
+    /// The number of requests of the row's class that are counted, lowered by one for each request
+    /// of another class that came to this row. A class is all requests with one tail-end and the
+    /// same affinities.
     pub(crate) asks: u32,
     /// The tree of the row's class, if it is grown. A class is all requests with one tail-end and
     /// the same affinities.
