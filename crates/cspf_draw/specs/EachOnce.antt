@@ -5,8 +5,7 @@ use Rattle.std.specs.Prelude.{◌≡◌, ℕ, ◌==◌, if◌then◌else◌, nat
 abbrev pub times : ℕ → List ℕ → ℕ
 times x xs = count_by (λ y. y == x) xs
 
--- how often the number `x` is in a list of all numbers below the bound: once if it is below the
--- bound, and otherwise 0 times
+-- 1 if the number `x` is below the bound, and otherwise 0
 abbrev pub once_below : ℕ → ℕ → ℕ
 once_below bound x = if nat_lt x bound then 1 else 0
 
