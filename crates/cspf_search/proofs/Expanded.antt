@@ -222,9 +222,9 @@ module _ (d : Database) (q : Request) (nodes : List Node) (at state : ℕ) (is :
   turn_below w t (inr (inl turn)) = (at, omega arith, inl turn)
   turn_below w t (inr (inr x)) = absurd (no_row 0 w t x)
 
-  -- If the walk of the node at `at` may not leave its router, each walk that continues a node at an
-  -- index up to `at` is a walk of `CrossesUpTo` with `row` 0: it continues the node at `at` by no
-  -- link. A node is the record of a walk.
+  -- If the walk of the node at `at` may not leave its router, no link continues the node at `at`.
+  -- So each walk that continues a node at an index up to `at` is a walk of `CrossesUpTo` with `row`
+  -- 0. A node is the record of a walk.
   pub below_turn : (NodeMayLeave d nodes at state → ⊥) → (w : List Link) (t : State) → CrossesBelow d q nodes (links_of d) (at + 1) w t
       → CrossesUpTo d q nodes at (state % 1024) 0 w t
   below_turn never w t x =

@@ -56,9 +56,9 @@ others_left x old new moved y at =
 pub was_there : (x : HeapKey) (old new : List HeapKey) → IsPermutation old (x ∷ new) → Contains old x
 was_there x old new moved = Contains-permutation (x ∷ new) old x (IsPermutation-sym old (x ∷ new) moved) (0, omega arith, refl)
 
--- At an index within the list of labels, the default value for missing elements doesn't matter for
--- the rank that is read. A label holds the best walk found so far to a state, and a walk's rank
--- packs its cost and its number of links into one number.
+-- If the index `i` is below the length of the list of labels, the rank that is read there doesn't
+-- depend on the default label `e`. A label holds the best walk found so far to a state, and a
+-- walk's rank packs its cost and its number of links into one number.
 pub rank_read : (labels : List Label) (i : ℕ) (e : Label) → i < length labels → (slice_index_or labels i e).rank ≡ (label_at labels i).rank
 rank_read labels i e h = ap (λ (l : Label). l.rank) (get_or_default labels i e no_label h)
 
@@ -109,7 +109,7 @@ module _ (d : Database) (q : Request) (goal : Goal) (labels : List Label) (old h
 abbrev pub blank : HeapKey
 blank = record { 0 = (0, 0) }
 
--- Lemmas on the filter that drops the keys of closed legs, when it comes to one more key. The
+-- Lemmas on the filter that drops the keys of closed legs, when it looks at one more key. The
 -- filter keeps this key if the index of the key's state is at least the floor, the first index
 -- after the states of the closed legs. A state is a router in a leg.
 module _ (floor : ℕ) (items left : List HeapKey) (k : ℕ) (within : k < length items)

@@ -1,5 +1,5 @@
 -- A settled node (the record of a walk) leads to other nodes, by links and by the step to the next
--- leg. These lemmas say how the first of these other nodes changes when a round comes to one more
+-- leg. These lemmas say how the first of these other nodes changes when a round looks at one more
 -- link or step.
 use Rattle.std.proofs.Common.{◌≡◌, inl, inr, ℕ, zero, suc, ◌+◌, ◌-◌, ◌*◌, ◌/◌, ◌%◌, ◌^◌, ◌<◌, ◌≤◌, true, false, is_some, Option, Some, None, List, [], ◌∷◌, length, slice_get, slice_index, slice_index_or, take, refl, sym, ap, subst, ◌∙◌, arith}
 use Rattle.std.specs.Option.{IsSomeAnd}
@@ -72,7 +72,7 @@ ranked_first nodes n next w leg less short =
     by_rank (cost_of (walk_of nodes n)) (cost_of w) (length (walk_of nodes n)) (length w) (nat_cmp n.leg leg) _ (omega (arith, less, next.ranked.rank)) short
 
 module _ (d : Database) (q : Request) (nodes : List Node) (are : AreNodes nodes) (at state : ℕ) (is : IsNodeAt d q nodes at state) where
-  -- Before the round comes to any link, each walk that continues the node does so by the step to
+  -- Before the round looks at any link, each walk that continues the node does so by the step to
   -- the next leg at the same router. A node is the record of a walk.
 
   only_turn : (w : List Link) (t : State) → CrossesFrom d q nodes (take 0 (links_from_index d (state % 1024))) at w t → Turns d q nodes at w t
@@ -120,7 +120,7 @@ module _ (d : Database) (q : Request) (nodes : List Node) (are : AreNodes nodes)
       (Some (node_by at (slice_index_or nodes at nowhere) None)) first)
 
   -- Lemmas on the first of the nodes (records of walks) that one node leads to, by its step to the
-  -- next leg or by its first links, when the round comes to one more link.
+  -- next leg or by its first links, when the round looks at one more link.
 
   module _ (a : Option Node) (row : ℕ) (l : Link) (here : slice_get (links_from_index d (state % 1024)) row ≡ Some l) (end : ℕ) (ends : IsIndexOf d l.to end)
       (few : length (router_list d) ≤ 1024) (before : IsFirst nodes (CrossesFrom d q nodes (take row (links_from_index d (state % 1024))) at) a) where
@@ -137,8 +137,8 @@ module _ (d : Database) (q : Request) (nodes : List Node) (are : AreNodes nodes)
         absurd (cc))
 
     -- If the link isn't usable, or a route may not enter the router at its end, the link leads to
-    -- no node. So the first node that the earlier links and the step to the next leg lead to stays
-    -- the first. A node is the record of a walk.
+    -- no node. So the first of the nodes that the round has found so far doesn't change. A node is
+    -- the record of a walk.
     pub no_link : (IsUsable d q l → MayEnter d q ((state - state % 1024 + end) / 1024 + 1) (slice_index (router_list d) ((state - state % 1024 + end) % 1024)) → ⊥)
         → IsFirst nodes (CrossesFrom d q nodes (take (row + 1) (links_from_index d (state % 1024))) at) a
     no_link never = link_off (λ w t x.
@@ -199,9 +199,9 @@ module _ (look : Look) (is : IsLook look) (row : ℕ) (within : row < length (li
       is.marks.each (look.star.state - look.star.state % 1024 + end) false
       (link_index look.query.table.now look.query.request.now look.nodes.now look.at look.star.state is.from row row_link.0 row_link.1 end row_is_end is.query.listed.few)
 
-  -- If the state at the link's end is marked as settled, the link leads to no node. So the first
-  -- node that the earlier links and the step to the next leg lead to stays the first. A state is a
-  -- router in a leg, and a node is the record of a walk.
+  -- If the state at the link's end is marked as settled, the link leads to no new node. So the
+  -- first of the nodes that the round has found so far doesn't change. A state is a router in a
+  -- leg, and a node is the record of a walk.
   pub row_settled : slice_index_or look.marks.now (look.star.state - look.star.state % 1024 + end) false ≡ true → (a : Option Node)
       → IsFirst look.nodes.now (LeadsToRow look row) a → IsFirst look.nodes.now (LeadsToRow look (row + 1)) a
   row_settled marked a before =

@@ -57,16 +57,16 @@ module _ (d : Database) (q : Request) (nodes : List Node) (are : AreNodes nodes)
         | inr ge ↦ let e : x.0 ≡ at = omega (arith, x.1) in inr (subst (λ k. CrossesFrom d q nodes (links_of d) k w t) e x.2)
       ]
 
-  -- The best node that the nodes up to this one lead to is the earlier of two nodes: the best node
-  -- that the nodes before this one lead to, and the first node that this one leads to. A node is
-  -- the record of a walk.
+  -- A round looks at the settled nodes one after the other. After it looks at this node, the best
+  -- node so far is the earlier of two nodes: the best node before, and the first node that this
+  -- node leads to. A node is the record of a walk.
   pub found_kept : (best found : Option Node) → IsFirst nodes (CrossesBelow d q nodes (links_of d) at) best → IsFirst nodes (CrossesFrom d q nodes (links_of d) at) found
       → IsFirst nodes (CrossesBelow d q nodes (links_of d) (at + 1)) (earlier_of nodes best found)
   found_kept =
       first_both nodes (CrossesBelow d q nodes (links_of d) at) (CrossesFrom d q nodes (links_of d) at) (CrossesBelow d q nodes (links_of d) (at + 1)) below_left below_right below_cases
 
   -- If the lower bound of this node (the record of a walk) exceeds the rank of the best node so
-  -- far, or no walk continues this node, the best node stays the best.
+  -- far, or no walk continues this node, the best node doesn't change.
   pub passed : (best : Option Node) (low : ℕ) → IsFirst nodes (CrossesBelow d q nodes (links_of d) at) best → IsLow d q nodes at low
       → (low ≡ no_rank) ⊎ (low_of best < low) → IsFirst nodes (CrossesBelow d q nodes (links_of d) (at + 1)) best
   passed None low first is (inl none) = λ w t x. elim (below_cases w t x) [ inl p ↦ first w t p | inr h ↦ let has = is w t h in absurd (omega (arith, none, has.0)) ]

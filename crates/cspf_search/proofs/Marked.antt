@@ -36,8 +36,8 @@ no_marks d q count many = record {
   each = λ i e index. get_or-replicate count i false e (omega (arith, many, index.low));
 }
 
--- The forward star of a node has the index of the node's state (a router in a leg). It is the index
--- of a state of the request.
+-- The forward star of a node has the index of the node's state (a router in a leg). This index is
+-- the index of a state of the request.
 pub star_index : (d : Database) (q : Request) (n : Node) (star : ForwardStar) → IsInLeg q n → IsForwardStar d (state_of n) star → IsStateIndex d q star.state
 star_index d q n star leg is =
     let same = ap (λ (s : State). s.leg) is.state in

@@ -302,9 +302,9 @@ lost_by_rank d nodes are P cap ahead t label n next low (inr late) = inl (record
   behind = omega (arith, late, rank_is nodes are n next);
 })
 
--- If an offered label has the same rank as the present label of a state, so do the walks that both
--- labels hold. A state is a router in a leg, and a label holds the best walk found so far to a
--- state. A walk's rank packs its cost and its number of links into one number.
+-- If an offered label has the same rank as the present label of a state, the walks of both labels
+-- have the same rank too. A state is a router in a leg, and a label holds the best walk found so
+-- far to a state. A walk's rank packs its cost and its number of links into one number.
 pub tied_label : (d : Database) (nodes : List Node) → AreNodes nodes → (P : List Link → State → Type 0) (cap ahead : ℕ) (t : State) (old label : Label) → IsLabel d nodes P cap ahead t old
     → IsOffer d nodes label → label.rank ≡ (node_of d nodes label).rank → label.rank ≡ old.rank → AreTied d nodes old label
 tied_label d nodes are P cap ahead t old label (is_settled k none e) offer rank tie = absurd (omega (arith, rank, tie, none))

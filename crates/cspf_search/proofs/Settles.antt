@@ -93,8 +93,8 @@ module _ (d : Database) (q : Request) where
   no_way potential up end start w route =
       omega (arith, way_back potential up w (end_state q) (route_reaches d q w route) (omega (arith, end)), start)
 
-  -- If a step leads from a state that isn't settled into a leg after the closed legs, that state is
-  -- in such a leg too. A state is a router in a leg.
+  -- If a step leads from an unsettled state into a leg after the closed legs, the unsettled state
+  -- is itself in a leg after the closed legs. A state is a router in a leg.
   step_behind : (labels : Labels) (closed : ℕ) → IsClosed d q labels closed → (v x : List Link) (s t : State) → Reaches d q v s → IsStep d q v s x t
       → labels s ≡ None → closed < t.leg → closed < s.leg
   step_behind labels closed shut v x s t r (by_link {leg = k} l a enters leaves) left h = h
@@ -116,18 +116,17 @@ module _ (d : Database) (q : Request) where
   step_no_later v x s t (by_turn within target) w h = (w, by_turn within target, h)
 
   module _ (labels : Labels) (settled : AreSettled d q labels) where
-    -- If a step continues a walk `v` from a settled state (a router in a leg) to a state that isn't
-    -- settled, the same step continues the settled walk of the first state. The walk that results
-    -- doesn't come after `x`, the walk that continues `v`.
+    -- Let a step continue a walk `v` to a settled state (a router in a leg) by one step, to a walk
+    -- `x` to an unsettled state. The same step continues the settled walk of the first state, and
+    -- gives a walk that doesn't come after `x`.
     crossing_from : (v x : List Link) (s u : State) → Reaches d q v s → IsStep d q v s x u → (f : List Link) → labels s ≡ Some f → labels u ≡ None
         → (y : List Link) × Crosses d q labels y u × IsNoLater y x
     crossing_from v x s u r st f here left =
         let same = step_no_later v x s u st f (settled.least s f v here r) in
         (same.0, record { state = s; front = f; settled = here; step = same.1; still_open = left }, same.2)
 
-    -- If no settled walk can be continued by one step into a leg after the closed legs, to a state
-    -- that isn't settled, each state in such a leg that a walk reaches is settled. A state is a
-    -- router in a leg.
+    -- If no step continues a settled walk to an unsettled state in a leg after the closed legs, no
+    -- walk at all reaches an unsettled state in such a leg. A state is a router in a leg.
     all_settled : (closed : ℕ) → IsClosed d q labels closed → ((y : List Link) (u : State) → Crosses d q labels y u → closed < u.leg → ⊥)
         → (x : List Link) (u : State) → Reaches d q x u → labels u ≡ None → closed < u.leg → ⊥
     all_settled closed shut stuck x u starts left behind = cc (settled.start)
@@ -187,8 +186,8 @@ module _ (d : Database) (q : Request) where
           cc (ap ordering_reverse less);
     }
 
-    -- If no settled walk can be continued into a leg after the closed legs, to a state (a router in
-    -- a leg) that isn't settled, and the tail-end isn't settled in the last leg, there is no route.
+    -- If the search can't go on, by `IsStuck`, and the tail-end isn't settled in the last leg,
+    -- there is no route.
     pub no_route : IsStuck d q labels → labels (end_state q) ≡ None → (w : List Link) → IsRoute d q w → ⊥
     no_route stuck left w route =
         all_settled stuck.closed stuck.is_closed stuck.none w (end_state q) (route_reaches d q w route) left (omega (arith, stuck.low))

@@ -1,6 +1,6 @@
 -- The walk that follows the first tight link from each router is the least route, if it leads to
--- the tail-end. A link is tight if the tree's bound at its start exceeds the bound at its end by
--- exactly the link's metric, and the tree's number of links exceeds that at its end by one.
+-- the tail-end. A link is tight if the tree's bound falls by exactly the link's metric from its
+-- start to its end, and the tree's number of links falls by one.
 use Rattle.std.proofs.Common.{◌≡◌, ◌≢◌, inl, inr, ℕ, ◌+◌, ◌^◌, ◌<◌, ◌≤◌, Some, List, [], ◌∷◌, ◌++◌, ◌⊎◌, length, map, slice_get, slice_index, slice_index_or, refl, sym, ap, subst, ◌∙◌, arith, append_assoc, append-nil}
 use Rattle.std.specs.List.{All}
 use Rattle.std.specs.Cmp.{nat_cmp_total}
@@ -170,8 +170,8 @@ module _ (d : Database) (q : Request) (tree : Tree) (listed : AreListed d) (is :
     }
 
     -- Lemmas on a tight walk to which the first tight link from its last router is appended. A link
-    -- is tight if the tree's bound at its start exceeds the bound at its end by exactly the link's
-    -- metric, and the tree's number of links exceeds that at its end by one.
+    -- is tight if the tree's bound falls by exactly the link's metric from its start to its end,
+    -- and the tree's number of links falls by one.
     module _ (of : AreLinksOf d (links_of d)) (keyed : AreAtTheirKeys d) (loose : length q.hops ≡ 0) (to : ℕ) (end : IsIndexOf d q.to to) (walk : List Link) (place : ℕ)
         (before : IsTightWalk d q tree from walk place) (on : place ≢ to) (edge : Edge) (next : IsNextTight d q tree place edge) where
       abbrev l : Link
@@ -211,11 +211,11 @@ module _ (d : Database) (q : Request) (tree : Tree) (listed : AreListed d) (is :
             | inr e ↦ inr (next.is_edge.end.is ∙ e)
           ]
 
-      -- Let a route begin with the tight walk, and let its rest cost the tree's bound for the
-      -- walk's last router, and have the tree's number of links for it. This rest begins with the
-      -- link `l` or with a link with a greater local address. A link is tight if the tree's bound
-      -- at its start exceeds the bound at its end by exactly the link's metric, and the tree's
-      -- number of links exceeds that at its end by one.
+      -- A route begins with the tight walk. The rest of the route costs the tree's bound for the
+      -- walk's last router, and has the tree's number of links for it. Then this rest begins with
+      -- the link `l`, or with a link with a greater local address. A link is tight if the tree's
+      -- bound falls by exactly the link's metric from its start to its end, and the tree's number
+      -- of links falls by one.
       goes_on : (rest : List Link) → IsWayOn d q (router_at d place) rest → cost_of rest ≡ tree_bound tree place → length rest ≡ tree_links tree place → (route : List Link) → route ≡ walk ++ rest
           → GoesOn d q tree (walk ++ (l ∷ [])) edge.end route ⊎ LeavesLater (walk ++ (l ∷ [])) route
       goes_on [] way cost many route whole = absurd (not_end way.end)
@@ -269,8 +269,8 @@ module _ (d : Database) (q : Request) (tree : Tree) (listed : AreListed d) (is :
 
     -- Lemmas on a tight walk that has reached the tail-end. Its cost is the tree's bound for the
     -- head-end, and its number of links is the tree's number of links for the head-end. A link is
-    -- tight if the tree's bound at its start exceeds the bound at its end by exactly the link's
-    -- metric, and the tree's number of links exceeds that at its end by one.
+    -- tight if the tree's bound falls by exactly the link's metric from its start to its end, and
+    -- the tree's number of links falls by one.
     module _ (loose : length q.hops ≡ 0) (to : ℕ) (end : IsIndexOf d q.to to) (walk : List Link) (at : IsTightWalk d q tree from walk to) where
       is_route : IsRoute d q walk
       is_route =

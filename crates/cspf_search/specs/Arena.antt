@@ -69,15 +69,15 @@ pub record IsRanked (n : Node) (walk : List Link) (index : ℕ) : Type 0 where
 abbrev pub HasLast : Node → Type 0
 HasLast n = 1 < n.rank → IsSome n.by
 
--- The root is the first node (the record of a walk). It has no link, and its parent has the root's
--- own index, 0.
+-- The root is the first node (the record of a walk). It has no link, and its `parent` is its own
+-- index, 0.
 pub record IsRoot (n : Node) : Type 0 where
   pub parent : n.parent ≡ 0
   pub by : n.by ≡ None
 
 -- The nodes (records of walks) form a tree: every node except the root follows its parent in the
--- list. No two nodes have the same state (a router in a leg). There are at most 8,192 nodes: one
--- for each of 1,024 routers in each of eight legs.
+-- list. No two nodes have the same state (a router in a leg). There are at most 8,192 nodes: at
+-- most one for each of 1,024 routers in each of eight legs.
 pub record AreNodes (nodes : List Node) : Type 0 where
   pub some : 0 < length nodes
   pub most : length nodes ≤ 8192

@@ -88,15 +88,15 @@ pub record Falls (old new : Ring) : Type 0 where
   pub kept : (i : ℕ) → is_done new i ≡ true
       → (is_done old i ≡ true) × (bound_at new.near.items i ≡ bound_at old.near.items i)
 
--- The search has passed the link at the index `at`, which begins at the router `from`: the bound of
--- `from` is at most the link's metric plus `base`, the bound of the router at the link's end. This
--- need not hold if the request doesn't admit the link, or if no walk may leave `from`.
+-- The search has handled the link at the index `at`, which begins at the router `from`. If the
+-- request admits the link and a walk may leave `from`, the bound of `from` is at most the link's
+-- metric plus `base`, the bound of the router at the link's end.
 abbrev pub IsPassed : Database → Request → ℕ → Ring → ℕ → ℕ → Type 0
 IsPassed d q base ring from at =
     (l : Link) → slice_get (links_of d) at ≡ Some l → IsAdmitted q l → MayBeLeft d q (slice_index (router_list d) from)
     → IsWithin (bound_at ring.near.items from) base l.metric
 
--- The search has passed each link that a walk may use, and that ends at the router `to`: the bound
+-- The search has handled each link that a walk may use and that ends at the router `to`: the bound
 -- at the link's start is at most the link's metric plus `base`, the bound of `to`.
 abbrev pub ArePassed : Database → Request → ℕ → Ring → ℕ → Type 0
 ArePassed d q base ring to =

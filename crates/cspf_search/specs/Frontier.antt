@@ -98,8 +98,9 @@ pub record IsReached (d : Database) (nodes : List Node) (P : List Link → State
   pub first : (w : List Link) → P w t
       → IsNoLater (walk_of nodes (node_of d nodes label)) w ⊎ IsBeyond cap ahead w
 
--- The three cases of a label. Its state (a router in a leg) is settled, or the label holds the best
--- walk to this state so far, or no walk to this state that satisfies `P` can begin the best route.
+-- The label of the state `t` (a router in a leg) is right, in one of three cases. The state is
+-- settled. Or the label holds the best walk to this state so far. Or no walk to this state that
+-- satisfies `P` can begin the best route.
 pub data IsLabel (d : Database) (nodes : List Node) (P : List Link → State → Type 0)
     (cap ahead : ℕ) (t : State) (label : Label) : Type 0 where
   is_settled : (i : ℕ) → label.rank ≡ 0 → index_of nodes t ≡ Some i
@@ -130,9 +131,9 @@ no_label = record { rank = 18446744073709551615; parent = 0; place = 0; row = 0 
 abbrev pub label_at : List Label → ℕ → Label
 label_at labels i = slice_index_or labels i no_label
 
--- Take the leg of the state at the index `at`. Each target of this leg that a route may visit is
--- settled according to its label. A state is a router in a leg, and a label holds the best walk
--- found so far to a state. A leg's targets are the routers where it may end.
+-- In the leg of the state at the index `at`, all targets that a route may visit are settled,
+-- according to their labels. A state is a router in a leg, and a label holds the best walk found so
+-- far to a state. A leg's targets are the routers where it may end.
 abbrev pub AreTargetsSettled : Database → List Role → List Label → ℕ → Type 0
 AreTargetsSettled d roles labels at =
     (i : ℕ) → i % MOST_ROUTERS < length (router_list d) → i / MOST_ROUTERS ≡ at / MOST_ROUTERS
@@ -213,13 +214,13 @@ pub record IsOffer (d : Database) (nodes : List Node) (label : Label) : Type 0 w
   pub parent : label.parent < length nodes
   pub next : IsNext nodes (node_of d nodes label)
 
--- The walks that both labels hold have the same rank. A label holds the best walk found so far to a
--- state, and a walk's rank packs its cost and its number of links into one number.
+-- The walks of both labels have the same rank. A label holds the best walk found so far to a state,
+-- and a walk's rank packs its cost and its number of links into one number.
 pub record AreTied (d : Database) (nodes : List Node) (old label : Label) : Type 0 where
   pub other : IsOffer d nodes old
   pub rank : (node_of d nodes old).rank ≡ (node_of d nodes label).rank
 
--- The heap has gained one key: `new` has all the keys of `old`, and `key`.
+-- The heap has gained one key: `new` has all keys of `old`, and the key `key`.
 pub record Gains (key : HeapKey) (old new : List HeapKey) : Type 0 where
   pub kept : IsHeap heap_key_cmp old → IsHeap heap_key_cmp new
   pub moved : IsPermutation (key ∷ old) new

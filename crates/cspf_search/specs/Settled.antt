@@ -79,8 +79,8 @@ pub record Crosses (d : Database) (q : Request) (labels : Labels) (w : List Link
   pub still_open : labels t ≡ None
 
 -- The leg is closed: each router at which a route may go on from this leg to the next one is
--- settled in this leg. So every walk into a later leg continues a settled walk of this leg. No leg
--- has the number 0, which counts as closed.
+-- settled in this leg. So every walk into a later leg continues a settled walk of this leg. Leg 0,
+-- which doesn't exist, counts as closed.
 abbrev pub IsClosed : Database → Request → Labels → ℕ → Type 0
 IsClosed d q labels leg =
     1 ≤ leg → (router : ℕ) → MayTurn d q leg router → labels (record { leg = leg; router = router }) ≡ None → ⊥

@@ -1,6 +1,5 @@
--- Private: walks over tight links. A link is tight if the tree's bound at its start exceeds the
--- bound at its end by exactly the link's metric, and the tree's number of links exceeds that at its
--- end by one.
+-- Private: walks over tight links. A link is tight if the tree's bound falls by exactly the link's
+-- metric from its start to its end, and the tree's number of links falls by one.
 use Rattle.std.specs.Prelude.{◌≡◌, ℕ, ◌+◌, ◌<◌, ◌⊎◌, Some, List, ◌∷◌, ◌++◌, length, slice_get}
 use Rattle.std.specs.List.{AllByRecursion}
 use Rattle.cspf_model.specs.declared.link.Link.{Link}
@@ -18,9 +17,9 @@ use Rattle.cspf_search.specs.States.{Reaches}
 use Rattle.cspf_search.specs.Trees.{MayLeadOver, tree_bound, tree_links}
 
 -- The link `l` from the router at the index `place` is tight, and the request may use it. A way to
--- the tail-end may lead over the router at its end. The tree's bound at the link's start is its
--- metric plus the bound at its end. The tree's number of links at the start is one more than at the
--- end.
+-- the tail-end may lead over the router at its end. The tree's bound at the link's start is the
+-- link's metric plus the bound at its end. The tree's number of links at the start is one more than
+-- at the end.
 pub record IsTight (d : Database) (q : Request) (tree : Tree) (place : ℕ) (l : Link) : Type 0 where
   pub usable : IsUsable d q l
   pub over : MayLeadOver d q l.to
@@ -28,15 +27,15 @@ pub record IsTight (d : Database) (q : Request) (tree : Tree) (place : ℕ) (l :
   pub fewer : (end : ℕ) → IsIndexOf d l.to end → tree_links tree place ≡ tree_links tree end + 1
 
 -- None of the first `before` links from the router at the index `place` is tight. A link is tight
--- if the tree's bound at its start exceeds the bound at its end by exactly the link's metric, and
--- the tree's number of links exceeds that at its end by one.
+-- if the tree's bound falls by exactly the link's metric from its start to its end, and the tree's
+-- number of links falls by one.
 abbrev pub AreSlack : Database → Request → Tree → ℕ → ℕ → Type 0
 AreSlack d q tree place before =
     (row : ℕ) (l : Link) → row < before → slice_get (links_from_index d place) row ≡ Some l → ¬ IsTight d q tree place l
 
 -- `edge` is the first tight link from the router at the index `place`. A link is tight if the
--- tree's bound at its start exceeds the bound at its end by exactly the link's metric, and the
--- tree's number of links exceeds that at its end by one.
+-- tree's bound falls by exactly the link's metric from its start to its end, and the tree's number
+-- of links falls by one.
 pub record IsNextTight (d : Database) (q : Request) (tree : Tree) (place : ℕ) (edge : Edge) : Type 0 where
   pub is_edge : IsEdge d place edge
   pub tight : IsTight d q tree place edge.link.now

@@ -11,24 +11,25 @@ use Rattle.cspf_search.specs.Bounds.{bound_at}
 use Rattle.cspf_search.specs.Settled.{IsWithin}
 use Rattle.cspf_search.specs.Trees.{IsInClass, MayLeadOver}
 
--- The ranks of two routers are consistent over a link between them. The router at the link's start
--- has the cost `near` to the tail-end, over `links` links. The router at the link's end has the
--- cost `ahead`. `near` is at most `ahead` plus the link's metric, and if both are equal, `links` is
--- at most `count`.
+-- The costs and numbers of links of two routers are consistent over a link between the routers. The
+-- router at the link's start has the cost `near` to the tail-end, over `links` links. The router at
+-- the link's end has the cost `ahead`. `near` is at most `ahead` plus the link's metric. If `near`
+-- is exactly this sum, `links` is at most `count`.
 abbrev pub IsRankWithin : ℕ → ℕ → ℕ → ℕ → ℕ → Type 0
 IsRankWithin near links ahead count metric = IsWithin near ahead metric × (near ≡ ahead + metric → links ≤ count)
 
--- The costs and numbers of links meet `IsRankWithin` over each link of the request's class that
--- ends at a router whose entry in `marks` is `true`. A way to the tail-end may lead over this
--- router. A link is in the class if it has a reverse and passes the request's affinities.
+-- The costs and numbers of links meet `IsRankWithin` over each link of the request's class, if the
+-- router at the link's end has the entry `true` in `marks` and a way to the tail-end may lead over
+-- this router. A link is in the class if it has a reverse and passes the request's affinities.
 abbrev pub AreTreeBounds : Database → Request → List ℕ → List ℕ → List Bool → Type 0
 AreTreeBounds d q near links marks =
     (u w : ℕ) → slice_index_or marks w false ≡ true → (l : Link) → IsInClass d q l → MayLeadOver d q l.to → IsIndexOf d l.from u → IsIndexOf d l.to w
     → IsRankWithin (bound_at near u) (bound_at links u) (bound_at near w) (bound_at links w + 1) l.metric
 
--- The costs and numbers of links meet `IsRankWithin` over each link of the request's class that
--- ends at a router whose links the search has looked at. A way to the tail-end may lead over this
--- router. A link is in the class if it has a reverse and passes the request's affinities.
+-- The costs and numbers of links meet `IsRankWithin` over each link of the request's class, if the
+-- router at the link's end is done and a way to the tail-end may lead over this router. A link is
+-- in the class if it has a reverse and passes the request's affinities. A router is done if the
+-- search has looked at all links that end at this router.
 abbrev pub IsTreeRing : Database → Request → TreeRing → Type 0
 IsTreeRing d q ring = AreTreeBounds d q ring.near.items ring.links.items ring.done.items
 
@@ -55,16 +56,16 @@ pub record TreeFalls (old new : TreeRing) : Type 0 where
   pub kept : (i : ℕ) → is_settled_there new i ≡ true
       → (is_settled_there old i ≡ true) × (bound_at new.near.items i ≡ bound_at old.near.items i) × (bound_at new.links.items i ≡ bound_at old.links.items i)
 
--- The search has passed the link at the index `at`, which begins at the router `from`, if this link
--- passes the affinities of the request. The cost from `from` to the tail-end is at most `base` plus
--- the link's metric. If the cost is exactly this sum, `from` has at most `count` links to the
+-- The search has handled the link at the index `at`, which begins at the router `from`. If this
+-- link passes the affinities of the request, the cost from `from` to the tail-end is at most `base`
+-- plus the link's metric. If the cost is exactly this sum, `from` has at most `count` links to the
 -- tail-end.
 abbrev pub IsLinkPassed : Database → Request → ℕ → ℕ → TreeRing → ℕ → ℕ → Type 0
 IsLinkPassed d q base count ring from at =
     (l : Link) → slice_get (links_of d) at ≡ Some l → HasAffinity q l
     → IsRankWithin (bound_at ring.near.items from) (bound_at ring.links.items from) base count l.metric
 
--- The search has passed each link of the request's class that ends at the router `to`. The cost
+-- The search has handled each link of the request's class that ends at the router `to`. The cost
 -- from the router at the link's start to the tail-end is at most `base` plus the link's metric. If
 -- the cost is exactly this sum, that router has at most `count` links to the tail-end. A link is in
 -- the class if it has a reverse and passes the request's affinities.

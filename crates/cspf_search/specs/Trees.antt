@@ -47,8 +47,9 @@ tree_links tree place = if nat_lt (bound_at tree.near.items place) tree.edge the
 --
 -- Links count here if they have a reverse, pass the affinities, and end at a router with transit or
 -- at the tail-end. For each such link, the bound at its start is at most the bound at its end plus
--- its metric. If both are equal, the number of links at its start is at most one more than at its
--- end. If the bound at its end isn't `NO_WAY`, the bound at its start isn't `NO_WAY` either.
+-- its metric. If the bound at its start is exactly this sum, the number of links at its start is at
+-- most one more than at its end. If the bound at its end isn't `NO_WAY`, the bound at its start
+-- isn't `NO_WAY` either.
 --
 -- So the bound of a router is at most the cost of any way to the tail-end. A way that costs exactly
 -- the bound has at least the router's number of links. If the bound is `NO_WAY`, there is no way.

@@ -1,5 +1,5 @@
 //! The settled walks of a search. A node stands for one walk, and keeps only the last link of this
-//! walk and the index of the node for the rest of it. So no walk is copied.
+//! walk, and the index of the node for the walk before this link. So no walk is copied.
 
 ghost use Rattle.cspf_search.specs.declared.limits.TheConstants.{COST_WEIGHT};
 ghost use Rattle.std.specs.Prelude.{◌≡◌, ◌-◌, ◌/◌, ◌%◌, ◌<◌, IfOk, length};

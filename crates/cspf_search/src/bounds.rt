@@ -23,18 +23,18 @@ use cspf_model::MOST_ROUTERS;
 use std::alloc::{AllocError, Global};
 use std::cmp::Reverse;
 
-/// How many routers the backward search settles at most in the last leg.
+/// The greatest number of routers that the backward search settles in the last leg.
 const RING: usize = 24;
 
-/// How many routers the backward search settles at most in a leg to a hop. This limit is higher
-/// than `RING`, because the search from the head-end looks at more routers before such a leg is
-/// closed.
+/// The greatest number of routers that the backward search settles in a leg to a hop. This limit is
+/// higher than `RING`, because the search from the head-end looks at more routers before such a leg
+/// is closed.
 const WIDE: usize = 64;
 
-/// Lowers the bound of the router `from`, if a link from it to a router with the bound `base` gives
-/// it a shorter way. `reverse` is the index of this link, or `NO_LINK` if there is no such link.
-/// The bound stays if the request doesn't admit the link, or if no walk may leave the router
-/// `from`.
+/// Lowers the bound of the router `from`, if the link at the index `reverse` gives this router a
+/// shorter way to the tail-end. This link begins at `from` and ends at a router with the bound
+/// `base`. If `reverse` is `NO_LINK`, there is no such link. The bound doesn't change if the
+/// request doesn't admit the link, or if no walk may leave `from`.
 fn pass(
     query: Query<'_>,
     from: u16,
@@ -146,9 +146,9 @@ fn bound_ahead(ahead: &[u32], place: usize) -> u32
     }
 }
 
-/// Whether the leg to the hop at the index `leg_index` is a dead end: no target of the leg has a
-/// way to the tail-end in the next leg. Targets at which a route may not go on to the next leg
-/// don't count. A leg's targets are the routers where it may end.
+/// Whether the leg to the hop at the index `leg_index` is a dead end: none of its targets at which
+/// a route may go on to the next leg has a way to the tail-end from there. A leg's targets are the
+/// routers where it may end.
 fn is_dead_end(query: Query<'_>, leg_index: usize, ahead: &[u32]) -> bool
     requires query { IsQuery query }
     ensures { result ≡ true

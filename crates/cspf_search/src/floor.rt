@@ -6,10 +6,9 @@ use crate::labels::Label;
 use crate::query::Query;
 use cspf_model::MOST_ROUTERS;
 
-/// Whether all targets of the leg of the state at the index `at` are settled. Targets at which a
-/// route may not go on to the next leg don't count. In the last leg the result is `false`, because
-/// this leg leads to no hop. A state is a router in a leg, and a leg's targets are the routers
-/// where it may end.
+/// Whether the leg of the state at the index `at` is finished: all targets at which a route may go
+/// on to the next leg are settled. In the last leg the result is `false`, because this leg leads to
+/// no hop. A state is a router in a leg, and a leg's targets are the routers where it may end.
 fn are_settled(query: Query<'_>, labels: &[Label], at: usize) -> bool
     requires query { IsQuery query }
     requires many { length labels.now ≡ length query.roles.now }

@@ -150,10 +150,10 @@ fn offer_turn(
     offer(query.table, source.nodes, labels, heap, index, label, key)
 }
 
-/// Offers a label to the state that a link from the source leads to. The source's walk must be one
-/// that may leave its router. The source is the settled node whose walk the search continues. A
-/// node is the record of a walk, and a label holds the best walk found so far to a state (a router
-/// in a leg).
+/// Offers a label to the state that a link from the source leads to. This requires that the
+/// source's walk may leave its router. The source is the settled node whose walk the search
+/// continues. A node is the record of a walk, and a label holds the best walk found so far to a
+/// state (a router in a leg).
 fn offer_link(
     source: Source<'_>,
     edge: Edge<'_>,

@@ -1,12 +1,12 @@
 //! The weights of cost and links in the rank of a walk, the limits of the lower bounds of cost, and
 //! the capacities that are reserved at the start of a search.
 
-/// The bound of a state (a router in a leg) from which the tail-end can't be reached, as far as the
-/// backward search has found.
+/// The bound of a state (a router in a leg) from which the backward search has found no way to the
+/// tail-end.
 pub(crate) const NO_WAY: u32 = 4_294_967_295;
 
-/// The greatest bound of a state (a router in a leg) from which the tail-end can be reached. The
-/// true cost may be greater than this bound.
+/// The greatest bound of a state (a router in a leg) from which there may be a way to the tail-end.
+/// The cost of this way may be greater than the bound.
 pub(crate) const FARTHEST: u32 = 4_294_967_294;
 
 /// The weight of one unit of cost in the rank of a walk, which packs the walk's cost and its number

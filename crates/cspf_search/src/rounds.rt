@@ -54,7 +54,7 @@ fn is_late(best: &Option<Node<'_>>, rank: u64) -> bool
     }
 }
 
-/// Keeps the node (the record of a walk) as the best one, if it precedes the best one so far.
+/// If the node (the record of a walk) precedes the best node so far, keeps it as the best node.
 fn keep<'a>(nodes: &[Node<'a>], best: &mut Option<Node<'a>>, node: Node<'a>)
     requires arena { AreNodes nodes.now }
     requires first { ForSome best.old (IsNext nodes.now) }
@@ -75,7 +75,7 @@ pub(crate) struct Round<'a, 'b> {
     pub(crate) query: Query<'b>,
     /// The settled nodes (records of walks).
     pub(crate) nodes: &'a [Node<'b>],
-    /// The forward star of each settled node (the record of a walk), which has the links from the
+    /// The forward star of each settled node (the record of a walk). It has the links from the
     /// node's router.
     pub(crate) stars: &'a [ForwardStar<'b>],
     /// For each state (a router in a leg), whether the search has settled it.
@@ -128,9 +128,9 @@ fn look_at_turn<'b>(look: Look<'_, 'b>) -> Option<Node<'b>>
 
 /// Keeps the node at the link's end as the best one, if it precedes the best node so far. The node
 /// counts only if the request admits the link, the link has a reverse, and a route may enter the
-/// router at the link's end. The walk of the node of `look` must be one that may leave its router,
-/// and the state at the link's end must not be settled. A state is a router in a leg, and a node is
-/// the record of a walk.
+/// router at the link's end. This requires that the walk of the node of `look` may leave its
+/// router, and that the state at the link's end isn't settled. A state is a router in a leg, and a
+/// node is the record of a walk.
 fn look_at_link<'b>(look: Look<'_, 'b>, edge: Edge<'b>, best: &mut Option<Node<'b>>)
     requires look { IsLook look }
     requires leaves { NodeMayLeave look.query.table.now look.nodes.now look.at look.star.state }
@@ -168,8 +168,8 @@ fn look_at_link<'b>(look: Look<'_, 'b>, edge: Edge<'b>, best: &mut Option<Node<'
 
 /// Keeps the node at the end of the link at the index `row` as the best one, if it precedes the
 /// best node so far. The node counts only if its state isn't settled, the request may use the link,
-/// and a route may enter the router at the link's end. The walk of the node of `look` must be one
-/// that may leave its router. A state is a router in a leg, and a node is the record of a walk.
+/// and a route may enter the router at the link's end. This requires that the walk of the node of
+/// `look` may leave its router. A state is a router in a leg, and a node is the record of a walk.
 fn look_at_row<'b>(look: Look<'_, 'b>, row: usize, best: &mut Option<Node<'b>>)
     requires look { IsLook look }
     requires leaves { NodeMayLeave look.query.table.now look.nodes.now look.at look.star.state }
@@ -226,17 +226,18 @@ fn low_of(found: &Option<Node<'_>>) -> u64
     }
 }
 
-/// Whether a round can skip a settled node, because it leads to no node, or only to nodes that come
-/// after the best one. `low` is a lower bound of the ranks of the nodes that it leads to. A node is
-/// the record of a walk, and a walk's rank packs its cost and its number of links into one number.
+/// Whether a round can skip a settled node, because this node leads to no other node, or only to
+/// nodes that come after the best node so far. `low` is a lower bound of the ranks of the nodes
+/// that the settled node leads to. A node is the record of a walk, and a walk's rank packs its cost
+/// and its number of links into one number.
 fn is_passed(best: &Option<Node<'_>>, low: u64) -> bool
     ensures { result ≡ true → (low ≡ no_rank) ⊎ (low_of best.now < low) }
 {
     low == u64::MAX || low_of(best) < low
 }
 
-/// Keeps the node `found` (the record of a walk), if there is one, as the best one, if it precedes
-/// the best one so far.
+/// If there is a node `found` (the record of a walk), and it precedes the best node so far, keeps
+/// it as the best node.
 fn keep_found<'a>(nodes: &[Node<'a>], best: &mut Option<Node<'a>>, found: Option<Node<'a>>)
     requires arena { AreNodes nodes.now }
     requires first { ForSome best.old (IsNext nodes.now) }

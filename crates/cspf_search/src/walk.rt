@@ -1,6 +1,6 @@
 //! The route that follows from a tree without a search. A link that the request may use is *tight*
-//! if two things hold: the tree's bound at its start exceeds the bound at its end by exactly the
-//! link's metric, and the tree's number of links exceeds that at its end by exactly one.
+//! if two things hold. From the link's start to its end, the tree's bound falls by exactly the
+//! link's metric, and the tree's number of links falls by exactly one.
 //!
 //! If a route costs no more than the head-end's bound, and has no more links than the tree gives
 //! for the head-end, all its links are tight. If two such routes part at a router, the link that
@@ -27,9 +27,9 @@ use cspf_model::{Request, Route};
 use std::alloc::{AllocError, Global};
 
 /// Whether a link from the router at the index `place` is tight for the request: the request may
-/// use the link, the tree's bound at its start exceeds the bound at its end by exactly its metric,
-/// and the tree's number of links exceeds that at its end by one. The bounds are compared first,
-/// because this rules out most links.
+/// use the link, and from its start to its end, the tree's bound falls by exactly the link's
+/// metric, and the tree's number of links falls by one. The bounds are compared first, because this
+/// rules out most links.
 fn is_tight(table: &Table, request: &Request, tree: &Tree, place: usize, edge: Edge<'_>) -> bool
     requires listed { AreListed table.now }
     requires links { AreLinksOf table.now (links_of table.now) }
@@ -50,8 +50,8 @@ fn is_tight(table: &Table, request: &Request, tree: &Tree, place: usize, edge: E
 }
 
 /// The first tight link from the router at the index `place`, if there is one. A link is tight if
-/// the request may use it, the tree's bound at its start exceeds the bound at its end by exactly
-/// its metric, and the tree's number of links exceeds that at its end by one.
+/// the request may use it, and from its start to its end, the tree's bound falls by exactly the
+/// link's metric, and the tree's number of links falls by one.
 fn tight_from<'a>(
     table: &'a Table,
     request: &Request,
@@ -86,9 +86,9 @@ fn tight_from<'a>(
 
 /// The route of a request without hops that follows the first tight link from each router,
 /// beginning at the head-end. The result is `None` if these links don't lead to the tail-end. A
-/// link is tight if the tree's bound at its start exceeds the bound at its end by exactly its
-/// metric, and the tree's number of links exceeds that at its end by one. `from` and `to` are the
-/// indexes of the head-end and the tail-end in the list of routers.
+/// link is tight if the tree's bound falls by exactly the link's metric from its start to its end,
+/// and the tree's number of links falls by one. `from` and `to` are the indexes of the head-end and
+/// the tail-end in the list of routers.
 fn follow(
     alloc: Global,
     table: &Table,
