@@ -85,8 +85,8 @@ IsStrictlyIncreasing-push xs y rising above k less =
           omega arith
     ]
 
--- a property of all elements of a list holds of the element `x`, which follows the elements
--- `before`
+-- the element `x`, which follows the elements `before` in a list, has each property that all
+-- elements of the list have
 pub next_of : {X : Type 0} (P : X → Type 0) (before : List X) (x : X) (left after all : List X) → before ++ left ≡ all → left ≡ x ∷ after → All P all → P x
 next_of P before x left after all whole next holds =
     let same : all ≡ before ++ x ∷ after = sym whole ∙ ap (λ l. before ++ l) next in

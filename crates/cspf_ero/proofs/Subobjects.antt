@@ -86,7 +86,7 @@ pub covering : (prefix : PrefixParts) (address : ℕ) → IsPrefix prefix → Co
 covering prefix address proper agrees =
     ap (λ (bits : ℕ). record { address = bits; length = prefix.length }) (ap (λ quotient. quotient * 2 ^ (32 - prefix.length)) (sym agrees) ∙ proper.zeros)
 
--- if `IsReadHop` holds of bytes and a hop, the first 8 bytes are a subobject that spells this hop
+-- if bytes meet `IsReadHop` for a hop, the first 8 bytes are a subobject that spells this hop
 pub read_spells : (bytes : List ℕ) (hop : Hop) → IsBytes bytes → IsReadHop bytes hop
     → (front : List ℕ) × (length front ≡ 8) × (bytes ≡ front ++ drop 8 bytes) × SpellsHop front hop
 read_spells bytes hop small read =
@@ -116,8 +116,7 @@ read_spells bytes hop small read =
     four_small ha hb hc hd (suc (suc (suc zero))) = hd
     four_small ha hb hc hd (suc (suc (suc (suc i)))) = lit< tt
 
--- if `IsReadHop` holds of bytes and a hop, the subobject at the start of the bytes is read as this
--- hop
+-- if bytes meet `IsReadHop` for a hop, the subobject at the start of the bytes is read as this hop
 hop_at-has : (at : ℕ) (bytes : List ℕ) (hop : Hop) → IsReadHop bytes hop → hop_at at bytes ≡ Ok hop
 unfolding hop_at
 hop_at-has at bytes hop read = rw (read.kind, le-leb 8 (length bytes) read.whole, read.size, le-leb (get_or bytes 6 0) 32 read.most, read.prefix, read.loose) refl

@@ -13,7 +13,7 @@ use Rattle.cspf_ero.specs.Reading.{ero_of}
 abbrev pub AreObjectsRead : Type 0
 AreObjectsRead = (bytes : List ℕ) (hops : List Hop) → IsBytes bytes → (ero_of bytes ≡ Ok hops) ↔ Spells bytes hops
 
--- all bytes spell at most one list of hops, in the sense of `Spells`
+-- a list of bytes spells at most one list of hops, in the sense of `Spells`
 abbrev pub SpellsOneHopList : Type 0
 SpellsOneHopList = (bytes : List ℕ) (hops other : List Hop) → Spells bytes hops → Spells bytes other → hops ≡ other
 

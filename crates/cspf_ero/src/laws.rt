@@ -2,8 +2,8 @@ ghost use Rattle.cspf_ero.specs.Laws.{AreObjectsRead, SpellsOneHopList, AreRoute
 ghost use Rattle.cspf_ero.specs.ReplyHead.{HasOneHead};
 ghost use Rattle.cspf_ero.specs.ReplyLine.{HasOneReplyLine};
 
-/// Law: bytes are read as hops exactly if they are an object that spells these hops. Bytes spell at
-/// most one list of hops.
+/// Law: bytes are read as hops exactly if they are an object that spells these hops. A list of
+/// bytes spells at most one list of hops.
 pub fn objects_are_read()
     ensures read { AreObjectsRead }
     ensures one { SpellsOneHopList }

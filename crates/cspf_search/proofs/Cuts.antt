@@ -42,8 +42,8 @@ AreJoined-append_parts a [] w joined = (tt, joined)
 AreJoined-append_parts a (l ∷ v) w joined = let parts = AreJoined-append_parts l.to v w joined.1 in ((joined.0, parts.0), parts.1)
 
 module _ (d : Database) where
-  -- If all links of a walk begin at routers with transit, and one more link does too, the same
-  -- holds of the walk with this link appended.
+  -- If all links of a walk begin at routers with transit, and one more link does too, all links of
+  -- the walk with this link appended begin at routers with transit.
   froms_push : (w : List Link) (l : Link) → AllByRecursion (HasTransit d) (map (λ m. m.from) w) → HasTransit d l.from
       → AllByRecursion (HasTransit d) (map (λ m. m.from) (w ++ (l ∷ [])))
   froms_push [] l all here = (here, tt)

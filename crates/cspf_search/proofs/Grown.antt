@@ -39,9 +39,9 @@ first_empty [] = refl
 first_empty (l ∷ ls) = nothing_before (cost_of (l ∷ ls)) (length (l ∷ ls)) (locals_cmp [] (l ∷ ls)) (omega arith)
 
 module _ (d : Database) (q : Request) (links : List Link) (listed : AreLinksOf d links) (nodes : List Node) (apart : AreApart nodes) where
-  -- If a walk continues a node by a link to a state without a node, `Crosses` holds: the walk
-  -- continues a settled walk by one step to a state that isn't settled. A state is a router in a
-  -- leg, and a node is the record of a walk.
+  -- A walk that continues a node by a link to a state without a node meets `Crosses`: it continues
+  -- a settled walk by one step to a state that isn't settled. A state is a router in a leg, and a
+  -- node is the record of a walk.
   by_link_crosses : (at : ℕ) → at < length nodes → (l : Link) → IsLinkOf d l → (w : List Link) (t : State) → CrossesBy d q nodes at l w t → Crosses d q (labels_of nodes) w t
   by_link_crosses at within l of w t by =
       let is = get_or_from_slice_get nodes at by.node nowhere by.there in
@@ -57,9 +57,9 @@ module _ (d : Database) (q : Request) (links : List Link) (listed : AreLinksOf d
         still_open = ap (option_map (λ i. walk_at (walks nodes) i)) by.still_open;
       }
 
-  -- If a walk continues a node by the step to the next leg, to a state without a node, `Crosses`
-  -- holds: the walk continues a settled walk by one step to a state that isn't settled. A state is
-  -- a router in a leg, and a node is the record of a walk.
+  -- A walk that continues a node by the step to the next leg, to a state without a node, meets
+  -- `Crosses`: it continues a settled walk by one step to a state that isn't settled. A state is a
+  -- router in a leg, and a node is the record of a walk.
   by_turn_crosses : (at : ℕ) → at < length nodes → (w : List Link) (t : State) → Turns d q nodes at w t → Crosses d q (labels_of nodes) w t
   by_turn_crosses at within w t turn =
       let is = get_or_from_slice_get nodes at turn.node nowhere turn.there in
@@ -123,9 +123,9 @@ module _ (d : Database) (q : Request) (links : List Link) (listed : AreLinksOf d
         }),
       )
 
-  -- If `Crosses` holds of a walk, so that the walk continues a settled walk by one step to a state
-  -- that isn't settled, the walk continues a node by a link or by the step to the next leg. A state
-  -- is a router in a leg, and a node is the record of a walk.
+  -- A walk that meets `Crosses` continues a node by a link or by the step to the next leg.
+  -- `Crosses` says that the walk continues a settled walk by one step to a state that isn't
+  -- settled. A state is a router in a leg, and a node is the record of a walk.
   pub crosses_to : (w : List Link) (t : State) → Crosses d q (labels_of nodes) w t → CrossesBelow d q nodes links (length nodes) w t
   crosses_to w t x = step_from x.front w x.state t x.step x.settled x.still_open
 

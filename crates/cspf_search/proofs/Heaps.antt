@@ -146,9 +146,9 @@ module _ (floor : ℕ) (items left : List HeapKey) (k : ℕ) (within : k < lengt
           | inr there ↦ none_else key there
         ]
 
--- After the keys of states in closed legs are dropped from the heap, `AreLabels` still holds of the
--- labels and of the remaining keys. A state is a router in a leg, and a label holds the best walk
--- found so far to a state.
+-- After the keys of states in closed legs are dropped from the heap, the labels and the remaining
+-- keys still meet `AreLabels`. A state is a router in a leg, and a label holds the best walk found
+-- so far to a state.
 pub labels_open : (d : Database) (q : Request) (nodes : List Node) (P : List Link → State → Type 0) (goal : Goal) (labels : List Label) (old new : List HeapKey)
     → AreLabels d q nodes P goal labels old → IsOpenOf goal.floor old new → AreLabels d q nodes P goal labels new
 labels_open d q nodes P goal labels old new are left = record {

@@ -122,8 +122,8 @@ module _ (nodes : List Node) (n : Node) (are : AreNodes nodes) (next : IsNext no
   at_new : (i : ℕ) (d : Node) → i ≡ length nodes → slice_index_or (nodes ++ (n ∷ [])) i d ≡ n
   at_new i d e = get_or_push nodes n d i (sym e)
 
-  -- If a property holds of each old node (the record of a walk) and of the new node, it holds of
-  -- each node of the longer list.
+  -- If each old node (the record of a walk) and the new node have a property, each node of the
+  -- longer list has this property.
   by_index : (P : ℕ → Node → Type 0) → ((i : ℕ) (d : Node) → i < length nodes → P i (slice_index_or nodes i d)) → P (length nodes) n
       → (i : ℕ) (d : Node) → i < length (nodes ++ (n ∷ [])) → P i (slice_index_or (nodes ++ (n ∷ [])) i d)
   by_index P old new i d h =

@@ -21,8 +21,8 @@ pub role_turns : (d : Database) (q : Request) (roles : List Role) → AreRoles d
     → MayTurn d q (i / 1024 + 1) (router_at d (i % 1024))
 role_turns d q roles are i ix on = (are.each i nothing ix).target.0 on
 
--- If a property holds of the first `k` elements of a list of indexes, and of the next element, it
--- holds of the first `k + 1` elements.
+-- If the first `k` elements of a list of indexes have a property, and the next element does too,
+-- the first `k + 1` elements have this property.
 pub taken_more : (P : ℕ → Type 0) (places : List ℕ) (k place : ℕ) → k < length places → place ≡ slice_index_or places k 0 → ((p : ℕ) → Contains (take k places) p → P p) → P place
     → (p : ℕ) → Contains (take (k + 1) places) p → P p
 taken_more P places k place within read before here p has =

@@ -1,4 +1,4 @@
--- After a label is offered to a state, `AreLabels` still holds of the labels of all states. A label
+-- After a label is offered to a state, the labels of all states still meet `AreLabels`. A label
 -- holds the best walk found so far to a state, which is a router in a leg.
 use Rattle.std.proofs.Common.{◌≡◌, ◌≢◌, ◌⊎◌, inl, inr, ℕ, ◌+◌, ◌^◌, ◌<◌, ◌≤◌, List, [], ◌∷◌, None, length, set, refl, sym, ap, subst, ◌∙◌, arith, length-set}
 use Rattle.std.specs.BinaryHeap.{IsHeap}
@@ -48,9 +48,9 @@ reached_on d nodes P R cap lower ahead t label r up first = record {
   first = first;
 }
 
--- After the label of one state is replaced, `AreLabels` holds of the new labels, if each of them
--- meets `IsLabel`, and the heap has the keys that `AreLabels` asks for. A state is a router in a
--- leg, and a label holds the best walk found so far to a state.
+-- After the label of one state is replaced, the labels meet `AreLabels` if each of them meets
+-- `IsLabel`, and the heap has the keys that `AreLabels` requires. A state is a router in a leg, and
+-- a label holds the best walk found so far to a state.
 pub labels_set : (d : Database) (q : Request) (old nodes : List Node) (P R : List Link → State → Type 0) (goal : Goal) (labels : List Label) (old_keys keys : List HeapKey)
     → AreLabels d q old P goal labels old_keys → (i : ℕ) → IsStateIndex d q i → (label : Label)
     → IsLabel d nodes R (label_at (set labels i label) goal.at).rank (lift goal i) (state_at d i) label
@@ -153,9 +153,9 @@ module _ (d : Database) (q : Request) (nodes : List Node) (are : AreNodes nodes)
             ]
       ])
 
-  -- If the walk `x` can't change the label of the state at the index `i`, `AreLabels` still holds
-  -- of all labels after `x` is counted too. A state is a router in a leg, and a label holds the
-  -- best walk found so far to a state.
+  -- If the walk `x` can't change the label of the state at the index `i`, the labels still meet
+  -- `AreLabels` after `x` is added to the walks that count. A state is a router in a leg, and a
+  -- label holds the best walk found so far to a state.
   pub labels_stay : (Q x (state_at d i) → IsLost d nodes P cap (lift goal i) (state_at d i) (label_at labels i) x) → AreLabels d q nodes R goal labels keys
   labels_stay lost = record {
     small = before.small;
@@ -202,8 +202,8 @@ module _ (d : Database) (q : Request) (nodes : List Node) (are : AreNodes nodes)
       becomes old label lower better passes left (λ w was. inr (beyond_lower cap lower (lift goal i) w h (first w was)))
 
   -- If a better label replaces the old one, and the new heap has all old keys and the key of the
-  -- better label, `AreLabels` still holds of all labels. A label holds the best walk found so far
-  -- to a state.
+  -- better label, the labels still meet `AreLabels`. A label holds the best walk found so far to a
+  -- state.
   labels_over : (label : Label) (new_keys : List HeapKey) → IsBetter d nodes P cap (lift goal i) (state_at d i) (label_at labels i) label x → Q x (state_at d i)
       → IsHeap heap_key_cmp new_keys → All (IsKey d q goal) new_keys → (0 < label.rank → Contains new_keys (key_at (label.rank + lift goal i) i))
       → ((key : HeapKey) → Contains keys key → Contains new_keys key) → AreLabels d q nodes R goal (set labels i label) new_keys
@@ -221,8 +221,8 @@ module _ (d : Database) (q : Request) (nodes : List Node) (are : AreNodes nodes)
       ordered keyed waits (λ j behind ne was. kept (key_at ((label_at labels j).rank + lift goal j) j) was)
 
   -- If a better label replaces the old label of a state, and the heap has the key of the better
-  -- label, `AreLabels` still holds of all labels. A state is a router in a leg, and a label holds
-  -- the best walk found so far to a state.
+  -- label, the labels still meet `AreLabels`. A state is a router in a leg, and a label holds the
+  -- best walk found so far to a state.
   pub labels_change : (label : Label) (key : ℕ) (new_keys : List HeapKey) → key ≡ label.rank + lift goal i → IsBetter d nodes P cap (lift goal i) (state_at d i) (label_at labels i) label x → Q x (state_at d i)
       → HasKey label.rank (label_at labels i).rank (key_at key i) keys new_keys → AreLabels d q nodes R goal (set labels i label) new_keys
   labels_change label key new_keys is_key better passes (inl tie) =
@@ -243,9 +243,9 @@ module _ (d : Database) (q : Request) (nodes : List Node) (are : AreNodes nodes)
       (λ some. rw (← is_key) (Contains-permutation (key_at key i ∷ keys) new_keys (key_at key i) gains.moved (0, omega arith, refl)))
       (λ k was. Contains-permutation (key_at key i ∷ keys) new_keys k gains.moved (Contains-append_right (key_at key i ∷ []) keys k was))
 
-  -- After a label is offered to a state, `AreLabels` still holds of all labels, whether the state
-  -- keeps its old label or gets the offered one. A state is a router in a leg, and a label holds
-  -- the best walk found so far to a state.
+  -- After a label is offered to a state, the labels still meet `AreLabels`, whether the state keeps
+  -- its old label or gets the offered one. A state is a router in a leg, and a label holds the best
+  -- walk found so far to a state.
   pub labels_offered : (label : Label) (key : ℕ) (new : List Label) (new_keys : List HeapKey) → key ≡ label.rank + lift goal i → IsOffer d nodes label → label.rank ≡ (node_of d nodes label).rank
       → state_of (node_of d nodes label) ≡ state_at d i → walk_of nodes (node_of d nodes label) ≡ x → label.rank ≤ (label_at labels i).rank → Q x (state_at d i)
       → StaysAt d nodes i label labels new keys new_keys ⊎ GoesTo d nodes i label key labels new keys new_keys → AreLabels d q nodes R goal new new_keys

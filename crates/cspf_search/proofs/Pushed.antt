@@ -180,8 +180,8 @@ module _ (nodes : List Node) (n : Node) (before : AreApart nodes) (apart : AreAp
     label_old cap ahead t ne label (is_unreached left none first) = is_unreached (open_new t ne left) none (λ w p. first w (below_old d q (links_of d) w t p))
 
     -- The waiting state with the least key is settled: its node is appended, and its label gets the
-    -- rank 0. Then `AreLabels` holds of the labels of all states, unless this state is the goal. A
-    -- state is a router in a leg, and a node is the record of a walk. A label holds the best walk
+    -- rank 0. Then the labels of all states still meet `AreLabels`, unless this state is the goal.
+    -- A state is a router in a leg, and a node is the record of a walk. A label holds the best walk
     -- found so far to a state, and a walk's rank packs its cost and its number of links into one
     -- number.
     pub labels_settle : AreListed d → (goal : Goal) (labels : List Label) (keys : List HeapKey)

@@ -161,9 +161,9 @@ module _ (d : Database) (q : Request) (legs from to : ℕ) (goal : Goal) (asked 
           let open_there = open_index (nodes ++ (node ∷ [])) (end_state q) none in
           cc
 
-      -- If the least key isn't that of the goal, `AreLabels` still holds of the labels after the
-      -- node for this key is appended to the settled nodes. A node is the record of a walk, and a
-      -- label holds the best walk found so far to a state.
+      -- If the least key isn't that of the goal, the labels still meet `AreLabels` after the node
+      -- for this key is appended to the settled nodes. A node is the record of a walk, and a label
+      -- holds the best walk found so far to a state.
       pub settle : (i ≡ goal.at → ⊥) → (label : Label) → label.rank ≡ 0
           → AreLabels d q (nodes ++ (node ∷ [])) (CrossesBelow d q (nodes ++ (node ∷ [])) (links_of d) (length nodes)) goal (set labels i label) rest
       settle off label none =
@@ -222,7 +222,7 @@ module _ (d : Database) (q : Request) (legs from to : ℕ) (goal : Goal) (asked 
               let some = open_rank d (nodes ++ (node ∷ [])) P (label_at after goal.at).rank (lift goal at.0) (state_at d at.0) (label_at after at.0) (are.each at.0 at.1 behind) open_there in
               omega (arith, some, zero)
 
-          -- If the state that is settled isn't the goal, `IsFloor` holds of the new floor: the goal
+          -- If the state that is settled isn't the goal, the new floor meets `IsFloor`: the goal
           -- isn't below it, and the last leg below it, if there is one, is closed. The floor is the
           -- first index after the states (routers in legs) of the closed legs.
           pub floor_on : (i ≡ goal.at → ⊥) → (floor ≡ goal.floor) ⊎ IsRaised d roles after i floor
@@ -240,8 +240,8 @@ module _ (d : Database) (q : Request) (legs from to : ℕ) (goal : Goal) (asked 
             shut = closes raised;
           }
 
-          -- The floor may rise when a leg is closed. `AreLabels` then still holds of the labels of
-          -- the states from the new floor on. The floor is the first index after the states of the
+          -- The floor may rise when a leg is closed. The labels of the states from the new floor on
+          -- then still meet `AreLabels`. The floor is the first index after the states of the
           -- closed legs. A state is a router in a leg, and a label holds the best walk found so far
           -- to a state.
           pub labels_on : (floor ≡ goal.floor) ⊎ IsRaised d roles after i floor

@@ -58,7 +58,7 @@ leaves_no_later d router (l ∷ v) w (inr none) h = absurd (omega (arith, none))
 
 module _ (d : Database) (q : Request) where
   -- If a walk has reached the router where an admissible link begins, and may leave this router,
-  -- `LeadsOn` holds of the link.
+  -- the link meets `LeadsOn`.
   leads_on : (v : List Link) (l : Link) (k : ℕ) → IsAdmissible d q l → MayLeave d l.from (length v) → Reaches d q v (record { leg = k; router = l.from })
       → LeadsOn d q l
   leads_on v l k a (inl transit) r = record { admissible = a; left = inl transit }

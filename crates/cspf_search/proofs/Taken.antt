@@ -1,7 +1,7 @@
 -- The search continues a settled node by one step: by a link, or to the next leg at the same
--- router. After a label is offered for this step, or the step is skipped, `AreLabels` holds with
--- this step counted too. A node is the record of a walk, and a label holds the best walk found so
--- far to a state.
+-- router. After a label is offered for this step, or the step is skipped, the labels meet
+-- `AreLabels` for this step too. A node is the record of a walk, and a label holds the best walk
+-- found so far to a state.
 use Rattle.std.proofs.Common.{◌≡◌, ◌⊎◌, inl, inr, ℕ, ◌+◌, ◌-◌, ◌*◌, ◌/◌, ◌%◌, ◌^◌, ◌<◌, ◌≤◌, ◌↔◌, IsTrue, nat_eq, Option, Some, None, List, [], ◌∷◌, ◌++◌, length, map, slice_get, slice_index, slice_index_or, refl, sym, ap, subst, ◌∙◌, arith}
 use Rattle.std.specs.List.{All}
 use Rattle.std.proofs.lemmas.List.{get_or-map, length-map}
@@ -115,10 +115,10 @@ module _ (source : Source) (of : IsSource source) (labels : List Label) (keys : 
         (ap state_of label_node ∙ state_is) (ap (walk_of nodes) label_node ∙ walk) le (passes left) choice
 
   module _ (before : AreLabels d q nodes (CrossesBelow d q nodes (links_of d) at) goal labels keys) where
-    -- If a route may not go on to the next leg at the source's router, `AreLabels` holds with the
-    -- step to the next leg counted, and no label needs to be offered for this step. The source is
-    -- the settled node whose walk the search continues. A node is the record of a walk, and a label
-    -- holds the best walk found so far to a state.
+    -- If a route may not go on to the next leg at the source's router, the labels also meet
+    -- `AreLabels` for the step to the next leg, and no label needs to be offered for it. The source
+    -- is the settled node whose walk the search continues. A node is the record of a walk, and a
+    -- label holds the best walk found so far to a state.
     pub turn_off : (state / 1024 < length q.hops → MayTurn d q (state / 1024 + 1) (slice_index (router_list d) (state % 1024)) → ⊥)
         → AreLabels d q nodes (CrossesUpTo d q nodes at (state % 1024) 0) goal labels keys
     turn_off never =
@@ -191,8 +191,8 @@ module _ (source : Source) (of : IsSource source) (labels : List Label) (keys : 
         (λ k. record { leg = sym legs k; router = l.to }) ∙ link_state d q nodes at state is row l here end ends listed.few in
         subst (λ (s : State). IsTrue role.enter ↔ MayEnter d q s.leg s.router) (sym same) told.enter
 
-    -- If a route may not use a link from the source's router, `AreLabels` holds with the walks over
-    -- this link counted, and no label needs to be offered for these walks. A label holds the best
+    -- If a route may not use a link from the source's router, the labels also meet `AreLabels` for
+    -- the walks over this link, and no label needs to be offered for them. A label holds the best
     -- walk found so far to a state.
     pub link_off : (IsUsable d q l → MayEnter d q (state / 1024 + 1) l.to → ⊥) → AreLabels d q nodes (CrossesUpTo d q nodes at (state % 1024) (row + 1)) goal labels keys
     link_off never =

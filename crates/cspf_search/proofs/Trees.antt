@@ -19,7 +19,7 @@ use Rattle.cspf_search.proofs.Cuts.{last_target}
 use Rattle.cspf_search.proofs.LegBounds.{cut_at_edge}
 use Rattle.cspf_graph.proofs.RouterIndexes.{one_place, same_or_not}
 
--- If `LeadsOn` holds of a link for a request, the link is in the request's class. A link is in a
+-- If a link meets `LeadsOn` for a request, the link is in the request's class. A link is in a
 -- request's class if it has a reverse and passes the request's affinities, whatever bandwidth the
 -- request asks for.
 in_class : (d : Database) (q : Request) (l : Link) → LeadsOn d q l → IsInClass d q l

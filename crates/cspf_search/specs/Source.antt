@@ -32,8 +32,8 @@ pub record IsEdge (d : Database) (place : ℕ) (edge : Edge) : Type 0 where
   pub reverse : IsReverseAt d edge.link.now edge.reverse
 
 -- The labels and the keys meet `AreLabels` for all steps from the nodes that precede the source.
--- None of the steps from the source itself is counted yet. A node is the record of a walk, and a
--- label holds the best walk found so far to a state (a router in a leg).
+-- The steps from the source itself don't count yet. A node is the record of a walk, and a label
+-- holds the best walk found so far to a state (a router in a leg).
 abbrev pub AreBefore : Source → List Label → List HeapKey → Type 0
 AreBefore source labels keys =
     AreLabels source.query.table.now source.query.request.now source.nodes.now (CrossesBefore source.query source.nodes.now source.at)

@@ -121,8 +121,8 @@ fn route_to(alloc: Global, nodes: &[Node<'_>], at: usize) -> Result<Route, Alloc
     Ok(Route::new(links, cost_at(nodes, at)))
 }
 
-/// Whether the tail-end can't be reached from the state at the index `at` (a router in a leg),
-/// according to its bound.
+/// Whether the bound of the state at the index `at` (a router in a leg) says that the tail-end
+/// can't be reached from there.
 fn is_shut(goal: Goal<'_>, at: usize) -> bool
     requires { at < length goal.bounds.now }
     ensures { result ≡ true → bound_at goal.entry.bounds.now at ≡ NO_WAY }
@@ -157,8 +157,8 @@ fn close(
     Ok(next)
 }
 
-/// All nodes (records of walks) that the search with a heap settles. If the tail-end can't be
-/// reached according to the head-end's bound, only the head-end is settled. `from` and `to` are the
+/// All nodes (records of walks) that the search with a heap settles. If the bound of the head-end
+/// says that the tail-end can't be reached, only the head-end is settled. `from` and `to` are the
 /// indexes of the head-end and the tail-end in the list of routers. If a tree is given, the bounds
 /// in the last leg come from this tree.
 fn reached<'a>(

@@ -74,7 +74,7 @@ pub(crate) fn starts_of<'a>(query: Query<'a>, head: &'a [u16], leg_index: usize)
     }
 }
 
-/// The index of the first hop whose leg is strict and can be passed by no route. `head` has one
+/// The index of the first hop whose leg is strict and can't be passed by any route. `head` has one
 /// element: the index of the head-end in the list of routers.
 pub(crate) fn first_broken(query: Query<'_>, head: &[u16]) -> Option<usize>
     requires query { IsQuery query }

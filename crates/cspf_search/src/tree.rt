@@ -11,9 +11,10 @@ use cspf_graph::listed;
 use cspf_model::{MOST_ROUTERS, Request};
 use std::alloc::{AllocError, Global};
 
-/// For each router, a lower bound of the cost from this router to one tail-end. Only ways over
-/// links that pass the affinities of the tree count, whatever bandwidth these links have left. For
-/// ways that cost no more than the bound, the tree also has a lower bound of their number of links.
+/// For each router, a lower bound of the cost from this router to one tail-end. The bound holds for
+/// all ways over links that pass the affinities of the tree, whatever bandwidth these links have
+/// left. For ways that cost no more than the bound, the tree also has a lower bound of their number
+/// of links.
 #[derive(Drop)]
 pub struct Tree {
     /// For each router, the least cost to the tail-end that the search found, or `NO_WAY`.

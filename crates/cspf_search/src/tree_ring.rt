@@ -19,8 +19,7 @@ type RankedRouter = Reverse<(u32, u16, u16)>;
 pub(crate) struct TreeRing {
     /// For each router, the least cost to the tail-end found so far, or `NO_WAY`.
     pub(crate) near: Vec<u32>,
-    /// For each router, the least number of links of a way with the cost in `near`, as far as
-    /// found.
+    /// For each router, the least number of links found so far for a way with the cost in `near`.
     pub(crate) links: Vec<u16>,
     /// For each router, whether the search has looked at all links that end at this router.
     pub(crate) done: Vec<bool>,

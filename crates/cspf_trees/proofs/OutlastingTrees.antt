@@ -31,8 +31,8 @@ record HasShapeOf (d : Database) (l : Link) : Type 0 where
   is_link : IsLinkOf d link
   shape : shape_of link ≡ shape_of l
 
--- `HasShapeOf` holds of the database and the link `l`, if the link at the key of `l` in the
--- database differs from `l` at most in its unreserved bandwidth
+-- the database meets `HasShapeOf` for the link `l`, if its link at the key of `l` differs from `l`
+-- at most in the unreserved bandwidth
 at_key : (d : Database) (l : Link) (o : Option Link) → link_at d (key_of l) ≡ o → option_map shape_of o ≡ Some (shape_of l) → HasShapeOf d l
 at_key d l None at is = absurd (cc)
 at_key d l (Some m) at is =

@@ -50,8 +50,9 @@ pub record IsLegAnswer (d : Database) (q : Request) (start target : ℕ) (answer
   pub asks : AsksForLeg q leg start target
   pub best : IsBestAnswer d leg answer
 
--- The route has a prefix `front` in place of its first `count` legs, followed by its other legs.
--- This prefix ends at the router `router`, and doesn't precede the walk in the order of walks.
+-- The route consists of the links `front`, in place of its first `count` legs, and of its other
+-- legs. The links `front` end at the router `router`, and don't precede the walk in the order of
+-- walks.
 pub record GoesOnInLegs (d : Database) (q : Request) (count router : ℕ) (walk route : List Link) : Type 0 where
   pub front : List Link
   pub legs : List (List Link)

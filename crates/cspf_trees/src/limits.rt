@@ -18,8 +18,8 @@ pub const MOST_TREE_MEGABYTES: u16 = 1024;
 /// with one tail-end and the same affinities.
 pub(crate) const WAYS: usize = 32;
 
-/// A tree is grown at the sixth request of its class. A class is all requests with one tail-end and
-/// the same affinities.
+/// A tree is grown when this many requests of its class are counted. A class is all requests with
+/// one tail-end and the same affinities.
 pub(crate) const ASKS_FOR_A_TREE: u32 = 6;
 
 /// The greatest number of requests that a row counts for its class. Further requests don't change

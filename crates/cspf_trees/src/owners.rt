@@ -45,8 +45,8 @@ impl Owners {
     ghost use Rattle.cspf_trees.specs.Owners.{AreOwnersOf};
     ghost use Rattle.cspf_trees.specs.declared.limits.TheConstants.{OWNER_ROWS};
 
-    /// An empty set of owners, which fits any database. If `keeps` is true, owners that are found
-    /// later are kept. The call allocates no memory.
+    /// An empty set of owners, which can be used with any database. If `keeps` is true, owners that
+    /// are found later are kept. The call allocates no memory.
     pub(crate) fn new(alloc: Global, keeps: bool) -> Owners
         ensures { (d : Database) → AreOwnersOf d result }
     {
@@ -57,8 +57,8 @@ impl Owners {
         }
     }
 
-    /// Forgets all owners, so that the set fits any database. The memory of the rows stays
-    /// allocated for later owners.
+    /// Forgets all owners, so that the set can be used with any database. The memory of the rows
+    /// stays allocated for later owners.
     pub(crate) fn clear(&mut self)
         ensures { (d : Database) → AreOwnersOf d self.new }
     {

@@ -16,7 +16,7 @@ use cspf_model::Request;
 use cspf_search::Tree;
 use std::alloc::{AllocError, Global};
 
-/// A class of requests, the number of its recent requests, and its tree if it has one. A class is
+/// A class of requests, the number of its recent requests, and its tree if one is grown. A class is
 /// all requests with one tail-end and the same affinities.
 #[derive(Drop)]
 pub(crate) struct TreeRow {
@@ -29,8 +29,8 @@ pub(crate) struct TreeRow {
     /// of another class that came to this row. A class is all requests with one tail-end and the
     /// same affinities.
     pub(crate) asks: u32,
-    /// The tree of the row's class, if it is grown. A class is all requests with one tail-end and
-    /// the same affinities.
+    /// The tree of the row's class, or `None` if no tree is grown yet. A class is all requests with
+    /// one tail-end and the same affinities.
     pub(crate) tree: Option<Tree>,
 }
 
@@ -169,8 +169,8 @@ fn asks_left(row: &TreeRow, generation: u64) -> u32 {
 
 /// The index of the row for a class, among the `WAYS` rows from the index `first` on. If the class
 /// has a row of this generation there, it is that row. Otherwise it is the row with the lowest
-/// count, by `asks_left`. A class is all requests with one tail-end and the same affinities. A new
-/// generation begins each time that all trees are forgotten.
+/// count, as `asks_left` gives it. A class is all requests with one tail-end and the same
+/// affinities. A new generation begins each time that all trees are forgotten.
 pub(crate) fn find(rows: &[TreeRow], first: usize, class: &Class, generation: u64) -> usize
     requires { first + WAYS ≤ length rows.now }
     ensures { result < length rows.now }

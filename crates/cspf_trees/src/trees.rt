@@ -59,8 +59,8 @@ impl Trees {
     ghost use Rattle.cspf_trees.specs.TreeRows.{IsAskedOf};
     ghost use Rattle.cspf_trees.specs.Trees.{AreTreesOf};
 
-    /// An empty set of trees, which fits any database. It will have at most `most` trees. The call
-    /// allocates no memory.
+    /// An empty set of trees, which can be used with any database. It will have at most `most`
+    /// trees. The call allocates no memory.
     pub fn new(alloc: Global, most: usize) -> Trees
         ensures trees { (d : Database) → AreTreesOf d result }
         ensures most { result.most ≡ most }
@@ -84,8 +84,8 @@ impl Trees {
         }
     }
 
-    /// Forgets all trees and owners, so that the set fits any database. The memory of the rows
-    /// stays allocated for later trees and owners.
+    /// Forgets all trees and owners, so that the set can be used with any database. The memory of
+    /// the rows stays allocated for later trees and owners.
     pub fn clear(&mut self)
         ensures trees { (d : Database) → AreTreesOf d self.new }
         ensures most { self.new.most ≡ self.old.most }

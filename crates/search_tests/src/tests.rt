@@ -200,8 +200,8 @@ enum Wanted {
     UnknownTo,
 }
 
-// Whether the outcome is a route of this cost whose links have these remote addresses, and whether
-// `again` is true exactly if the route visits a router twice.
+// Whether the outcome is a route of this cost whose links have these remote addresses. `again` says
+// whether the route must visit a router twice.
 fn is_route(outcome: &Outcome, cost: u64, again: bool, remotes: &[u32]) -> bool {
     let Outcome::Route(route) = outcome else {
         return false;

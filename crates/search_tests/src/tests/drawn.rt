@@ -142,8 +142,8 @@ fn without_marks(
     }
 }
 
-// Requests the answer to the request without its hops six times from the trees. Then there is a
-// tree for the request's tail-end and affinities.
+// Lets the trees answer the request without its hops six times. Then there is a tree for the
+// request's tail-end and affinities.
 fn ask_without_hops(
     alloc: Global,
     table: &Table,

@@ -1,6 +1,6 @@
 //! Requests whose legs (parts of the route between hops) are answered one after the other, each
-//! with a tree for the router of its hop. Some tests use small networks with known routes. Other
-//! tests draw networks at random, and check that the search by rounds gives the same answers.
+//! with a tree for the router at the leg's end. Some tests use small networks with known routes.
+//! Other tests draw networks at random, and check that the search by rounds gives the same answers.
 
 ghost use Rattle.std.specs.Prelude.{◌+◌, ◌<◌};
 
