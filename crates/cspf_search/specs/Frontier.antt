@@ -34,9 +34,8 @@ state_at d i = record { leg = i / MOST_ROUTERS + 1; router = slice_index (router
 abbrev pub nowhere : Node
 nowhere = record { parent = 0; by = None; leg = 0; router = 0; rank = 1 }
 
--- The node (the record of a walk) that continues the walk of the node `from` by the given link. If
--- no link is given, it continues that walk by the step to the next leg. `at` is the index of
--- `from`.
+-- The node for the walk of the node `from`, continued by the given link, or by the step to the next
+-- leg if no link is given. `at` is the index of `from`. A node is the record of a walk.
 abbrev pub node_by : ℕ → Node → Option Link → Node
 node_by at from (Some l) = record {
   parent = at;

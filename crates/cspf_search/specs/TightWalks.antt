@@ -75,8 +75,8 @@ pub record LeavesLater (walk route : List Link) : Type 0 where
 -- walk's cost is the tree's bound for the head-end minus the bound for that router. The walk's
 -- number of links is the difference of the tree's numbers of links for the two routers.
 --
--- Now take any route whose cost and number of links are those of the tree for the head-end. This
--- route begins with the walk, or it leaves the walk by a link with a greater local address.
+-- Each route with the cost and the number of links that the tree gives for the head-end begins with
+-- the walk, or leaves the walk by a link with a greater local address.
 pub record IsTightWalk (d : Database) (q : Request) (tree : Tree) (from : ℕ) (walk : List Link) (place : ℕ) : Type 0 where
   pub within : place < length (router_list d)
   pub reaches : Reaches d q walk (record { leg = 1; router = router_at d place })

@@ -58,7 +58,8 @@ pub(crate) fn cost_at(nodes: &[Node<'_>], at: usize) -> u64
     (nodes[at].rank - 1) / COST_WEIGHT
 }
 
-/// The index of the node (the record of a walk) of a router in a leg, if there is such a node.
+/// The index of the node (the record of a walk) that has reached the router `router` in the leg
+/// `leg`, if there is such a node.
 pub(crate) fn index_of(nodes: &[Node<'_>], leg: usize, router: Addr) -> Option<usize>
     ensures { result ≡ index_of nodes.now (record { leg = leg; router = router }) }
 {

@@ -150,7 +150,7 @@ fn offer_turn(
     offer(query.table, source.nodes, labels, heap, index, label, key)
 }
 
-/// Offers a label to the state that a link from the source leads to. This requires that the
+/// Offers a label to the state that a link from the source leads to. The function requires that the
 /// source's walk may leave its router. The source is the settled node whose walk the search
 /// continues. A node is the record of a walk, and a label holds the best walk found so far to a
 /// state (a router in a leg).

@@ -96,8 +96,8 @@ pub(crate) fn node_of<'a>(table: &'a Table, nodes: &[Node<'a>], label: &Label) -
     }
 }
 
-/// Sets the label of the state at the index `at`, and puts its key into the heap. A state is a
-/// router in a leg, and a label holds the best walk found so far to a state.
+/// Sets the label of the state at the index `at`, and puts the state's key into the heap. A state
+/// is a router in a leg, and a label holds the best walk found so far to a state.
 pub(crate) fn put(
     labels: &mut [Label],
     heap: &mut BinaryHeap<Waiting, Global>,

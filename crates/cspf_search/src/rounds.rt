@@ -128,9 +128,9 @@ fn look_at_turn<'b>(look: Look<'_, 'b>) -> Option<Node<'b>>
 
 /// Keeps the node at the link's end as the best one, if it precedes the best node so far. The node
 /// counts only if the request admits the link, the link has a reverse, and a route may enter the
-/// router at the link's end. This requires that the walk of the node of `look` may leave its
-/// router, and that the state at the link's end isn't settled. A state is a router in a leg, and a
-/// node is the record of a walk.
+/// router at the link's end. The function requires that the walk of the node of `look` may leave
+/// its router, and that the state at the link's end isn't settled. A state is a router in a leg,
+/// and a node is the record of a walk.
 fn look_at_link<'b>(look: Look<'_, 'b>, edge: Edge<'b>, best: &mut Option<Node<'b>>)
     requires look { IsLook look }
     requires leaves { NodeMayLeave look.query.table.now look.nodes.now look.at look.star.state }
@@ -168,8 +168,9 @@ fn look_at_link<'b>(look: Look<'_, 'b>, edge: Edge<'b>, best: &mut Option<Node<'
 
 /// Keeps the node at the end of the link at the index `row` as the best one, if it precedes the
 /// best node so far. The node counts only if its state isn't settled, the request may use the link,
-/// and a route may enter the router at the link's end. This requires that the walk of the node of
-/// `look` may leave its router. A state is a router in a leg, and a node is the record of a walk.
+/// and a route may enter the router at the link's end. The function requires that the walk of the
+/// node of `look` may leave its router. A state is a router in a leg, and a node is the record of a
+/// walk.
 fn look_at_row<'b>(look: Look<'_, 'b>, row: usize, best: &mut Option<Node<'b>>)
     requires look { IsLook look }
     requires leaves { NodeMayLeave look.query.table.now look.nodes.now look.at look.star.state }

@@ -65,9 +65,9 @@ impl TreeRing {
         near < ahead || (near == ahead && self.links[at] <= count)
     }
 
-    /// Sets the cost of the router `from` to `ahead` and its number of links to `count`, if this
-    /// way is better: it costs less than the router's present way, or costs the same and has fewer
-    /// links. The router then waits to be settled. Otherwise nothing changes.
+    /// Offers the router `from` a way of `count` links with the cost `ahead`. If this way is better
+    /// than the router's present way, the router gets it, and then waits to be settled. It is
+    /// better if it costs less, or if it costs the same and has fewer links.
     pub(crate) fn lower(&mut self, from: u16, ahead: u32, count: u16) -> Result<(), AllocError>
         requires within { from < MOST_ROUTERS }
         ensures falls { OnOk result (TreeFalls self.old self.new) }

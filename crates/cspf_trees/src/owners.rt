@@ -90,7 +90,7 @@ impl Owners {
         }
     }
 
-    /// Keeps the router as the only owner of the prefix, if there are rows or they can be
+    /// Keeps the router as the only owner of the prefix, if there are rows, or rows can be
     /// allocated.
     fn keep(&mut self, alloc: Global, prefix: Prefix, router: Addr)
         ensures { (d : Database) → IsSoleOwner d prefix router

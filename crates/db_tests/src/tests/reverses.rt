@@ -129,7 +129,7 @@ const REPLACED: &[Step] = &[
         &[NO_LINK, NO_LINK, NO_LINK],
         false,
     ),
-    // a link is put between two other interfaces, whose reverse is already in the table
+    // a link between two other interfaces is put, and its reverse is already in the table
     (&[Put(20, 4, 30, 3)], &[NO_LINK, 2, 1, NO_LINK], false),
 ];
 
