@@ -83,8 +83,8 @@ labels_set d q old nodes P R goal labels old_keys keys are i index label is othe
           ];
     }
 
--- The walk `x` can't change the label of its state. Either the walk doesn't precede the walk of
--- this label, or its rank plus the state's lift exceeds `cap`, the rank of a known walk to the
+-- The walk `x` can't change the label of its state. Either `x` doesn't precede the walk of this
+-- label, or the rank of `x` plus the state's lift exceeds `cap`, the rank of a known walk to the
 -- tail-end. The lift of a state (a router in a leg) is its bound times `COST_WEIGHT`. A label holds
 -- the best walk found so far to a state, and a walk's rank packs its cost and its number of links
 -- into one number.

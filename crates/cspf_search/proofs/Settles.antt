@@ -136,10 +136,9 @@ module _ (d : Database) (q : Request) where
           | None ↦ λ open_there. all_settled closed shut stuck v s r open_there (step_behind labels closed shut v x s u r st open_there behind)
         ] refl
 
-    -- The next walk to settle, by `IsFirstCrossing`, is compared with all walks to states that
-    -- aren't settled, in legs after the closed legs. None of them precedes it by cost plus
-    -- potential. None of them to the same state precedes it in the order of walks. A state is a
-    -- router in a leg.
+    -- Let `w` be the next walk to settle, by `IsFirstCrossing`. No walk to an unsettled state in a
+    -- leg after the closed legs precedes `w` by cost plus potential. No such walk to the state of
+    -- `w` precedes `w` in the order of walks. A state is a router in a leg.
     pub no_earlier : (w : List Link) (t : State) (first : IsFirstCrossing d q labels w t) (x : List Link) (u : State) → Reaches d q x u → labels u ≡ None
         → first.closed < u.leg → RanksNoLater first.potential t w u x × (u ≡ t → IsNoLater w x)
     no_earlier w t first x u starts left behind = cc (settled.start)

@@ -81,11 +81,11 @@ pub record IsBeyond (cap ahead : ℕ) (w : List Link) : Type 0 where
   pub behind : cap < walk_rank w + ahead
 
 -- The label of the state `t`, which isn't settled, holds the best walk to `t` among the walks that
--- satisfy `P`. No other walk to `t` that satisfies `P` precedes it in the order of walks. A walk is
--- left out of this comparison if it can't begin the best route: if its rank plus the lift `ahead`
--- of `t` exceeds `cap`, the rank of a known walk to the tail-end. The lift of a state (a router in
--- a leg) is its bound times `COST_WEIGHT`. A walk's rank packs its cost and its number of links
--- into one number.
+-- satisfy `P`. No other walk to `t` that satisfies `P` precedes the label's walk in the order of
+-- walks. A walk is left out of this comparison if it can't begin the best route: if its rank plus
+-- the lift `ahead` of `t` exceeds `cap`, the rank of a known walk to the tail-end. The lift of a
+-- state (a router in a leg) is its bound times `COST_WEIGHT`. A walk's rank packs its cost and its
+-- number of links into one number.
 pub record IsReached (d : Database) (nodes : List Node) (P : List Link → State → Type 0)
     (cap ahead : ℕ) (t : State) (label : Label) : Type 0 where
   pub place : label.place < length (router_list d)
@@ -139,15 +139,15 @@ AreTargetsSettled d roles labels at =
     → IsTrue (slice_index_or roles i nothing).target → (label_at labels i).rank ≡ 0
 
 -- The leg of the state at the index `at` is closed: all its targets that a route may visit are
--- settled. The floor is the first index of the next leg. A state is a router in a leg, and a leg's
+-- settled. `floor` is the first index of the next leg. A state is a router in a leg, and a leg's
 -- targets are the routers where it may end.
 pub record IsRaised (d : Database) (roles : List Role) (labels : List Label) (at floor : ℕ) : Type 0 where
   pub target : IsTrue (slice_index_or roles at nothing).target
   pub next : floor ≡ at - at % MOST_ROUTERS + MOST_ROUTERS
   pub settled : AreTargetsSettled d roles labels at
 
--- The first part of the key is greater than the lift of the key's state, since it is this lift plus
--- a rank above 0. The second part is the index of a state of the request. The lift of a state (a
+-- The first part of the key is the lift of the key's state plus a rank above 0, so it is greater
+-- than this lift. The second part is the index of a state of the request. The lift of a state (a
 -- router in a leg) is its bound times `COST_WEIGHT`. A walk's rank packs its cost and its number of
 -- links into one number.
 pub record IsKey (d : Database) (q : Request) (goal : Goal) (key : HeapKey) : Type 0 where
@@ -164,8 +164,8 @@ pub record IsLive (goal : Goal) (labels : List Label) (key : HeapKey) : Type 0 w
   pub same : (label_at labels key.0.1).rank + lift goal key.0.1 ≡ key.0.0
 
 -- The label of each state after the closed legs meets `IsLabel`, where only walks that satisfy `P`
--- count. If such a state isn't settled and a walk to it is known, the heap has its key. A state is
--- a router in a leg, and a label holds the best walk found so far to a state.
+-- count. If such a state isn't settled and a walk to it is known, the heap has the state's key. A
+-- state is a router in a leg, and a label holds the best walk found so far to a state.
 pub record AreLabels (d : Database) (q : Request) (nodes : List Node)
     (P : List Link → State → Type 0) (goal : Goal) (labels : List Label) (keys : List HeapKey)
     : Type 0 where

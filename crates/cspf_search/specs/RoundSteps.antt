@@ -16,8 +16,9 @@ use Rattle.cspf_search.specs.Frontier.{IsNodeAt, no_rank, nowhere}
 use Rattle.cspf_search.specs.ForwardStars.{AreForwardStars, AreStateMarks, IsForwardStar}
 use Rattle.cspf_search.specs.Query.{IsQuery}
 
--- The fields of the round agree with each other. It has the settled nodes (records of walks) and
--- their forward stars, and `marks` says for each state (a router in a leg) whether it is settled.
+-- The fields of the round agree with each other. The round has the settled nodes (records of walks)
+-- and their forward stars, and `marks` says for each state (a router in a leg) whether it is
+-- settled.
 pub record IsRound (round : Round) : Type 0 where
   pub query : IsQuery round.query
   pub arena : AreNodes round.nodes.now
@@ -25,7 +26,7 @@ pub record IsRound (round : Round) : Type 0 where
   pub stars : AreForwardStars round.query.table.now round.nodes.now round.stars.now
   pub marks : AreStateMarks round.query.table.now round.query.request.now round.nodes.now round.marks.now
 
--- The fields of `look` agree with each other. It has the settled nodes (records of walks), the
+-- The fields of `look` agree with each other. `look` has the settled nodes (records of walks), the
 -- index of one of these nodes, and the forward star of this node, which has the links from the
 -- node's router.
 pub record IsLook (look : Look) : Type 0 where

@@ -12,10 +12,10 @@ use Rattle.cspf_graph.specs.Lists.{IsIndexOf}
 use Rattle.cspf_graph.specs.Roles.{IsStateIndex}
 use Rattle.cspf_search.specs.Query.{IsQuery, CrossesBefore, CrossesToRow}
 
--- The fields of the source agree with each other. It is the settled node whose walk the search
--- continues, with the node's state and rank. The state isn't in a closed leg. A state is a router
--- in a leg, and a node is the record of a walk. A walk's rank packs its cost and its number of
--- links into one number.
+-- The fields of the source agree with each other. The source is the settled node whose walk the
+-- search continues, with the node's state and rank. The state isn't in a closed leg. A state is a
+-- router in a leg, and a node is the record of a walk. A walk's rank packs its cost and its number
+-- of links into one number.
 pub record IsSource (source : Source) : Type 0 where
   pub query : IsQuery source.query
   pub goal : IsStateIndex source.query.table.now source.query.request.now source.goal.at

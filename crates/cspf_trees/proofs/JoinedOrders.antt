@@ -68,9 +68,10 @@ ties a b e = grind (arith, nat_tests)
 by_last : (a b m n : ℕ) (o : Ordering) → a ≡ b → m ≡ n → o ≢ Less → ordering_then (nat_cmp a b) (ordering_then (nat_cmp m n) o) ≢ Less
 by_last a b m n o e f h = unless_less (nat_cmp a b) (ordering_then (nat_cmp m n) o) (ties a b e) (unless_less (nat_cmp m n) o (ties m n f) h)
 
--- If `v` doesn't precede `w`, and `x` doesn't precede `y`, then `v` followed by `x` doesn't precede
--- `w` followed by `y`. Here the walks are given by their costs and numbers of links, and the
--- comparison `r` decides if both are equal.
+-- Two pairs of walks are compared, each pair as one longer walk. If no walk of the first pair
+-- precedes the walk in the same position of the second pair, the first longer walk doesn't precede
+-- the second. The walks are given by their costs and numbers of links. The comparison `r` decides
+-- if the longer walks have equal costs and equal numbers of links.
 put_together : (a b c e m n s t : ℕ) (o p r : Ordering) → IsNoEarlier a b m n o → IsNoEarlier c e s t p → (m ≡ n → o ≢ Less → p ≢ Less → r ≢ Less)
     → ordering_then (nat_cmp (a + c) (b + e)) (ordering_then (nat_cmp (m + s) (n + t)) r) ≢ Less
 put_together a b c e m n s t o p r (inl dear) (inl second) last = by_cost (a + c) (b + e) (ordering_then (nat_cmp (m + s) (n + t)) r) (omega arith)
