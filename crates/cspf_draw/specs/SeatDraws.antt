@@ -37,8 +37,9 @@ both_seats v w = seat_draws (v.drawn ++ w.drawn) (v.left + w.left) v.share
 abbrev pub spent_seat : SeatDraws
 spent_seat = seat_draws [] 0 0
 
--- The seat of a worker, a record of its draws. The draws that it has made and those that it has
--- left add up to one more than the number of requests. Its drawn numbers are strictly increasing.
+-- The seat of a worker, a record of its draws. The draws that the worker has made and those that it
+-- has left add up to one more than the number of requests. The worker's drawn numbers are strictly
+-- increasing.
 pub record IsDrawer (requests : ℕ) (v : SeatDraws) : Type 0 where
   pub all : length v.drawn + v.left ≡ requests + 1
   pub rising : IsStrictlyIncreasing v.drawn

@@ -75,8 +75,8 @@ pub(crate) struct Round<'a, 'b> {
     pub(crate) query: Query<'b>,
     /// The settled nodes (records of walks).
     pub(crate) nodes: &'a [Node<'b>],
-    /// The forward star of each settled node (the record of a walk). It has the links from the
-    /// node's router.
+    /// The forward star of each settled node. A forward star has the links from the node's router,
+    /// and a node is the record of a walk.
     pub(crate) stars: &'a [ForwardStar<'b>],
     /// For each state (a router in a leg), whether the search has settled it.
     pub(crate) marks: &'a [bool],

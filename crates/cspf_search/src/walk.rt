@@ -84,8 +84,8 @@ fn tight_from<'a>(
     None
 }
 
-/// The route of a request without hops that follows the first tight link from each router,
-/// beginning at the head-end. The result is `None` if these links don't lead to the tail-end. A
+/// The route that follows the first tight link from each router, beginning at the head-end. The
+/// request must have no hops. The result is `None` if these links don't lead to the tail-end. A
 /// link is tight if the tree's bound falls by exactly the link's metric from its start to its end,
 /// and the tree's number of links falls by one. `from` and `to` are the indexes of the head-end and
 /// the tail-end in the list of routers.

@@ -168,9 +168,10 @@ fn asks_left(row: &TreeRow, generation: u64) -> u32 {
 }
 
 /// The index of the row for a class, among the `WAYS` rows from the index `first` on. If the class
-/// has a row of this generation there, it is that row. Otherwise it is the row with the lowest
-/// count, as `asks_left` gives it. A class is all requests with one tail-end and the same
-/// affinities. A new generation begins each time that all trees are forgotten.
+/// has a row of this generation there, the result is the index of that row. Otherwise it is the
+/// index of the row with the lowest count, as `asks_left` gives it. A class is all requests with
+/// one tail-end and the same affinities. A new generation begins each time that all trees are
+/// forgotten.
 pub(crate) fn find(rows: &[TreeRow], first: usize, class: &Class, generation: u64) -> usize
     requires { first + WAYS ≤ length rows.now }
     ensures { result < length rows.now }

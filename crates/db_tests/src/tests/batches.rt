@@ -189,8 +189,8 @@ fn a_replaced_link(rt: HostRuntime) -> Result<(), Fail> {
 }
 
 // Puts a link and its reverse. Then gives the link another metric, and the reverse no unreserved
-// bandwidth. Then puts the first version of the link again, and marks the router where it begins as
-// without transit.
+// bandwidth. Then puts the first version of the link again, and marks the router where the link
+// begins as without transit.
 fn change_attributes(rt: &impl Abort, alloc: Global, table: &mut Table) -> Result<(), Fail> {
     let (old, mut full) = (link(ONE, 4, TWO, 5)?, link(TWO, 5, ONE, 4)?);
     let mut dear = old;

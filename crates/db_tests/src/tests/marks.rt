@@ -286,8 +286,8 @@ const TOO_MANY: Result<(), Refusal> = Err(Refusal::TooManyMarks);
 // Changes to a table in which the addresses 0 to 1,023 are marked as without transit. With each
 // batch come the table's answer, and whether the addresses 0 and 1,024 then have transit.
 const MORE: &[(&[Edit], Result<(), Refusal>, (bool, bool))] = &[
-    // Each of these batches marks the address 1,024, which is one mark too many. It also gives
-    // transit to an address that has transit, marks a marked address again, or puts a link.
+    // Each of these batches marks the address 1,024, which is one mark too many. Each of them also
+    // gives transit to an address that has transit, marks a marked address again, or puts a link.
     (
         &[Node(1024, false), Node(1025, true)],
         TOO_MANY,
@@ -495,7 +495,7 @@ fn listed(alloc: Global, marked: &[bool; 16]) -> Result<Vec<u32>, AllocError> {
 
 // Whether the table absorbs the batch if `fits` is true, and refuses it otherwise. Afterwards, the
 // addresses that the table marks as without transit must be those in `marked`. If the batch fits,
-// its changes are applied to `marked` first.
+// the changes of the batch are applied to `marked` first.
 fn absorbs(
     alloc: Global,
     table: &mut Table,

@@ -126,8 +126,8 @@ fn drawn_network(alloc: Global, seed: &mut u32) -> Result<DrawnNetwork, Fail> {
     })
 }
 
-// The answer of a table in which no router is marked as without transit. This table is made so that
-// it gives the same answer as the network with its marked routers.
+// The answer of a table without marked routers, which must be the same as that of the network with
+// its marked routers. A marked router is without transit.
 fn without_marks(
     alloc: Global,
     network: &DrawnNetwork,
@@ -196,8 +196,8 @@ fn check_trees(
 }
 
 // Whether a request has a route. Fails if the trees give another answer than the searches. If the
-// network has routers that are marked as without transit, fails also if the table without marked
-// routers gives another answer.
+// network has routers that are marked as without transit, the function also fails if the table
+// without marked routers gives another answer.
 fn has_route(
     alloc: Global,
     network: &DrawnNetwork,

@@ -128,8 +128,9 @@ fn shaped_request(seed: &mut u32) -> Result<Request, Fail> {
     request(ends, 0, masks, hops)
 }
 
-// Whether the trees answer a request like the search by rounds. If the request has hops, it is
-// first answered without its hops, so that there is a tree for its tail-end and affinities.
+// Whether the trees give the same answer to a request as the search by rounds. If the request has
+// hops, it is first answered without its hops, so that there is a tree for its tail-end and
+// affinities.
 fn agree(alloc: Global, table: &Table, request: &Request, trees: &mut Trees) -> Result<bool, Fail>
     requires { AreTreesOf table.now trees.old }
     ensures { AreTreesOf table.now trees.new }
@@ -141,8 +142,8 @@ fn agree(alloc: Global, table: &Table, request: &Request, trees: &mut Trees) -> 
     Ok(is_same(&found, &best_by_rounds(alloc, table, request)?))
 }
 
-// The number of those among 200 requests that the trees of the table answer like the search by
-// rounds.
+// The number of those among 200 requests to which the trees of the table and the search by rounds
+// give the same answer.
 fn count_agreed(
     alloc: Global,
     seed: &mut u32,
@@ -162,8 +163,9 @@ fn count_agreed(
     Ok(count)
 }
 
-// The number of those among 200 requests in a new network that the trees answer like the search by
-// rounds. The network has this shape and metrics of this kind. `trees` is cleared first.
+// The number of those among 200 requests in a new network to which the trees and the search by
+// rounds give the same answer. The network has this shape and metrics of this kind. `trees` is
+// cleared first.
 fn agreed(
     alloc: Global,
     seed: &mut u32,
