@@ -58,7 +58,7 @@ module _ (d : Database) (q : Request) (nodes : List Node) (are : AreNodes nodes)
       ]
 
   -- A round looks at the settled nodes one after the other. After it looks at this node, the best
-  -- node so far is the earlier of two nodes: the best node before, and the first node that this
+  -- node so far is the earlier of two nodes: the previous best node, and the first node that this
   -- node leads to. A node is the record of a walk.
   pub found_kept : (best found : Option Node) → IsFirst nodes (CrossesBelow d q nodes (links_of d) at) best → IsFirst nodes (CrossesFrom d q nodes (links_of d) at) found
       → IsFirst nodes (CrossesBelow d q nodes (links_of d) (at + 1)) (earlier_of nodes best found)

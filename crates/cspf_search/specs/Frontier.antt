@@ -156,9 +156,9 @@ pub record IsKey (d : Database) (q : Request) (goal : Goal) (key : HeapKey) : Ty
   pub index : IsStateIndex d q key.0.1
 
 -- The key still counts. It is the key that the present label of its state gives, and the state's
--- leg isn't closed, since its index isn't below the floor. A state is a router in a leg, and a
--- label holds the best walk found so far to a state. The floor is the first index after the states
--- of the closed legs.
+-- leg isn't closed, since the state's index isn't below the floor. A state is a router in a leg,
+-- and a label holds the best walk found so far to a state. The floor is the first index after the
+-- states of the closed legs.
 pub record IsLive (goal : Goal) (labels : List Label) (key : HeapKey) : Type 0 where
   pub behind : goal.floor ≤ key.0.1
   pub same : (label_at labels key.0.1).rank + lift goal key.0.1 ≡ key.0.0

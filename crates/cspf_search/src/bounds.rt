@@ -1,5 +1,5 @@
 //! Lower bounds of the cost from each state (a router in a leg) to the tail-end. A backward search
-//! computes the bounds, from the last leg to the first: it follows the links against their
+//! computes the bounds, from the last leg to the first. It follows the links against their
 //! direction.
 
 ghost use Rattle.std.specs.Prelude.{◌≡◌, ◌≢◌, ◌+◌, ◌-◌, ◌*◌, ◌<◌, ◌≤◌, ◌⊎◌, ◌↔◌, ℕ, min, true, false, IsTrue, IfOk, IfSome, OnOk, length, slice_index, slice_index_or, All, Contains};

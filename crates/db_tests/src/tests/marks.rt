@@ -113,7 +113,8 @@ const KEYS_OF_MARKS: &[Step] = &[
 ];
 
 // The first batch marks router 9 as without transit. Each of the next four sets the transit of
-// router 5 twice, to the same value or to another. The last batch is refused for its links.
+// router 5 twice, to the same value or to another. The last batch is refused because it removes a
+// link that the table doesn't have.
 const REFUSED: &[Step] = &[
     (&[Node(9, false)], Ok(()), &[9], 0),
     (
