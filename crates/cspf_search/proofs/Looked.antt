@@ -64,8 +64,9 @@ along at from l added = record {
 by_rank : (a b m n : ℕ) (o p : Ordering) → a * 16384 + m + 1 < b * 16384 + n + 1 → n < 16384 → is_gt (ordering_then (ordering_then (nat_cmp a b) (ordering_then (nat_cmp m n) o)) p) ≡ false
 by_rank a b m n o p less high = grind (arith, nat_tests)
 
--- A node whose rank is lower than the rank of a walk is settled before this walk. A node is the
--- record of a walk, and a walk's rank packs its cost and its number of links into one number.
+-- A node whose rank is lower than the rank of a walk doesn't come after this walk in the order in
+-- which walks are settled. A node is the record of a walk, and a walk's rank packs its cost and its
+-- number of links into one number.
 pub ranked_first : (nodes : List Node) (n : Node) → IsNext nodes n → (w : List Link) (leg : ℕ) → n.rank < walk_rank w → length w < 16384
     → is_gt (state_cmp (n.leg, walk_of nodes n) (leg, w)) ≡ false
 ranked_first nodes n next w leg less short =

@@ -25,8 +25,8 @@ use Rattle.cspf_search.proofs.Looked.{ranked_first}
 use Rattle.cspf_search.proofs.Pushed.{from_old}
 use Rattle.cspf_search.proofs.Ranks.{crossing_short, rank_is, rank_small, walk_short}
 
--- If a walk isn't settled after another walk, its rank isn't greater. A walk's rank packs its cost
--- and its number of links into one number.
+-- If a walk doesn't come after another walk in the order in which walks are settled, its rank isn't
+-- greater. A walk's rank packs its cost and its number of links into one number.
 ranks_up : (a b m n : ℕ) (o p : Ordering) → m < 16384 → is_gt (ordering_then (ordering_then (nat_cmp a b) (ordering_then (nat_cmp m n) o)) p) ≡ false
     → a * 16384 + m + 1 ≤ b * 16384 + n + 1
 ranks_up a b m n o p low h = grind (arith, nat_tests)

@@ -65,8 +65,8 @@ module _ (d : Database) (q : Request) where
   leads_on [] l k a (inr none) r = record { admissible = a; left = inr (sym (reached_walk d q [] (record { leg = k; router = l.from }) r).1) }
   leads_on (m ∷ v) l k a (inr none) r = absurd (omega (arith, none))
 
-  -- If the potential is consistent, each step, by a link or to the next leg, leads from a walk to a
-  -- longer walk or a later leg, which comes after that walk by cost plus potential.
+  -- If the potential is consistent, each step of a walk, by a link or to the next leg, gives a walk
+  -- that comes after the first walk by cost plus potential.
   step_grows : (potential : State → ℕ) → IsConsistent d q potential → (v x : List Link) (s t : State) → Reaches d q v s → IsStep d q v s x t
       → potential_cmp potential (s, v) (t, x) ≡ Less
   step_grows potential up v x s t r (by_link {leg = k} l a enters leaves) =

@@ -255,8 +255,8 @@ fn nodes(alloc: Global, first: u32, end: u32, transit: bool) -> Result<Vec<Chang
     Ok(changes)
 }
 
-// Three numbers: the addresses below 4,096 that are marked as without transit, the marks that the
-// table lists, and the table's routers.
+// The numbers of addresses below 4,096 that are marked as without transit, of marks that the table
+// lists, and of the table's routers.
 fn counts(table: &Table) -> [usize; 3] {
     let mut marked = 0usize;
     for number in 0..4096 {

@@ -58,7 +58,8 @@ fn are_owners(table: &Table, owners: &[u16], prefix: Prefix) -> bool {
 // The address and the length of a prefix, and the indexes of the routers that own it.
 type Case = (u32, u8, &'static [u16]);
 
-// Whether the table lists exactly the routers of a case as owners of its prefix.
+// Whether the table lists exactly the owners of a case, and checking each router finds the same
+// owners.
 fn is_owned(alloc: Global, table: &Table, (address, length, wanted): &Case) -> Result<bool, Fail> {
     let prefix = Prefix::new(Addr::new(*address), *length)?;
     let owners = listed(alloc, table, prefix)?;
