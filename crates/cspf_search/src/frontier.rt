@@ -71,11 +71,12 @@ fn compare_tied<'a>(table: &'a Table, nodes: &[Node<'a>], a: &Label, b: &Label) 
     locals(nodes, x, y).then(l.local.cmp(&m.local))
 }
 
-/// Offers a label to the state at the index `index`. If the label has a lower rank than the old
-/// label, it replaces the old one, and its key goes into the heap. If both labels have the same
-/// rank, the label whose walk precedes the other by local addresses is kept, and the heap has the
-/// state's key already. A state is a router in a leg, and a label holds the best walk found so far
-/// to a state. A walk's rank packs its cost and its number of links into one number.
+/// Offers a label to the state at the index `index`. If the offered label has a lower rank than the
+/// old label, the offered label replaces the old one, and the state's new key goes into the heap.
+/// If both labels have the same rank, the label whose walk precedes the other by local addresses is
+/// kept, and the heap has the state's key already. A state is a router in a leg, and a label holds
+/// the best walk found so far to a state. A walk's rank packs its cost and its number of links into
+/// one number.
 fn offer<'a>(
     table: &'a Table,
     nodes: &[Node<'a>],

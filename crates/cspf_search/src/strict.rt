@@ -1,4 +1,5 @@
-//! Strict legs that no route can pass. If a request has such a leg, nothing is searched.
+//! Strict legs that no route can pass. If a request has such a leg, it has no route, and the search
+//! with a heap settles only the head-end.
 
 ghost use Rattle.std.specs.Prelude.{◌≡◌, ◌<◌, true, false, IfSome, length};
 ghost use Rattle.cspf_db.specs.Index.{router_list};

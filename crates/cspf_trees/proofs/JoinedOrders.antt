@@ -22,8 +22,8 @@ neither_less Less p first second = absurd (first refl)
 neither_less Equal p first second = second
 neither_less Greater p first second = first
 
--- If a comparison `o`, followed by a comparison `p` where `o` says equal, isn't `Less`, either `o`
--- is `Greater`, or `o` is `Equal` and `p` isn't `Less`.
+-- Of two comparisons in sequence, `p` decides only if `o` is `Equal`. If the result isn't `Less`,
+-- either `o` is `Greater`, or `o` is `Equal` and `p` isn't `Less`.
 greater_or_tied : (o p : Ordering) → ordering_then o p ≢ Less → (o ≡ Greater) ⊎ ((o ≡ Equal) × (p ≢ Less))
 greater_or_tied Less p h = absurd (h refl)
 greater_or_tied Equal p h = inr (refl, h)

@@ -14,8 +14,7 @@ use Rattle.cspf_db.specs.Index.{router_list}
 use Rattle.cspf_db.specs.Owners.{AreOwners}
 use Rattle.cspf_trees.specs.LegsInTurn.{IsSoleOwner, IsSoleTarget}
 
--- in a list with only one element, the element that is read at an index below the list's length is
--- this one
+-- if a list has only one element, reading the list at an index below its length gives this element
 one_item : (x y k : ℕ) → k < length (x ∷ []) → slice_index_or (x ∷ []) k y ≡ y → y ≡ x
 one_item x y zero h e = sym e
 one_item x y (suc k) h e = absurd (omega arith)

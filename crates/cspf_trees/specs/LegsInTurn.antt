@@ -50,9 +50,9 @@ pub record IsLegAnswer (d : Database) (q : Request) (start target : ℕ) (answer
   pub asks : AsksForLeg q leg start target
   pub best : IsBestAnswer d leg answer
 
--- The route consists of the links `front`, in place of its first `count` legs, and of its other
--- legs. The links `front` end at the router `router`, and don't precede the walk in the order of
--- walks.
+-- The route begins with the links `front`, which take the place of its first `count` legs, and its
+-- other legs follow. The links `front` end at the router `router`, and don't precede the walk in
+-- the order of walks.
 pub record GoesOnInLegs (d : Database) (q : Request) (count router : ℕ) (walk route : List Link) : Type 0 where
   pub front : List Link
   pub legs : List (List Link)
