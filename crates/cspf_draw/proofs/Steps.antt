@@ -1,5 +1,5 @@
--- Each step on a counter keeps the rule of draws, an invariant. At the end the rule says which
--- numbers were drawn.
+-- Each step on a counter keeps the rule of draws, which is an invariant. From this rule follows
+-- which numbers have been drawn in the end.
 use Rattle.std.proofs.Common.{◌≡◌, ℕ, ◌+◌, ◌*◌, ◌-◌, ◌%◌, ◌^◌, ◌<◌, ◌≤◌, List, [], ◌∷◌, ◌++◌, length, set, get_or, refl, sym, ap, ◌∙◌, arith, sum_by, length-append, length-set}
 use Rattle.std.proofs.lemmas.Bool.Decides.{nat_tests}
 use Rattle.std.proofs.lemmas.List.Sums.{sum_by_push}
@@ -83,9 +83,9 @@ joins requests id v other w s holds at apart there = record {
   draws = ap (λ n. drawn_word s + n) (total-join (λ u. u.left) s.views id other v w (both_seats v w) spent_seat at there (omega arith)) ∙ holds.draws;
 }
 
--- Suppose that one seat (a record of draws) has all draws of the counter: those that were made, and
--- those that are left. Then the seat's list of drawn numbers has each number below the counter's
--- value once, and no other number.
+-- If one seat (a record of draws) has all draws of the counter, those that have been made and those
+-- that are left, its list of drawn numbers has each number below the counter's value once, and no
+-- other number.
 pub all_once : (requests : ℕ) (s : State ℕ SeatDraws) (id : ℕ) (v : SeatDraws) → HoldsBetweenDraws requests s → get_elem? s.views id ≡ some v
     → length v.drawn + v.left ≡ MOST_DRAWERS * (requests + 1) → HoldsEachOnce (drawn_word s) v.drawn
 all_once requests s id v holds at all x =
@@ -98,7 +98,7 @@ all_once requests s id v holds at all x =
     let draws = holds.draws in
     omega arith
 
--- the first number in the table of a counter is the counter's value
+-- the first element in the table of a counter is the counter's value
 pub word_at : (words : List ℕ) (word : ℕ) → get_elem? words 0 ≡ some word → get_or words 0 0 ≡ word
 word_at [] word at = absurd (some-ne-none word (sym at))
 word_at (w ∷ ws) word at = some-injective w word at

@@ -1,5 +1,5 @@
--- Sums over all seats of a counter. A seat records which numbers a worker has drawn, and how often
--- it may still draw. The sums are how many numbers were drawn, and how many draws are left.
+-- Sums over all seats of a counter: how many numbers have been drawn, and how many draws are left.
+-- A seat records the numbers that a worker has drawn, and how often it may still draw.
 use Rattle.std.proofs.Common.{◌≡◌, ℕ, zero, suc, ◌+◌, ◌<◌, ◌≤◌, ◌==◌, cond, List, [], ◌∷◌, ◌++◌, length, All, set, get_or, sym, ap, ◌∙◌, arith, sum_by, inl, inr, length-append, subst, flat_map, append-nil}
 use Rattle.std.specs.List.Sorted.{IsStrictlyIncreasing}
 use Rattle.std.proofs.lemmas.Bool.{cases_lt}
@@ -14,21 +14,21 @@ use Rattle.cspf_draw.specs.declared.seat_draws.SeatDraws.{SeatDraws}
 use Rattle.cspf_draw.specs.DrawnNumbers.{DrawnNumbers}
 use Rattle.cspf_draw.specs.EachOnce.{times, once_below}
 
--- if the list `views` of seats (records of draws) has `v` at the index `seat`, the index is within
--- the list, and reading the list there gives `v`
+-- if the list `views` of seats (records of draws) has the element `v` at the index `seat`, this
+-- index is below the length of the list, and reading the list there gives `v`
 pub at_place : (views : List SeatDraws) (seat : ℕ) (v : SeatDraws) → get_elem? views seat ≡ some v → (seat < length views) × ((d : SeatDraws) → get_or views seat d ≡ v)
 at_place [] seat v at = absurd (some-ne-none v (sym at))
 at_place (u ∷ us) zero v at = (omega arith, λ d. some-injective u v at)
 at_place (u ∷ us) (suc seat) v at = (let rest = at_place us seat v at in (omega (arith, rest.0), rest.1))
 
--- if one seat (record of draws) in a list is replaced, the sum of `f` over the list loses the old
--- seat's value and gains the new seat's value
+-- if one seat (a record of draws) in a list is replaced, the sum of `f` over the list loses the
+-- value for the old seat and gains the value for the new seat
 pub total-set : (f : SeatDraws → ℕ) (views : List SeatDraws) (seat : ℕ) (v w : SeatDraws) → get_elem? views seat ≡ some v → sum_by f (set views seat w) + f v ≡ sum_by f views + f w
 total-set f views seat v w at =
     let place = at_place views seat v at in
     ap (λ u. sum_by f (set views seat w) + f u) (sym (place.1 v)) ∙ sum_by-set f views seat w v place.0
 
--- the value of `f` for one seat (record of draws) is at most the sum of `f` over all seats
+-- the value of `f` for one seat (a record of draws) is at most the sum of `f` over all seats
 pub total_at : (f : SeatDraws → ℕ) (views : List SeatDraws) (seat : ℕ) (v : SeatDraws) → get_elem? views seat ≡ some v → f v ≤ sum_by f views
 total_at f views seat v at =
     let place = at_place views seat v at in
@@ -36,8 +36,8 @@ total_at f views seat v at =
     let least = get_or-le-sum_by f views seat v place.0 in
     omega arith
 
--- if `f` is at most `g` for each seat (record of draws), this also holds of the sums of `f` and of
--- `g` over all seats but one
+-- if `f` is at most `g` for each seat (a record of draws), the sum of `f` over all seats except one
+-- is at most the sum of `g` over the same seats
 pub total_others : (f g : SeatDraws → ℕ) → ((u : SeatDraws) → f u ≤ g u) → (views : List SeatDraws) (seat : ℕ) (v : SeatDraws)
     → get_elem? views seat ≡ some v → sum_by f views + g v ≤ sum_by g views + f v
 total_others f g le [] seat v at = absurd (some-ne-none v (sym at))
@@ -58,7 +58,8 @@ times-le x xs = count_by-le-length (λ y. y == x) xs
 pub once_below-more : (x n : ℕ) → once_below (n + 1) x ≡ once_below n x + cond (n == x) 1 0
 once_below-more x n = grind (arith, nat_tests)
 
--- if a list has each number below the bound at most once and no other number, all its numbers are below the bound
+-- if a list has each number below the bound at most once, and no other number, all its numbers are
+-- below the bound
 pub all_below : (n : ℕ) (xs : List ℕ) → ((x : ℕ) → times x xs ≤ once_below n x) → All (λ x. x < n) xs
 all_below n [] few k d less = absurd (omega arith)
 all_below n (y ∷ ys) few zero d less =
@@ -70,7 +71,7 @@ all_below n (y ∷ ys) few (suc k) d less =
     (λ x. (let whole = few x in let step : times x (y ∷ ys) ≡ cond (y == x) 1 0 + times x ys = sum_by-cons (λ z. cond (z == x) 1 0) y ys in omega arith))
     k d (omega arith)
 
--- a strictly rising list with a greater number added at its end still rises strictly
+-- a strictly increasing list is still strictly increasing after a greater number is appended
 pub IsStrictlyIncreasing-push : (xs : List ℕ) (y : ℕ) → IsStrictlyIncreasing xs → All (λ x. x < y) xs → IsStrictlyIncreasing (xs ++ y ∷ [])
 IsStrictlyIncreasing-push xs y rising above k less =
     let inside : k < length xs = omega (arith, length-append xs (y ∷ [])) in
@@ -84,14 +85,15 @@ IsStrictlyIncreasing-push xs y rising above k less =
           omega arith
     ]
 
--- what holds of all elements of a list holds of `x`, which comes after the elements `before`
+-- the element `x`, which follows the elements `before` in a list, has each property that all
+-- elements of the list have
 pub next_of : {X : Type 0} (P : X → Type 0) (before : List X) (x : X) (left after all : List X) → before ++ left ≡ all → left ≡ x ∷ after → All P all → P x
 next_of P before x left after all whole next holds =
     let same : all ≡ before ++ x ∷ after = sym whole ∙ ap (λ l. before ++ l) next in
     let here : All P (before ++ x ∷ after) = subst (All P) same holds in
     subst P (get_or-append_seam before x after x) (here (length before) x (omega (arith, length-append before (x ∷ after))))
 
--- if a worker is added at the end of the list of workers that draw, its numbers come after the
--- numbers of all other workers
+-- if a worker is appended to the list of workers, its drawn numbers follow those of all other
+-- workers
 pub drawn-push : (drawers : List DrawnNumbers) (d : DrawnNumbers) → flat_map (λ u. u.drawn) (drawers ++ d ∷ []) ≡ flat_map (λ u. u.drawn) drawers ++ d.drawn
 drawn-push drawers d = flat_map-append (λ (u : DrawnNumbers). u.drawn) drawers (d ∷ []) ∙ ap (λ rest. flat_map (λ (u : DrawnNumbers). u.drawn) drawers ++ rest) (append-nil d.drawn)

@@ -1,4 +1,5 @@
-//! The counter: an atomic number, from which workers draw (read it and add 1 in one step).
+//! The counter: an atomic number from which workers draw. A draw reads the number and adds 1 to it
+//! in one step.
 ghost use Rattle.std.specs.Prelude.{◌≡◌, ◌+◌, ◌<◌, ◌≤◌, [], All, IfOk, vec_len, flat_map};
 ghost use Rattle.std.specs.List.Sorted.{IsStrictlyIncreasing};
 ghost use Rattle.cspf_draw.specs.EachOnce.{HoldsEachOnce};
@@ -12,8 +13,8 @@ use atomic_table::Table;
 use std::alloc::{AllocError, Global};
 use std::marker::Model;
 
-/// A counter: one atomic number, which is called its *word*. The word is 0 at first. Each draw
-/// returns the word and adds 1 to it, in one atomic step.
+/// A counter: one atomic number, which is called its *word* and is 0 at first. Each draw returns
+/// the word and adds 1 to it, in one atomic step.
 #[derive(Drop)]
 pub struct Counter {
     table: Table<u64, SeatDraws, u64, DrawRule, Global>,
@@ -34,8 +35,8 @@ impl Model for Counter {
 }
 
 impl Counter {
-    /// Makes a counter for this many requests, and its first seat (a record of draws). No number is
-    /// drawn yet. The first seat records the draws that all drawers (one for each worker) may make.
+    /// Makes a counter for `requests` requests, and its first seat (a record of draws). No number
+    /// is drawn yet. The first seat has the draws of all drawers. Each worker has one drawer.
     pub fn open(alloc: Global, requests: u64) -> Result<(Counter, FirstSeat), AllocError>
         requires { requests ≤ MOST_REQUESTS }
         ensures first { IfOk result (λ opened. (opened.1.shares ≡ MOST_DRAWERS) × (opened.1.counter ≡ opened.0)) }
@@ -50,9 +51,9 @@ impl Counter {
         Ok((Counter { table, requests }, first))
     }
 
-    /// Makes a drawer, with which one worker draws numbers. Its draws are taken from the first
-    /// seat, which records the draws that no drawer has yet. The drawer may draw once more than
-    /// there are requests. The call takes no memory.
+    /// Makes a drawer, with which one worker draws numbers. The drawer gets its draws from the
+    /// first seat, which has the draws that no drawer has yet. The drawer may draw once more than
+    /// there are requests. The call allocates no memory.
     pub fn split<'a>(&'a self, first: &mut FirstSeat) -> Drawer<'a>
         requires counter { first.old.counter ≡ self.now }
         requires some { 0 < first.old.shares }
@@ -64,9 +65,9 @@ impl Counter {
         Drawer::new(&self.table.shared, seat, self.requests + 1)
     }
 
-    /// Ends all drawers (one for each worker that draws), and merges the numbers that they have
-    /// drawn into the last seat. The last seat is the record of all draws, in the order of the
-    /// drawers. The call takes no memory.
+    /// Ends all drawers (one for each worker that draws), and merges their drawn numbers, in the
+    /// order of the drawers, into the last seat. The last seat is the record of all draws. The call
+    /// allocates no memory.
     pub fn join(&self, first: FirstSeat, drawers: Vec<Drawer<'_>>) -> LastSeat
         requires counter { (first.counter ≡ self.now) × All (λ d. d.counter ≡ self.now) drawers.items }
         requires all { first.shares + vec_len drawers ≡ MOST_DRAWERS }
@@ -88,8 +89,8 @@ impl Counter {
         LastSeat { seat, requests }
     }
 
-    /// Returns how many numbers were drawn. Each number below the result was drawn once, and no other number
-    /// was drawn.
+    /// Ends the counter, and returns how many numbers were drawn. Each number below the result was
+    /// drawn once, and no other number was drawn.
     pub fn close(self, last: LastSeat) -> u64
         requires { last.counter ≡ self }
         ensures { HoldsEachOnce result last.drawn }

@@ -34,8 +34,8 @@ impl<'a> Drawer<'a> {
     ghost use Rattle.std.specs.List.Sorted.{IsStrictlyIncreasing};
     ghost use Rattle.cspf_draw.specs.SeatDraws.{IsDrawer};
 
-    /// A drawer, with which one worker draws numbers. In proofs its seat records the numbers that
-    /// it has drawn. It may draw `left` times more.
+    /// Makes a drawer, which may draw `left` more times. A worker draws numbers with a drawer. In
+    /// proofs, the drawer's seat records the numbers that it has drawn.
     pub(crate) fn new(word: &'a Word, seat: WordSeat, left: u64) -> Drawer<'a>
         requires home { (seat.table_id ≡ word.now.table_id) × (word.now.table_id.words ≡ 1) }
         requires left { (left ≡ seat.me.0.left) × (seat.me.1 ≡ []) }
@@ -45,7 +45,7 @@ impl<'a> Drawer<'a> {
         Drawer { word, seat, left }
     }
 
-    /// Ends the drawer (with which one worker draws), and returns its seat. In proofs the seat
+    /// Ends the drawer, with which one worker draws, and returns its seat. In proofs, the seat
     /// records the numbers that the drawer has drawn.
     pub(crate) fn into_seat(self) -> WordSeat
         ensures seat { (result.table_id ≡ self.entry.counter.table) × (result.me.1 ≡ []) }
@@ -59,7 +59,7 @@ impl<'a> Drawer<'a> {
         seat
     }
 
-    /// How many draws are left to this drawer, with which one worker draws.
+    /// How often this drawer may still draw. One worker draws with it.
     pub fn left(&self) -> u64
         ensures left { result ≡ self.now.left }
         ensures all { length self.now.drawn + self.now.left ≡ self.now.counter.requests + 1 }
@@ -68,8 +68,8 @@ impl<'a> Drawer<'a> {
         self.left
     }
 
-    /// Draws: returns the counter's value and adds 1 to the counter in one atomic step. No other
-    /// draw returns this number. The call takes no memory and never blocks.
+    /// Draws a number: returns the counter's value and adds 1 to the counter, in one atomic step.
+    /// No other draw returns this number. The call allocates no memory and never blocks.
     pub fn draw(&mut self) -> u64
         requires { 0 < self.old.left }
         ensures drawn { self.new.drawn ≡ self.old.drawn ++ result ∷ [] }

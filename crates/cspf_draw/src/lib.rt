@@ -1,18 +1,17 @@
-//! Several threads draw numbers from one counter: a draw reads the counter and adds 1 to it in one
-//! step. Each number is drawn once, and none is left out.
+//! Several threads draw numbers from one counter. A draw reads the counter and adds 1 to it in one
+//! step. Each number is drawn once, and no number is left out.
 //!
-//! A counter has one atomic number, which is called its *word*. A draw is one step on the word, a
+//! A counter has one atomic number, which is called its *word*. A draw is one step on the word: a
 //! `fetch_add` of 1. Each thread has a *drawer*, the object with which it draws, and each drawer
-//! has a *seat*. In the proof this seat records the numbers that the drawer has drawn, and how
-//! often it may still draw. `specs/DrawRule.antt` defines an invariant, the rule of draws, and what
-//! a draw does. `specs/SeatDraws.antt` defines how the seat of a new drawer is made, and how two
-//! seats are merged. `specs/DrawnNumbers.antt` has the values by which contracts describe a
-//! counter, its seats and its drawers. `specs/EachOnce.antt` says what is known of the drawn
-//! numbers in the end.
+//! has a *seat*. In proofs, this seat records the numbers that the drawer has drawn, and how often
+//! it may still draw. `specs/DrawRule.antt` defines an invariant, the rule of draws, and the effect
+//! of a draw. `specs/SeatDraws.antt` defines how the seat of a new drawer is made, and how two
+//! seats are merged. `specs/DrawnNumbers.antt` defines what a counter, its seats and its drawers
+//! are in contracts. `specs/EachOnce.antt` defines what holds of the drawn numbers in the end.
 //!
-//! `Counter::open` takes all memory. Then `split` makes drawers, `Drawer::draw` draws a number, and
-//! `join` merges the numbers of all drawers. `close` returns the word: exactly the numbers below
-//! the word were drawn, each by one drawer.
+//! `Counter::open` allocates all memory. Then `split` makes drawers, `Drawer::draw` draws a number,
+//! and `join` merges the numbers of all drawers. `close` returns the word: exactly the numbers
+//! below the word were drawn, each by one drawer.
 #![tactic(auto)]
 
 mod counter;

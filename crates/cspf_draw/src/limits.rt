@@ -1,9 +1,9 @@
-//! How many workers can draw from a counter at most, and for how many requests it can be made at
-//! most.
+//! The greatest numbers of workers and of requests for one counter.
 
-/// How many drawers a counter has at most. Each worker that draws from the counter has one drawer.
+/// The greatest number of drawers of a counter. Each worker that draws from the counter has one
+/// drawer.
 pub const MOST_DRAWERS: usize = 64;
 
-/// For how many requests a counter can be made at most. Workers draw the numbers of the requests
-/// from it.
+/// The greatest number of requests for which a counter can be made. Workers draw the indexes of the
+/// requests from the counter.
 pub const MOST_REQUESTS: u64 = 1_000_000;

@@ -1,14 +1,13 @@
-//! The first and the last seat of a counter. A seat records which numbers were drawn from the
-//! counter, and how many draws are left. Each worker that draws has a seat, but these two seats
-//! belong to no worker. Workers get their draws from the first seat, and the last seat has the
-//! numbers that all workers have drawn.
+//! The first and the last seat of a counter, which belong to no worker. A seat records which
+//! numbers were drawn from the counter, and how many draws are left. Workers get their draws from
+//! the first seat, and the last seat has the numbers that all workers have drawn.
 ghost use Rattle.std.specs.Prelude.{◌≡◌};
 
 use crate::draw_rule::WordSeat;
 use std::marker::Model;
 
-/// The first seat of a counter: a record of the draws that were given to no worker yet. Each new
-/// drawer, with which a worker draws, gets its draws from here.
+/// The first seat of a counter: a record of the draws that no worker has yet. Each new drawer, with
+/// which a worker draws, gets its draws from this seat.
 #[derive(Drop)]
 pub struct FirstSeat {
     pub(crate) seat: WordSeat,
@@ -29,7 +28,7 @@ impl Model for FirstSeat {
 }
 
 impl FirstSeat {
-    /// For how many more workers this first seat still has draws.
+    /// The number of further workers for which this first seat has draws.
     pub fn shares(&self) -> usize
         ensures { result ≡ self.now.shares }
     {
@@ -37,8 +36,8 @@ impl FirstSeat {
     }
 }
 
-/// The last seat of a counter, a record that is made after all workers have drawn. It has the
-/// merged numbers of all workers, and all draws that are left.
+/// The last seat of a counter: a record that is made after all workers have drawn. It has the drawn
+/// numbers of all workers, and all draws that are left.
 #[derive(Drop)]
 pub struct LastSeat {
     pub(crate) seat: WordSeat,

@@ -1,4 +1,4 @@
--- The first bytes of an object decide which hops it has, or why it is refused.
+-- The first `FIRST_BYTES` bytes of an object decide which hops it has, or why it is refused.
 use Rattle.std.proofs.Common.{◌≡◌, ℕ, zero, suc, ◌+◌, ◌-◌, ◌*◌, ◌<◌, ◌≤◌, inl, inr, false, leb, ltb, eqb, List, [], ◌∷◌, length, take, drop, get_or, Ok, Err, refl, sym, ap, ◌∙◌, arith}
 use Rattle.std.proofs.lemmas.Bool.{le-leb, le-ltb, ne_eqb, cases_lt}
 use Rattle.std.proofs.lemmas.List.{take_all, length-take-le, get_or-take, drop-take}
@@ -6,7 +6,7 @@ use Rattle.cspf_ero.specs.declared.ero_error.EroError.TheVariants as error
 use Rattle.cspf_addr.specs.ResultSteps.{◌>>=◌}
 use Rattle.cspf_ero.specs.Reading.{hop_at, subobject_hops, sized_ero_of}
 
--- the first 8 bytes of a subobject decide which hop it is
+-- the first 8 bytes of a subobject decide which hop it spells
 hop_at-take : (at m : ℕ) (bytes : List ℕ) → 8 ≤ m → m ≤ length bytes → hop_at at (take m bytes) ≡ hop_at at bytes
 unfolding hop_at
 hop_at-take at m bytes eight more =
@@ -16,7 +16,7 @@ hop_at-take at m bytes eight more =
     rw (whole, same 0 (omega arith), same 1 (omega arith), same 2 (omega arith), same 3 (omega arith), same 4 (omega arith), same 5 (omega arith), same 6 (omega arith)) refl
 
 -- bytes that aren't empty are read as the hop of the first subobject, followed by the hops of the
--- bytes after it, unless a subobject is refused
+-- later subobjects, unless one of the subobjects is refused
 hops_at-some : (most at : ℕ) (bytes : List ℕ) → 0 < length bytes
     → subobject_hops (suc most) at bytes ≡ (hop_at at bytes >>= (λ hop. subobject_hops most (at + 8) (drop 8 bytes) >>= (λ hops. Ok (hop ∷ hops))))
 hops_at-some most at [] some = absurd (omega arith)
@@ -26,8 +26,8 @@ hops_at-none : (at : ℕ) (bytes : List ℕ) → 0 < length bytes → subobject_
 hops_at-none at [] some = absurd (omega arith)
 hops_at-none at (byte ∷ bytes) some = refl
 
--- if `m` is above `8 * most`, reading at most `most` hops gives the same result for the first `m`
--- bytes as for all bytes
+-- if `m` exceeds `8 * most`, the first `m` bytes are read with the same result as all bytes,
+-- because at most `most` hops of 8 bytes each are read
 hops_at-take : (most at m : ℕ) (bytes : List ℕ) → 8 * most < m → subobject_hops most at (take m bytes) ≡ subobject_hops most at bytes
 hops_at-take zero at m bytes enough =
     elim (cases_lt m (length bytes)) [
@@ -49,7 +49,7 @@ hops_at-take (suc most) at m bytes enough =
     past_eight : 8 ≤ m → m ≡ 8 + (m - 8)
     past_eight eight = omega arith
 
--- the first `FIRST_BYTES` bytes of an object, and how many bytes it has, decide which hops it has
+-- the first `FIRST_BYTES` bytes of an object and its number of bytes decide which hops it has
 pub first_bytes_decide : (size : ℕ) (bytes : List ℕ) → sized_ero_of size (take 64 bytes) ≡ sized_ero_of size bytes
 unfolding sized_ero_of
 first_bytes_decide size bytes =

@@ -1,4 +1,5 @@
--- How the id and the version at the start of a reply line are read, one number after the other.
+-- How the two numbers at the start of a reply line, the id and the version, are read one after the
+-- other.
 use Rattle.std.proofs.Common.{◌≡◌, ◌≢◌, ℕ, ◌+◌, ◌^◌, ◌<◌, true, false, Bool, cond, ltb, eqb, ◌-◌, List, [], ◌∷◌, ◌++◌, codes, length, take, drop, get_or, Some, None, refl, sym, ap, ◌∙◌, subst, length-append, append_assoc, arith}
 use Rattle.std.proofs.Math.Numerals.{one-add}
 use Rattle.std.proofs.lemmas.Bool.{ne_eqb, eqb-true, ltb-true, lt-ltb}
@@ -13,7 +14,7 @@ use Rattle.std.specs.List.{position, position_or_len, AllByRecursion}
 use Rattle.std.specs.Str.Parse.{AllDigits}
 use Rattle.cspf_ero.specs.ReplyHead.{HasOneHead}
 
--- a text with no space
+-- a text without spaces
 abbrev IsWord : List ℕ → Type 0
 IsWord text = AllByRecursion (λ byte. byte ≢ 32) text
 
@@ -24,8 +25,8 @@ digits_word (byte ∷ rest) digits = (λ same. omega (arith, same, digit_from_va
 decimal_word : (n : ℕ) → n < 2 ^ 64 → IsWord (decimal n)
 decimal_word n small = digits_word (decimal n) (decimal_is_IsNumeral n small).0.1
 
--- if two texts are equal, and each is a word, a space and further bytes, their words are equal, and
--- their further bytes are equal
+-- if two equal texts each consist of a word, a space and further bytes, both words are equal, and
+-- so are the further bytes
 one_word : (a b c d : List ℕ) → IsWord a → IsWord b → a ++ 32 ∷ c ≡ b ++ 32 ∷ d → (a ≡ b) × (c ≡ d)
 one_word [] [] c d wa wb same = (refl, cc)
 one_word [] (y ∷ b) c d wa wb same = absurd (wb.0 (cc))
@@ -36,8 +37,8 @@ one_word (x ∷ a) (y ∷ b) c d wa wb same =
     let both = one_word a b c d wa.1 wb.1 tail in
     (rw (head, both.0) refl, both.1)
 
--- if two texts are equal, and each is a decimal number, a space and further bytes, their numbers
--- are equal, and their further bytes are equal
+-- if two equal texts each consist of a decimal number, a space and further bytes, both numbers are
+-- equal, and so are the further bytes
 pub one_number : (m n : ℕ) (c d : List ℕ) → m < 2 ^ 64 → n < 2 ^ 64 → decimal m ++ 32 ∷ c ≡ decimal n ++ 32 ∷ d → (m ≡ n) × (c ≡ d)
 one_number m n c d small other same =
     let both = one_word (decimal m) (decimal n) c d (decimal_word m small) (decimal_word n other) same in
@@ -49,8 +50,8 @@ place_of_space [] rest w = refl
 place_of_space (byte ∷ word) rest w = rw (ne_eqb byte 32 w.0, place_of_space word rest w.1) (one-add (length word))
 
 module _ (n : ℕ) (text rest : List ℕ) (small : n < 2 ^ 64) (whole : text ≡ decimal n ++ 32 ∷ rest) where
-  -- if a text begins with a decimal number and a space, its first space comes right after this
-  -- number
+  -- if a text begins with a decimal number and a space, its first space follows this number
+  -- directly
   pub space_behind : position (λ byte. eqb byte 32) text ≡ Some (length (decimal n))
   space_behind = subst (λ t. position (λ byte. eqb byte 32) t ≡ Some (length (decimal n))) (sym whole) (rw (place_of_space (decimal n) rest (decimal_word n small), length-append (decimal n) (32 ∷ rest), lt-ltb (length (decimal n)) (length (decimal n) + length (32 ∷ rest)) (omega arith)) refl)
 
@@ -66,8 +67,8 @@ place_some place whole at true test found =
     let same : place ≡ at = cc in (same, rw same at (ltb-true _ _ test))
 place_some place whole at false test found = absurd (cc)
 
--- a text that has a space consists of the bytes before its first space, this space, and the bytes
--- after this space
+-- a text with a space consists of the bytes before its first space, this space, and the bytes after
+-- this space
 pub cut_at_space : (text : List ℕ) (at : ℕ) → position (λ byte. eqb byte 32) text ≡ Some at
     → text ≡ take at text ++ 32 ∷ take (length text - (at + 1)) (drop (at + 1) text)
 cut_at_space text at found =
@@ -77,8 +78,7 @@ cut_at_space text at found =
     let parts : text ≡ take at text ++ 32 ∷ drop (at + 1) text = rw place at (rw space at (split_at_first (λ byte. eqb byte 32) text 0 inside)) in
     parts ∙ ap (λ rest. take at text ++ 32 ∷ rest) (sym (take_rest text (at + 1)))
 
--- a text that begins with `front` is `front`, followed by the text without its first `length front`
--- bytes
+-- a text that begins with `front` is `front`, followed by the rest of the text
 pub starts_whole : (front text : List ℕ) → pointwise eqb (take (length front) text) front ≡ true → text ≡ front ++ drop (length front) text
 starts_whole front text same =
     let begins : take (length front) text ≡ front = (bytes_eq-Decides (take (length front) text) front).0 same in
@@ -90,8 +90,8 @@ regroup id version rest = simp append_assoc
 regrouped : (id version : ℕ) (rest : List ℕ) → codes "ask " ++ (decimal id ++ 32 ∷ (118 ∷ (decimal version ++ 32 ∷ rest))) ≡ codes "ask " ++ decimal id ++ codes " v" ++ decimal version ++ codes " " ++ rest
 regrouped id version rest = regroup (decimal id) (decimal version) rest
 
--- if `ask `, a number, `v` and another number are read one after the other from a line, the line
--- begins with these two as its id and version
+-- if a line is read as `ask `, a number, `v` and another number, it begins with these two numbers
+-- as its id and its version
 pub head_whole : (line behind more rest : List ℕ) (id version : ℕ) → line ≡ codes "ask " ++ behind → behind ≡ decimal id ++ 32 ∷ more → more ≡ codes "v" ++ (decimal version ++ 32 ∷ rest)
     → line ≡ codes "ask " ++ decimal id ++ codes " v" ++ decimal version ++ codes " " ++ rest
 head_whole line behind more rest id version front first second =

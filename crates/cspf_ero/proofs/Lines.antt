@@ -1,4 +1,4 @@
--- Which pieces a reply line has, and how many bytes it has at most.
+-- The pieces of which a reply line consists, and the greatest number of its bytes.
 use Rattle.std.proofs.Common.{◌≡◌, ℕ, ◌*◌, ◌^◌, ◌<◌, ◌≤◌, Bool, true, false, List, [], ◌∷◌, ◌++◌, codes, length, append_assoc, length-append, lit≤, arith}
 use Rattle.std.proofs.lemmas.Fmt.{length-decimal-le}
 use Rattle.std.specs.Fmt.{decimal}
@@ -11,21 +11,21 @@ regrouped : (a id b version c d cost e hops f again g : List ℕ)
     ≡ a ++ id ++ b ++ version ++ c ++ (d ++ cost ++ e ++ hops ++ f ++ again ++ g)
 regrouped a id b version c d cost e hops f again g = simp append_assoc
 
--- for the part of a route's line before its object, the text that is written piece by piece is the
--- same as the text that `measures_text` defines
+-- the part of a route's line before its object is written piece by piece, and it is the text that
+-- `measures_text` defines
 pub front_pieces : (id version cost hops again : List ℕ)
     → codes "ask " ++ (id ++ (codes " v" ++ (version ++ (codes " route cost=" ++ (cost ++ (codes " hops=" ++ (hops ++ (codes " again=" ++ (again ++ codes " ero=")))))))))
     ≡ codes "ask " ++ id ++ codes " v" ++ version ++ codes " " ++ (codes "route cost=" ++ cost ++ codes " hops=" ++ hops ++ codes " again=" ++ again ++ codes " ero=")
 front_pieces id version cost hops again =
     regrouped (codes "ask ") id (codes " v") version (codes " ") (codes "route cost=") cost (codes " hops=") hops (codes " again=") again (codes " ero=")
 
--- a line is the same text whether its pieces are joined from the right, or `words` and `digits` are
--- joined first
+-- a line is the same text, whether its pieces are joined from the right, or `words` and `digits`
+-- are joined first
 pub line_pieces : (front words digits feed : List ℕ) → front ++ words ++ digits ++ feed ≡ front ++ (words ++ digits) ++ feed
 line_pieces front words digits feed = simp append_assoc
 
 -- an id has at most 20 digits; the next three lemmas bound the digits of a version, of a cost and
--- of the number of links
+-- of a number of links
 pub id_digits : (id : ℕ) → id < 2 ^ 64 → length (decimal id) ≤ 20
 id_digits id small = length-decimal-le 20 id (omega arith) (omega arith) small
 
@@ -52,6 +52,6 @@ pub short_most : (id version words : List ℕ) → length id ≤ 20 → length v
     → length (codes "ask " ++ (id ++ (codes " v" ++ (version ++ (codes " " ++ (words ++ codes "\n")))))) ≤ 50
 short_most id version words a b c = simp length-append (omega arith)
 
--- a line with the digits of an object has at most `MOST_LINE_BYTES` bytes
+-- a line with an object has at most `MOST_LINE_BYTES` bytes
 pub line_most : (front digits object : List ℕ) → length front ≤ 87 → length object ≤ MOST_OBJECT_BYTES → length digits ≡ 2 * length object → length (front ++ digits ++ 10 ∷ []) ≤ MOST_LINE_BYTES
 line_most front digits object a b c = simp length-append (omega arith)

@@ -1,4 +1,4 @@
--- For a request's id, a version of the database and an answer there is at most one reply line.
+-- There is at most one reply line for a request's id, a version of the database and an answer.
 use Rattle.std.proofs.Common.{◌≡◌, ℕ, ◌↔◌, Bool, true, false, IsTrue, List, refl, sym, ◌∙◌}
 use Rattle.cspf_model.specs.Best.{Answer, unknown_from, unknown_to, no_route, route}
 use Rattle.cspf_ero.specs.ReplyLine.{IsAnswerText, HasOneReplyLine}

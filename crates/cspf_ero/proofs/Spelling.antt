@@ -16,12 +16,12 @@ use Rattle.cspf_ero.specs.Laws.{AreObjectsRead, SpellsOneHopList}
 use Rattle.cspf_ero.proofs.HopReading.{hops_at-more}
 use Rattle.cspf_ero.proofs.Subobjects.{passed, hop_at-read, read_spells, spelled_read, length-spelled}
 
--- if all numbers of a list are bytes, all numbers after the first `n` are bytes
+-- if all numbers of a list are bytes, so are all numbers after the first `n`
 drop_bytes : (n : ℕ) (bytes : List ℕ) → IsBytes bytes → IsBytes (drop n bytes)
 drop_bytes n bytes small i = rw (get_or-drop n bytes i 0) (small (n + i))
 
--- Take two steps, the second one with the value of the first. If they give the value `b`, the first
--- step gives some value, and the second step gives `b` for it.
+-- If two steps in sequence succeed with the value `b`, the first step succeeds with some value, and
+-- the second step gives `b` for this value.
 both_read : {A B : Type 0} (r : Result A EroError) (more : A → Result B EroError) (b : B) → (r >>= more) ≡ Ok b → (a : A) × (r ≡ Ok a) × (more a ≡ Ok b)
 both_read (Ok a) more b same = (a, refl, same)
 both_read (Err e) more b same = absurd (cc)
@@ -54,8 +54,7 @@ spelled_hops (suc most) at bytes (hop ∷ hops) few (front, back, cut, first, re
     let behind : drop 8 (front ++ back) ≡ back = ap (λ n. drop n (front ++ back)) (sym eight) ∙ drop-append_seam front back in
     rw (cut, hops_at-more most at (front ++ back) hop (some_byte front back eight) (spelled_read at front back hop first), behind, spelled_hops most (at + 8) back hops (omega arith) rest) refl
 
--- a list of at least four bytes consists of its first two bytes, its third byte, its fourth byte,
--- and the bytes after these
+-- a list of at least four bytes consists of its first four bytes and the bytes after them
 four_bytes : (bytes : List ℕ) → 4 ≤ length bytes → bytes ≡ (get_or bytes 0 0 ∷ get_or bytes 1 0 ∷ []) ++ get_or bytes 2 0 ∷ get_or bytes 3 0 ∷ drop 4 bytes
 four_bytes [] whole = absurd (omega arith)
 four_bytes (a ∷ []) whole = absurd (omega arith)
@@ -66,8 +65,8 @@ four_bytes (a ∷ b ∷ c ∷ d ∷ rest) whole = refl
 with_class : (field written rest : List ℕ) → field ≡ written → field ++ 20 ∷ 1 ∷ rest ≡ (written ++ 20 ∷ 1 ∷ []) ++ rest
 with_class field written rest same = ap (λ (front : List ℕ). front ++ 20 ∷ 1 ∷ rest) same ∙ sym (append_assoc written (20 ∷ 1 ∷ []) rest)
 
--- Take the error `e` if the test `b` is true, and `r` otherwise. If this gives a value, `b` is
--- false, and `r` has this value.
+-- Let a result be the error `e` if the test `b` is true, and `r` otherwise. If this result is the
+-- value `x`, then `b` is false, and `r` is the value `x`.
 refused_by : {A : Type 0} (b : Bool) (e : EroError) (r : Result A EroError) (x : A) → cond b (Err e) r ≡ Ok x → (b ≡ false) × (r ≡ Ok x)
 refused_by true e r x same = absurd (cc)
 refused_by false e r x same = (refl, same)
@@ -103,8 +102,8 @@ ero_of-spells bytes hops small found =
     two_small ha hb (suc zero) = hb
     two_small ha hb (suc (suc i)) = lit< tt
 
--- Let `size` be a multiple of 4 below 65,536. If at least one byte follows `header size`, the
--- object is read as the hops of the bytes after its header.
+-- An object of `size` bytes is read as the hops of the bytes after its header. `size` must be a
+-- multiple of 4 below 65,536, and at least one byte must follow the header.
 pub sized_header : (size : ℕ) (body : List ℕ) → size < 2 ^ 16 → size % 4 ≡ 0 → 0 < length body → sized_ero_of size (header size ++ body) ≡ subobject_hops 7 4 body
 unfolding sized_ero_of
 sized_header size body small fourth some =

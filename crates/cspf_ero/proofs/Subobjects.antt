@@ -12,13 +12,13 @@ use Rattle.cspf_ero.specs.declared.ero_error.EroError.{EroError}
 use Rattle.cspf_ero.specs.Objects.{type_byte, subobject, SpellsHop}
 use Rattle.cspf_ero.specs.Reading.{address_in, hop_at}
 
--- Take `r` if the test `b` is true, and the error `e` otherwise. If this gives a value, `b` is
--- true, and `r` has this value.
+-- Let a result be `r` if the test `b` is true, and the error `e` otherwise. If this result is the
+-- value `x`, then `b` is true, and `r` is the value `x`.
 pub passed : {A : Type 0} (b : Bool) (r : Result A EroError) (e : EroError) (x : A) → cond b r (Err e) ≡ Ok x → (b ≡ true) × (r ≡ Ok x)
 passed true r e x same = (refl, same)
 passed false r e x same = absurd (cc)
 
--- the bytes begin with a subobject of the type 1 and of 8 bytes, whose bit L, prefix length and
+-- the bytes begin with a subobject of type 1 and of 8 bytes, and its bit L, prefix length and
 -- prefix are those of the hop
 pub record IsReadHop (bytes : List ℕ) (hop : Hop) : Type 0 where
   pub kind : get_or bytes 0 0 % 128 ≡ 1
@@ -44,8 +44,7 @@ hop_at-read at bytes hop found =
       prefix = cc last;
     }
 
--- a list of at least eight bytes consists of its first eight bytes, one by one, and the bytes after
--- these
+-- a list of at least eight bytes consists of its first eight bytes and the bytes after them
 eight_bytes : (bytes : List ℕ) → 8 ≤ length bytes
     → bytes ≡ get_or bytes 0 0 ∷ get_or bytes 1 0 ∷ get_or bytes 2 0 ∷ get_or bytes 3 0 ∷ get_or bytes 4 0 ∷ get_or bytes 5 0 ∷ get_or bytes 6 0 ∷ get_or bytes 7 0 ∷ drop 8 bytes
 eight_bytes [] whole = absurd (omega arith)
@@ -58,20 +57,20 @@ eight_bytes (a ∷ b ∷ c ∷ d ∷ e ∷ f ∷ []) whole = absurd (omega arith
 eight_bytes (a ∷ b ∷ c ∷ d ∷ e ∷ f ∷ g ∷ []) whole = absurd (omega arith)
 eight_bytes (a ∷ b ∷ c ∷ d ∷ e ∷ f ∷ g ∷ h ∷ rest) whole = refl
 
--- Suppose that a list begins with the type byte, the length 8, the address, the prefix length and
--- the padding of a subobject. It is then this subobject, followed by the rest of the list.
+-- A list begins with a subobject if its first bytes are the type byte, the length 8, the address,
+-- the prefix length and the padding of this subobject.
 by_parts : (first size bits padding kind length : ℕ) (four address rest : List ℕ) → first ≡ kind → size ≡ 8 → bits ≡ length → four ≡ address
     → first ∷ size ∷ (four ++ bits ∷ padding ∷ rest) ≡ (kind ∷ 8 ∷ (address ++ length ∷ padding ∷ [])) ++ rest
 by_parts first size bits padding kind length four address rest first_is size_is bits_is four_is =
     rw (first_is, size_is, bits_is, four_is) (ap (λ (back : List ℕ). kind ∷ 8 ∷ back) (sym (append_assoc address (length ∷ padding ∷ []) rest)))
 
--- the first byte of a subobject of the type 1 is the byte that `type_byte` gives for the
--- subobject's bit L
+-- the first byte of a subobject of type 1 is the byte that `type_byte` gives for the subobject's
+-- bit L
 type_byte-read : (byte : ℕ) (loose : Bool) → byte < 256 → byte % 128 ≡ 1 → leb 128 byte ≡ loose → byte ≡ type_byte loose
 type_byte-read byte true small kind high = let above : 128 ≤ byte = leb-true 128 byte high in omega arith
 type_byte-read byte false small kind high = grind arith
 
--- the prefix of an address's first bits covers the address
+-- the prefix that consists of an address's first bits covers this address
 pub first_bits_cover : (bits address : ℕ) → Covers (with_first_bits bits address) address
 first_bits_cover bits address = mul-div_cancel (address / 2 ^ (32 - bits)) (pow_pos (32 - bits))
 
@@ -82,13 +81,12 @@ first_bits_prefix bits address most small = record {
   zeros = ap (λ quotient. quotient * 2 ^ (32 - bits)) (first_bits_cover bits address);
 }
 
--- if a prefix covers an address, it is the prefix of the same length with the first bits of this
--- address
+-- if a prefix covers an address, it consists of the first bits of this address
 pub covering : (prefix : PrefixParts) (address : ℕ) → IsPrefix prefix → Covers prefix address → with_first_bits prefix.length address ≡ prefix
 covering prefix address proper agrees =
     ap (λ (bits : ℕ). record { address = bits; length = prefix.length }) (ap (λ quotient. quotient * 2 ^ (32 - prefix.length)) (sym agrees) ∙ proper.zeros)
 
--- if `IsReadHop` holds of bytes and a hop, the first 8 bytes are a subobject that spells this hop
+-- if bytes meet `IsReadHop` for a hop, the first 8 bytes are a subobject that spells this hop
 pub read_spells : (bytes : List ℕ) (hop : Hop) → IsBytes bytes → IsReadHop bytes hop
     → (front : List ℕ) × (length front ≡ 8) × (bytes ≡ front ++ drop 8 bytes) × SpellsHop front hop
 read_spells bytes hop small read =
@@ -118,8 +116,7 @@ read_spells bytes hop small read =
     four_small ha hb hc hd (suc (suc (suc zero))) = hd
     four_small ha hb hc hd (suc (suc (suc (suc i)))) = lit< tt
 
--- if `IsReadHop` holds of bytes and a hop, the subobject at the start of the bytes is read as this
--- hop
+-- if bytes meet `IsReadHop` for a hop, the subobject at the start of the bytes is read as this hop
 hop_at-has : (at : ℕ) (bytes : List ℕ) (hop : Hop) → IsReadHop bytes hop → hop_at at bytes ≡ Ok hop
 unfolding hop_at
 hop_at-has at bytes hop read = rw (read.kind, le-leb 8 (length bytes) read.whole, read.size, le-leb (get_or bytes 6 0) 32 read.most, read.prefix, read.loose) refl

@@ -1,4 +1,5 @@
--- Laws on which bytes are read as which hops, and on reading the object of a route.
+-- Laws on reading EXPLICIT_ROUTE objects: which bytes are read as which hops, and how the object of
+-- a route is read back.
 use Rattle.std.specs.Prelude.{◌≡◌, ℕ, ◌^◌, ◌<◌, ◌≤◌, ◌↔◌, false, List, length, map, Ok}
 use Rattle.std.specs.List.{AllByRecursion}
 use Rattle.hex.specs.Hex.{IsBytes}
@@ -12,11 +13,11 @@ use Rattle.cspf_ero.specs.Reading.{ero_of}
 abbrev pub AreObjectsRead : Type 0
 AreObjectsRead = (bytes : List ℕ) (hops : List Hop) → IsBytes bytes → (ero_of bytes ≡ Ok hops) ↔ Spells bytes hops
 
--- for all bytes there is at most one list of hops that they spell, as `Spells` defines it
+-- a list of bytes spells at most one list of hops, in the sense of `Spells`
 abbrev pub SpellsOneHopList : Type 0
 SpellsOneHopList = (bytes : List ℕ) (hops other : List Hop) → Spells bytes hops → Spells bytes other → hops ≡ other
 
--- the hops of a route's object: for each link, a strict hop to the link's remote address
+-- the hops that the object of a route has: for each link, a strict hop to the link's remote address
 abbrev pub hops_along : List Link → List Hop
 hops_along links = map (λ link. record { prefix = record { address = link.remote; length = 32 }; loose = false }) links
 

@@ -13,17 +13,18 @@ use Rattle.cspf_model.specs.declared.link.Link.{Link}
 abbrev pub header : ℕ → List ℕ
 header size = to_be_bytes w16 size ++ 20 ∷ 1 ∷ []
 
--- the first byte of a subobject: the type 1 of an IPv4 prefix, and the highest bit, L, which is set
+-- the first byte of a subobject: the type 1 of an IPv4 prefix, and the highest bit L, which is 1
 -- for a loose hop
 abbrev pub type_byte : Bool → ℕ
 type_byte loose = if loose then 129 else 1
 
--- a subobject: its first byte, its length 8, an address, a prefix length, and a byte of padding
+-- a subobject: the type byte, the length 8, an address, a prefix length, and a byte of padding
 abbrev pub subobject : Bool → ℕ → ℕ → ℕ → List ℕ
 subobject loose address bits padding = type_byte loose ∷ 8 ∷ to_be_bytes w32 address ++ bits ∷ padding ∷ []
 
 -- A subobject spells a hop if it has the hop's bit L and prefix length, and an address that the
--- hop's prefix covers. The other bits of the address and the padding may be anything.
+-- hop's prefix covers. The bits of the address after the prefix length, and the padding, may be
+-- anything.
 pub record SpellsHop (bytes : List ℕ) (hop : Hop) : Type 0 where
   pub address : ℕ
   pub padding : ℕ
@@ -38,7 +39,7 @@ abbrev pub SpellsEach : List ℕ → List Hop → Type 0
 SpellsEach bytes [] = bytes ≡ []
 SpellsEach bytes (hop ∷ hops) = (front : List ℕ) × (back : List ℕ) × (bytes ≡ front ++ back) × SpellsHop front hop × SpellsEach back hops
 
--- the bytes are an object that spells these hops, of which there are 1 to 7
+-- the bytes are an object that spells these 1 to 7 hops
 pub record Spells (bytes : List ℕ) (hops : List Hop) : Type 0 where
   pub some : 1 ≤ length hops
   pub most : length hops ≤ MOST_HOPS
@@ -51,6 +52,6 @@ pub record Spells (bytes : List ℕ) (hops : List Hop) : Type 0 where
 abbrev pub subobject_of : Link → List ℕ
 subobject_of link = subobject false link.remote 32 0
 
--- the object of a route: one subobject for each link
+-- the object of a route: the header, and one subobject for each link
 unfoldable pub object_of : List Link → List ℕ
 object_of links = header (4 + 8 * length links) ++ flat_map subobject_of links

@@ -1,4 +1,5 @@
--- What the bytes of an object are read as: its hops, or the first reason for a refusal.
+-- What the reader makes of the bytes of an object: the object's hops, or the first reason to refuse
+-- it.
 use Rattle.std.specs.Prelude.{ℕ, zero, suc, ◌+◌, ◌%◌, ◌&&◌, ◌==◌, nat_lt, nat_le, if◌then◌else◌, List, [], ◌∷◌, length, drop, slice_index, Result, Ok, Err}
 use Rattle.std.specs.Int.{w16, w32, from_be_bytes}
 use Rattle.cspf_addr.specs.ResultSteps.{◌>>=◌}
@@ -8,7 +9,7 @@ use Rattle.cspf_addr.specs.declared.hops.TheConstants.{MOST_HOPS}
 use Rattle.cspf_ero.specs.declared.ero_error.EroError.{EroError}
 use Rattle.cspf_ero.specs.declared.ero_error.EroError.TheVariants as error
 
--- the length field of an object's header
+-- the value of the length field in an object's header
 abbrev pub length_field : List ℕ → ℕ
 length_field bytes = from_be_bytes w16 (slice_index bytes 0 ∷ slice_index bytes 1 ∷ [])
 
@@ -16,7 +17,7 @@ length_field bytes = from_be_bytes w16 (slice_index bytes 0 ∷ slice_index byte
 abbrev pub address_in : List ℕ → ℕ
 address_in bytes = from_be_bytes w32 (slice_index bytes 2 ∷ slice_index bytes 3 ∷ slice_index bytes 4 ∷ slice_index bytes 5 ∷ [])
 
--- the hop of the first subobject of these bytes, which begin at the offset `at` of the object
+-- the hop of the first subobject of `bytes`, which begin at the offset `at` of the object
 unfoldable pub hop_at : ℕ → List ℕ → Result Hop EroError
 hop_at at bytes =
     if slice_index bytes 0 % 128 == 1
@@ -27,8 +28,8 @@ hop_at at bytes =
     else Err (error.Sublength at))
     else Err (error.Unsupported at (slice_index bytes 0 % 128))
 
--- the hops of the subobjects in these bytes, which begin at the offset `at` of the object. More
--- than `most` subobjects are refused.
+-- The hops of the subobjects in these bytes, which begin at the offset `at` of the object. If there
+-- are more than `most` subobjects, the result is an error.
 abbrev pub subobject_hops : ℕ → ℕ → List ℕ → Result (List Hop) EroError
 subobject_hops most at [] = Ok []
 subobject_hops zero at (byte ∷ bytes) = Err error.TooManyHops
@@ -37,7 +38,7 @@ subobject_hops (suc most) at (byte ∷ bytes) = do
   hops ← subobject_hops most (at + 8) (drop 8 (byte ∷ bytes))
   Ok (hop ∷ hops)
 
--- the hops of an object of `size` bytes that begins with these bytes
+-- the hops of an object that has `size` bytes and begins with `bytes`
 unfoldable pub sized_ero_of : ℕ → List ℕ → Result (List Hop) EroError
 sized_ero_of size bytes =
     if nat_lt (length bytes) 4
@@ -48,6 +49,6 @@ sized_ero_of size bytes =
     else Err error.Class)
     else Err error.Length)
 
--- the hops of an object, or why it is refused
+-- the hops of an object, or the reason to refuse it
 abbrev pub ero_of : List ℕ → Result (List Hop) EroError
 ero_of bytes = sized_ero_of (length bytes) bytes

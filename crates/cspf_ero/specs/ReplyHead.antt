@@ -1,10 +1,10 @@
--- The id and the version that a reply line begins with.
+-- The id and the version at the start of a reply line.
 use Rattle.std.specs.Prelude.{◌≡◌, ℕ, ◌^◌, ◌<◌, List, ◌++◌, codes}
 use Rattle.std.specs.Fmt.{decimal}
 use Rattle.cspf_ero.specs.declared.head.Head.{Head}
 
--- The line begins with `ask`, this id below 2^64, and `v` with this version below 2^32, each
--- followed by a space. Both numbers are decimal, without leading zeros.
+-- The line begins with `ask`, the id, and `v` with the version, each followed by a space. The id is
+-- below 2^64, and the version is below 2^32. Both numbers are decimal, without leading zeros.
 pub record BeginsWithHead (line : List ℕ) (head : Head) : Type 0 where
   pub id : head.id < 2 ^ 64
   pub version : head.version < 2 ^ 32

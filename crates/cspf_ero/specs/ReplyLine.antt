@@ -12,7 +12,7 @@ abbrev pub yes_or_no : Bool → List ℕ
 yes_or_no true = codes "yes"
 yes_or_no false = codes "no"
 
--- the text of a route's cost, of its number of links, and of whether it visits a router twice
+-- the text for a route's cost, for its number of links, and for whether it visits a router twice
 unfoldable pub measures_text : ℕ → ℕ → Bool → List ℕ
 measures_text cost hops again =
     codes "route cost=" ++ decimal cost ++ codes " hops=" ++ decimal hops ++ codes " again=" ++ yes_or_no again ++ codes " ero="
@@ -37,6 +37,6 @@ abbrev pub IsReply : ℕ → ℕ → Answer → List ℕ → Type 0
 IsReply id version answer line =
     (text : List ℕ) × IsAnswerText answer text × (line ≡ codes "ask " ++ decimal id ++ codes " v" ++ decimal version ++ codes " " ++ text ++ codes "\n")
 
--- for a request's id, a version of the database and an answer there is at most one reply line
+-- there is at most one reply line for a request's id, a version of the database and an answer
 abbrev pub HasOneReplyLine : Type 0
 HasOneReplyLine = (id version : ℕ) (answer : Answer) (line other : List ℕ) → IsReply id version answer line → IsReply id version answer other → line ≡ other

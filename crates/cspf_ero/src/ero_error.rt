@@ -1,11 +1,11 @@
 use cspf_addr::MOST_HOPS;
 use thiserror::Error;
 
-/// Why bytes aren't an EXPLICIT_ROUTE object of 1 to 7 hops. Offsets count from 0, the first byte of the
-/// object.
+/// Why bytes aren't an EXPLICIT_ROUTE object of 1 to 7 hops. Offsets are counted in bytes from the
+/// start of the object, whose first byte has the offset 0.
 #[derive(Clone, Copy, Debug, PartialEq, Eq, Error)]
 pub enum EroError {
-    /// There are fewer than the 4 bytes of a header.
+    /// There are fewer than 4 bytes, so there is no whole header.
     #[error("fewer than 4 bytes")]
     Short,
     /// The length field isn't the number of bytes, or isn't a multiple of 4.
@@ -28,7 +28,7 @@ pub enum EroError {
         /// The subobject's type, below 128.
         kind: u8,
     },
-    /// The subobject of an IPv4 prefix has a length other than 8 bytes, or is cut off.
+    /// The subobject of an IPv4 prefix isn't 8 bytes long, or is cut off.
     #[error("a subobject that isn't 8 bytes long at {at}")]
     Sublength {
         /// The offset of the subobject's first byte.

@@ -4,7 +4,8 @@ ghost use Rattle.cspf_ero.specs.ReplyHead.{BeginsWithHead, HasNoHead};
 
 use cspf_addr::number;
 
-/// The request that a reply line answers, and the version of the database that the answer is for.
+/// What a reply line begins with: the request that it answers, and the version of the database that
+/// the answer is for.
 #[derive(Clone, Copy, Debug, PartialEq, Eq)]
 pub struct Head {
     /// The id of the request.
@@ -13,8 +14,9 @@ pub struct Head {
     pub version: u32,
 }
 
-/// The id and the version that a reply line begins with: `ask`, the id, and `v` with the version, each
-/// followed by a space. `None` if the line doesn't begin like this. Takes no memory.
+/// The id and the version that a reply line begins with: `ask`, the id, and `v` with the version,
+/// each followed by a space. The result is `None` if the line doesn't begin like this. The call
+/// allocates no memory.
 pub fn reply_head(line: &[u8]) -> Option<Head>
     ensures some { IfSome result (BeginsWithHead line.now) }
     ensures none { IfNone result (HasNoHead line.now) }
@@ -25,7 +27,8 @@ pub fn reply_head(line: &[u8]) -> Option<Head>
     Some(Head { id, version })
 }
 
-/// The decimal number that comes before the first space of a text, and the text after this space.
+/// The decimal number before the first space of a text, and the text after this space. The result
+/// is `None` if there is no such number.
 fn first_number(text: &[u8]) -> Option<(u64, &[u8])>
     ensures small { IfSome result (λ found. found.0 < 2 ^ 64) }
     ensures whole { IfSome result (λ found. text.now ≡ decimal found.0 ++ 32 ∷ found.1.now) }

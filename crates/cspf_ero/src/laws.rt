@@ -2,8 +2,8 @@ ghost use Rattle.cspf_ero.specs.Laws.{AreObjectsRead, SpellsOneHopList, AreRoute
 ghost use Rattle.cspf_ero.specs.ReplyHead.{HasOneHead};
 ghost use Rattle.cspf_ero.specs.ReplyLine.{HasOneReplyLine};
 
-/// Law: bytes are read as hops exactly if they are an object that spells these hops, and they spell at
-/// most one list of hops.
+/// Law: bytes are read as hops exactly if they are an object that spells these hops. A list of
+/// bytes spells at most one list of hops.
 pub fn objects_are_read()
     ensures read { AreObjectsRead }
     ensures one { SpellsOneHopList }
@@ -19,8 +19,8 @@ pub fn one_head()
     ensures { HasOneHead }
 {}
 
-/// Law: for a request's id, a version of the database and an answer there is at most one reply
-/// line.
+/// Law: there is at most one reply line for a request's id, a version of the database and an
+/// answer.
 pub fn one_reply_line()
     ensures { HasOneReplyLine }
 {}

@@ -1,8 +1,9 @@
 //! EXPLICIT_ROUTE objects as bytes, and the lines that answer requests.
 //!
 //! `specs/Objects.antt` defines which bytes spell which hops, and the object of a route.
-//! `specs/Reading.antt` defines what bytes are read as, or why they are refused. `specs/ReplyLine.antt`
-//! defines the lines, and `specs/ReplyHead.antt` what a line begins with. Reading takes no memory.
+//! `specs/Reading.antt` defines the hops that bytes are read as, or why they are refused.
+//! `specs/ReplyLine.antt` defines the reply lines, and `specs/ReplyHead.antt` defines how a line
+//! begins. Reading an object allocates no memory.
 #![tactic(auto)]
 
 mod ero_error;

@@ -1,4 +1,5 @@
-//! The reader of EXPLICIT_ROUTE objects: it returns an object's hops, or the first reason to refuse it.
+//! The reader of EXPLICIT_ROUTE objects. It returns an object's hops, or the first reason to refuse
+//! the object.
 
 ghost use Rattle.std.specs.Prelude.{◌≡◌, ◌≤◌, ℕ, List, length, take, IfOk};
 ghost use Rattle.cspf_ero.specs.Reading.{ero_of, sized_ero_of, subobject_hops, hop_at};
@@ -6,22 +7,22 @@ ghost use Rattle.cspf_ero.specs.Reading.{ero_of, sized_ero_of, subobject_hops, h
 use crate::ero_error::EroError;
 use cspf_addr::{Addr, Hop, Hops, MOST_HOPS, Prefix};
 
-/// The number of first bytes of an object that decide which hops it has. A header and `MOST_HOPS`
-/// subobjects have fewer bytes.
+/// How many bytes at the start of an object are enough to decide which hops it has. A header and
+/// `MOST_HOPS` subobjects have fewer bytes.
 pub const FIRST_BYTES: usize = 64;
 
 /// The hops that the bytes of an EXPLICIT_ROUTE object spell (RFC 2205 3.1.2, RFC 3209 4.3), or the
-/// first reason to refuse the object. The header is checked before the subobjects, and the
-/// subobjects in their order.
+/// first reason to refuse the object. The header is checked first, and then the subobjects in their
+/// order.
 pub fn read_ero(bytes: &[u8]) -> Result<Hops, EroError>
     ensures { result ≡ ero_of bytes.now }
 {
     read_sized(bytes, bytes.len())
 }
 
-/// The hops of an object of `size` bytes, read from its first `FIRST_BYTES` bytes, or from all
-/// bytes if it has fewer. `read_ero` returns the same result for the whole object. Later bytes
-/// can't change this result, because more than seven hops are refused.
+/// The hops of an object of `size` bytes. `front` has the first `FIRST_BYTES` bytes of the object,
+/// or all its bytes if it has fewer. The result is the same as that of `read_ero` for the whole
+/// object: later bytes don't matter, because more than seven hops are refused.
 pub fn read_ero_front(front: &[u8], size: usize) -> Result<Hops, EroError>
     ensures { (bytes : List ℕ) → length bytes ≡ size → take FIRST_BYTES bytes ≡ front.now
         → result ≡ ero_of bytes }
@@ -29,7 +30,7 @@ pub fn read_ero_front(front: &[u8], size: usize) -> Result<Hops, EroError>
     read_sized(front, size)
 }
 
-/// The hops of an object of `size` bytes that begins with `bytes`.
+/// The hops of an object that has `size` bytes and begins with `bytes`.
 #[tactic(auto, unfolding(crate::specs::Reading::sized_ero_of))]
 fn read_sized(bytes: &[u8], size: usize) -> Result<Hops, EroError>
     ensures { result ≡ sized_ero_of size bytes.now }
@@ -51,8 +52,7 @@ fn read_sized(bytes: &[u8], size: usize) -> Result<Hops, EroError>
     read_hops(body)
 }
 
-/// The hops that the subobjects in `body` spell. `body` has all bytes of the object after its
-/// header.
+/// The hops that the subobjects in `body` spell. `body` has all bytes after the object's header.
 fn read_hops(body: &[u8]) -> Result<Hops, EroError>
     ensures { result ≡ subobject_hops MOST_HOPS 4 body.now }
 {

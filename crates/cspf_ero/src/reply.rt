@@ -1,5 +1,4 @@
-//! The line that answers a request. In this line, a route's object is written in hexadecimal
-//! digits.
+//! The line that answers a request. It has a route's object in hexadecimal digits.
 
 ghost use Rattle.std.specs.Prelude.{◌≡◌, ◌++◌, ◌+◌, ◌*◌, ◌≤◌, ◌<◌, ◌^◌, ◌↔◌, Bool, IsTrue, IfOk, OnOk, length, codes};
 ghost use Rattle.std.specs.Fmt.{decimal};
@@ -16,9 +15,9 @@ use crate::writer::write_ero;
 use cspf_model::{Outcome, Route};
 use std::alloc::{AllocError, Global};
 
-/// The line with which the request `id` is answered at the version `version` of the database. It
-/// ends with a line feed. A route's object is written in lower-case hexadecimal digits. The line
-/// has at most `MOST_LINE_BYTES` bytes.
+/// The line that answers the request `id` at the version `version` of the database. It ends with a
+/// line feed, and has a route's object in lower-case hexadecimal digits. It has at most
+/// `MOST_LINE_BYTES` bytes.
 pub fn reply_line(
     alloc: Global,
     id: u64,
@@ -36,7 +35,7 @@ pub fn reply_line(
     }
 }
 
-/// The reply line whose answer isn't a route. `words` say which answer it is.
+/// The reply line for an answer that isn't a route. `words` name this answer.
 fn short_line(alloc: Global, id: u64, version: u32, words: &str) -> Result<Vec<u8>, AllocError>
     requires { length words.now ≤ 12 }
     ensures line { IfOk result (λ line. line.items ≡
@@ -47,7 +46,7 @@ fn short_line(alloc: Global, id: u64, version: u32, words: &str) -> Result<Vec<u
     Ok(format!(in alloc; "ask {id} v{version} {words}\n")?.into_bytes())
 }
 
-/// The reply line whose answer is a route.
+/// The reply line for a route.
 fn route_line(alloc: Global, id: u64, version: u32, route: &Route) -> Result<Vec<u8>, AllocError>
     ensures line { IfOk result (λ line. IsReply id version (of_route route.now) line.items) }
     ensures most { IfOk result (λ line. length line.items ≤ MOST_LINE_BYTES) }
@@ -60,7 +59,7 @@ fn route_line(alloc: Global, id: u64, version: u32, route: &Route) -> Result<Vec
     Ok(line)
 }
 
-/// The reply line whose answer is a route, up to the route's object.
+/// The reply line for a route, up to the route's object.
 #[tactic(auto, unfolding(crate::specs::ReplyLine::measures_text))]
 fn route_front(alloc: Global, id: u64, version: u32, route: &Route) -> Result<String, AllocError>
     ensures words { IfOk result (λ text. (again : Bool) × (IsTrue again ↔ VisitsTwice route.now)
@@ -73,14 +72,14 @@ fn route_front(alloc: Global, id: u64, version: u32, route: &Route) -> Result<St
     format!(in alloc; "ask {id} v{version} route cost={cost} hops={hops} again={again} ero=")
 }
 
-/// The word `yes` if the test is true, and the word `no` otherwise.
+/// The word `yes` if the test is true, and otherwise the word `no`.
 fn yes_or_no(test: bool) -> &'static str
     ensures { result.now ≡ yes_or_no test }
 {
     if test { "yes" } else { "no" }
 }
 
-/// Writes the two hexadecimal digits of each byte.
+/// Appends two hexadecimal digits to the line for each byte.
 fn write_digits(line: &mut Vec<u8>, bytes: &[u8]) -> Result<(), AllocError>
     requires { length bytes.now ≤ MOST_OBJECT_BYTES }
     ensures { OnOk result (line.new.items ≡ line.old.items ++ encode_lower bytes.now) }

@@ -6,9 +6,9 @@ ghost use Rattle.cspf_ero.specs.Objects.{object_of};
 use cspf_model::Route;
 use std::alloc::{AllocError, Global};
 
-/// The EXPLICIT_ROUTE object of a route (RFC 2205 3.1.2, RFC 3209 4.3). It has a strict subobject for
-/// each link in order, with the link's remote address, and none for the head-end. It has at most
-/// `MOST_OBJECT_BYTES` bytes.
+/// The EXPLICIT_ROUTE object of a route (RFC 2205 3.1.2, RFC 3209 4.3). For each link in order, the
+/// object has a strict subobject with the link's remote address. The head-end has no subobject. The
+/// object has at most `MOST_OBJECT_BYTES` bytes.
 pub fn write_ero(alloc: Global, route: &Route) -> Result<Vec<u8>, AllocError>
     ensures object { IfOk result (λ bytes. bytes.items ≡ object_of route.now) }
     ensures length { IfOk result (λ bytes. length bytes.items ≡ 4 + 8 * length route.now) }

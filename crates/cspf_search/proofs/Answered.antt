@@ -1,4 +1,5 @@
--- The best route is the walk of the node (the record of a walk) of the tail-end.
+-- The best route is the walk of the node (the record of a walk) with the end state, the tail-end in
+-- the last leg.
 use Rattle.std.proofs.Common.{◌≡◌, ℕ, ◌+◌, ◌*◌, ◌<◌, ◌≤◌, Option, Some, None, option_map, List, [], ◌∷◌, length, slice_index_or, refl, sym, ap, ◌∙◌, arith}
 use Rattle.std.proofs.lemmas.List.Quantifiers.{position-Some}
 use Rattle.cspf_model.specs.declared.link.Link.{Link}
@@ -17,21 +18,20 @@ use Rattle.cspf_search.proofs.Settles.{settled_best}
 use Rattle.cspf_search.specs.Frontier.{nowhere}
 use Rattle.cspf_search.proofs.Labelled.{same_state-true}
 
--- If `legs` is the number of the request's legs, the node of the tail-end in leg `legs` is the node
--- of the end state. The end state is the tail-end in the last leg, and a node is the record of a
--- walk.
+-- If `legs` is the number of the request's legs, the node for the tail-end in leg `legs` is the
+-- node with the end state. A node is the record of a walk.
 end_index : (q : Request) (nodes : List Node) (legs : ℕ) (o : Option ℕ) → legs ≡ length q.hops + 1 → o ≡ index_of nodes (record { leg = legs; router = q.to })
     → index_of nodes (end_state q) ≡ o
 end_index q nodes legs o count is = ap (λ k. index_of nodes (record { leg = k; router = q.to })) (sym count) ∙ sym is
 
--- If there is a node (the record of a walk) of the tail-end in the last leg, its walk is the best
--- route.
+-- If a node (the record of a walk) has reached the tail-end in the last leg, the node's walk is the
+-- best route.
 pub best_at : (d : Database) (q : Request) (nodes : List Node) → AreSettled d q (labels_of nodes) → (legs : ℕ) → legs ≡ length q.hops + 1 → (o : Option ℕ) (at : ℕ)
     → o ≡ index_of nodes (record { leg = legs; router = q.to }) → o ≡ Some at → IsBestRoute d q (walk_at (walks nodes) at)
 best_at d q nodes settled legs count o at is found =
     settled_best d q (labels_of nodes) settled (walk_at (walks nodes) at) (ap (option_map (λ i. walk_at (walks nodes) i)) (end_index q nodes legs o count is ∙ found))
 
--- If there is no node (the record of a walk) of the tail-end in the last leg, the tail-end isn't
+-- If no node (the record of a walk) has reached the tail-end in the last leg, the tail-end isn't
 -- settled in this leg.
 pub no_label : (q : Request) (nodes : List Node) (legs : ℕ) → legs ≡ length q.hops + 1 → (o : Option ℕ) → o ≡ index_of nodes (record { leg = legs; router = q.to }) → o ≡ None
     → labels_of nodes (end_state q) ≡ None
@@ -49,7 +49,8 @@ linked a (l ∷ w) joined = (refl, joined.1)
 pub route_linked : (d : Database) (q : Request) (w : List Link) → IsRoute d q w → AreLinked w
 route_linked d q w route = linked q.from w route.is_walk.joined
 
--- The walk of the node (the record of a walk) of the tail-end has at most 1,023 links for each leg.
+-- The walk of a node (the record of a walk) that has reached the tail-end in the last leg has at
+-- most 8,184 links: 1,023 for each of at most eight legs.
 pub walk_most : (q : Request) (nodes : List Node) → AreNodes nodes → (legs : ℕ) → legs ≡ length q.hops + 1 → legs ≤ 8 → length nodes ≤ legs * 1024
     → (o : Option ℕ) (at : ℕ) → o ≡ index_of nodes (record { leg = legs; router = q.to }) → o ≡ Some at → length (walk_at (walks nodes) at) ≤ 8184
 walk_most q nodes are legs count most few o at is found =

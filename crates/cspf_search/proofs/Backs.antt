@@ -1,5 +1,5 @@
--- The states to which a link, or the step to the next leg, leads from a node. Also the way from a
--- node back over its parents. A state is a router in a leg, and a node is the record of a walk.
+-- The states that a node leads to by a link or by the step to the next leg, and the way back from a
+-- node over its parents. A state is a router in a leg, and a node is the record of a walk.
 use Rattle.std.proofs.Common.{◌≡◌, ℕ, zero, suc, ◌+◌, ◌*◌, ◌^◌, ◌<◌, ◌≤◌, Some, None, IsSome, List, [], ◌∷◌, ◌++◌, length, slice_get, slice_index_or, refl, sym, ap, subst, ◌∙◌, arith}
 use Rattle.std.specs.Ordering.{nat_cmp, ordering_then, is_gt}
 use Rattle.std.specs.declared.cmp.Ordering.{Ordering}
@@ -48,10 +48,9 @@ module _ (d : Database) (q : Request) (nodes : List Node) (are : AreNodes nodes)
       };
     }
 
-    -- Suppose that the node's walk may leave its router. Suppose also that the usable link `l`
-    -- leads, in the node's leg, to a state that isn't settled. Then the walk continued by `l` is
-    -- the only one that continues the node by `l`. A state is a router in a leg, and a node is the
-    -- record of a walk.
+    -- By a usable link `l` to a state that isn't settled, exactly one walk continues the node: the
+    -- node's walk followed by `l`. The node's walk may leave its router. A state is a router in a
+    -- leg, and a node is the record of a walk.
     pub by_first : l.from ≡ from.router → IsUsable d q l → MayLeave d l.from (length (walk_at (walks nodes) at)) → MayEnter d q from.leg l.to → index_of nodes (record { leg = from.leg; router = l.to }) ≡ None
         → IsFirstOf nodes (CrossesBy d q nodes at l) (node_by at from (Some l))
     by_first runs usable leaves enters left =
@@ -76,10 +75,9 @@ module _ (d : Database) (q : Request) (nodes : List Node) (are : AreNodes nodes)
     };
   }
 
-  -- Suppose that the node's router is a target of its leg, and that its state in the next leg isn't
-  -- settled. Then exactly one walk continues the node by going on to the next leg. A state is a
-  -- router in a leg, and a node is the record of a walk. A leg's targets are the routers where it
-  -- may end.
+  -- If a route may go on to the next leg at the node's router, and the node's state in the next leg
+  -- isn't settled, exactly one walk continues the node by this step. A state is a router in a leg,
+  -- and a node is the record of a walk.
   pub turned_first : from.leg ≤ length q.hops → MayTurn d q from.leg from.router → index_of nodes (record { leg = from.leg + 1; router = from.router }) ≡ None
       → IsFirstOf nodes (Turns d q nodes at) (node_by at from None)
   turned_first low target left =
@@ -94,8 +92,8 @@ module _ (d : Database) (q : Request) (nodes : List Node) (are : AreNodes nodes)
             ap (λ y. is_gt (state_cmp me y)) whole ∙ ap is_gt (tied_itself states_total me);
       }
 
--- The node `n` (the record of a walk) is on the way back over the parents of another node, whose
--- walk has `count` links. The way back has passed the last `passed` links of that walk.
+-- The node `n` (the record of a walk) lies on the way back from another node over its parents. The
+-- walk of that other node has `count` links, and the way back has passed the last `passed` of them.
 pub record IsBehind (nodes : List Node) (n : Node) (passed : ℕ) (count : ℕ) : Type 0 where
   pub parent : n.parent < length nodes
   pub left : length (walk_of nodes n) + passed ≡ count
@@ -127,8 +125,8 @@ module _ (nodes : List Node) (are : AreNodes nodes) (n m : Node) (within : n.par
         linked = λ h. parent_linked (omega arith);
       }
 
--- To compare two walks by their local addresses, compare first the walks without their last links,
--- and then the last links.
+-- Two walks of the same length are compared by their local addresses as follows: first the walks
+-- without their last links, then the last links.
 pub locals_more : (v w v' w' : List Link) (l k : Link) (found goal : Ordering) → v ≡ v' ++ (l ∷ []) → w ≡ w' ++ (k ∷ []) → length v' ≡ length w'
     → ordering_then (locals_cmp v w) found ≡ goal → ordering_then (locals_cmp v' w') (ordering_then (nat_cmp l.local k.local) found) ≡ goal
 locals_more v w v' w' l k found goal ev ew e h =
@@ -136,9 +134,9 @@ locals_more v w v' w' l k found goal ev ew e h =
     sym (locals_cmp-last v' w' l k e) ∙ (λ i. locals_cmp (sym ev i) (sym ew i)) in
     sym (then_assoc (locals_cmp v' w') (nat_cmp l.local k.local) found) ∙ ap (λ o. ordering_then o found) last ∙ h
 
--- Suppose that two walks continue the walk of the same node (the record of a walk) by their last
--- links. Then the local addresses of the last links decide which walk comes first. If these
--- addresses are equal, the comparison `found`, which comes next, decides.
+-- If two walks continue the same node (the record of a walk) by one link each, the local addresses
+-- of these two links decide the comparison. If these addresses are equal, the result `found` for
+-- the later links decides.
 pub locals_of_one : (nodes : List Node) (x y : Node) (l k : Link) (found goal : Ordering) → x.by ≡ Some l → y.by ≡ Some k → x.parent ≡ y.parent
     → ordering_then (locals_cmp (walk_of nodes x) (walk_of nodes y)) found ≡ goal → ordering_then (nat_cmp l.local k.local) found ≡ goal
 locals_of_one nodes x y l k found goal by_x by_y one h =
@@ -158,8 +156,8 @@ one_more nodes are x i within is v l ev =
     let front : v ≡ walk_of nodes x ++ (l ∷ []) = ev ∙ ap (λ u. u ++ (l ∷ [])) grown in
     omega (arith, ap (λ (u : List Link). length u) front, length_push (walk_of nodes x) l)
 
--- To compare two walks that each continue a node (the record of a walk) by a link, compare first
--- the walks of the nodes, and then the links.
+-- Two walks of the same length each continue a node (the record of a walk) by a link. Their local
+-- addresses are compared in two steps: first the walks of the nodes, then the two links.
 pub locals_by : (nodes : List Node) → AreNodes nodes → (x y : Node) (i j : ℕ) → i < length nodes → j < length nodes → x ≡ slice_index_or nodes i x
     → y ≡ slice_index_or nodes j y → (v w : List Link) (l k : Link) → v ≡ walk_at (walks nodes) i ++ (l ∷ []) → w ≡ walk_at (walks nodes) j ++ (k ∷ [])
     → length v ≡ length w → locals_cmp v w ≡ ordering_then (locals_cmp (walk_of nodes x) (walk_of nodes y)) (nat_cmp l.local k.local)
@@ -172,8 +170,8 @@ locals_by nodes are x y i j hi hj is_x is_y v w l k ev ew e =
     omega (arith, e, ap (λ (u : List Link). length u) front_v, ap (λ (u : List Link). length u) front_w, length_push (walk_of nodes x) l, length_push (walk_of nodes y) k) in
     (λ t. locals_cmp (front_v t) (front_w t)) ∙ locals_cmp-last (walk_of nodes x) (walk_of nodes y) l k lengths
 
--- To compare two walks that continue the same node (the record of a walk) by a link, compare these
--- links.
+-- If two walks continue the same node (the record of a walk) by a link each, the local addresses of
+-- these two links decide the comparison.
 pub locals_by_one : (nodes : List Node) (i j : ℕ) → i ≡ j → (v w : List Link) (l k : Link) → v ≡ walk_at (walks nodes) i ++ (l ∷ []) → w ≡ walk_at (walks nodes) j ++ (k ∷ [])
     → locals_cmp v w ≡ nat_cmp l.local k.local
 locals_by_one nodes i j one v w l k ev ew =

@@ -1,5 +1,5 @@
--- If no route can pass a strict leg, there is no way to the tail-end from the routers where the leg
--- begins, or from earlier legs.
+-- If no route can pass a strict leg, the tail-end can't be reached from the routers where this leg
+-- begins, nor from earlier legs.
 use Rattle.std.proofs.Common.{◌≡◌, ◌⊎◌, inl, inr, ℕ, suc, ◌+◌, ◌*◌, ◌/◌, ◌%◌, ◌<◌, ◌≤◌, List, Contains, length, sym, ap, subst, ◌∙◌, arith}
 use Rattle.std.proofs.lemmas.Bool.{cases_lt}
 use Rattle.cspf_model.specs.declared.request.Request.{Request}
@@ -24,8 +24,8 @@ module _ (d : Database) (q : Request) (listed : AreListed d) (leg : ℕ) (broken
         | inr high ↦ elim (others i high) [ inl zero ↦ inr zero | inr at ↦ inl (ap (bound_at bounds) at.2 ∙ shut at.0 at.1) ]
       ]
 
-  -- Lemmas on a state of the leg (a router in this leg), if the state's router is one of the
-  -- routers where the leg begins.
+  -- Lemmas on a state of the leg (a router in this leg) whose router is one of those where the leg
+  -- begins.
   module _ (i p : ℕ) (ix : IsStateIndex d q i) (has : Contains starts p) (is : i ≡ leg * 1024 + p) where
     place : i % 1024 ≡ p
     place = omega (arith, is, ix.place, listed.few, are.within has.0 0 has.1, has.2)
@@ -36,8 +36,8 @@ module _ (d : Database) (q : Request) (listed : AreListed d) (leg : ℕ) (broken
     begins : IsTarget d q leg (router_at d (i % 1024))
     begins = (are.each (i % 1024) ix.place).0 (subst (Contains starts) (sym place) has)
 
-  -- If the leg begins at the router of one of its states (routers in legs), the bound of this state
-  -- is `NO_WAY`.
+  -- A state of the leg (a router in this leg) has the bound `NO_WAY` if the leg begins at its
+  -- router.
   shut_there : (i : ℕ) → IsStateIndex d q i → i / 1024 ≡ leg → IsTarget d q leg (router_at d (i % 1024)) → bound_at bounds i ≡ NO_WAY
   shut_there i ix at target =
       let whole : leg * 1024 + i % 1024 ≡ i = omega (arith, at) in

@@ -1,4 +1,4 @@
--- A walk is a route exactly if it reaches the end state (the tail-end in the last leg).
+-- A walk is a route exactly if it reaches the end state, the tail-end in the last leg.
 use Rattle.std.proofs.Common.{◌≡◌, inl, inr, ℕ, suc, ◌+◌, ◌≤◌, List, [], ◌∷◌, ◌++◌, ◌⊎◌, length, map, refl, sym, ap, ◌∙◌, subst, arith, add-one, append_assoc, append-nil}
 use Rattle.std.specs.List.{AllByRecursion, flat_map}
 use Rattle.std.proofs.lemmas.Option.{slice_get_past}
@@ -42,29 +42,28 @@ AreJoined-append_parts a [] w joined = (tt, joined)
 AreJoined-append_parts a (l ∷ v) w joined = let parts = AreJoined-append_parts l.to v w joined.1 in ((joined.0, parts.0), parts.1)
 
 module _ (d : Database) where
-  -- If all links of a walk begin at routers with transit, and so does one more link, the same holds
-  -- after this link is added.
+  -- If all links of a walk begin at routers with transit, and one more link does too, all links of
+  -- the walk with this link appended begin at routers with transit.
   froms_push : (w : List Link) (l : Link) → AllByRecursion (HasTransit d) (map (λ m. m.from) w) → HasTransit d l.from
       → AllByRecursion (HasTransit d) (map (λ m. m.from) (w ++ (l ∷ [])))
   froms_push [] l all here = (here, tt)
   froms_push (m ∷ w) l all here = (all.0, froms_push w l all.1 here)
 
-  -- Suppose that a walk passes only through routers with transit, and may leave the router where a
-  -- link begins. The walk continued by this link also passes only through routers with transit.
+  -- If a walk passes only through routers with transit, and may leave its last router by a link,
+  -- the walk with this link appended passes only through routers with transit.
   passed_push : (w : List Link) (l : Link) → AllByRecursion (HasTransit d) (routers_passed w) → MayLeave d l.from (length w)
       → AllByRecursion (HasTransit d) (routers_passed (w ++ (l ∷ [])))
   passed_push [] l all leaves = tt
   passed_push (m ∷ w) l all (inl transit) = froms_push w l all transit
   passed_push (m ∷ w) l all (inr none) = absurd (omega (arith, none))
 
-  -- If all links of a walk begin at routers with transit, so do its first links, however many of
-  -- them are taken.
+  -- If all links of a walk begin at routers with transit, so do all links of each prefix of the
+  -- walk.
   froms_before : (v w : List Link) → AllByRecursion (HasTransit d) (map (λ m. m.from) (v ++ w)) → AllByRecursion (HasTransit d) (map (λ m. m.from) v)
   froms_before [] w all = tt
   froms_before (m ∷ v) w all = (all.0, froms_before v w all.1)
 
-  -- If a walk passes only through routers with transit, so does the walk over its first links,
-  -- however many of them are taken.
+  -- If a walk passes only through routers with transit, so does each prefix of the walk.
   passed_before : (v w : List Link) → AllByRecursion (HasTransit d) (routers_passed (v ++ w)) → AllByRecursion (HasTransit d) (routers_passed v)
   passed_before [] w all = tt
   passed_before (m ∷ v) w all = froms_before v w all
@@ -74,8 +73,8 @@ module _ (d : Database) where
   froms_at [] l w all = all.0
   froms_at (m ∷ v) l w all = froms_at v l w all.1
 
-  -- If a walk passes only through routers with transit, the walk over the links before one of its
-  -- links may leave the router where this link begins.
+  -- If a walk passes only through routers with transit, each prefix of the walk may leave the
+  -- router where the next link begins.
   leaves_at : (v : List Link) (l : Link) (w : List Link) → AllByRecursion (HasTransit d) (routers_passed (v ++ (l ∷ w))) → MayLeave d l.from (length v)
   leaves_at [] l w all = inr refl
   leaves_at (m ∷ v) l w all = inl (froms_at v l w all)
@@ -94,8 +93,8 @@ module _ (d : Database) (q : Request) where
       )
   reached_walk w s (steps r (by_turn within target)) = reached_walk _ _ r
 
-  -- The leg of each state that a walk reaches is one of the request's legs: from leg 1 to the leg
-  -- after the last hop. A state is a router in a leg.
+  -- Each state (a router in a leg) that a walk reaches is in a leg of the request: a leg to a hop,
+  -- or the leg after the last hop.
   pub reached_leg : (w : List Link) (s : State) → Reaches d q w s → (1 ≤ s.leg) × (s.leg ≤ length q.hops + 1)
   reached_leg w s starts = (omega arith, omega arith)
   reached_leg w s (steps r (by_link l a enters leaves)) = reached_leg _ _ r
@@ -107,8 +106,8 @@ module _ (d : Database) (q : Request) where
   reached_inside w s (steps r (by_link l a enters leaves)) = enters.inside
   reached_inside w s (steps r (by_turn within target)) = inr (inl target.target)
 
-  -- Suppose that a walk reaches a state (a router in a leg), and that further links are cut into
-  -- the remaining legs. Then the walk continued by these links is cut into legs.
+  -- If a walk reaches a state (a router in a leg), and further links from this router are cut into
+  -- the remaining legs, the walk with these links appended is cut into all legs of the request.
   reached_cut : (w : List Link) (s : State) → Reaches d q w s → (leg : List Link) (rest : List (List Link)) → AreLegs d q s.leg s.router (leg ∷ rest)
       → s.leg + length rest ≡ suc (length q.hops) → (legs : List (List Link)) × IsCutInto d q (w ++ (leg ++ flat_map (λ links. links) rest)) legs
   reached_cut w s starts leg rest are count = (leg ∷ rest, record { number = omega arith; whole = refl; each = are })
@@ -118,8 +117,8 @@ module _ (d : Database) (q : Request) where
   reached_cut w s (steps r (by_turn within target)) leg rest are count =
       reached_cut _ _ r [] (leg ∷ rest) (record { arrives = target.target; within = (reached_inside _ _ r, tt) }, are) (omega arith)
 
-  -- If a walk to the tail-end passes only through routers with transit, `RunsOn` holds of each of
-  -- its links.
+  -- If a walk to the tail-end passes only through routers with transit, each of its links ends at a
+  -- router with transit or at the tail-end.
   pub run_on : (a : ℕ) (w : List Link) → AreJoined a w → AllByRecursion (HasTransit d) (routers_passed w) → end_of a w ≡ q.to → AllByRecursion (RunsOn d q) w
   run_on a [] joined passed end = tt
   run_on a (l ∷ []) joined passed end = (inr end, tt)
@@ -138,8 +137,8 @@ module _ (d : Database) (q : Request) where
   legs_end k a first (second ∷ rest) count legs =
       end_of-append a first (second ++ flat_map (λ links. links) rest) ∙ legs_end (suc k) (end_of a first) second rest (omega arith) legs.1
 
-  -- If a walk has reached a state of a leg, and joined links inside this leg continue it, the
-  -- longer walk reaches a state of this leg too. A state is a router in a leg.
+  -- If a walk has reached a router in a leg, and joined links inside this leg are appended to it,
+  -- the longer walk reaches the router at the end of these links in the same leg.
   along : (k : ℕ) (a : ℕ) (links v : List Link) → Reaches d q v (record { leg = k; router = a }) → AllByRecursion (IsAdmissible d q) links → AreJoined a links
       → AllByRecursion (IsInside d q k) (routers_of a links) → AllByRecursion (RunsOn d q) links → AllByRecursion (HasTransit d) (routers_passed (v ++ links)) → Reaches d q (v ++ links) (record { leg = k; router = end_of a links })
   along k a [] v r all joined within on passed = rw (append-nil v) r
@@ -148,14 +147,14 @@ module _ (d : Database) (q : Request) where
       rw (← append_assoc v (l ∷ []) ls) (along k l.to ls (v ++ (l ∷ [])) (steps here (by_link l all.0 (record { inside = within.1.0; through = on.0 }) (leaves_at d v l ls passed))) all.1 joined.1 within.1 on.1
       (rw append_assoc passed))
 
-  -- Suppose that `RunsOn` holds of each link, and that a route may visit the router where the links
-  -- begin. Then the route may also visit the router where they end.
+  -- If a route may visit the router where the links begin, and each link ends at a router with
+  -- transit or at the tail-end, a route may also visit the router where the links end.
   stands_on : (a : ℕ) (links : List Link) → MayStand d q a → AllByRecursion (RunsOn d q) links → MayStand d q (end_of a links)
   stands_on a [] stands on = stands
   stands_on a (l ∷ links) stands (inl transit, on) = stands_on l.to links (inl transit) on
   stands_on a (l ∷ links) stands (inr end, on) = stands_on l.to links (inr (inr end)) on
 
-  -- If a walk is continued by the links of all remaining legs, the longer walk reaches a target of
+  -- If the links of all remaining legs are appended to a walk, the longer walk reaches a target of
   -- the last leg (a router where this leg may end).
   through : (k : ℕ) (a : ℕ) (first : List Link) (rest : List (List Link)) (v : List Link) → Reaches d q v (record { leg = k; router = a }) → MayStand d q a
       → k + length rest ≡ suc (length q.hops) → AreLegs d q k a (first ∷ rest)

@@ -1,6 +1,6 @@
--- The walks that continue a node when labels are offered for it: by its step to the next leg, and
--- by each link from its router. A node is the record of a walk, and a label holds the best walk
--- found so far to a state.
+-- The walks that continue a node while labels are offered for it: by the step to the next leg, and
+-- by each link from the node's router. A node is the record of a walk, and a label holds the best
+-- walk found so far to a state.
 use Rattle.std.proofs.Common.{◌≡◌, ◌⊎◌, inl, inr, ℕ, ◌+◌, ◌-◌, ◌/◌, ◌%◌, ◌<◌, ◌≤◌, Bool, true, false, not, nat_eq, Some, None, List, [], ◌∷◌, ◌++◌, filter, length, take, slice_get, slice_index, slice_index_or, refl, sym, ap, subst, ◌∙◌, arith}
 use Rattle.std.specs.List.{All, Contains}
 use Rattle.std.proofs.lemmas.Bool.{cases_lt, eqb-true, eq-eqb}
@@ -22,7 +22,7 @@ use Rattle.cspf_search.specs.Frontier.{state_at, nowhere, IsNodeAt, NodeMayLeave
 use Rattle.cspf_graph.specs.Lists.{IsIndexOf}
 use Rattle.cspf_search.proofs.Scans.{kept_link, new_link, either_link}
 
--- Lemmas on the items that a filter keeps.
+-- Lemmas on the elements that a filter keeps.
 
 pub filter_short : (p : Link → Bool) (ls : List Link) → length (filter p ls) ≤ length ls
 filter_short p ls = omega (arith, length-filter_both p (λ l. not (p l)) (λ l. refl) ls)
@@ -74,8 +74,8 @@ module _ (d : Database) (q : Request) (nodes : List Node) (at state : ℕ) (is :
   router : (slice_index_or nodes at nowhere).router ≡ slice_index (router_list d) (state % 1024)
   router = ap (λ (s : State). s.router) is.there
 
-  -- Lemmas on the walk that continues a node by the step to the next leg. Also on the walks of
-  -- `CrossesUpTo` with `row` 0, which take none of the node's links. A node is the record of a
+  -- Lemmas on the walk that continues a node by the step to the next leg, and on the walks of
+  -- `CrossesUpTo` with `row` 0, which use no link from the node's router. A node is the record of a
   -- walk.
 
   pub turn_index : state / 1024 < length q.hops → IsStateIndex d q (state + 1024)
@@ -203,8 +203,8 @@ module _ (d : Database) (q : Request) (nodes : List Node) (at state : ℕ) (is :
     link_cases w t (inl x) = inl (inl x)
     link_cases w t (inr x) = elim (row_cases w t x) [ inl old ↦ inl (inr old) | inr new ↦ inr new ]
 
-  -- Lemmas for the case that the node's walk may not leave its router, and no label is offered for
-  -- a link. A label holds the best walk found so far to a state.
+  -- Lemmas for a node whose walk may not leave its router. No label is then offered for a link from
+  -- this router. A label holds the best walk found so far to a state.
 
   -- If the node's walk may not leave its router, no walk continues the node (the record of a walk)
   -- by a link.
@@ -214,17 +214,17 @@ module _ (d : Database) (q : Request) (nodes : List Node) (at state : ℕ) (is :
       let runs : l.from ≡ slice_index (router_list d) (state % 1024) = x.runs ∙ ap (λ (n : Node). n.router) same ∙ router in
       never (rw runs at x.leaves)
 
-  -- `CrossesUpTo` with `row` 0 takes none of the links of the node at `at` (the record of a walk).
-  -- Each of its walks continues an earlier node by one step, or the node at `at` by the step to the
-  -- next leg at the same router.
+  -- Each walk of `CrossesUpTo` with `row` 0 continues a node at an index up to `at`. If it
+  -- continues the node at `at`, it does so by the step to the next leg at the same router. A node
+  -- is the record of a walk.
   pub turn_below : (w : List Link) (t : State) → CrossesUpTo d q nodes at (state % 1024) 0 w t → CrossesBelow d q nodes (links_of d) (at + 1) w t
   turn_below w t (inl x) = (x.0, omega (arith, x.1), x.2)
   turn_below w t (inr (inl turn)) = (at, omega arith, inl turn)
   turn_below w t (inr (inr x)) = absurd (no_row 0 w t x)
 
-  -- Suppose that the walk of the node at `at` (the record of a walk) may not leave its router. Then
-  -- a walk that continues this node or an earlier one is a walk of `CrossesUpTo` with `row` 0: it
-  -- takes no link from this node.
+  -- If the walk of the node at `at` may not leave its router, no link continues the node at `at`.
+  -- So each walk that continues a node at an index up to `at` is a walk of `CrossesUpTo` with `row`
+  -- 0. A node is the record of a walk.
   pub below_turn : (NodeMayLeave d nodes at state → ⊥) → (w : List Link) (t : State) → CrossesBelow d q nodes (links_of d) (at + 1) w t
       → CrossesUpTo d q nodes at (state % 1024) 0 w t
   below_turn never w t x =
@@ -238,8 +238,8 @@ module _ (d : Database) (q : Request) (nodes : List Node) (at state : ℕ) (is :
             ]
       ]
 
-  -- Lemmas on the walks that continue the node by the step to the next leg at the same router or by
-  -- any link from its router. A node is the record of a walk.
+  -- Lemmas on the walks that continue the node by the step to the next leg at the same router, or
+  -- by any link from this router. A node is the record of a walk.
 
   pub here_from : (w : List Link) (t : State) → CrossesFrom d q nodes (take (length (links_from_index d (state % 1024))) (links_from_index d (state % 1024))) at w t
       → CrossesFrom d q nodes (links_of d) at w t

@@ -1,5 +1,6 @@
--- If no two nodes have the same state, each leg has at most 1,024 nodes, because the database has
--- at most 1,024 routers. A state is a router in a leg, and a node is the record of a walk.
+-- A search has at most 1,024 nodes in each leg, because no two nodes have the same state, and the
+-- database has at most 1,024 routers. A state is a router in a leg, and a node is the record of a
+-- walk.
 use Rattle.std.proofs.Common.{◌≡◌, inl, inr, ℕ, zero, suc, ◌*◌, ◌<◌, ◌≤◌, Bool, true, false, not, nat_eq, List, [], ◌∷◌, filter, length, map, slice_index_or, refl, sym, ◌∙◌, arith}
 use Rattle.std.specs.List.{All, AllByRecursion, AllPairs, IsDistinct}
 use Rattle.std.proofs.lemmas.Bool.{and_cases, eqb-true, eqb-false, not-true}
@@ -33,7 +34,7 @@ pub record IsWithin (d : Database) (legs : ℕ) (n : Node) : Type 0 where
   pub low : 1 ≤ n.leg
   pub high : n.leg ≤ legs
 
--- In one leg there are at most as many nodes (records of walks) as routers.
+-- A leg has at most one node (the record of a walk) for each router.
 module _ (d : Database) (few : HasFewRouters d) (leg : ℕ) (nodes : List Node) (apart : AreApart nodes) (routers : All (λ n. IsRouterOf d n.router) nodes)
     (here : All (λ n. nat_eq n.leg leg ≡ true) nodes) where
   routers_apart : (i j : ℕ) (e : Node) → i < j → j < length nodes → nat_eq (slice_index_or nodes i e).router (slice_index_or nodes j e).router ≡ false
@@ -57,9 +58,8 @@ module _ (d : Database) (few : HasFewRouters d) (leg : ℕ) (nodes : List Node) 
       let all = All-map (IsRouterOf d) (λ (n : Node). n.router) nodes routers in
       omega (arith, few (map (λ (n : Node). n.router) nodes) routers_distinct (recursion_from_All (IsRouterOf d) _ all), length-map nodes (λ (n : Node). n.router))
 
--- If nodes with different states are at routers of the database in the first `legs` legs, there are
--- at most 1,024 of them for each leg. A state is a router in a leg, and a node is the record of a
--- walk.
+-- Nodes with different states, at routers of the database in the first `legs` legs, number at most
+-- 1,024 for each leg. A state is a router in a leg, and a node is the record of a walk.
 pub nodes_few : (d : Database) → HasFewRouters d → (legs : ℕ) (nodes : List Node) → AreApart nodes → All (IsWithin d legs) nodes → length nodes ≤ legs * 1024
 nodes_few d few zero [] apart within = omega arith
 nodes_few d few zero (n ∷ ns) apart within = absurd (let first = within 0 n (omega arith) in omega (arith, first.low, first.high))

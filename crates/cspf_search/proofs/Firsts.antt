@@ -1,5 +1,5 @@
--- Take the walks that meet one condition, and those that meet another. The first of all these walks
--- is the earlier of two: the first by one condition and the first by the other.
+-- The first of all walks that meet one of two conditions is the earlier of two walks: the first
+-- walk that meets the one condition, and the first walk that meets the other.
 use Rattle.std.proofs.Common.{◌≡◌, ◌⊎◌, inl, inr, ℕ, true, false, cond, Option, Some, None, List, refl, ap}
 use Rattle.std.specs.Ordering.{is_gt, ordering_reverse}
 use Rattle.std.specs.declared.cmp.Ordering.TheVariants.{Less, Equal, Greater}
@@ -48,8 +48,8 @@ module _ (nodes : List Node) (P Q R : List Link → State → Type 0) (from_left
         | false ↦ λ e. left_first a p (λ w t h. upto states_total x y (t.leg, w) e (q.first w t h))
       ] refl
 
--- If the same walks meet the conditions `P` and `R`, the first node (the record of a walk) by `P`
--- is the first node by `R`.
+-- If the same walks meet the conditions `P` and `R`, the first node (the record of a walk) whose
+-- walk meets `P` is also the first node whose walk meets `R`.
 pub first_same : (nodes : List Node) (P R : List Link → State → Type 0) → ((w : List Link) (t : State) → P w t → R w t) → ((w : List Link) (t : State) → R w t → P w t)
     → (a : Option Node) → IsFirst nodes P a → IsFirst nodes R a
 first_same nodes P R up down None p = λ w t r. p w t (down w t r)

@@ -24,7 +24,7 @@ use Rattle.cspf_search.specs.Frontier.{nowhere}
 use Rattle.cspf_search.proofs.Labelled.{label_from, label_at, open_index, apart_push, nodes_push, nodes_root, labels_push}
 use Rattle.cspf_search.proofs.Few.{HasFewRouters, AreApart, nodes_few}
 
--- A state (a router in a leg) that a walk reaches is at a router of the database.
+-- The router of each state (a router in a leg) that a walk reaches is a router of the database.
 pub reached_router : (d : Database) (q : Request) → IsRouterOf d q.from → (w : List Link) (s : State) → Reaches d q w s → IsRouterOf d s.router
 reached_router d q from w s starts = from
 reached_router d q from w s (steps r (by_link l a enters leaves)) = (l, a.link, inr refl)
@@ -33,15 +33,15 @@ reached_router d q from w s (steps r (by_turn within target)) = reached_router d
 nothing_before : (cost count : ℕ) (o : Ordering) → 0 < count → is_gt (ordering_then (nat_cmp 0 cost) (ordering_then (nat_cmp 0 count) o)) ≡ false
 nothing_before cost count o some = grind (arith, nat_tests)
 
--- No walk comes before the walk without links.
+-- No walk precedes the walk without links.
 first_empty : (w : List Link) → IsNoLater [] w
 first_empty [] = refl
 first_empty (l ∷ ls) = nothing_before (cost_of (l ∷ ls)) (length (l ∷ ls)) (locals_cmp [] (l ∷ ls)) (omega arith)
 
 module _ (d : Database) (q : Request) (links : List Link) (listed : AreLinksOf d links) (nodes : List Node) (apart : AreApart nodes) where
-  -- Suppose that a walk continues a node by a link to a state without a node. Then it continues a
-  -- settled walk by one step to an unsettled state, as `Crosses` says. A state is a router in a
-  -- leg, and a node is the record of a walk.
+  -- A walk that continues a node by a link to a state without a node meets `Crosses`: it continues
+  -- a settled walk by one step to a state that isn't settled. A state is a router in a leg, and a
+  -- node is the record of a walk.
   by_link_crosses : (at : ℕ) → at < length nodes → (l : Link) → IsLinkOf d l → (w : List Link) (t : State) → CrossesBy d q nodes at l w t → Crosses d q (labels_of nodes) w t
   by_link_crosses at within l of w t by =
       let is = get_or_from_slice_get nodes at by.node nowhere by.there in
@@ -57,9 +57,9 @@ module _ (d : Database) (q : Request) (links : List Link) (listed : AreLinksOf d
         still_open = ap (option_map (λ i. walk_at (walks nodes) i)) by.still_open;
       }
 
-  -- Suppose that a walk continues a node by the step to the next leg, to a state without a node.
-  -- Then it continues a settled walk by one step to an unsettled state, as `Crosses` says. A state
-  -- is a router in a leg, and a node is the record of a walk.
+  -- A walk that continues a node by the step to the next leg, to a state without a node, meets
+  -- `Crosses`: it continues a settled walk by one step to a state that isn't settled. A state is a
+  -- router in a leg, and a node is the record of a walk.
   by_turn_crosses : (at : ℕ) → at < length nodes → (w : List Link) (t : State) → Turns d q nodes at w t → Crosses d q (labels_of nodes) w t
   by_turn_crosses at within w t turn =
       let is = get_or_from_slice_get nodes at turn.node nowhere turn.there in
@@ -123,15 +123,14 @@ module _ (d : Database) (q : Request) (links : List Link) (listed : AreLinksOf d
         }),
       )
 
-  -- If a walk continues a settled walk by one step to an unsettled state, as `Crosses` says, it
-  -- continues a node by a link or to the next leg. A state is a router in a leg, and a node is the
-  -- record of a walk.
+  -- A walk that meets `Crosses` continues a node by a link or by the step to the next leg.
+  -- `Crosses` says that the walk continues a settled walk by one step to a state that isn't
+  -- settled. A state is a router in a leg, and a node is the record of a walk.
   pub crosses_to : (w : List Link) (t : State) → Crosses d q (labels_of nodes) w t → CrossesBelow d q nodes links (length nodes) w t
   crosses_to w t x = step_from x.front w x.state t x.step x.settled x.still_open
 
-  -- If no link and no step to the next leg leads from a node to a state without a node, `IsStuck`
-  -- holds. Then no walk crosses from a settled state to an unsettled one. A state is a router in a
-  -- leg, and a node is the record of a walk.
+  -- If no link and no step to the next leg leads from a node to a state without a node, the search
+  -- can't go on: `IsStuck` holds. A state is a router in a leg, and a node is the record of a walk.
   pub nothing_crosses : IsFirst nodes (CrossesBelow d q nodes links (length nodes)) None → IsStuck d q (labels_of nodes)
   nothing_crosses none = record {
     closed = 0;
@@ -171,9 +170,9 @@ module _ (d : Database) (q : Request) (nodes : List Node) (apart : AreApart node
       let leg = nodes_in_legs i e h in
       record { router = reached_router d q from _ _ (node_reached i e h); low = leg.low; high = leg.high })
 
--- Suppose that the walk of a node (the record of a walk) is the next one to settle, by
--- `IsFirstCrossing`. After the node is appended, the walks of all nodes are settled, and there are
--- at most 1,024 nodes for each leg.
+-- If the walk of a node (the record of a walk) is the next walk to settle, by `IsFirstCrossing`,
+-- the node may be appended: the walks of all nodes are then settled, and there are at most 1,024
+-- nodes for each leg.
 pub settled_by : (d : Database) (q : Request) → IsRouterOf d q.from → HasFewRouters d → length q.hops + 1 ≤ 8 → (nodes : List Node) → AreNodes nodes
     → AreSettled d q (labels_of nodes) → (n : Node) → IsNext nodes n → IsFirstCrossing d q (labels_of nodes) (walk_of nodes n) (state_of n)
     → AreNodes (nodes ++ (n ∷ [])) × AreSettled d q (labels_of (nodes ++ (n ∷ []))) × (length nodes + 1 ≤ (length q.hops + 1) * 1024)
@@ -184,9 +183,9 @@ settled_by d q from few legs nodes are settled n next crossing =
     let room : length nodes + 1 ≤ (length q.hops + 1) * 1024 = omega (arith, most, length_push nodes n) in
     (nodes_push nodes n are next left (omega arith), after, room)
 
--- Take the first of all nodes (records of walks) that a link, or a step to the next leg, leads to
--- from the settled nodes. After this node is appended to them, the walks of all nodes are settled,
--- and there are at most 1,024 nodes for each leg.
+-- The first node (the record of a walk) that the settled nodes lead to, by a link or by a step to
+-- the next leg, may be appended: the walks of all nodes are then settled, and there are at most
+-- 1,024 nodes for each leg.
 pub settled_more : (d : Database) (q : Request) (links : List Link) → AreLinksOf d links → IsRouterOf d q.from → HasFewRouters d → length q.hops + 1 ≤ 8
     → (nodes : List Node) → AreNodes nodes → AreSettled d q (labels_of nodes) → (n : Node) → IsFirstOf nodes (CrossesBelow d q nodes links (length nodes)) n
     → AreNodes (nodes ++ (n ∷ [])) × AreSettled d q (labels_of (nodes ++ (n ∷ []))) × (length nodes + 1 ≤ (length q.hops + 1) * 1024)
@@ -198,7 +197,8 @@ only_root : (q : Request) (i : ℕ) (s : State) (w : List Link) → i < 1 → st
 only_root q zero s w h at is = (sym at, sym is)
 only_root q (suc i) s w h at is = absurd (omega arith)
 
--- At the start of a search, its only node (the record of a walk) is the head-end in the first leg.
+-- The nodes (records of walks) at the start of a search: the only node is the head-end in the first
+-- leg.
 pub root_nodes : (q : Request) → AreNodes (root_of q ∷ [])
 root_nodes q = nodes_root (root_of q) (record { parent = refl; by = refl }) refl refl
 

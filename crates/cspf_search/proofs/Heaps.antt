@@ -33,8 +33,8 @@ no_less k rank j i h =
       | inr ge ↦ let e : k ≡ rank = omega arith in inr (omega arith, no_less_index k rank j i e h)
     ]
 
--- If no key of a list is greater than `x` by `heap_key_cmp`, none has a lower number than `x`, or
--- the same number and a lower index.
+-- If the key `x` is the first one that the heap gives, no key of the list has a smaller first part
+-- than `x`, nor the same first part and a smaller index.
 pub keys_up_to : (x : HeapKey) (xs : List HeapKey) → IsUpperBound heap_key_cmp x xs → (y : HeapKey) → Contains xs y → IsUpTo x.0.0 x.0.1 y
 keys_up_to x xs upper y at =
     no_less y.0.0 x.0.0 y.0.1 x.0.1 (All-contains (λ z. lt_by_cmp heap_key_cmp x z ≡ false) xs y (All-from_recursion (λ z. lt_by_cmp heap_key_cmp x z ≡ false) xs upper) at)
@@ -43,8 +43,8 @@ only : (x y : HeapKey) → Contains (x ∷ []) y → x ≡ y
 only x y (zero, h, e) = e
 only x y (suc k, h, e) = absurd (omega arith)
 
--- After a key was popped from a heap, each key that was in the heap is the popped key or is still
--- in the heap.
+-- After a key is popped from a heap, each key that was in the heap is the popped key or is still in
+-- the heap.
 pub others_left : (x : HeapKey) (old new : List HeapKey) → IsPermutation old (x ∷ new) → (y : HeapKey) → Contains old y → (x ≡ y) ⊎ Contains new y
 others_left x old new moved y at =
     elim (Contains-append_cases (x ∷ []) new y (Contains-permutation old (x ∷ new) y moved at)) [
@@ -52,17 +52,17 @@ others_left x old new moved y at =
       | inr there ↦ inr there
     ]
 
--- The popped key was in the heap before it was popped.
+-- A popped key was in the heap before.
 pub was_there : (x : HeapKey) (old new : List HeapKey) → IsPermutation old (x ∷ new) → Contains old x
 was_there x old new moved = Contains-permutation (x ∷ new) old x (IsPermutation-sym old (x ∷ new) moved) (0, omega arith, refl)
 
--- The rank of the label at an index of the list doesn't depend on which label is given for reads
--- past the end of the list. A label holds the best walk found so far to a state, and a walk's rank
--- is its cost and its number of links as one number.
+-- If the index `i` is below the length of the list of labels, the rank that is read there doesn't
+-- depend on the default label `e`. A label holds the best walk found so far to a state, and a
+-- walk's rank packs its cost and its number of links into one number.
 pub rank_read : (labels : List Label) (i : ℕ) (e : Label) → i < length labels → (slice_index_or labels i e).rank ≡ (label_at labels i).rank
 rank_read labels i e h = ap (λ (l : Label). l.rank) (get_or_default labels i e no_label h)
 
--- Lemmas on which keys of the heap are live after one key was popped. A key is live if the present
+-- Lemmas on which keys of the heap are live after one key is popped. A key is live if the present
 -- label of its state gives this key, and the state isn't in a closed leg. A state is a router in a
 -- leg, and a label holds the best walk found so far to a state.
 module _ (d : Database) (q : Request) (goal : Goal) (labels : List Label) (old heap new : List HeapKey) (x : HeapKey)
@@ -73,9 +73,9 @@ module _ (d : Database) (q : Request) (goal : Goal) (labels : List Label) (old h
   pub popped_key : IsKey d q goal x
   popped_key = All-contains (IsKey d q goal) heap x keyed (was_there x heap new moved)
 
-  -- If the popped key isn't live, because its state has another label now or is in a closed leg,
-  -- all live keys are still in the heap. A state is a router in a leg, and a label holds the best
-  -- walk found so far to a state.
+  -- If the popped key isn't live, all live keys are still in the heap. A key isn't live if its
+  -- state has another label now or is in a closed leg. A state is a router in a leg, and a label
+  -- holds the best walk found so far to a state.
   pub live_left : (IsLive goal labels x → ⊥) → (key : HeapKey) → Contains old key → IsLive goal labels key → Contains new key
   live_left stale key at is =
       elim (others_left x heap new moved key (live key at is)) [
@@ -83,9 +83,9 @@ module _ (d : Database) (q : Request) (goal : Goal) (labels : List Label) (old h
         | inr left ↦ left
       ]
 
-  -- If the popped key is live, it is the least of the live keys: those of the present labels of
-  -- states in legs that aren't closed. A state is a router in a leg, and a label holds the best
-  -- walk found so far to a state.
+  -- If the popped key is live, it is the least live key. A key is live if the present label of its
+  -- state gives this key, and the state isn't in a closed leg. A state is a router in a leg, and a
+  -- label holds the best walk found so far to a state.
   pub popped_least : IsHeap heap_key_cmp heap → PopsGreatest heap_key_cmp heap x new → goal.floor ≤ x.0.1 → (label_at labels x.0.1).rank + lift goal x.0.1 ≡ x.0.0
       → IsLeast d q goal labels old x.0.1 new
   popped_least ordered pops behind is =
@@ -105,13 +105,13 @@ module _ (d : Database) (q : Request) (goal : Goal) (labels : List Label) (old h
             ];
       }
 
--- The key that is read at an index past the end of a list of keys.
+-- The key that stands in for a missing element when a list of keys is read past its last element.
 abbrev pub blank : HeapKey
 blank = record { 0 = (0, 0) }
 
--- Lemmas on looking at one more key of a heap. The key is kept if the index of its state is at
--- least the floor, the first index after the states of the closed legs. A state is a router in a
--- leg.
+-- Lemmas on the filter that drops the keys of closed legs, when it looks at one more key. The
+-- filter keeps this key if the index of the key's state is at least the floor, the first index
+-- after the states of the closed legs. A state is a router in a leg.
 module _ (floor : ℕ) (items left : List HeapKey) (k : ℕ) (within : k < length items)
     (kept : (key : HeapKey) → Contains (take k items) key → floor ≤ key.0.1 → Contains left key) (none_else : (key : HeapKey) → Contains left key → Contains items key) where
   abbrev pub looked : HeapKey
@@ -120,9 +120,9 @@ module _ (floor : ℕ) (items left : List HeapKey) (k : ℕ) (within : k < lengt
   cases : (key : HeapKey) → Contains (take (k + 1) items) key → Contains (take k items) key ⊎ (looked ≡ key)
   cases key has = let more : take (k + 1) items ≡ take k items ++ looked ∷ [] = take_more items k blank within in Contains-push_cases (take k items) looked key (rw more at has)
 
-  -- The floor is the first index after the states (routers in legs) of the closed legs. If the key
-  -- that is looked at is of a state with an index below the floor, the key is dropped. Of the keys
-  -- up to this one, those of states from the floor on are then still kept.
+  -- If this key's index is below the floor, the filter drops it. Of the keys up to this one, all
+  -- that have an index from the floor on are then kept. The floor is the first index after the
+  -- states (routers in legs) of the closed legs.
   pub key_dropped : looked.0.1 < floor → (key : HeapKey) → Contains (take (k + 1) items) key → floor ≤ key.0.1 → Contains left key
   key_dropped low key has up =
       elim (cases key has) [
@@ -130,7 +130,7 @@ module _ (floor : ℕ) (items left : List HeapKey) (k : ℕ) (within : k < lengt
         | inr is ↦ absurd (omega (arith, low, up, ap (λ (x : HeapKey). x.0.1) is))
       ]
 
-  -- Lemmas for the case that the key that is looked at is put among the kept keys.
+  -- Lemmas for the case that the filter keeps this key.
   module _ (new : List HeapKey) (moved : IsPermutation (looked ∷ left) new) where
     pub key_kept : (key : HeapKey) → Contains (take (k + 1) items) key → floor ≤ key.0.1 → Contains new key
     key_kept key has up =
@@ -146,9 +146,9 @@ module _ (floor : ℕ) (items left : List HeapKey) (k : ℕ) (within : k < lengt
           | inr there ↦ none_else key there
         ]
 
--- If the keys of states in closed legs are dropped from the heap, `AreLabels` still holds of the
--- labels and of the keys that are left. A state is a router in a leg, and a label holds the best
--- walk found so far to a state.
+-- After the keys of states in closed legs are dropped from the heap, the labels and the remaining
+-- keys still meet `AreLabels`. A state is a router in a leg, and a label holds the best walk found
+-- so far to a state.
 pub labels_open : (d : Database) (q : Request) (nodes : List Node) (P : List Link → State → Type 0) (goal : Goal) (labels : List Label) (old new : List HeapKey)
     → AreLabels d q nodes P goal labels old → IsOpenOf goal.floor old new → AreLabels d q nodes P goal labels new
 labels_open d q nodes P goal labels old new are left = record {

@@ -1,5 +1,5 @@
--- The walk of each node (the record of a walk), and the settled walk of each state, which is a
--- router in a leg. Also how both change when one more node is appended.
+-- The walk of each node (the record of a walk), the settled walk of each state (a router in a leg),
+-- and how both change when one more node is appended.
 use Rattle.std.proofs.Common.{◌≡◌, inl, inr, ℕ, zero, suc, ◌+◌, ◌<◌, Bool, true, false, not, Option, Some, None, option_map, position, List, [], ◌∷◌, ◌++◌, length, slice_index_or, refl, sym, ap, ◌∙◌, arith}
 use Rattle.std.specs.List.{position_or_len, AllPairs}
 use Rattle.std.proofs.lemmas.Bool.{cases_lt, lt-ltb, not-true, not_from_true, not_from_false, eqb-true, eq-eqb, and_parts, and_from}
@@ -83,8 +83,8 @@ label_from nodes s w d e =
       | None ↦ λ at is. absurd (cc)
     ] refl e
 
--- If no two nodes have the same state, the search for the state of the node at the index `i` finds
--- the index `i`. A state is a router in a leg, and a node is the record of a walk.
+-- If no two nodes have the same state, the index that is found for the state of the node at `i` is
+-- `i`. A state is a router in a leg, and a node is the record of a walk.
 pub index_at : (nodes : List Node) → AllPairs (λ m n. same_state (state_of m) (state_of n) ≡ false) nodes → (i : ℕ) (d : Node) → i < length nodes
     → index_of nodes (state_of (slice_index_or nodes i d)) ≡ Some i
 index_at nodes apart i d h =
@@ -112,8 +112,8 @@ apart_push nodes n apart left =
     all_pairs_push (λ m n. same_state (state_of m) (state_of n) ≡ false) nodes n apart
     (λ k d h. position-None (λ m. same_state (state_of m) (state_of n)) nodes k d (open_index nodes (state_of n) left) h)
 
--- Lemmas on a list of nodes to which one more node is appended. The state of this node isn't
--- settled before. A state is a router in a leg, and a node is the record of a walk.
+-- Lemmas on a list of nodes to which one more node is appended, whose state isn't settled before. A
+-- state is a router in a leg, and a node is the record of a walk.
 
 module _ (nodes : List Node) (n : Node) (are : AreNodes nodes) (next : IsNext nodes n) (left : labels_of nodes (state_of n) ≡ None) where
   at_old : (i : ℕ) (d : Node) → i < length nodes → slice_index_or (nodes ++ (n ∷ [])) i d ≡ slice_index_or nodes i d
@@ -122,8 +122,8 @@ module _ (nodes : List Node) (n : Node) (are : AreNodes nodes) (next : IsNext no
   at_new : (i : ℕ) (d : Node) → i ≡ length nodes → slice_index_or (nodes ++ (n ∷ [])) i d ≡ n
   at_new i d e = get_or_push nodes n d i (sym e)
 
-  -- If something holds of each old node (the record of a walk) and of the new node, it holds of
-  -- each node of the list.
+  -- If each old node (the record of a walk) and the new node have a property, each node of the
+  -- longer list has this property.
   by_index : (P : ℕ → Node → Type 0) → ((i : ℕ) (d : Node) → i < length nodes → P i (slice_index_or nodes i d)) → P (length nodes) n
       → (i : ℕ) (d : Node) → i < length (nodes ++ (n ∷ [])) → P i (slice_index_or (nodes ++ (n ∷ [])) i d)
   by_index P old new i d h =

@@ -17,14 +17,13 @@ use Rattle.cspf_search.specs.Settled.{IsWithin}
 use Rattle.cspf_search.specs.Bounds.{ArePassed, AreBounds, Falls, IsLegBound, IsRing, IsDeadEnd, AreLooked, bound_at, is_done}
 use Rattle.cspf_graph.proofs.RouterIndexes.{same_or_not}
 
--- `IsRing` speaks only of routers that are done: the search has looked at all links that end there.
--- So it holds if no router is done.
+-- If no router is done, `IsRing` holds, because it is a statement about done routers only. A router
+-- is done if the backward search has looked at all links that end at this router.
 pub none_done : (d : Database) (q : Request) (leg : ℕ) (ring : Ring) → ((w : ℕ) → is_done ring w ≡ false) → IsRing d q leg ring
 none_done d q leg ring none u w on l admissible enters from to = absurd (false≢true (sym (none w) ∙ on))
 
--- A router is done if the backward search has looked at all links that end there. `IsRing` still
--- holds if no bound rises and each done router keeps its bound. It also holds if only the heap
--- changes.
+-- `IsRing` still holds after some bounds are lowered, if each router that is done keeps its bound.
+-- A router is done if the backward search has looked at all links that end at this router.
 pub fallen_ring : (d : Database) (q : Request) (leg : ℕ) (old new : Ring) → Falls old new → IsRing d q leg old → IsRing d q leg new
 fallen_ring d q leg old new falls ring u w on l admissible enters from end =
     let kept = falls.kept w on in
@@ -35,8 +34,8 @@ pub same_ring : (d : Database) (q : Request) (leg : ℕ) (old new : Ring) → ne
 same_ring d q leg old new near marks ring u w on l admissible enters from end =
     rw near (ring u w (rw marks at on) l admissible enters from end)
 
--- Suppose that no link may lead a route to a router in the leg. Then `IsRing` still holds after the
--- router is recorded as done, without a look at the links that end there.
+-- If no link may lead a route to a router in the leg, `IsRing` still holds after this router is
+-- recorded as done, although the search hasn't looked at the links that end there.
 pub one_shut : (d : Database) (q : Request) (leg to : ℕ) (ring : Ring) → IsRing d q leg ring → ((l : Link) → MayEnter d q (leg + 1) l.to → IsIndexOf d l.to to → ⊥)
     → AreLooked d q leg ring.near.items (set ring.done.items to true)
 one_shut d q leg to ring is shut u w on l admissible enters from end =
@@ -45,7 +44,7 @@ one_shut d q leg to ring is shut u w on l admissible enters from end =
       | inr ne ↦ is u w (sym (get_or-set_other ring.done.items to w true false ne) ∙ on) l admissible enters from end
     ]
 
--- Lemmas on the router `to`, after the search has looked at all links that end there.
+-- Lemmas on the router `to`, after the search has looked at all links that end at this router.
 module _ (d : Database) (q : Request) (leg to base : ℕ) (old new : Ring) (ring : IsRing d q leg old) (falls : Falls old new)
     (passed : ArePassed d q base new to) (same : bound_at new.near.items to ≡ base) where
   pub one_router_more : AreLooked d q leg new.near.items (set new.done.items to true)
@@ -59,14 +58,14 @@ module _ (d : Database) (q : Request) (leg to base : ℕ) (old new : Ring) (ring
             fallen_ring d q leg old new falls ring u w (sym (get_or-set_other new.done.items to w true false ne) ∙ on) l admissible enters from end
       ]
 
--- A link that is read at an index of a list is the list's item at this index.
+-- If a list is read at the index of a link, the result is this link.
 pub link_read : (all read : List Link) (n index : ℕ) (link l : Link) → link ≡ slice_index_or read n link → read ≡ all → n ≡ index → slice_get all index ≡ Some l → link ≡ l
 link_read all read n index link l is same at here =
     is ∙ ap (λ ls. slice_index_or ls n link) same ∙ ap (λ k. slice_index_or all k link) at ∙ get_or_from_slice_get all index l link here
 
--- Suppose that `IsWithin` holds of each link to a router whose entry in `marks` is `true`, and that
--- each other router has at least the bound `edge`. Then `IsWithin` holds of all links after each
--- bound above `edge` is lowered to `edge`.
+-- The bounds of two routers stay consistent over a link when bounds above `edge` are lowered to
+-- `edge`. They are consistent, by `IsWithin`, if the entry in `marks` for the router at the link's
+-- end is `true`. Otherwise that router has at least the bound `edge`.
 pub cut_at_edge : (near : List ℕ) (marks : List Bool) (edge u w metric : ℕ)
     → (slice_index_or marks w false ≡ true → IsWithin (bound_at near u) (bound_at near w) metric)
     → (slice_index_or marks w false ≡ false → edge ≤ bound_at near w)
@@ -83,8 +82,8 @@ cut_at_edge near marks edge u w metric within least =
       | false ↦ λ e. (omega (arith, least e), λ way. omega (arith, way, least e))
     ] refl
 
--- Suppose that an edge is at most the bound of each router that the backward search hasn't settled.
--- Then the bounds that the search has found, together with this edge, give the bounds of its leg.
+-- If `edge` is at most the bound of each router that the backward search hasn't settled, the bounds
+-- that the search has found and this edge are the bounds of the leg, by `IsLegBound`.
 pub leg_of_ring : (d : Database) (q : Request) (leg : ℕ) (ring : Ring) (edge : ℕ) → IsRing d q leg ring
     → ((w : ℕ) → w < length (router_list d) → is_done ring w ≡ false → edge ≤ bound_at ring.near.items w) → (ahead : List ℕ)
     → ((p : ℕ) → p < length (router_list d) → MayTurn d q (leg + 1) (slice_index (router_list d) p) → bound_at ring.near.items p ≤ bound_at ahead p)
@@ -95,8 +94,8 @@ leg_of_ring d q leg ring edge links least ahead targets = record {
   targets = λ p h target. omega (arith, targets p h target);
 }
 
--- If a route may go on from this leg to the next one at a router, the router's role in this leg
--- says that it is a target. A leg's targets are the routers where it may end.
+-- If a route may go on to the next leg at a router, the router's role in this leg has the flag
+-- `target`.
 pub told_target : (d : Database) (q : Request) (roles : List Role) (leg p : ℕ) → AreListed d → AreRoles d q roles → leg ≤ length q.hops → p < length (router_list d)
     → MayTurn d q (leg + 1) (slice_index (router_list d) p) → IsTrue (slice_index_or roles (leg * 1024 + p) nothing).target
 told_target d q roles leg p listed are within h target =
@@ -106,7 +105,7 @@ told_target d q roles leg p listed are within h target =
     let index : IsStateIndex d q (leg * 1024 + p) = record { low = omega (arith, few, within); place = rw at_place h } in
     (are.each (leg * 1024 + p) nothing index).target.1 (rw (at_leg, at_place) target)
 
--- Bounds that are all 0 are lower bounds.
+-- A list of bounds that are all 0 is a list of lower bounds, by `AreBounds`.
 pub zero_bounds : (d : Database) (q : Request) (bounds : List ℕ) → length bounds ≡ (length q.hops + 1) * 1024 → ((i : ℕ) → bound_at bounds i ≡ 0) → AreBounds d q bounds
 zero_bounds d q bounds many zeros = record {
   many = many;
@@ -124,7 +123,7 @@ zeros_at count i =
       | inr past ↦ get_or_past (replicate count zero) i zero (omega (arith, past, length-replicate count zero))
     ]
 
--- Lemmas on setting the bounds of one more leg. The legs are gone through from the last to the
+-- Lemmas on setting the bounds of one more leg. The search sets them from the last leg to the
 -- first.
 module _ (d : Database) (q : Request) (leg count : ℕ) (all : count ≡ length (router_list d)) (few : count ≤ 1024) (old new near : List ℕ) (edge : ℕ) (small : edge < 2 ^ 32) (before : AreBounds d q old)
     (zeros : (i : ℕ) → i < (leg + 1) * 1024 → bound_at old i ≡ 0) (is : IsLegBound d q leg near edge (drop (leg * 1024 + 1024) old)) (long : length new ≡ length old)
@@ -204,12 +203,13 @@ module _ (d : Database) (q : Request) (leg count : ℕ) (all : count ≡ length 
   pub zeros_below : (i : ℕ) → i < leg * 1024 → bound_at new i ≡ 0
   zeros_below i low = others i (inl low) ∙ zeros i (omega (arith, low))
 
--- Lemmas on a leg to a hop, if the targets of this leg (the routers where it may end) have no way
--- to the tail-end. Then there is no way to the tail-end from this leg, nor from an earlier one.
+-- Lemmas on a leg to a hop that is a dead end: no router at which a route may go on to the next leg
+-- has a way from there to the tail-end. Then there is no way to the tail-end from this leg, nor
+-- from an earlier one.
 module _ (d : Database) (q : Request) (leg : ℕ) (old new : List ℕ) (before : AreBounds d q old) (is : IsDeadEnd d q leg (drop (leg * 1024 + 1024) old)) (long : length new ≡ length old)
     (here : (i : ℕ) → i < leg * 1024 + 1024 → bound_at new i ≡ NO_WAY) (others : (i : ℕ) → leg * 1024 + 1024 ≤ i → bound_at new i ≡ bound_at old i) where
   -- The bound of each state (a router in a leg) up to this leg is `NO_WAY`, and the bound of each
-  -- later state stays as it was.
+  -- state in a later leg doesn't change.
   side : (i : ℕ) → (bound_at new i ≡ NO_WAY) ⊎ (bound_at new i ≡ bound_at old i)
   side i = elim (cases_lt i (leg * 1024 + 1024)) [ inl low ↦ inl (here i low) | inr high ↦ inr (others i high) ]
 

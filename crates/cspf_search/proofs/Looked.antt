@@ -1,5 +1,6 @@
--- A settled node (the record of a walk) leads to other nodes by links, and by the step to the next
--- leg. How the first of these nodes changes when one more link or step is looked at.
+-- A settled node (the record of a walk) leads to other nodes, by links and by the step to the next
+-- leg. These lemmas say how the first of these other nodes changes when a round looks at one more
+-- link or step.
 use Rattle.std.proofs.Common.{◌≡◌, inl, inr, ℕ, zero, suc, ◌+◌, ◌-◌, ◌*◌, ◌/◌, ◌%◌, ◌^◌, ◌<◌, ◌≤◌, true, false, is_some, Option, Some, None, List, [], ◌∷◌, length, slice_get, slice_index, slice_index_or, take, refl, sym, ap, subst, ◌∙◌, arith}
 use Rattle.std.specs.Option.{IsSomeAnd}
 use Rattle.std.specs.Ordering.{nat_cmp, ordering_then, is_gt}
@@ -30,26 +31,27 @@ use Rattle.cspf_search.proofs.Ranks.{walk_short}
 use Rattle.cspf_search.proofs.Firsts.{first_both, first_same, left_first}
 use Rattle.cspf_search.proofs.Taken.{end_of_row}
 
--- If `is_some` of an optional index is `false`, there is no index.
+-- An optional index for which `is_some` is `false` is `None`.
 pub open_at : (o : Option ℕ) → is_some o ≡ false → o ≡ None
 open_at None e = refl
 open_at (Some i) e = absurd (cc)
 
--- A list has an item at each index below its length.
+-- A list of links has an element at each index below its length.
 pub some_at : (xs : List Link) (i : ℕ) → i < length xs → (x : Link) × (slice_get xs i ≡ Some x)
 some_at [] i h = absurd (omega arith)
 some_at (x ∷ xs) zero h = (x, refl)
 some_at (x ∷ xs) (suc i) h = some_at xs i (omega arith)
 
--- Take a link from the router of a forward star. At the index of this link among the star's links,
--- `ends` has the index of the router where the link ends.
+-- For the link at the index `row` of a forward star, `ends` has at the same index the index of the
+-- router where the link ends. A forward star has the links from one router.
 pub row_end : (d : Database) (s : State) (star : ForwardStar) → IsForwardStar d s star → (row : ℕ) (l : Link) → row < length (links_from_index d (star.state % 1024))
     → slice_get (links_from_index d (star.state % 1024)) row ≡ Some l → (end : ℕ) → end ≡ slice_index star.ends.now row → IsIndexOf d l.to end
 row_end d s star is row l h here end at =
     end_of_row d star.ends.now (links_from_index d (star.state % 1024)) is.within is.each row l end h
     (sym (get_or_from_slice_get (links_from_index d (star.state % 1024)) row l l here)) at
 
--- The node (the record of a walk) that continues the walk of another node by a link.
+-- The node (the record of a walk) that continues the walk of the node `from` by a link. `at` is the
+-- index of `from`.
 abbrev pub along : ℕ → Node → Link → ℕ → Node
 along at from l added = record {
   parent = at;
@@ -62,16 +64,17 @@ along at from l added = record {
 by_rank : (a b m n : ℕ) (o p : Ordering) → a * 16384 + m + 1 < b * 16384 + n + 1 → n < 16384 → is_gt (ordering_then (ordering_then (nat_cmp a b) (ordering_then (nat_cmp m n) o)) p) ≡ false
 by_rank a b m n o p less high = grind (arith, nat_tests)
 
--- If a node's rank is lower than the rank of a walk, the node comes before this walk. A node is the
--- record of a walk, and a walk's rank is its cost and its number of links as one number.
+-- A node whose rank is lower than the rank of a walk doesn't come after this walk in the order in
+-- which walks are settled. A node is the record of a walk, and a walk's rank packs its cost and its
+-- number of links into one number.
 pub ranked_first : (nodes : List Node) (n : Node) → IsNext nodes n → (w : List Link) (leg : ℕ) → n.rank < walk_rank w → length w < 16384
     → is_gt (state_cmp (n.leg, walk_of nodes n) (leg, w)) ≡ false
 ranked_first nodes n next w leg less short =
     by_rank (cost_of (walk_of nodes n)) (cost_of w) (length (walk_of nodes n)) (length w) (nat_cmp n.leg leg) _ (omega (arith, less, next.ranked.rank)) short
 
 module _ (d : Database) (q : Request) (nodes : List Node) (are : AreNodes nodes) (at state : ℕ) (is : IsNodeAt d q nodes at state) where
-  -- Before any link is looked at, each walk that continues the node does so by the step to the next
-  -- leg at the same router. A node is the record of a walk.
+  -- Before the round looks at any link, each walk that continues the node does so by the step to
+  -- the next leg at the same router. A node is the record of a walk.
 
   only_turn : (w : List Link) (t : State) → CrossesFrom d q nodes (take 0 (links_from_index d (state % 1024))) at w t → Turns d q nodes at w t
   only_turn w t (inl turn) = turn
@@ -88,9 +91,8 @@ module _ (d : Database) (q : Request) (nodes : List Node) (are : AreNodes nodes)
   here_turn never w t (inl turn) = inl turn
   here_turn never w t (inr link) = absurd (no_link_crosses d q nodes at state is never link.0 w t link.2)
 
-  -- If there is no next leg, or the router isn't a target of its leg, no walk continues the node by
-  -- the step to the next leg. A node is the record of a walk, and a leg's targets are the routers
-  -- where it may end.
+  -- If there is no next leg, or a route may not go on to the next leg at the node's router, no walk
+  -- continues the node by this step. A node is the record of a walk.
   pub no_turn : (state / 1024 < length q.hops → MayTurn d q (state / 1024 + 1) (slice_index (router_list d) (state % 1024)) → ⊥)
       → IsFirst nodes (CrossesFrom d q nodes (take 0 (links_from_index d (state % 1024))) at) None
   no_turn never = λ w t x. let has = turn_within d q nodes at state is w t (only_turn w t x) in never has.0 has.1
@@ -119,7 +121,7 @@ module _ (d : Database) (q : Request) (nodes : List Node) (are : AreNodes nodes)
       (Some (node_by at (slice_index_or nodes at nowhere) None)) first)
 
   -- Lemmas on the first of the nodes (records of walks) that one node leads to, by its step to the
-  -- next leg or by its first links. One more link was looked at.
+  -- next leg or by its first links, when the round looks at one more link.
 
   module _ (a : Option Node) (row : ℕ) (l : Link) (here : slice_get (links_from_index d (state % 1024)) row ≡ Some l) (end : ℕ) (ends : IsIndexOf d l.to end)
       (few : length (router_list d) ≤ 1024) (before : IsFirst nodes (CrossesFrom d q nodes (take row (links_from_index d (state % 1024))) at) a) where
@@ -135,9 +137,9 @@ module _ (d : Database) (q : Request) (nodes : List Node) (are : AreNodes nodes)
         let left : index_of nodes (state_at d (state - state % 1024 + end)) ≡ None = rw same at x.still_open in
         absurd (cc))
 
-    -- Suppose that a route may not enter the router at the link's end, or that the link isn't
-    -- usable. Then the first node that the links and the step to the next leg lead to is the same
-    -- with this link as without it. A node is the record of a walk.
+    -- If the link isn't usable, or a route may not enter the router at its end, the link leads to
+    -- no node. So the first of the nodes that the round has found so far doesn't change. A node is
+    -- the record of a walk.
     pub no_link : (IsUsable d q l → MayEnter d q ((state - state % 1024 + end) / 1024 + 1) (slice_index (router_list d) ((state - state % 1024 + end) % 1024)) → ⊥)
         → IsFirst nodes (CrossesFrom d q nodes (take (row + 1) (links_from_index d (state % 1024))) at) a
     no_link never = link_off (λ w t x.
@@ -190,25 +192,25 @@ module _ (look : Look) (is : IsLook look) (row : ℕ) (within : row < length (li
   pub row_is_end : IsIndexOf look.query.table.now row_link.0.to end
   row_is_end = row_end look.query.table.now (state_of (slice_index_or look.nodes.now look.at nowhere)) look.star is.star row row_link.0 within row_link.1 end at
 
-  -- The mark that is read for the state at the link's end says whether a node has this state. A
-  -- state is a router in a leg, and a node is the record of a walk.
+  -- The mark of the state at the link's end says whether a node has this state. A state is a router
+  -- in a leg, and a node is the record of a walk.
   row_mark : slice_index_or look.marks.now (look.star.state - look.star.state % 1024 + end) false
       ≡ is_some (index_of look.nodes.now (state_at look.query.table.now (look.star.state - look.star.state % 1024 + end)))
   row_mark =
       is.marks.each (look.star.state - look.star.state % 1024 + end) false
       (link_index look.query.table.now look.query.request.now look.nodes.now look.at look.star.state is.from row row_link.0 row_link.1 end row_is_end is.query.listed.few)
 
-  -- Suppose that the mark of the state at the link's end says that this state is settled. Then the
-  -- first node that the links and the step to the next leg lead to is the same with this link as
-  -- without it. A state is a router in a leg, and a node is the record of a walk.
+  -- If the state at the link's end is marked as settled, the link leads to no new node. So the
+  -- first of the nodes that the round has found so far doesn't change. A state is a router in a
+  -- leg, and a node is the record of a walk.
   pub row_settled : slice_index_or look.marks.now (look.star.state - look.star.state % 1024 + end) false ≡ true → (a : Option Node)
       → IsFirst look.nodes.now (LeadsToRow look row) a → IsFirst look.nodes.now (LeadsToRow look (row + 1)) a
   row_settled marked a before =
       link_settled look.query.table.now look.query.request.now look.nodes.now is.arena look.at look.star.state is.from a row row_link.0 row_link.1 end row_is_end is.query.listed.few before
       (sym row_mark ∙ marked)
 
-  -- If the mark of the state at the link's end says that this state isn't settled, no node has this
-  -- state. A state is a router in a leg, and a node is the record of a walk.
+  -- If the state at the link's end isn't marked as settled, no node has this state. A state is a
+  -- router in a leg, and a node is the record of a walk.
   pub row_left : slice_index_or look.marks.now (look.star.state - look.star.state % 1024 + end) false ≡ false
       → index_of look.nodes.now (state_at look.query.table.now (look.star.state - look.star.state % 1024 + end)) ≡ None
   row_left unmarked = open_at _ (sym row_mark ∙ unmarked)

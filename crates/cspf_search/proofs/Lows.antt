@@ -1,6 +1,6 @@
--- Lower bounds of the ranks of the walks that continue a node, and the nodes that a round skips by
--- these bounds. A node is the record of a walk, and a walk's rank is its cost and its number of
--- links as one number.
+-- Lower bounds of the ranks of the walks that continue a node, and the nodes that a round skips
+-- because of these bounds. A node is the record of a walk, and a walk's rank packs its cost and its
+-- number of links into one number.
 use Rattle.std.proofs.Common.{◌≡◌, ◌⊎◌, inl, inr, ℕ, ◌+◌, ◌*◌, ◌<◌, ◌≤◌, false, Option, Some, None, List, [], ◌∷◌, ◌++◌, length, set, refl, sym, subst, ◌∙◌, arith, length-set}
 use Rattle.std.specs.Ordering.{nat_cmp, ordering_then, is_gt}
 use Rattle.std.specs.declared.cmp.Ordering.{Ordering}
@@ -25,16 +25,16 @@ use Rattle.cspf_search.proofs.Looked.{ranked_first}
 use Rattle.cspf_search.proofs.Pushed.{from_old}
 use Rattle.cspf_search.proofs.Ranks.{crossing_short, rank_is, rank_small, walk_short}
 
--- If a walk isn't later than another walk, its rank (its cost and number of links as one number)
--- isn't greater.
+-- If a walk doesn't come after another walk in the order in which walks are settled, its rank isn't
+-- greater. A walk's rank packs its cost and its number of links into one number.
 ranks_up : (a b m n : ℕ) (o p : Ordering) → m < 16384 → is_gt (ordering_then (ordering_then (nat_cmp a b) (ordering_then (nat_cmp m n) o)) p) ≡ false
     → a * 16384 + m + 1 ≤ b * 16384 + n + 1
 ranks_up a b m n o p low h = grind (arith, nat_tests)
 
 module _ (d : Database) (q : Request) (nodes : List Node) (are : AreNodes nodes) (at : ℕ) (within : at < length nodes) where
   -- The rank of the first node that a node leads to is a lower bound of the ranks of all walks that
-  -- continue this node. A node is the record of a walk, and a walk's rank is its cost and its
-  -- number of links as one number.
+  -- continue this node. A node is the record of a walk, and a walk's rank packs its cost and its
+  -- number of links into one number.
   pub low_found : (found : Option Node) → IsFirst nodes (CrossesFrom d q nodes (links_of d) at) found → IsLow d q nodes at (low_of found)
   low_found None none w t x = absurd (none w t x)
   low_found (Some n) first w t x =
@@ -57,16 +57,16 @@ module _ (d : Database) (q : Request) (nodes : List Node) (are : AreNodes nodes)
         | inr ge ↦ let e : x.0 ≡ at = omega (arith, x.1) in inr (subst (λ k. CrossesFrom d q nodes (links_of d) k w t) e x.2)
       ]
 
-  -- Compare the best node (the record of a walk) that the earlier nodes lead to with the first node
-  -- that this node leads to. The earlier of the two is the best node that the nodes up to this one
-  -- lead to.
+  -- A round looks at the settled nodes one after the other. After it looks at this node, the best
+  -- node so far is the earlier of two nodes: the previous best node, and the first node that this
+  -- node leads to. A node is the record of a walk.
   pub found_kept : (best found : Option Node) → IsFirst nodes (CrossesBelow d q nodes (links_of d) at) best → IsFirst nodes (CrossesFrom d q nodes (links_of d) at) found
       → IsFirst nodes (CrossesBelow d q nodes (links_of d) (at + 1)) (earlier_of nodes best found)
   found_kept =
       first_both nodes (CrossesBelow d q nodes (links_of d) at) (CrossesFrom d q nodes (links_of d) at) (CrossesBelow d q nodes (links_of d) (at + 1)) below_left below_right below_cases
 
-  -- If every walk that continues this node (the record of a walk) comes after the best node so far,
-  -- the best node stays the best.
+  -- If the lower bound of this node (the record of a walk) exceeds the rank of the best node so
+  -- far, or no walk continues this node, the best node doesn't change.
   pub passed : (best : Option Node) (low : ℕ) → IsFirst nodes (CrossesBelow d q nodes (links_of d) at) best → IsLow d q nodes at low
       → (low ≡ no_rank) ⊎ (low_of best < low) → IsFirst nodes (CrossesBelow d q nodes (links_of d) (at + 1)) best
   passed None low first is (inl none) = λ w t x. elim (below_cases w t x) [ inl p ↦ first w t p | inr h ↦ let has = is w t h in absurd (omega (arith, none, has.0)) ]
@@ -88,8 +88,8 @@ module _ (d : Database) (q : Request) (nodes : List Node) (are : AreNodes nodes)
         ];
   }
 
--- For a node that is appended, 0 is a lower bound of the ranks of all walks that continue it. A
--- node is the record of a walk, and a walk's rank is its cost and its number of links as one
+-- For a node that is appended, the lower bound of the ranks of all walks that continue it is 0. A
+-- node is the record of a walk, and a walk's rank packs its cost and its number of links into one
 -- number.
 pub lows_push : (d : Database) (q : Request) (nodes : List Node) (n : Node) → AreApart nodes → AreApart (nodes ++ (n ∷ [])) → (lows : List ℕ) → AreLows d q nodes lows
     → AreLows d q (nodes ++ (n ∷ [])) (lows ++ (0 ∷ []))

@@ -1,5 +1,6 @@
 -- How the forward stars of the nodes and the marks of settled states change when one more node is
--- appended. A state is a router in a leg, and a node is the record of a walk.
+-- appended. A forward star has the links from one router. A state is a router in a leg, and a node
+-- is the record of a walk.
 use Rattle.std.proofs.Common.{◌≡◌, inl, inr, ℕ, ◌+◌, ◌*◌, ◌<◌, ◌≤◌, Bool, true, false, is_some, Some, None, List, [], ◌∷◌, ◌++◌, length, set, replicate, slice_index_or, refl, sym, ap, ◌∙◌, arith, length-set}
 use Rattle.std.proofs.lemmas.Bool.{cases_lt}
 use Rattle.std.proofs.lemmas.List.{get_or_append_left, get_or_push, length_push, get_or-set_same, get_or-set_other, get_or-replicate, length-replicate}
@@ -23,8 +24,8 @@ use Rattle.cspf_search.proofs.Pushed.{index_old, index_new, open_new}
 use Rattle.cspf_graph.proofs.RouterIndexes.{same_or_not}
 use Rattle.cspf_search.proofs.Ranks.{state_apart}
 
--- Without nodes there are no forward stars, and no state is marked as settled. A state is a router
--- in a leg, and a node is the record of a walk.
+-- Lemmas on an empty list of nodes: it has no forward stars, and no state is marked as settled. A
+-- state is a router in a leg, and a node is the record of a walk.
 
 pub no_stars : (d : Database) → AreForwardStars d [] []
 no_stars d = record { many = refl; each = λ i e h. absurd (omega arith) }
@@ -35,8 +36,8 @@ no_marks d q count many = record {
   each = λ i e index. get_or-replicate count i false e (omega (arith, many, index.low));
 }
 
--- The index of a node's state (a router in a leg), as the node's forward star has it, is the index
--- of a state of the request.
+-- The forward star of a node has the index of the node's state (a router in a leg). This index is
+-- the index of a state of the request.
 pub star_index : (d : Database) (q : Request) (n : Node) (star : ForwardStar) → IsInLeg q n → IsForwardStar d (state_of n) star → IsStateIndex d q star.state
 star_index d q n star leg is =
     let same = ap (λ (s : State). s.leg) is.state in
@@ -84,8 +85,9 @@ module _ (d : Database) (q : Request) (listed : AreListed d) (nodes : List Node)
             ];
       }
 
--- Lemmas on the first of the nodes that the settled nodes lead to by a link or by a step to the
--- next leg, and on its state. A state is a router in a leg, and a node is the record of a walk.
+-- Lemmas on the first of the nodes that the settled nodes lead to, by a link or by a step to the
+-- next leg, and on the state of that first node. A state is a router in a leg, and a node is the
+-- record of a walk.
 module _ (d : Database) (q : Request) (links : AreLinksOf d (links_of d)) (from : IsRouterOf d q.from) (few : HasFewRouters d) (most : length q.hops + 1 ≤ 8)
     (nodes : List Node) (are : AreNodes nodes) (settled : AreSettled d q (labels_of nodes)) (n : Node)
     (first : IsFirstOf nodes (CrossesBelow d q nodes (links_of d) (length nodes)) n) where

@@ -1,5 +1,5 @@
--- A label gives, for a state (a router in a leg), the best walk found so far. After a label was
--- offered to a state, `AreLabels` still holds of the labels of all states.
+-- After a label is offered to a state, the labels of all states still meet `AreLabels`. A label
+-- holds the best walk found so far to a state, which is a router in a leg.
 use Rattle.std.proofs.Common.{◌≡◌, ◌≢◌, ◌⊎◌, inl, inr, ℕ, ◌+◌, ◌^◌, ◌<◌, ◌≤◌, List, [], ◌∷◌, None, length, set, refl, sym, ap, subst, ◌∙◌, arith, length-set}
 use Rattle.std.specs.BinaryHeap.{IsHeap}
 use Rattle.std.specs.List.{All, Contains}
@@ -31,10 +31,10 @@ lowered cap lower ahead w h (inr b) = inr (beyond_lower cap lower ahead w h b)
 no_later_itself : (w : List Link) → IsNoLater w w
 no_later_itself w = ap is_gt (tied_itself walks_total w)
 
--- `P` and `R` are conditions on walks, and each walk that meets `P` meets `R` too. Suppose that a
--- label is right for the walks that meet `P`, and that its walk comes first among those that meet
--- `R`. Then the label is right for the walks that meet `R`. A label holds the best walk found so
--- far to a state.
+-- Each walk that meets the condition `P` also meets the condition `R`. A label that meets
+-- `IsReached` for `P` also meets it for `R`, if its walk precedes all other walks that meet `R`.
+-- Walks that can't begin the best route don't count here. A label holds the best walk found so far
+-- to a state.
 reached_on : (d : Database) (nodes : List Node) (P R : List Link → State → Type 0) (cap lower ahead : ℕ) (t : State) (label : Label) → IsReached d nodes P cap ahead t label
     → ((w : List Link) (t : State) → P w t → R w t) → ((w : List Link) → R w t → IsNoLater (walk_of nodes (node_of d nodes label)) w ⊎ IsBeyond lower ahead w)
     → IsReached d nodes R lower ahead t label
@@ -48,9 +48,9 @@ reached_on d nodes P R cap lower ahead t label r up first = record {
   first = first;
 }
 
--- Suppose that the label of one state is replaced. If the label of each state is then right, and
--- the heap has the keys that `AreLabels` asks for, `AreLabels` holds of the new labels. A state is
--- a router in a leg, and a label holds the best walk found so far to a state.
+-- After the label of one state is replaced, the labels meet `AreLabels` if each of them meets
+-- `IsLabel`, and the heap has the keys that `AreLabels` requires. A state is a router in a leg, and
+-- a label holds the best walk found so far to a state.
 pub labels_set : (d : Database) (q : Request) (old nodes : List Node) (P R : List Link → State → Type 0) (goal : Goal) (labels : List Label) (old_keys keys : List HeapKey)
     → AreLabels d q old P goal labels old_keys → (i : ℕ) → IsStateIndex d q i → (label : Label)
     → IsLabel d nodes R (label_at (set labels i label) goal.at).rank (lift goal i) (state_at d i) label
@@ -83,17 +83,17 @@ labels_set d q old nodes P R goal labels old_keys keys are i index label is othe
           ];
     }
 
--- `x` is a walk that can't change the label of its state. Either the walk's rank plus the state's
--- lift exceeds the cap, the rank of a known walk to the tail-end. Or the walk doesn't come before
--- the walk of the label. The lift of a state is its bound times `COST_WEIGHT`. A state is a router
--- in a leg, and a label holds the best walk found so far to a state. A walk's rank is its cost and
--- its number of links as one number.
+-- The walk `x` can't change the label of its state. Either `x` doesn't precede the walk of this
+-- label, or the rank of `x` plus the state's lift exceeds `cap`, the rank of a known walk to the
+-- tail-end. The lift of a state (a router in a leg) is its bound times `COST_WEIGHT`. A label holds
+-- the best walk found so far to a state, and a walk's rank packs its cost and its number of links
+-- into one number.
 abbrev pub IsLost : Database → List Node → (List Link → State → Type 0) → ℕ → ℕ → State → Label → List Link → Type 0
 IsLost d nodes P cap ahead t label x =
     IsBeyond cap ahead x ⊎ ((label.rank ≢ no_rank) × (IsReached d nodes P cap ahead t label → IsNoLater (walk_of nodes (node_of d nodes label)) x))
 
--- The label `label` (the record of the best walk found so far to a state) describes the walk `x`,
--- which isn't later than the walk of the label `old`.
+-- The label `label` holds the walk `x`, which doesn't come after the walk of the label `old` in the
+-- order of walks. A label holds the best walk found so far to a state.
 pub record IsBetter (d : Database) (nodes : List Node) (P : List Link → State → Type 0) (cap ahead : ℕ) (t : State) (old label : Label) (x : List Link) : Type 0 where
   pub offer : IsOffer d nodes label
   pub rank : label.rank ≡ (node_of d nodes label).rank
@@ -110,9 +110,9 @@ module _ (d : Database) (q : Request) (nodes : List Node) (are : AreNodes nodes)
   abbrev cap : ℕ
   cap = (label_at labels goal.at).rank
 
-  -- The offered walk `x` leads to the state with the index `i`. So the label of each other state is
-  -- still right. A state is a router in a leg, and a label holds the best walk found so far to a
-  -- state.
+  -- The offered walk `x` leads to the state with the index `i`, so the label of each other state
+  -- still meets `IsLabel`. A state is a router in a leg, and a label holds the best walk found so
+  -- far to a state.
   other : (j : ℕ) → IsStateIndex d q j → j ≢ i → (lower : ℕ) → lower ≤ cap → (label : Label) → IsLabel d nodes P cap (lift goal j) (state_at d j) label
       → IsLabel d nodes R lower (lift goal j) (state_at d j) label
   other j jx ne lower h label (is_settled k none e) = is_settled k none e
@@ -153,9 +153,9 @@ module _ (d : Database) (q : Request) (nodes : List Node) (are : AreNodes nodes)
             ]
       ])
 
-  -- If the walk `x` can't change the label of the state at the index `i`, `AreLabels` still holds
-  -- of all labels when this walk is counted too. A state is a router in a leg, and a label holds
-  -- the best walk found so far to a state.
+  -- If the walk `x` can't change the label of the state at the index `i`, the labels still meet
+  -- `AreLabels` after `x` is added to the walks that count. A state is a router in a leg, and a
+  -- label holds the best walk found so far to a state.
   pub labels_stay : (Q x (state_at d i) → IsLost d nodes P cap (lift goal i) (state_at d i) (label_at labels i) x) → AreLabels d q nodes R goal labels keys
   labels_stay lost = record {
     small = before.small;
@@ -201,9 +201,9 @@ module _ (d : Database) (q : Request) (nodes : List Node) (are : AreNodes nodes)
   gets old label lower h (is_unreached left none first) better passes =
       becomes old label lower better passes left (λ w was. inr (beyond_lower cap lower (lift goal i) w h (first w was)))
 
-  -- Suppose that a better label replaces the old one, and that the new heap has all old keys and
-  -- the key of this label. Then `AreLabels` still holds of all labels. A label holds the best walk
-  -- found so far to a state.
+  -- If a better label replaces the old one, and the new heap has all old keys and the key of the
+  -- better label, the labels still meet `AreLabels`. A label holds the best walk found so far to a
+  -- state.
   labels_over : (label : Label) (new_keys : List HeapKey) → IsBetter d nodes P cap (lift goal i) (state_at d i) (label_at labels i) label x → Q x (state_at d i)
       → IsHeap heap_key_cmp new_keys → All (IsKey d q goal) new_keys → (0 < label.rank → Contains new_keys (key_at (label.rank + lift goal i) i))
       → ((key : HeapKey) → Contains keys key → Contains new_keys key) → AreLabels d q nodes R goal (set labels i label) new_keys
@@ -221,8 +221,8 @@ module _ (d : Database) (q : Request) (nodes : List Node) (are : AreNodes nodes)
       ordered keyed waits (λ j behind ne was. kept (key_at ((label_at labels j).rank + lift goal j) j) was)
 
   -- If a better label replaces the old label of a state, and the heap has the key of the better
-  -- label, `AreLabels` still holds of all labels. A state is a router in a leg, and a label holds
-  -- the best walk found so far to a state.
+  -- label, the labels still meet `AreLabels`. A state is a router in a leg, and a label holds the
+  -- best walk found so far to a state.
   pub labels_change : (label : Label) (key : ℕ) (new_keys : List HeapKey) → key ≡ label.rank + lift goal i → IsBetter d nodes P cap (lift goal i) (state_at d i) (label_at labels i) label x → Q x (state_at d i)
       → HasKey label.rank (label_at labels i).rank (key_at key i) keys new_keys → AreLabels d q nodes R goal (set labels i label) new_keys
   labels_change label key new_keys is_key better passes (inl tie) =
@@ -243,9 +243,9 @@ module _ (d : Database) (q : Request) (nodes : List Node) (are : AreNodes nodes)
       (λ some. rw (← is_key) (Contains-permutation (key_at key i ∷ keys) new_keys (key_at key i) gains.moved (0, omega arith, refl)))
       (λ k was. Contains-permutation (key_at key i ∷ keys) new_keys k gains.moved (Contains-append_right (key_at key i ∷ []) keys k was))
 
-  -- Suppose that a label is offered to a state. The state keeps its old label or gets the offered
-  -- one, as the comparison of the two labels decides. Then `AreLabels` still holds of all labels. A
-  -- state is a router in a leg, and a label holds the best walk found so far to a state.
+  -- After a label is offered to a state, the labels still meet `AreLabels`, whether the state keeps
+  -- its old label or gets the offered one. A state is a router in a leg, and a label holds the best
+  -- walk found so far to a state.
   pub labels_offered : (label : Label) (key : ℕ) (new : List Label) (new_keys : List HeapKey) → key ≡ label.rank + lift goal i → IsOffer d nodes label → label.rank ≡ (node_of d nodes label).rank
       → state_of (node_of d nodes label) ≡ state_at d i → walk_of nodes (node_of d nodes label) ≡ x → label.rank ≤ (label_at labels i).rank → Q x (state_at d i)
       → StaysAt d nodes i label labels new keys new_keys ⊎ GoesTo d nodes i label key labels new keys new_keys → AreLabels d q nodes R goal new new_keys
@@ -284,11 +284,11 @@ module _ (d : Database) (q : Request) (nodes : List Node) (are : AreNodes nodes)
             ]);
       }) passes go.keys)
 
--- The cap is the rank of the goal's label, and the lift of a state is how much its key exceeds its
--- rank. A walk can't change a label of a lower rank. A walk also changes no label if the walk's own
--- rank plus the lift of its state exceeds the cap. A state is a router in a leg, and a label holds
--- the best walk found so far to a state. A walk's rank is its cost and its number of links as one
--- number.
+-- A walk can't change the label of its state if this label has a lower rank than the walk. It can't
+-- change the label either if the walk's rank plus the state's lift exceeds `cap`, the rank in the
+-- goal's label. The lift of a state (a router in a leg) is its bound times `COST_WEIGHT`. A label
+-- holds the best walk found so far to a state, and a walk's rank packs its cost and its number of
+-- links into one number.
 pub lost_by_rank : (d : Database) (nodes : List Node) → AreNodes nodes → (P : List Link → State → Type 0) (cap ahead : ℕ) (t : State) (label : Label) (n : Node)
     → IsNext nodes n → ahead < 2 ^ 46 → (label.rank < n.rank) ⊎ (cap < n.rank + ahead) → IsLost d nodes P cap ahead t label (walk_of nodes n)
 lost_by_rank d nodes are P cap ahead t label n next low (inl late) = inr (
@@ -302,10 +302,9 @@ lost_by_rank d nodes are P cap ahead t label n next low (inr late) = inl (record
   behind = omega (arith, late, rank_is nodes are n next);
 })
 
--- If an offered label has the same rank as the present label of the state, the nodes that both
--- labels describe have the same rank. A state is a router in a leg, and a node is the record of a
--- walk. A label holds the best walk found so far to a state, and a walk's rank is its cost and its
--- number of links as one number.
+-- If an offered label has the same rank as the present label of a state, the walks of both labels
+-- have the same rank too. A state is a router in a leg, and a label holds the best walk found so
+-- far to a state. A walk's rank packs its cost and its number of links into one number.
 pub tied_label : (d : Database) (nodes : List Node) → AreNodes nodes → (P : List Link → State → Type 0) (cap ahead : ℕ) (t : State) (old label : Label) → IsLabel d nodes P cap ahead t old
     → IsOffer d nodes label → label.rank ≡ (node_of d nodes label).rank → label.rank ≡ old.rank → AreTied d nodes old label
 tied_label d nodes are P cap ahead t old label (is_settled k none e) offer rank tie = absurd (omega (arith, rank, tie, none))
@@ -323,8 +322,8 @@ label_same d nodes P R up down most ahead t label (is_settled k none e) = is_set
 label_same d nodes P R up down most ahead t label (is_reached left r) = is_reached left (reached_on d nodes P R most most ahead t label r up (λ w p. r.first w (down w t p)))
 label_same d nodes P R up down most ahead t label (is_unreached left none first) = is_unreached left none (λ w p. first w (down w t p))
 
--- If the same walks meet the conditions `P` and `R`, labels that are right for one of these
--- conditions are right for the other. A label holds the best walk found so far to a state.
+-- If the same walks meet the conditions `P` and `R`, labels that meet `AreLabels` for `P` also meet
+-- it for `R`. A label holds the best walk found so far to a state.
 pub labels_same : (d : Database) (q : Request) (nodes : List Node) (P R : List Link → State → Type 0) → ((w : List Link) (t : State) → P w t → R w t)
     → ((w : List Link) (t : State) → R w t → P w t) → (goal : Goal) (labels : List Label) (keys : List HeapKey) → AreLabels d q nodes P goal labels keys
     → AreLabels d q nodes R goal labels keys
@@ -342,9 +341,9 @@ labels_same d q nodes P R up down goal labels keys before =
       waiting = before.waiting;
     }
 
--- If the rank of a state's label isn't 0, the state isn't settled. A state is a router in a leg,
--- and a label holds the best walk found so far to a state. A walk's rank is its cost and its number
--- of links as one number.
+-- If the rank in a state's label isn't 0, the state isn't settled. A state is a router in a leg,
+-- and a label holds the best walk found so far to a state. A walk's rank packs its cost and its
+-- number of links into one number.
 pub left_open : (d : Database) (nodes : List Node) (P : List Link → State → Type 0) (cap ahead : ℕ) (t : State) (label : Label) → IsLabel d nodes P cap ahead t label → 0 < label.rank
     → index_of nodes t ≡ None
 left_open d nodes P cap ahead t label (is_settled k none e) some = absurd (omega (arith, none))

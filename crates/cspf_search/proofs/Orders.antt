@@ -33,7 +33,7 @@ potentials_total potential =
 pub states_total : IsTotalOrder state_cmp
 states_total = then_total ranks_total (on_total (λ (a : ℕ × List Link). locals_of a.1) nat_list_cmp_total)
 
--- Lemmas on comparing by one order, and by a second order where the first one ties.
+-- Lemmas on comparing by one order first, and by a second order if the first one says equal.
 
 then-equal : (o : Ordering) → ordering_then o Equal ≡ o
 then-equal Less = refl
@@ -45,8 +45,8 @@ then_assoc Less p q = refl
 then_assoc Equal p q = refl
 then_assoc Greater p q = refl
 
--- Take an order, and two other orders that may decide where this one ties. If these two agree
--- wherever it ties, the combined orders agree.
+-- If two comparisons `p` and `q` agree whenever the comparison `o` says equal, comparing by `o` and
+-- then `p` agrees with comparing by `o` and then `q`.
 then_same : (o p q : Ordering) → (o ≡ Equal → p ≡ q) → ordering_then o p ≡ ordering_then o q
 then_same Less p q h = refl
 then_same Equal p q h = h refl
@@ -57,8 +57,8 @@ front_no_later Less p h = refl
 front_no_later Equal p h = refl
 front_no_later Greater p h = h
 
--- Lemmas on two walks in the same leg. The cost decides which walk comes first, then the number of
--- links, and then the local addresses.
+-- Lemmas on two walks in the same leg. They are compared by cost, then by the number of links, then
+-- by the local addresses.
 
 less_first : (a b d : Ordering) → ordering_then a (ordering_then b Equal) ≡ Less → is_gt (ordering_then a (ordering_then b d)) ≡ false
 less_first Less b d h = refl
@@ -100,7 +100,7 @@ walk_from_state k w x h =
 pub rank_from_state : (s t : State) (w x : List Link) → is_gt (state_cmp (s.leg, w) (t.leg, x)) ≡ false → RanksNoLater (λ _. 0) s w t x
 rank_from_state s t w x h = rw (nat_cmp-potential 0 (cost_of w) (cost_of x)) (front_no_later (rank_cmp (s.leg, w) (t.leg, x)) (locals_cmp w x) h)
 
--- Lemmas on walks that are continued by one link.
+-- Lemmas on walks to which one link is appended.
 
 pub cost_of-push : (v : List Link) (l : Link) → cost_of (v ++ (l ∷ [])) ≡ cost_of v + l.metric
 cost_of-push v l = sum_by_push (λ (l : Link). l.metric) v l
@@ -119,15 +119,15 @@ slice_cmp-last (a ∷ xs) [] x y e = absurd (omega arith)
 slice_cmp-last (a ∷ xs) (b ∷ ys) x y e =
     ap (ordering_then (nat_cmp a b)) (slice_cmp-last xs ys x y (omega arith)) ∙ sym (then_assoc (nat_cmp a b) (slice_cmp nat_cmp xs ys) (nat_cmp x y))
 
--- If two walks of the same length are each continued by a link, the local addresses of these links
--- are compared last.
+-- If a link is appended to each of two walks of the same length, the local addresses of these two
+-- links are compared last.
 pub locals_cmp-last : (v w : List Link) (l m : Link) → length v ≡ length w
     → locals_cmp (v ++ (l ∷ [])) (w ++ (m ∷ [])) ≡ ordering_then (locals_cmp v w) (nat_cmp l.local m.local)
 locals_cmp-last v w l m e =
     rw (map_push (λ (l : Link). l.local) v l, map_push (λ (l : Link). l.local) w m)
     (slice_cmp-last (locals_of v) (locals_of w) l.local m.local (length-map v (λ (l : Link). l.local) ∙ e ∙ sym (length-map w (λ (l : Link). l.local))))
 
--- If two walks are continued by the same link, the order between them stays the same.
+-- If the same link is appended to two walks, the order between the walks doesn't change.
 pub walk_cmp-push : (v w : List Link) (l : Link) → walk_cmp (v ++ (l ∷ [])) (w ++ (l ∷ [])) ≡ walk_cmp v w
 walk_cmp-push v w l =
     rw (cost_of-push v l, cost_of-push w l, length_push v l, length_push w l, nat_cmp-add (cost_of v) (cost_of w) l.metric, nat_cmp-add (length v) (length w) 1)
@@ -138,8 +138,8 @@ walk_cmp-push v w l =
 grows : (a n b k : ℕ) (o : Ordering) → a ≤ b → n < k → ordering_then (nat_cmp a b) (ordering_then (nat_cmp n k) o) ≡ Less
 grows a n b k o up more = grind (arith, nat_tests)
 
--- If the potential falls at most by the metric of a link, a walk ranks before the same walk
--- continued by this link.
+-- If the potential before a link is at most the potential after it plus the link's metric, a walk
+-- precedes the same walk with this link appended, by cost plus potential.
 pub potential_cmp-push : (potential : State → ℕ) (s t : State) (v : List Link) (l : Link) → potential s ≤ potential t + l.metric
     → potential_cmp potential (s, v) (t, v ++ (l ∷ [])) ≡ Less
 potential_cmp-push potential s t v l up =
@@ -149,8 +149,8 @@ potential_cmp-push potential s t v l up =
 turns : (a b n k : ℕ) → a ≤ b → ordering_then (nat_cmp a b) (ordering_then (nat_cmp n n) (nat_cmp k (suc k))) ≡ Less
 turns a b n k up = grind (arith, nat_tests)
 
--- If the potential doesn't fall at the step to the next leg, a walk ranks before the same walk
--- after this step.
+-- If a router's potential in a leg is at most its potential in the next leg, a walk precedes the
+-- same walk after the step to the next leg, by cost plus potential.
 pub potential_cmp-turn : (potential : State → ℕ) (k router : ℕ) (v : List Link)
     → potential (record { leg = k; router = router }) ≤ potential (record { leg = suc k; router = router })
     → potential_cmp potential (record { leg = k; router = router }, v) (record { leg = suc k; router = router }, v) ≡ Less

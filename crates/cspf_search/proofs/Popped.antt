@@ -1,6 +1,6 @@
 -- The waiting state (a router in a leg) with the least key is the next one to settle. If no key in
--- the heap counts any more, no further state can be settled. Neither a link nor a step to the next
--- leg leads from a settled state to an unsettled one outside of the closed legs.
+-- the heap counts any more, the search is finished: no link and no step to the next leg leads from
+-- a settled state to one that isn't settled, except into closed legs.
 use Rattle.std.proofs.Common.{◌≡◌, ◌≢◌, inl, inr, ℕ, suc, ◌+◌, ◌-◌, ◌*◌, ◌/◌, ◌%◌, ◌<◌, ◌≤◌, true, Some, None, List, [], ◌∷◌, length, set, replicate, slice_index, refl, sym, ap, subst, ◌∙◌, arith, length-set}
 use Rattle.std.specs.List.{Contains}
 use Rattle.std.specs.BinaryHeap.{IsHeap}
@@ -35,17 +35,16 @@ use Rattle.cspf_graph.proofs.RouterIndexes.{same_or_not}
 use Rattle.cspf_search.proofs.Ranks.{before_by_rank, rank_before, rank_tied, rank_is, walk_short, rank_small, crossing_short, state_apart, index_for, potential_of, potential_at, lift_is, potential_consistent}
 
 -- The label of a state that isn't settled has a rank above 0. A state is a router in a leg, and a
--- label holds the best walk found so far to a state. A walk's rank is its cost and its number of
--- links as one number.
+-- label holds the best walk found so far to a state. A walk's rank packs its cost and its number of
+-- links into one number.
 pub open_rank : (d : Database) (nodes : List Node) (P : List Link → State → Type 0) (cap ahead : ℕ) (t : State) (label : Label) → IsLabel d nodes P cap ahead t label
     → index_of nodes t ≡ None → 0 < label.rank
 open_rank d nodes P cap ahead t label (is_settled k none e) left = absurd (cc)
 open_rank d nodes P cap ahead t label (is_reached o r) left = omega (arith, r.rank)
 open_rank d nodes P cap ahead t label (is_unreached o none first) left = omega (arith, none)
 
--- If a state isn't settled, and a walk to this state is known, the label of the state describes a
--- node. A state is a router in a leg, and a node is the record of a walk. A label holds the best
--- walk found so far to a state.
+-- If a state isn't settled, and a walk to this state is known, the state's label meets `IsReached`:
+-- it holds the best walk so far. A state is a router in a leg.
 pub reached_of : (d : Database) (nodes : List Node) (P : List Link → State → Type 0) (cap ahead : ℕ) (t : State) (label : Label) → IsLabel d nodes P cap ahead t label
     → 0 < label.rank → label.rank < no_rank → IsReached d nodes P cap ahead t label
 reached_of d nodes P cap ahead t label (is_settled k none e) some most = absurd (omega (arith, none))
@@ -67,8 +66,8 @@ module _ (d : Database) (q : Request) (of : AreLinksOf d (links_of d)) (listed :
   abbrev cap : ℕ
   cap = (label_at labels goal.at).rank
 
-  -- If a walk continues a settled walk by one step to an unsettled state (a router in a leg), this
-  -- state has an index.
+  -- If a walk continues a settled walk by one step to a state (a router in a leg) that isn't
+  -- settled, this state has an index.
   crossing_index : (w : List Link) (u : State) → Crosses d q (labels_of nodes) w u → (j : ℕ) × IsStateIndex d q j × (u ≡ state_at d j)
   crossing_index w u c =
       let r = steps (settled.reached c.state c.front c.settled) c.step in
@@ -81,9 +80,8 @@ module _ (d : Database) (q : Request) (of : AreLinksOf d (links_of d)) (listed :
   capped : 0 < cap
   capped = open_rank d nodes (CrossesBelow d q nodes (links_of d) (length nodes)) cap (lift goal goal.at) (state_at d goal.at) (label_at labels goal.at) (before.each goal.at there floor.low) left
 
-  -- The goal is the tail-end in the last leg, and its bound is 0. So its lift is 0 too: its key in
-  -- the heap is its rank. A walk's rank is its cost and its number of links as one number. The lift
-  -- of a state is how much its key in the heap exceeds its rank.
+  -- The lift of the goal is 0, because the goal is the tail-end in the last leg, and its bound is
+  -- 0. The lift of a state is how much its key in the heap exceeds the rank in its label.
   goal_lift : lift goal goal.at ≡ 0
   goal_lift =
       let none = goal_bound d q goal bounds there end in
@@ -92,8 +90,8 @@ module _ (d : Database) (q : Request) (of : AreLinksOf d (links_of d)) (listed :
   goal_waits : cap < no_rank → Contains keys (key_at (cap + lift goal goal.at) goal.at)
   goal_waits known = before.waiting goal.at there floor.low capped known
 
-  -- The floor is the first index after the states (routers in legs) of the closed legs. If a state
-  -- is in a leg after the closed legs, its index is at least the floor.
+  -- If a state is in a leg after the closed legs, its index is at least the floor, the first index
+  -- after the states (routers in legs) of the closed legs.
   behind_floor : (u : State) → goal.floor / 1024 < u.leg → (j : ℕ) → u ≡ state_at d j → goal.floor ≤ j
   behind_floor u h j is = omega (arith, h, ap (λ (s : State). s.leg) is, before.whole)
 
@@ -107,10 +105,10 @@ module _ (d : Database) (q : Request) (of : AreLinksOf d (links_of d)) (listed :
     rank : (label_at labels i).rank ≡ walk_rank (walk_of nodes n)
     rank = here.rank ∙ rank_is nodes are n here.next
 
-    -- The cap is the rank of the goal's label, and the lift of a state is how much its key exceeds
-    -- its rank. If the rank of a walk plus the lift of the walk's state exceeds the cap, this sum
-    -- also exceeds the number of the least key. A state is a router in a leg, and a label holds the
-    -- best walk found so far to a state. A walk's rank is its cost and its number of links as one
+    -- If a walk's rank plus its state's lift exceeds `cap`, the rank in the goal's label, this sum
+    -- also exceeds the first part of the least key. The lift of a state is how much its key in the
+    -- heap exceeds the rank in its label. A state is a router in a leg, and a label holds the best
+    -- walk found so far to a state. A walk's rank packs its cost and its number of links into one
     -- number.
     behind : (ahead : ℕ) (w : List Link) → IsBeyond cap ahead w → walk_rank (walk_of nodes n) + lift goal i < walk_rank w + ahead
     behind ahead w beyond =
@@ -204,8 +202,8 @@ module _ (d : Database) (q : Request) (of : AreLinksOf d (links_of d)) (listed :
           uncrossed at.0 at.1 ahead w p clear (label_at labels at.0) refl (before.each at.0 at.1 ahead);
     }
 
--- Lemmas on the state of the head-end in the first leg, and on the labels when the search starts. A
--- label gives, for a state, the best walk found so far.
+-- Lemmas on the head-end in the first leg, and on the labels at the start of a search. A label
+-- holds the best walk found so far to a state, which is a router in a leg.
 
 module _ (d : Database) (q : Request) (listed : AreListed d) (place : ℕ) (at : IsIndexOf d q.from place) where
   start_index : IsStateIndex d q place
@@ -218,7 +216,7 @@ module _ (d : Database) (q : Request) (listed : AreListed d) (place : ℕ) (at :
       let router : q.from ≡ slice_index (router_list d) (place % 1024) = sym (ap (slice_index (router_list d)) same ∙ at.is) in
       λ k. record { leg = leg k; router = router k }
 
-  -- If the bounds rule out every way from the head-end, there is no route.
+  -- If the bound of the head-end in the first leg is `NO_WAY`, there is no route.
   pub shut_start : (goal : Goal) → AreBounds d q goal.bounds.now → IsStateIndex d q goal.at → state_at d goal.at ≡ end_state q → bound_at goal.bounds.now place ≡ NO_WAY
       → (w : List Link) → IsRoute d q w → ⊥
   shut_start goal bounds there end none =
@@ -265,7 +263,7 @@ module _ (d : Database) (q : Request) (listed : AreListed d) (place : ℕ) (at :
             ];
       }
 
--- The goal, which is the tail-end in the leg after the last hop, has the index of a state of the
+-- The index of the goal, the tail-end in the leg after the last hop, is the index of a state of the
 -- request. A state is a router in a leg.
 pub goal_index : (d : Database) (q : Request) → AreListed d → (to legs : ℕ) → legs ≡ length q.hops + 1 → IsIndexOf d q.to to → IsStateIndex d q ((legs - 1) * 1024 + to)
 goal_index d q listed to legs count end =

@@ -1,4 +1,4 @@
--- How the labels, and the walks that continue nodes, change when one more node is appended. A node
+-- How the labels change, and the walks that continue nodes, when one more node is appended. A node
 -- is the record of a walk, and a label holds the best walk found so far to a state.
 use Rattle.std.proofs.Common.{◌≡◌, ◌≢◌, inl, inr, ℕ, ◌+◌, ◌*◌, ◌^◌, ◌<◌, ◌≤◌, Some, None, List, [], ◌∷◌, ◌++◌, length, set, slice_get, slice_index_or, refl, sym, ap, subst, ◌∙◌, arith}
 use Rattle.std.proofs.lemmas.Bool.{cases_lt}
@@ -31,8 +31,8 @@ module _ (nodes : List Node) (n : Node) (before : AreApart nodes) (apart : AreAp
       slice_get-get_or (nodes ++ (n ∷ [])) i nowhere (omega (arith, length_push nodes n)) ∙ ap Some (get_or_append_left nodes (n ∷ []) nowhere i h)
       ∙ sym (slice_get-get_or nodes i nowhere h)
 
-  -- If a state has an index among the nodes, it has the same index after a node is appended. A
-  -- state is a router in a leg, and a node is the record of a walk.
+  -- If one of the nodes has a state, the index of this node is still found for the state after
+  -- another node is appended. A state is a router in a leg, and a node is the record of a walk.
   pub index_old : (t : State) (i : ℕ) → index_of nodes t ≡ Some i → index_of (nodes ++ (n ∷ [])) t ≡ Some i
   index_old t i e =
       let found = position-Some (λ m. same_state (state_of m) t) nodes i nowhere e in
@@ -129,9 +129,9 @@ module _ (nodes : List Node) (n : Node) (before : AreApart nodes) (apart : AreAp
     below_new : (w : List Link) (t : State) → t ≢ state_of n → CrossesBelow d q nodes links (length nodes) w t → CrossesBelow d q (nodes ++ (n ∷ [])) links (length nodes) w t
     below_new w t ne x = (x.0, x.1, from_new x.0 x.1 w t ne x.2)
 
-    -- If one of the nodes has a state, no walk that continues a node by one step leads to this
-    -- state in the sense of `CrossesBelow`. A state is a router in a leg, and a node is the record
-    -- of a walk.
+    -- If one of the nodes has a state, no walk of `CrossesBelow` leads to this state, because these
+    -- walks lead only to states without a node. A state is a router in a leg, and a node is the
+    -- record of a walk.
     below_settled : (i : ℕ) (w : List Link) (t : State) → index_of (nodes ++ (n ∷ [])) t ≡ Some i → CrossesBelow d q (nodes ++ (n ∷ [])) links (length nodes) w t → ⊥
     below_settled i w t e x = elim x.2 [ inl turn ↦ let left = turn.still_open in cc | inr by ↦ let left = by.2.still_open in cc ]
 
@@ -152,9 +152,9 @@ module _ (nodes : List Node) (n : Node) (before : AreApart nodes) (apart : AreAp
       }
 
   module _ (d : Database) (q : Request) where
-    -- A label gives, for a state, the best walk found so far. After a node is appended, the labels
-    -- of all states other than this node's state are still right by `IsLabel`. A state is a router
-    -- in a leg, and a node is the record of a walk.
+    -- After a node is appended, the labels of all states other than this node's state still meet
+    -- `IsLabel`. A state is a router in a leg, and a node is the record of a walk. A label holds
+    -- the best walk found so far to a state.
     label_old : (cap ahead : ℕ) (t : State) → t ≢ state_of n → (label : Label) → IsLabel d nodes (CrossesBelow d q nodes (links_of d) (length nodes)) cap ahead t label
         → IsLabel d (nodes ++ (n ∷ [])) (CrossesBelow d q (nodes ++ (n ∷ [])) (links_of d) (length nodes)) cap ahead t label
     label_old cap ahead t ne label (is_settled k none e) = is_settled k none (index_old t k e)
@@ -179,11 +179,11 @@ module _ (nodes : List Node) (n : Node) (before : AreApart nodes) (apart : AreAp
         })
     label_old cap ahead t ne label (is_unreached left none first) = is_unreached (open_new t ne left) none (λ w p. first w (below_old d q (links_of d) w t p))
 
-    -- Take the waiting state with the least key, unless it is the goal. If the node of this state
-    -- is appended, and the state gets a label of the rank 0, `AreLabels` holds of the labels of all
-    -- states. A state is a router in a leg, and a node is the record of a walk. A label holds the
-    -- best walk found so far to a state, and a walk's rank is its cost and its number of links as
-    -- one number.
+    -- The waiting state with the least key is settled: its node is appended, and its label gets the
+    -- rank 0. Then the labels of all states still meet `AreLabels`, unless this state is the goal.
+    -- A state is a router in a leg, and a node is the record of a walk. A label holds the best walk
+    -- found so far to a state, and a walk's rank packs its cost and its number of links into one
+    -- number.
     pub labels_settle : AreListed d → (goal : Goal) (labels : List Label) (keys : List HeapKey)
         → AreLabels d q nodes (CrossesBelow d q nodes (links_of d) (length nodes)) goal labels keys → (i : ℕ) (left : List HeapKey) → IsLeast d q goal labels keys i left
         → state_of n ≡ state_at d i → goal.at ≢ i → (label : Label) → label.rank ≡ 0

@@ -54,8 +54,8 @@ tied_rank a b m n o e f h = rw (e, f, tied_itself nat_cmp_total b, tied_itself n
 no_less : (j k : ℕ) → j ≤ k → is_gt (nat_cmp j k) ≡ false
 no_less j k h = grind (arith, nat_tests)
 
--- The rank of a walk is its cost and its number of links as one number. If a walk has a lower rank
--- than another walk, it doesn't come after that walk.
+-- If one walk has a lower rank than another walk, it doesn't come after that walk in the order of
+-- walks. A walk's rank packs its cost and its number of links into one number.
 pub before_by_rank : (v w : List Link) → walk_rank v < walk_rank w → length w < 16384 → IsNoLater v w
 before_by_rank v w less high = less_rank (cost_of v) (cost_of w) (length v) (length w) (locals_cmp v w) less high
 
@@ -82,8 +82,8 @@ module _ (potential : State → ℕ) (s t : State) (v w : List Link) (high : len
       let parts = rank_parts (potential s + cost_of v) (potential t + cost_of w) (length v) (length w) (omega (arith, tie)) low high in
       tied_rank (potential s + cost_of v) (potential t + cost_of w) (length v) (length w) (nat_cmp s.leg t.leg) parts.0 parts.1 (no_less s.leg t.leg legs)
 
--- Lemmas on the ranks of nodes. A node is the record of a walk, and a walk's rank is its cost and
--- its number of links as one number.
+-- Lemmas on the ranks of nodes. A node is the record of a walk, and a walk's rank packs its cost
+-- and its number of links into one number.
 
 module _ (nodes : List Node) (are : AreNodes nodes) (n : Node) (next : IsNext nodes n) where
   pub rank_is : n.rank ≡ walk_rank (walk_of nodes n)
@@ -96,15 +96,15 @@ module _ (nodes : List Node) (are : AreNodes nodes) (n : Node) (next : IsNext no
   rank_small = omega (arith, next.ranked.rank, next.ranked.small, next.ranked.few, are.most)
 
 -- If two nodes have the same rank, their walks have the same number of links. A node is the record
--- of a walk, and a walk's rank is its cost and its number of links as one number.
+-- of a walk, and a walk's rank packs its cost and its number of links into one number.
 pub one_length : (nodes : List Node) → AreNodes nodes → (a b : Node) → IsNext nodes a → IsNext nodes b → a.rank ≡ b.rank → length (walk_of nodes a) ≡ length (walk_of nodes b)
 one_length nodes are a b x y tie =
     (rank_parts (cost_of (walk_of nodes a)) (cost_of (walk_of nodes b)) (length (walk_of nodes a)) (length (walk_of nodes b)) (omega (arith, x.ranked.rank, y.ranked.rank, tie))
     (walk_short nodes are a x) (walk_short nodes are b y)).1
 
--- The rank of a node is less than 2 ^ 60, so the weight of a link can be added to it within 64
--- bits. A node is the record of a walk, and a walk's rank is its cost and its number of links as
--- one number.
+-- The rank of a node is less than 2^60, so it doesn't overflow 64 bits when a link's weight is
+-- added. A node is the record of a walk, and a walk's rank packs its cost and its number of links
+-- into one number.
 pub rank_at : (nodes : List Node) → AreNodes nodes → (at : ℕ) → at < length nodes → (slice_index_or nodes at nowhere).rank < 2 ^ 60
 rank_at nodes are at within =
     let ranked = are.ranked at nowhere within in
@@ -125,9 +125,9 @@ crossing_short d q nodes are links at within w t (inr by) =
 pub beyond_lower : (cap lower ahead : ℕ) (w : List Link) → lower ≤ cap → IsBeyond cap ahead w → IsBeyond lower ahead w
 beyond_lower cap lower ahead w h beyond = record { known = omega (arith, beyond.known); behind = omega (arith, beyond.behind) }
 
--- Lemmas on the lift of a state: how much the state's key in the heap exceeds the rank of its
+-- Lemmas on the lift of a state: how much the state's key in the heap exceeds the rank in its
 -- label. A state is a router in a leg, and a label holds the best walk found so far to a state. A
--- walk's rank is its cost and its number of links as one number.
+-- walk's rank packs its cost and its number of links into one number.
 
 pub lift_small : (goal : Goal) (i : ℕ) → slice_index_or goal.bounds.now i 0 < 2 ^ 32 → lift goal i < 2 ^ 46
 lift_small goal i small = omega (arith, small)
@@ -135,14 +135,14 @@ lift_small goal i small = omega (arith, small)
 -- Lemmas on the indexes of states (routers in legs).
 
 module _ (d : Database) (q : Request) (listed : AreListed d) where
-  -- If two indexes are those of the same state (a router in a leg), the indexes are equal.
+  -- Two indexes of the same state (a router in a leg) are equal.
   pub state_apart : (i j : ℕ) → IsStateIndex d q i → IsStateIndex d q j → state_at d i ≡ state_at d j → i ≡ j
   state_apart i j ix jx e =
       let place = same_index (router_list d) listed.rising (i % 1024) (j % 1024) ix.place jx.place (ap (λ (s : State). s.router) e) in
       let leg = ap (λ (s : State). s.leg) e in
       omega (arith, place, leg)
 
-  -- A router of the database in a leg of the request has an index.
+  -- Each router of the database has an index as a state in each leg of the request.
   pub index_for : (u : State) → IsRouterOf d u.router → 1 ≤ u.leg → u.leg ≤ length q.hops + 1 → (i : ℕ) × IsStateIndex d q i × (u ≡ state_at d i)
   index_for u known low high =
       let at = at_from_Contains (router_list d) u.router ((listed.known u.router).1 known) in
@@ -155,9 +155,9 @@ module _ (d : Database) (q : Request) (listed : AreListed d) where
         (λ k. record { leg = leg k; router = router k }),
       )
 
--- The potential of a state (a router in a leg) is the lower bound of the cost from there to the
--- tail-end, which `goal.bounds` has at the state's index. If the state's router isn't in the list
--- of routers, the potential is 0.
+-- The potential of a state (a router in a leg): the state's bound in `goal.bounds`, which is a
+-- lower bound of the cost from the state to the tail-end. The potential is 0 if the state's router
+-- isn't in the list of routers.
 abbrev pub potential_from : Goal → ℕ → Option ℕ → ℕ
 potential_from goal leg (Some place) = bound_at goal.bounds.now ((leg - 1) * 1024 + place)
 potential_from goal leg None = 0
@@ -166,7 +166,7 @@ abbrev pub potential_of : Database → Goal → State → ℕ
 potential_of d goal s = potential_from goal s.leg (position (λ router. nat_eq router s.router) (router_list d))
 
 module _ (d : Database) (q : Request) (listed : AreListed d) where
-  -- If the router at an index is searched for in the list of routers, this index is found.
+  -- A search for the router at the index `place` in the list of routers finds this index.
   place_found : (place : ℕ) → place < length (router_list d) → position (λ router. nat_eq router (slice_index (router_list d) place)) (router_list d) ≡ Some place
   place_found place within =
       let r = slice_index (router_list d) place in
@@ -183,7 +183,7 @@ module _ (d : Database) (q : Request) (listed : AreListed d) where
       ] refl
 
   module _ (goal : Goal) (bounds : AreBounds d q goal.bounds.now) where
-    -- The potential of a state (a router in a leg) is its bound, which the list of bounds has at
+    -- The potential of a state (a router in a leg) is its bound, the element of `goal.bounds` at
     -- the state's index.
     pub potential_at : (i : ℕ) → IsStateIndex d q i → potential_of d goal (state_at d i) ≡ bound_at goal.bounds.now i
     potential_at i here =

@@ -34,8 +34,8 @@ use Rattle.cspf_search.proofs.Pushed.{index_new, open_old, open_new, labels_sett
 use Rattle.cspf_search.proofs.Settles.{no_route}
 use Rattle.cspf_search.proofs.Popped.{open_rank, shut_start, first_popped, popped, nothing_left, root_only, goal_index, goal_state}
 
--- The query of a search: a database, a request, the indexes of the head-end and the tail-end in the
--- list of routers, and the goal.
+-- What a search is given: a database, a request, the indexes of the head-end and the tail-end in
+-- the list of routers, and the goal.
 pub record IsAsked (d : Database) (q : Request) (legs from to : ℕ) (goal : Goal) : Type 0 where
   pub links : AreLinksOf d (links_of d)
   pub listed : AreListed d
@@ -47,9 +47,9 @@ pub record IsAsked (d : Database) (q : Request) (legs from to : ℕ) (goal : Goa
   pub at : goal.at ≡ (legs - 1) * 1024 + to
   pub bounds : AreBounds d q goal.bounds.now
 
--- The search is under way. The walks of its nodes are settled, but none of them leads to the
--- tail-end in the last leg. The labels of the states (the best walks found so far to them), and the
--- keys of those that wait, are right by `AreLabels`.
+-- The search goes on. The walks of its nodes are settled, but the tail-end isn't settled in the
+-- last leg yet. The labels and the keys meet `AreLabels`. A node is the record of a walk, and a
+-- label holds the best walk found so far to a state (a router in a leg).
 pub record IsUnderWay (d : Database) (q : Request) (goal : Goal) (nodes : List Node) (labels : List Label) (keys : List HeapKey) : Type 0 where
   pub arena : AreNodes nodes
   pub settled : AreSettled d q (labels_of nodes)
@@ -57,9 +57,10 @@ pub record IsUnderWay (d : Database) (q : Request) (goal : Goal) (nodes : List N
   pub floor : IsFloor d q (labels_of nodes) goal
   pub labelled : AreLabels d q nodes (CrossesBelow d q nodes (links_of d) (length nodes)) goal labels keys
 
--- The least key was taken from the heap. `i` is the index of its state, `rest` has the keys that
--- are left, and `node` is the node that the state's label describes. A state is a router in a leg,
--- and a node is the record of a walk. A label holds the best walk found so far to a state.
+-- The least key is popped from the heap. `i` is the index of its state, `rest` has the keys that
+-- are left, and `node` is the node for the walk that the state's label holds. A state is a router
+-- in a leg, and a node is the record of a walk. A label holds the best walk found so far to a
+-- state.
 pub record IsTaken (d : Database) (q : Request) (legs from to : ℕ) (goal : Goal) (nodes : List Node) (labels : List Label) (keys : List HeapKey) (i : ℕ) (rest : List HeapKey) (node : Node) : Type 0 where
   pub asked : IsAsked d q legs from to goal
   pub before : IsUnderWay d q goal nodes labels keys
@@ -94,29 +95,30 @@ module _ (d : Database) (q : Request) (legs from to : ℕ) (goal : Goal) (asked 
       let same : to ≡ from = omega (arith, asked.at, asked.start.within, asked.listed.few) in
       q.two_ends (sym asked.start.is ∙ ap (slice_index (router_list d)) (sym same) ∙ asked.end.is)
 
-  -- At the start of a search the tail-end isn't settled in the last leg.
+  -- At the start of a search, the tail-end isn't settled in the last leg.
   pub first_left : index_of (root_of q ∷ []) (state_at d goal.at) ≡ None
   first_left = root_only d q asked.listed from asked.start goal.at goal_there goal_apart
 
-  -- At the start of a search the floor is 0 and no leg is closed. The floor is the first index
-  -- after the states of the closed legs.
+  -- At the start of a search, no leg is closed, and the floor is 0. The floor is the first index
+  -- after the states (routers in legs) of the closed legs.
   pub first_floor : goal.floor ≡ 0 → (labels : Labels) → IsFloor d q labels goal
   first_floor none labels = record { low = omega (arith, none); shut = λ low. absurd (omega (arith, low, none)) }
 
-  -- If the bounds rule out every way from the head-end, there is no route.
+  -- If the bound of the head-end in the first leg is `NO_WAY`, there is no route.
   pub no_start : bound_at goal.bounds.now from ≡ NO_WAY → (w : List Link) → IsRoute d q w → ⊥
   no_start = shut_start d q asked.listed from asked.start goal asked.bounds goal_there goal_end
 
   module _ (nodes : List Node) (labels : List Label) (keys : List HeapKey) (before : IsUnderWay d q goal nodes labels keys) where
-    -- A key is live if the present label of its state gives it, and the state isn't in a closed
-    -- leg. If the heap has no live key, and the tail-end isn't settled in the last leg, there is no
-    -- route. A state is a router in a leg, and a label holds the best walk found so far to a state.
+    -- If the heap has no live key, and the tail-end isn't settled in the last leg, there is no
+    -- route. A key is live if the present label of its state gives this key, and the state isn't in
+    -- a closed leg. A state is a router in a leg, and a label holds the best walk found so far to a
+    -- state.
     pub ended : ((key : HeapKey) → Contains keys key → IsLive goal labels key → ⊥) → labels_of nodes (end_state q) ≡ None → (w : List Link) → IsRoute d q w → ⊥
     ended none =
         no_route d q (labels_of nodes) before.settled (nothing_left d q asked.links asked.listed known nodes before.arena before.settled goal goal_there labels keys before.labelled before.left asked.bounds goal_end before.floor none)
 
-    -- If a label has the least key, the label's parent is one of the nodes. A node is the record of
-    -- a walk, and a label holds the best walk found so far to a state.
+    -- If the key of a state is the least key, the parent in the state's label is one of the nodes.
+    -- A node is the record of a walk, and a label holds the best walk found so far to a state.
     pub parent_there : (i : ℕ) (rest : List HeapKey) → IsLeast d q goal labels keys i rest → (label : Label) → label ≡ slice_index_or labels i label → label.parent < length nodes
     parent_there i rest least label at =
         let reached =
@@ -132,7 +134,7 @@ module _ (d : Database) (q : Request) (legs from to : ℕ) (goal : Goal) (asked 
       state : state_of node ≡ state_at d i
       state = ap state_of is ∙ reached.state
 
-      -- After the node (the record of a walk) of the least key is appended, the nodes still form a
+      -- After the node (the record of a walk) for the least key is appended, the nodes still form a
       -- tree of settled walks. There are at most 1,024 nodes for each leg of the request.
       pub stepped : AreNodes (nodes ++ (node ∷ [])) × AreSettled d q (labels_of (nodes ++ (node ∷ []))) × (length nodes + 1 ≤ (length q.hops + 1) * 1024)
       stepped =
@@ -150,8 +152,8 @@ module _ (d : Database) (q : Request) (legs from to : ℕ) (goal : Goal) (asked 
         there = ap state_of (get_or_push nodes node nowhere (length nodes) refl) ∙ state;
       }
 
-      -- The goal is the tail-end in the last leg. If the least key is that of the goal, the goal is
-      -- settled after the node (the record of a walk) of this key is appended.
+      -- If the least key is that of the goal, the goal is settled after the node (the record of a
+      -- walk) for this key is appended. The goal is the tail-end in the last leg.
       pub at_goal : i ≡ goal.at → labels_of (nodes ++ (node ∷ [])) (end_state q) ≡ None → ⊥
       at_goal e none =
           let same : state_of node ≡ end_state q = state ∙ ap (state_at d) e ∙ goal_end in
@@ -159,8 +161,8 @@ module _ (d : Database) (q : Request) (legs from to : ℕ) (goal : Goal) (asked 
           let open_there = open_index (nodes ++ (node ∷ [])) (end_state q) none in
           cc
 
-      -- If the least key isn't that of the goal, `AreLabels` still holds of the labels after the
-      -- key's node is appended to the settled nodes. A node is the record of a walk, and a label
+      -- If the least key isn't that of the goal, the labels still meet `AreLabels` after the node
+      -- for this key is appended to the settled nodes. A node is the record of a walk, and a label
       -- holds the best walk found so far to a state.
       pub settle : (i ≡ goal.at → ⊥) → (label : Label) → label.rank ≡ 0
           → AreLabels d q (nodes ++ (node ∷ [])) (CrossesBelow d q (nodes ++ (node ∷ [])) (links_of d) (length nodes)) goal (set labels i label) rest
@@ -172,9 +174,9 @@ module _ (d : Database) (q : Request) (legs from to : ℕ) (goal : Goal) (asked 
           open_new nodes node before.arena.apart stepped.0.apart (state_at d goal.at)
           (λ e. off (sym (state_apart d q asked.listed goal.at i goal_there least.index (e ∙ state)))) before.left
 
-      -- A leg is closed once all its targets at which a route may go on to the next leg are
-      -- settled. A closed leg stays closed after one more node is appended to the settled nodes. A
-      -- node is the record of a walk, and a leg's targets are the routers where it may end.
+      -- A closed leg stays closed after one more node is appended to the settled nodes. A leg is
+      -- closed once all its targets at which a route may go on to the next leg are settled. A node
+      -- is the record of a walk, and a leg's targets are the routers where it may end.
       closed_still : (leg : ℕ) → IsClosed d q (labels_of nodes) leg → IsClosed d q (labels_of (nodes ++ (node ∷ []))) leg
       closed_still leg shut low router target none =
           let s : State = record { leg = leg; router = router } in
@@ -191,9 +193,9 @@ module _ (d : Database) (q : Request) (legs from to : ℕ) (goal : Goal) (asked 
             ] target
 
         module _ (P : List Link → State → Type 0) (after : List Label) (left : List HeapKey) (are : AreLabels d q (nodes ++ (node ∷ [])) P goal after left) where
-          -- The floor is the first index after the states (routers in legs) of the closed legs. If
-          -- it rises in the last leg, the state that is settled is the goal, because the tail-end
-          -- is the only target of that leg.
+          -- If a state in the last leg is settled and the floor rises, this state is the goal,
+          -- because the tail-end is the only target of the last leg. The floor is the first index
+          -- after the states (routers in legs) of the closed legs.
           last_alone : IsRaised d roles after i floor → i / 1024 ≡ goal.at / 1024 → i ≡ goal.at
           last_alone raised same =
               let leg : i / 1024 + 1 ≡ suc (length q.hops) = omega (arith, same, ap (λ (t : State). t.leg) goal_end) in
@@ -203,10 +205,10 @@ module _ (d : Database) (q : Request) (legs from to : ℕ) (goal : Goal) (asked 
               let place = one_place d asked.listed q.to (i % 1024) to here asked.end in
               omega (arith, same, place, asked.at, asked.end.within, asked.listed.few)
 
-          -- The floor is the first index after the states of the closed legs. If it rises to the
-          -- next leg, the leg before it is closed. The reason is that all of its targets at which a
-          -- route may go on to the next leg are settled. A state is a router in a leg, and a leg's
-          -- targets are the routers where it may end.
+          -- If the floor rises to the next leg, the leg below it is closed: all targets of this leg
+          -- at which a route may go on to the next leg are settled. The floor is the first index
+          -- after the states of the closed legs. A state is a router in a leg, and a leg's targets
+          -- are the routers where it may end.
           closes : IsRaised d roles after i floor → IsClosed d q (labels_of (nodes ++ (node ∷ []))) (floor / 1024)
           closes raised low router target none =
               let s : State = record { leg = floor / 1024; router = router } in
@@ -220,9 +222,9 @@ module _ (d : Database) (q : Request) (legs from to : ℕ) (goal : Goal) (asked 
               let some = open_rank d (nodes ++ (node ∷ [])) P (label_at after goal.at).rank (lift goal at.0) (state_at d at.0) (label_at after at.0) (are.each at.0 at.1 behind) open_there in
               omega (arith, some, zero)
 
-          -- The floor is the first index after the states (routers in legs) of the closed legs. If
-          -- the state that is settled isn't the goal, the goal isn't below the new floor. The leg
-          -- just below the floor, if there is one, is closed.
+          -- If the state that is settled isn't the goal, the new floor meets `IsFloor`: the goal
+          -- isn't below it, and the last leg below it, if there is one, is closed. The floor is the
+          -- first index after the states (routers in legs) of the closed legs.
           pub floor_on : (i ≡ goal.at → ⊥) → (floor ≡ goal.floor) ⊎ IsRaised d roles after i floor
               → IsFloor d q (labels_of (nodes ++ (node ∷ []))) (record { at = goal.at; floor = floor; bounds = goal.bounds })
           floor_on off (inl same) = record {
@@ -238,9 +240,9 @@ module _ (d : Database) (q : Request) (legs from to : ℕ) (goal : Goal) (asked 
             shut = closes raised;
           }
 
-          -- The floor, the first index after the states of the closed legs, may rise when a leg is
-          -- closed. The labels of the states from the new floor on are still right in the sense of
-          -- `AreLabels`. A state is a router in a leg, and a label holds the best walk found so far
+          -- The floor may rise when a leg is closed. The labels of the states from the new floor on
+          -- then still meet `AreLabels`. The floor is the first index after the states of the
+          -- closed legs. A state is a router in a leg, and a label holds the best walk found so far
           -- to a state.
           pub labels_on : (floor ≡ goal.floor) ⊎ IsRaised d roles after i floor
               → AreLabels d q (nodes ++ (node ∷ [])) P (record { at = goal.at; floor = floor; bounds = goal.bounds }) after left

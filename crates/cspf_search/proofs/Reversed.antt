@@ -12,14 +12,14 @@ use Rattle.cspf_search.proofs.Expanded.{kept_from}
 use Rattle.cspf_graph.proofs.RouterIndexes.{same_or_not, one_place}
 use Rattle.cspf_search.proofs.Taken.{end_of_row}
 
--- There are as many indexes in `ends` as links from the router.
+-- The list `ends` has one element for each link from the router.
 pub as_many : (d : Database) (place : ℕ) (ends : List ℕ) → map (λ end. slice_index (router_list d) end) ends ≡ map (λ (l : Link). l.to) (links_from_index d place)
     → length ends ≡ length (links_from_index d place)
 as_many d place ends each =
     sym (length-map ends (λ end. slice_index (router_list d) end)) ∙ ap (λ (ns : List ℕ). length ns) each ∙ length-map (links_from_index d place) (λ (l : Link). l.to)
 
--- At the index that a link has among the links from the router, the list `reverses` has the index
--- of this link's reverse.
+-- If a link has the index `nth` among the links from the router, the element of `reverses` at `nth`
+-- is the index of the link's reverse.
 pub reverse_of_row : (d : Database) (place : ℕ) (reverses : List ℕ)
     → ((nth : ℕ) (e : Link) → nth < length (links_from_index d place) → IsReverseAt d (slice_index_or (links_from_index d place) nth e) (slice_index_or reverses nth 0))
     → (nth : ℕ) (l : Link) → slice_get (links_from_index d place) nth ≡ Some l → IsReverseAt d l (slice_index reverses nth)
@@ -28,22 +28,24 @@ reverse_of_row d place reverses beside nth l here =
     let within = slice_get_within (links_from_index d place) nth l here in
     subst (λ k. IsReverseAt d k (slice_index reverses nth)) is (beside nth l within)
 
--- If one link is the reverse of another, the other is the reverse of it.
+-- If the link `r` is the reverse of the link `l`, `l` is the reverse of `r`.
 reversed : (l r : Link) → IsReverse l r → IsReverse r l
 reversed l r is = record { from = sym is.to; local = sym is.remote; to = sym is.from; remote = sym is.local }
 
--- Two links that are the reverse of the same link have the same key, so they are equal.
+-- A link has at most one reverse in the database, because the links of a database differ in their
+-- keys.
 one_reverse : (d : Database) (r l m : Link) → IsReverse r l → IsReverse r m → IsLinkOf d l → IsLinkOf d m → m ≡ l
 one_reverse d r l m first second of_l of_m =
     let key : key_of m ≡ key_of l = λ i. ((second.from ∙ sym first.from) i, (second.local ∙ sym first.local) i) in
     same_Some m l (sym of_m ∙ ap (link_at d) key ∙ of_l)
 
 module _ (d : Database) (links : AreLinksOf d (links_of d)) where
-  -- If the index that the table has for a link's reverse isn't `NO_LINK`, the link has a reverse.
+  -- A link has a reverse if the index that the table has for this reverse isn't `NO_LINK`.
   pub has_reverse : (l : Link) (n : ℕ) → IsReverseAt d l n → n ≢ NO_LINK → HasReverse d l
   has_reverse l n is some = (slice_index_or (links_of d) n l, links.each n l (is.within some), is.found some)
 
-  -- The link at the index of the reverse of a link's reverse is the link itself.
+  -- The reverse of a link's reverse is the link itself: this link is found at the index that the
+  -- table has for that reverse.
   back_again : (l r : Link) → IsLinkOf d l → IsReverse l r → (n : ℕ) → IsReverseAt d r n → slice_get (links_of d) n ≡ Some l
   back_again l r of back n is =
       elim (same_or_not n NO_LINK) [
@@ -56,9 +58,9 @@ module _ (d : Database) (links : AreLinksOf d (links_of d)) where
   module _ (listed : AreListed d) (to : ℕ) (ends reverses : List ℕ) (within : All (λ end. end < length (router_list d)) ends)
       (each : map (λ end. slice_index (router_list d) end) ends ≡ map (λ (l : Link). l.to) (links_from_index d to))
       (beside : (nth : ℕ) (e : Link) → nth < length (links_from_index d to) → IsReverseAt d (slice_index_or (links_from_index d to) nth e) (slice_index_or reverses nth 0)) where
-    -- If a link has a reverse, this reverse is one of the links from the router where the link
-    -- ends. At the index that the reverse has among these links, `ends` has the index of the router
-    -- where the link begins. At the same index, `reverses` has the index of the link.
+    -- If a link to the router `to` has a reverse, this reverse is one of the links from `to`. At
+    -- the index of the reverse among these links, `ends` has the index of the router where the link
+    -- begins, and `reverses` has the index of the link.
     pub found_back : (l : Link) → IsLinkOf d l → HasReverse d l → (u : ℕ) → IsIndexOf d l.from u → IsIndexOf d l.to to
         → (nth : ℕ) × (nth < length (links_from_index d to)) × (slice_index ends nth ≡ u) × (slice_get (links_of d) (slice_index reverses nth) ≡ Some l)
     found_back l of has u from end =

@@ -1,4 +1,4 @@
--- The links from a router are in order of their local addresses.
+-- The links from a router are sorted by their local addresses.
 use Rattle.std.proofs.Common.{◌≡◌, ℕ, ◌<◌, true, false, cond, T, Option, Some, None, List, [], ◌∷◌, map, nat_eq, slice_get, slice_index, slice_index_or, refl, sym, ap, subst, ◌∙◌, arith}
 use Rattle.std.specs.Ordering.{nat_cmp, ordering_then, eq_by_cmp, is_eq}
 use Rattle.std.specs.declared.cmp.Ordering.TheVariants.{Less}
@@ -15,14 +15,14 @@ use Rattle.cspf_columns.proofs.SortedEntries.{both_first, both_second, less_from
 use Rattle.cspf_columns.proofs.RowOrder.{by_key-entries, by_key-filter}
 use Rattle.cspf_search.proofs.Expanded.{runs_from}
 
--- If a key is below all keys of a list, it isn't found in the list.
+-- A key that is less than all keys of a list isn't found in the list.
 missing : (k : Key) (es : List (Key × Link)) → T (below_all key_cmp k es) → find key_cmp k es ≡ None
 missing k [] h = refl
 missing k (e ∷ es) h =
     ap (λ r. cond (is_eq r) (Some e.1) (find key_cmp k es)) (less_from _ (both_first _ _ h)) ∙ missing k es (both_second _ _ h)
 
--- If a key is found after the first entry of a sorted list, it is also found in the whole list: the
--- key of the first entry is lower.
+-- A key that is found among the later entries of a sorted list is also found in the whole list,
+-- because the key of the first entry is less.
 found_behind : (k : Key) (l : Link) (e : Key × Link) (es : List (Key × Link)) → T (below_all key_cmp e.0 es) → find key_cmp k es ≡ Some l → find key_cmp k (e ∷ es) ≡ Some l
 found_behind k l e es below found =
     elim (eq_by_cmp key_cmp k e.0) as (λ b. eq_by_cmp key_cmp k e.0 ≡ b → cond b (Some e.1) (find key_cmp k es) ≡ Some l) [
@@ -32,8 +32,8 @@ found_behind k l e es below found =
       | false ↦ λ _. found
     ] refl
 
--- Take a sorted list of entries, each of a key and a link. If each entry has the key of its link,
--- the list is made of its links, each with its own key.
+-- A sorted list of keys and links is made from its links alone, if the key of each entry is the key
+-- of its link.
 entries_keyed : (es : List (Key × Link)) → T (is_sorted key_cmp es) → ((k : Key) (l : Link) → find key_cmp k es ≡ Some l → key_of l ≡ k) → es ≡ map entry_of (map (λ e. e.1) es)
 entries_keyed [] sorted keyed = refl
 entries_keyed (e ∷ es) sorted keyed =
@@ -42,7 +42,7 @@ entries_keyed (e ∷ es) sorted keyed =
     entries_keyed es (both_second _ _ sorted) (λ k l found. keyed k l (found_behind k l e es (both_first _ _ sorted) found)) in
     λ i. (sym head i, e.1) ∷ rest i
 
--- The links of a database are in order of their keys.
+-- The links of a database are sorted by their keys.
 links_by_key : (d : Database) → AreAtTheirKeys d → AreByKey (links_of d)
 links_by_key d keyed =
     by_key-entries d.links (links_of d) (entries_keyed (entries d.links) (entries_sorted d.links) (λ k l found. keyed k l (get-entries d.links k ∙ found)))

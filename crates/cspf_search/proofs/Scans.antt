@@ -1,6 +1,6 @@
 -- Lemmas on the walks that continue a node by the step to the next leg or by one of the first links
--- of a list. They say which walks come to these with the next link of the list. A node is the
--- record of a walk.
+-- of a list. They say which walks are added by the next link of the list. A node is the record of a
+-- walk.
 use Rattle.std.proofs.Common.{◌≡◌, ◌⊎◌, inl, inr, ℕ, ◌+◌, ◌<◌, List, [], ◌∷◌, ◌++◌, length, take, slice_index_or, sym, ap, subst, ◌∙◌}
 use Rattle.std.specs.List.{Contains}
 use Rattle.std.proofs.lemmas.List.{take_more}

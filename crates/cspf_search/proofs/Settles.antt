@@ -1,5 +1,4 @@
--- Each walk that is settled in the order of the search is the least one to its state (a router in a
--- leg).
+-- Each walk that the search settles is the least walk to its state (a router in a leg).
 use Rattle.std.proofs.Common.{◌≡◌, ◌⊎◌, inl, inr, ℕ, ◌<◌, true, false, Some, None, List, [], ◌∷◌, ◌++◌, length, refl, sym, ap, subst, ◌∙◌, arith}
 use Rattle.std.specs.Ordering.{nat_cmp, is_gt, ordering_reverse, ordering_then}
 use Rattle.std.specs.declared.cmp.Ordering.{Ordering}
@@ -21,8 +20,8 @@ use Rattle.cspf_search.specs.Settled.{Labels, IsNoLater, potential_cmp, RanksNoL
 use Rattle.cspf_search.proofs.Orders.{walks_total, potentials_total, walk_cmp-push, potential_cmp-push, potential_cmp-turn, walk_from_less, rank_from_walk}
 use Rattle.cspf_search.proofs.Cuts.{reached_walk, reached_leg, route_reaches, reaches_route}
 
--- All settled walks of `old` are settled in `new` too, and the walk `w` of the state `t` (a router
--- in a leg) is settled in addition.
+-- All walks that are settled in `old` are settled in `new` too. The only other settled walk of
+-- `new` is the walk `w` of the state `t` (a router in a leg).
 pub record Adds (old : Labels) (t : State) (w : List Link) (new : Labels) : Type 0 where
   pub keeps : (s : State) (x : List Link) → old s ≡ Some x → new s ≡ Some x
   pub adds : (s : State) (x : List Link) → new s ≡ Some x → (old s ≡ Some x) ⊎ ((s ≡ t) × (x ≡ w))
@@ -30,8 +29,8 @@ pub record Adds (old : Labels) (t : State) (w : List Link) (new : Labels) : Type
 no_later_trans : (u v w : List Link) → IsNoLater u v → IsNoLater v w → IsNoLater u w
 no_later_trans u v w = upto walks_total u v w
 
--- Take the order of walks by cost plus potential. If `a` doesn't come after `b`, and `b` comes
--- before `c`, then `a` comes before `c`.
+-- In the order of walks by cost plus potential: if `a` doesn't come after `b`, and `b` precedes
+-- `c`, then `a` precedes `c`.
 before_less : (potential : State → ℕ) (a b c : State × List Link) → is_gt (potential_cmp potential a b) ≡ false → potential_cmp potential b c ≡ Less
     → potential_cmp potential a c ≡ Less
 before_less potential a b c h less =
@@ -41,33 +40,33 @@ before_less potential a b c h less =
       | Greater ↦ λ e g. cc
     ] refl h
 
--- A walk with links isn't before the walk without links.
+-- A walk with links comes after the walk without links.
 some_after : (cost count : ℕ) (o : Ordering) → 0 < count → is_gt (ordering_then (nat_cmp cost 0) (ordering_then (nat_cmp count 0) o)) ≡ true
 some_after cost count o some = grind (arith, nat_tests)
 
--- A walk that isn't later than a walk without links has no links.
+-- A walk that doesn't come after the walk without links has no links.
 none_no_later : (w : List Link) → IsNoLater w [] → length w ≡ 0
 none_no_later [] h = refl
 none_no_later (l ∷ w) h = absurd (let after = some_after (cost_of (l ∷ w)) (length (l ∷ w)) (locals_cmp (l ∷ w) []) (omega arith) in cc)
 
--- If a walk may leave a router, each walk that doesn't come after this walk may leave the router
--- too.
+-- If a walk may leave a router, so may each walk to this router that doesn't come after it in the
+-- order of walks.
 leaves_no_later : (d : Database) (router : ℕ) (v w : List Link) → MayLeave d router (length v) → IsNoLater w v → MayLeave d router (length w)
 leaves_no_later d router v w (inl transit) h = inl transit
 leaves_no_later d router [] w (inr none) h = inr (none_no_later w h)
 leaves_no_later d router (l ∷ v) w (inr none) h = absurd (omega (arith, none))
 
 module _ (d : Database) (q : Request) where
-  -- If a link is admissible, and a walk that has reached the link's router may leave it, `LeadsOn`
-  -- holds of the link.
+  -- If a walk has reached the router where an admissible link begins, and may leave this router,
+  -- the link meets `LeadsOn`.
   leads_on : (v : List Link) (l : Link) (k : ℕ) → IsAdmissible d q l → MayLeave d l.from (length v) → Reaches d q v (record { leg = k; router = l.from })
       → LeadsOn d q l
   leads_on v l k a (inl transit) r = record { admissible = a; left = inl transit }
   leads_on [] l k a (inr none) r = record { admissible = a; left = inr (sym (reached_walk d q [] (record { leg = k; router = l.from }) r).1) }
   leads_on (m ∷ v) l k a (inr none) r = absurd (omega (arith, none))
 
-  -- If the potential is consistent, a step by a link or to the next leg continues a walk to one
-  -- that ranks after it.
+  -- If the potential is consistent, each step of a walk, by a link or to the next leg, gives a walk
+  -- that comes after the first walk by cost plus potential.
   step_grows : (potential : State → ℕ) → IsConsistent d q potential → (v x : List Link) (s t : State) → Reaches d q v s → IsStep d q v s x t
       → potential_cmp potential (s, v) (t, x) ≡ Less
   step_grows potential up v x s t r (by_link {leg = k} l a enters leaves) =
@@ -76,9 +75,9 @@ module _ (d : Database) (q : Request) where
   step_grows potential up v x s t r (by_turn {leg = k} {router = router} within target) =
       let leg = reached_leg d q v (record { leg = k; router = router }) r in potential_cmp-turn potential k router v (up.turns k router leg.0 within target)
 
-  -- The potential of a state (a router in a leg) stands for a lower bound of the cost from there to
-  -- the tail-end. If a walk reaches a state whose potential isn't `NO_WAY`, the potential of the
-  -- start isn't `NO_WAY` either.
+  -- If a walk reaches a state (a router in a leg) whose potential is below `NO_WAY`, the potential
+  -- of the head-end in the first leg is also below `NO_WAY`. The potential of a state stands for a
+  -- lower bound of the cost from the state to the tail-end.
   way_back : (potential : State → ℕ) → IsConsistent d q potential → (w : List Link) (s : State) → Reaches d q w s → potential s < NO_WAY
       → potential (start_of q) < NO_WAY
   way_back potential up w s starts way = way
@@ -89,13 +88,13 @@ module _ (d : Database) (q : Request) where
       let leg = reached_leg d q v (record { leg = k; router = router }) r in
       way_back potential up v (record { leg = k; router = router }) r (omega (arith, up.turns k router leg.0 within target, way))
 
-  -- If the potential of the start is `NO_WAY`, no walk is a route.
+  -- If the potential of the head-end in the first leg is `NO_WAY`, there is no route.
   pub no_way : (potential : State → ℕ) → IsConsistent d q potential → potential (end_state q) ≡ 0 → potential (start_of q) ≡ NO_WAY → (w : List Link) → IsRoute d q w → ⊥
   no_way potential up end start w route =
       omega (arith, way_back potential up w (end_state q) (route_reaches d q w route) (omega (arith, end)), start)
 
-  -- If a step leads from an unsettled state to one in a leg after the closed legs, the unsettled
-  -- state is in such a leg too. A state is a router in a leg.
+  -- If a step leads from an unsettled state into a leg after the closed legs, the unsettled state
+  -- is itself in a leg after the closed legs. A state is a router in a leg.
   step_behind : (labels : Labels) (closed : ℕ) → IsClosed d q labels closed → (v x : List Link) (s t : State) → Reaches d q v s → IsStep d q v s x t
       → labels s ≡ None → closed < t.leg → closed < s.leg
   step_behind labels closed shut v x s t r (by_link {leg = k} l a enters leaves) left h = h
@@ -109,26 +108,25 @@ module _ (d : Database) (q : Request) where
             (subst (λ j. labels (record { leg = j; router = router }) ≡ None) (sym same) left))
       ]
 
-  -- Suppose that the walk `w` doesn't come after `v`, and that a step continues `v` to `x`. The
-  -- same step continues `w` to a walk that doesn't come after `x`.
+  -- If a step continues the walk `v` to `x`, and the walk `w` to the same state doesn't come after
+  -- `v`, the same step continues `w` to a walk that doesn't come after `x`.
   step_no_later : (v x : List Link) (s t : State) → IsStep d q v s x t → (w : List Link) → IsNoLater w v
       → (y : List Link) × IsStep d q w s y t × IsNoLater y x
   step_no_later v x s t (by_link {leg = k} l a enters leaves) w h = (w ++ (l ∷ []), by_link l a enters (leaves_no_later d l.from v w leaves h), rw (walk_cmp-push w v l) h)
   step_no_later v x s t (by_turn within target) w h = (w, by_turn within target, h)
 
   module _ (labels : Labels) (settled : AreSettled d q labels) where
-    -- Take a walk `v` to a settled state (a router in a leg), and a step that continues `v` to a
-    -- walk `x`, whose state isn't settled. The same step continues the settled walk of the first
-    -- state. It gives a walk that doesn't come after `x`.
+    -- Let a step continue a walk `v` to a settled state (a router in a leg) by one step, to a walk
+    -- `x` to an unsettled state. The same step continues the settled walk of the first state, and
+    -- gives a walk that doesn't come after `x`.
     crossing_from : (v x : List Link) (s u : State) → Reaches d q v s → IsStep d q v s x u → (f : List Link) → labels s ≡ Some f → labels u ≡ None
         → (y : List Link) × Crosses d q labels y u × IsNoLater y x
     crossing_from v x s u r st f here left =
         let same = step_no_later v x s u st f (settled.least s f v here r) in
         (same.0, record { state = s; front = f; settled = here; step = same.1; still_open = left }, same.2)
 
-    -- Suppose that no settled walk can be continued by one step to an unsettled state in a leg
-    -- after the closed legs. Then each state that a walk reaches in a leg after the closed legs is
-    -- settled.
+    -- If no step continues a settled walk to an unsettled state in a leg after the closed legs, no
+    -- walk at all reaches an unsettled state in such a leg. A state is a router in a leg.
     all_settled : (closed : ℕ) → IsClosed d q labels closed → ((y : List Link) (u : State) → Crosses d q labels y u → closed < u.leg → ⊥)
         → (x : List Link) (u : State) → Reaches d q x u → labels u ≡ None → closed < u.leg → ⊥
     all_settled closed shut stuck x u starts left behind = cc (settled.start)
@@ -138,8 +136,9 @@ module _ (d : Database) (q : Request) where
           | None ↦ λ open_there. all_settled closed shut stuck v s r open_there (step_behind labels closed shut v x s u r st open_there behind)
         ] refl
 
-    -- Take the next walk to settle, by `IsFirstCrossing`. No walk to an unsettled state in a leg
-    -- after the closed legs ranks before it. No walk to its own state comes before it.
+    -- Let `w` be the next walk to settle, by `IsFirstCrossing`. No walk to an unsettled state in a
+    -- leg after the closed legs precedes `w` by cost plus potential. No such walk to the state of
+    -- `w` precedes `w` in the order of walks. A state is a router in a leg.
     pub no_earlier : (w : List Link) (t : State) (first : IsFirstCrossing d q labels w t) (x : List Link) (u : State) → Reaches d q x u → labels u ≡ None
         → first.closed < u.leg → RanksNoLater first.potential t w u x × (u ≡ t → IsNoLater w x)
     no_earlier w t first x u starts left behind = cc (settled.start)
@@ -156,8 +155,8 @@ module _ (d : Database) (q : Request) where
               (rw less refl, λ same. walk_from_less first.potential t w x (rw same at less))
         ] refl
 
-    -- If the next walk to settle is settled, all settled walks are still the least walks to their
-    -- states (routers in legs).
+    -- After the next walk is settled, each settled walk is still the least walk to its state (a
+    -- router in a leg).
     pub settled_push : (w : List Link) (t : State) → IsFirstCrossing d q labels w t → (after : Labels) → Adds labels t w after → AreSettled d q after
     settled_push w t first after more = record {
       start = more.keeps _ _ settled.start;
@@ -186,9 +185,8 @@ module _ (d : Database) (q : Request) where
           cc (ap ordering_reverse less);
     }
 
-    -- Suppose that no walk continues a settled walk by one step to an unsettled state (a router in
-    -- a leg) after the closed legs. If the tail-end isn't settled in the last leg, there is no
-    -- route.
+    -- If the search can't go on, by `IsStuck`, and the tail-end isn't settled in the last leg,
+    -- there is no route.
     pub no_route : IsStuck d q labels → labels (end_state q) ≡ None → (w : List Link) → IsRoute d q w → ⊥
     no_route stuck left w route =
         all_settled stuck.closed stuck.is_closed stuck.none w (end_state q) (route_reaches d q w route) left (omega (arith, stuck.low))

@@ -1,7 +1,7 @@
--- The search continues from a settled node by one step: by a link, or to the next leg at the same
--- router. If a label was offered for this step, or the step was skipped, the labels are right for
--- this step too. A node is the record of a walk, and a label holds the best walk found so far to a
--- state.
+-- The search continues a settled node by one step: by a link, or to the next leg at the same
+-- router. After a label is offered for this step, or the step is skipped, the labels meet
+-- `AreLabels` for this step too. A node is the record of a walk, and a label holds the best walk
+-- found so far to a state.
 use Rattle.std.proofs.Common.{◌≡◌, ◌⊎◌, inl, inr, ℕ, ◌+◌, ◌-◌, ◌*◌, ◌/◌, ◌%◌, ◌^◌, ◌<◌, ◌≤◌, ◌↔◌, IsTrue, nat_eq, Option, Some, None, List, [], ◌∷◌, ◌++◌, length, map, slice_get, slice_index, slice_index_or, refl, sym, ap, subst, ◌∙◌, arith}
 use Rattle.std.specs.List.{All}
 use Rattle.std.proofs.lemmas.List.{get_or-map, length-map}
@@ -29,8 +29,8 @@ use Rattle.cspf_search.proofs.Backs.{turned_next, by_next}
 use Rattle.cspf_search.proofs.Offered.{labels_stay, labels_offered, labels_same, lost_by_rank, tied_label, left_open, IsLost}
 use Rattle.cspf_search.proofs.Expanded.{filter_short, there, leg, turn_index, turn_state, turn_only, turn_passes, turn_within, turn_left, turn_right, turn_cases, link_index, link_state, link_only, link_passes, link_within, link_left, link_right, link_cases}
 
--- At the index that a link has in the list `links`, the list `ends` has the index of the router
--- where this link ends.
+-- If a link has the index `i` in the list `links`, the element of `ends` at `i` is the index of the
+-- router where this link ends.
 pub end_of_row : (d : Database) (ends : List ℕ) (links : List Link) → All (λ end. end < length (router_list d)) ends
     → map (λ end. slice_index (router_list d) end) ends ≡ map (λ (l : Link). l.to) links → (i : ℕ) (l : Link) (end : ℕ) → i < length links
     → l ≡ slice_index_or links i l → end ≡ slice_index ends i → IsIndexOf d l.to end
@@ -79,9 +79,9 @@ module _ (source : Source) (of : IsSource source) (labels : List Label) (keys : 
   open_leg : goal.floor ≤ state
   open_leg = of.behind
 
-  -- Lemmas on the label of a walk that continues the source, which is the settled node that the
-  -- search continues from. The walk goes on by a link, or to the next leg if no link is given. A
-  -- node is the record of a walk, and a label holds the best walk found so far to a state.
+  -- Lemmas on the label of a walk that continues the source by a link, or by the step to the next
+  -- leg if no link is given. The source is the settled node whose walk the search continues. A node
+  -- is the record of a walk, and a label holds the best walk found so far to a state.
   module _ (label : Label) (by : Option Link) (parent : label.parent ≡ at) (place : label.place ≡ state % 1024)
       (here : slice_get (links_from_index d (state % 1024)) label.row ≡ by) (next : IsNext nodes (node_by at (slice_index_or nodes at nowhere) by))
       (rank : label.rank ≡ (node_by at (slice_index_or nodes at nowhere) by).rank) where
@@ -115,10 +115,10 @@ module _ (source : Source) (of : IsSource source) (labels : List Label) (keys : 
         (ap state_of label_node ∙ state_is) (ap (walk_of nodes) label_node ∙ walk) le (passes left) choice
 
   module _ (before : AreLabels d q nodes (CrossesBelow d q nodes (links_of d) at) goal labels keys) where
-    -- The source is the settled node that the search continues from. If a route may not go on to
-    -- the next leg at the source's router, the labels are also right for the step to the next leg.
-    -- No label needs to be offered for this step. A node is the record of a walk, and a label holds
-    -- the best walk found so far to a state.
+    -- If a route may not go on to the next leg at the source's router, the labels also meet
+    -- `AreLabels` for the step to the next leg, and no label needs to be offered for it. The source
+    -- is the settled node whose walk the search continues. A node is the record of a walk, and a
+    -- label holds the best walk found so far to a state.
     pub turn_off : (state / 1024 < length q.hops → MayTurn d q (state / 1024 + 1) (slice_index (router_list d) (state % 1024)) → ⊥)
         → AreLabels d q nodes (CrossesUpTo d q nodes at (state % 1024) 0) goal labels keys
     turn_off never =
@@ -182,8 +182,8 @@ module _ (source : Source) (of : IsSource source) (labels : List Label) (keys : 
     along : IsNext nodes (node_by at (slice_index_or nodes at nowhere) (Some l))
     along = by_next d q nodes are at is.within (slice_index_or nodes at nowhere) (there d q nodes at state is) l small
 
-    -- The role of the state (a router in a leg) to which the link leads says whether a route may
-    -- enter the router there.
+    -- The role of the state (a router in a leg) at the link's end says whether a route may enter
+    -- that router in the leg.
     pub link_told : (role : Role) → IsRole d q ((state - state % 1024 + end) / 1024 + 1) (router_at d ((state - state % 1024 + end) % 1024)) role → IsTrue role.enter ↔ MayEnter d q (state / 1024 + 1) l.to
     link_told role told =
         let legs = leg d q nodes at state is in
@@ -191,8 +191,8 @@ module _ (source : Source) (of : IsSource source) (labels : List Label) (keys : 
         (λ k. record { leg = sym legs k; router = l.to }) ∙ link_state d q nodes at state is row l here end ends listed.few in
         subst (λ (s : State). IsTrue role.enter ↔ MayEnter d q s.leg s.router) (sym same) told.enter
 
-    -- If a route may not take a link from the source's router, the labels are also right for the
-    -- walks over this link. No label needs to be offered for these walks. A label holds the best
+    -- If a route may not use a link from the source's router, the labels also meet `AreLabels` for
+    -- the walks over this link, and no label needs to be offered for them. A label holds the best
     -- walk found so far to a state.
     pub link_off : (IsUsable d q l → MayEnter d q (state / 1024 + 1) l.to → ⊥) → AreLabels d q nodes (CrossesUpTo d q nodes at (state % 1024) (row + 1)) goal labels keys
     link_off never =

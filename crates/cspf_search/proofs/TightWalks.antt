@@ -1,6 +1,6 @@
--- A link is tight if the tree's bound falls over it by exactly its metric, and the number of links
--- by one. The walk over the first tight link of each router is the least route, if it leads to the
--- tail-end.
+-- The walk that follows the first tight link from each router is the least route, if it leads to
+-- the tail-end. A link is tight if the tree's bound falls by exactly the link's metric from its
+-- start to its end, and the tree's number of links falls by one.
 use Rattle.std.proofs.Common.{◌≡◌, ◌≢◌, inl, inr, ℕ, ◌+◌, ◌^◌, ◌<◌, ◌≤◌, Some, List, [], ◌∷◌, ◌++◌, ◌⊎◌, length, map, slice_get, slice_index, slice_index_or, refl, sym, ap, subst, ◌∙◌, arith, append_assoc, append-nil}
 use Rattle.std.specs.List.{All}
 use Rattle.std.specs.Cmp.{nat_cmp_total}
@@ -43,8 +43,7 @@ use Rattle.cspf_search.proofs.Taken.{end_of_row}
 use Rattle.cspf_search.proofs.Orders.{cost_of-push, walks_total}
 use Rattle.cspf_graph.proofs.RouterIndexes.{one_place}
 
--- A walk that costs more than another doesn't come before it. Neither does a walk that costs the
--- same and has more links.
+-- A walk doesn't precede another walk if it costs more, or if it costs the same and has more links.
 
 cost_first : (a b : ℕ) (o : Ordering) → b < a → ordering_then (nat_cmp a b) o ≡ Less → ⊥
 cost_first a b o h less = grind (arith, nat_tests)
@@ -52,8 +51,8 @@ cost_first a b o h less = grind (arith, nat_tests)
 links_first : (a b m n : ℕ) (o : Ordering) → a ≡ b → n < m → ordering_then (nat_cmp a b) (ordering_then (nat_cmp m n) o) ≡ Less → ⊥
 links_first a b m n o e h less = grind (arith, nat_tests)
 
--- If two walks have the same cost and equally many links, their local addresses decide which walk
--- comes first.
+-- The local addresses decide between two walks that have the same cost and the same number of
+-- links.
 locals_decide : (a b m n : ℕ) (o : Ordering) → a ≡ b → m ≡ n → o ≡ Greater → ordering_then (nat_cmp a b) (ordering_then (nat_cmp m n) o) ≡ Less → ⊥
 locals_decide a b m n o e same greater less = grind (arith, nat_tests)
 
@@ -70,8 +69,8 @@ parts_greater (k ∷ front) m l rest on later =
 later_greater : (walk route : List Link) → LeavesLater walk route → locals_cmp route walk ≡ Greater
 later_greater walk route b = (λ t. locals_cmp (b.is_route t) (b.is_walk t)) ∙ parts_greater b.front b.other b.taken b.rest b.on b.later
 
--- Suppose that a route leaves a walk by a link with a greater local address. If the walk is
--- continued by one more link, the route leaves the longer walk in the same way.
+-- If a route leaves a walk by a link with a greater local address, it leaves the walk in the same
+-- way after one more link is appended to the walk.
 leaves_longer : (walk route : List Link) (l : Link) → LeavesLater walk route → LeavesLater (walk ++ (l ∷ [])) route
 leaves_longer walk route l b = record {
   front = b.front;
@@ -84,7 +83,8 @@ leaves_longer walk route l b = record {
   later = b.later;
 }
 
--- The cost of a link and the links after it is the link's metric plus the cost of these links.
+-- The cost of a link followed by further links is the link's metric plus the cost of the further
+-- links.
 cost_of-cons : (l : Link) (links : List Link) → cost_of (l ∷ links) ≡ l.metric + cost_of links
 cost_of-cons l links = sum_by-cons (λ (l : Link). l.metric) l links
 
@@ -123,9 +123,9 @@ module _ (d : Database) (q : Request) (tree : Tree) (listed : AreListed d) (is :
             omega (arith, is.fewer place to.0 l class way.over.0 from to.1 falls, rest.1 (omega (arith, falls, cost, cost_of-cons l links))),
       )
 
-  -- Lemmas on a way from a router to the tail-end. The way costs exactly the tree's bound for the
-  -- router, and has exactly the tree's number of links for it. Then its first link is tight, and so
-  -- are the links after it.
+  -- Lemmas on a way from a router to the tail-end that costs exactly the tree's bound for the
+  -- router, and has exactly the tree's number of links for it. The first link of this way is tight,
+  -- and so are the other links.
   module _ (router place : ℕ) (at : IsIndexOf d router place) (l : Link) (links : List Link) (way : IsWayOn d q router (l ∷ links))
       (cost : cost_of (l ∷ links) ≡ tree_bound tree place) (many : length (l ∷ links) ≡ tree_links tree place) where
     cost_after : (end : ℕ) → IsIndexOf d l.to end → (cost_of links ≡ tree_bound tree end) × (length links ≡ tree_links tree end)
@@ -158,8 +158,7 @@ module _ (d : Database) (q : Request) (tree : Tree) (listed : AreListed d) (is :
       }
 
   module _ (from : ℕ) (there : IsIndexOf d q.from from) where
-    -- The walk without links is a tight walk from the head-end to itself. A link is tight if the
-    -- tree's bound falls over it by exactly its metric, and its number of links by one.
+    -- The walk without links meets `IsTightWalk`: it leads from the head-end to itself.
     pub tight_none : IsTightWalk d q tree from [] from
     tight_none = record {
       within = there.within;
@@ -170,9 +169,9 @@ module _ (d : Database) (q : Request) (tree : Tree) (listed : AreListed d) (is :
       first = λ route is_route cost many. inl (record { rest = route; whole = refl; way = rw there.is (route_way route is_route); cost = cost; many = many });
     }
 
-    -- Lemmas on a tight walk that is continued by the first tight link of its last router. A link
-    -- is tight if the tree's bound falls over it by exactly its metric, and its number of links by
-    -- one.
+    -- Lemmas on a tight walk to which the first tight link from its last router is appended. A link
+    -- is tight if the tree's bound falls by exactly the link's metric from its start to its end,
+    -- and the tree's number of links falls by one.
     module _ (of : AreLinksOf d (links_of d)) (keyed : AreAtTheirKeys d) (loose : length q.hops ≡ 0) (to : ℕ) (end : IsIndexOf d q.to to) (walk : List Link) (place : ℕ)
         (before : IsTightWalk d q tree from walk place) (on : place ≢ to) (edge : Edge) (next : IsNextTight d q tree place edge) where
       abbrev l : Link
@@ -212,10 +211,11 @@ module _ (d : Database) (q : Request) (tree : Tree) (listed : AreListed d) (is :
             | inr e ↦ inr (next.is_edge.end.is ∙ e)
           ]
 
-      -- Take a route that begins with the tight walk. Suppose that the rest of the route costs the
-      -- tree's bound for the walk's last router, and has the tree's number of links for it. The
-      -- rest begins with the link `l`, or with a link with a greater local address. A link is tight
-      -- if the tree's bound falls over it by exactly its metric, and its number of links by one.
+      -- A route begins with the tight walk. The rest of the route costs the tree's bound for the
+      -- walk's last router, and has the tree's number of links for it. Then this rest begins with
+      -- the link `l`, or with a link with a greater local address. A link is tight if the tree's
+      -- bound falls by exactly the link's metric from its start to its end, and the tree's number
+      -- of links falls by one.
       goes_on : (rest : List Link) → IsWayOn d q (router_at d place) rest → cost_of rest ≡ tree_bound tree place → length rest ≡ tree_links tree place → (route : List Link) → route ≡ walk ++ rest
           → GoesOn d q tree (walk ++ (l ∷ [])) edge.end route ⊎ LeavesLater (walk ++ (l ∷ [])) route
       goes_on [] way cost many route whole = absurd (not_end way.end)
@@ -269,8 +269,8 @@ module _ (d : Database) (q : Request) (tree : Tree) (listed : AreListed d) (is :
 
     -- Lemmas on a tight walk that has reached the tail-end. Its cost is the tree's bound for the
     -- head-end, and its number of links is the tree's number of links for the head-end. A link is
-    -- tight if the tree's bound falls over it by exactly its metric, and its number of links by
-    -- one.
+    -- tight if the tree's bound falls by exactly the link's metric from its start to its end, and
+    -- the tree's number of links falls by one.
     module _ (loose : length q.hops ≡ 0) (to : ℕ) (end : IsIndexOf d q.to to) (walk : List Link) (at : IsTightWalk d q tree from walk to) where
       is_route : IsRoute d q walk
       is_route =
@@ -284,7 +284,7 @@ module _ (d : Database) (q : Request) (tree : Tree) (listed : AreListed d) (is :
       many_is : length walk ≡ tree_links tree from
       many_is = omega (arith, at.many, is.end_links to end)
 
-      -- A route that begins with the walk and has the same cost doesn't come before the walk.
+      -- A route that begins with the walk and has the same cost doesn't precede the walk.
       longer_later : (rest other : List Link) → other ≡ walk ++ rest → cost_of other ≡ cost_of walk → walk_cmp other walk ≢ Less
       longer_later [] other whole cost less =
           let same : other ≡ walk = whole ∙ append-nil walk in
@@ -324,8 +324,9 @@ module _ (d : Database) (q : Request) (tree : Tree) (listed : AreListed d) (is :
         small = small;
       }
 
--- Lemmas on a link from a router. The first lemma shows from the table's columns that the link is
--- tight. The second says that a way may lead over the router at the end of a tight link.
+-- Lemmas on a link from a router. The first one concludes from the columns of the table that the
+-- link is tight. The second one says that a way to the tail-end may lead over the router at the end
+-- of a tight link.
 module _ (d : Database) (q : Request) (tree : Tree) (listed : AreListed d) (of : AreLinksOf d (links_of d)) (place : ℕ) (edge : Edge) (is : IsEdge d place edge) where
   pub tight_is : tree_bound tree place ≡ edge.metric + tree_bound tree edge.end → tree_links tree place ≡ tree_links tree edge.end + 1 → edge.reverse ≢ NO_LINK → IsAdmitted q edge.link.now
       → MayLeadOver d q (slice_index (router_list d) edge.end) → IsTight d q tree place edge.link.now
@@ -341,9 +342,8 @@ module _ (d : Database) (q : Request) (tree : Tree) (listed : AreListed d) (of :
   pub tight_over : IsTight d q tree place edge.link.now → MayLeadOver d q (slice_index (router_list d) edge.end)
   tight_over tight = rw is.end.is tight.over
 
--- For each link from a router, `ends` has the index of the router where the link ends, and
--- `reverses` has the index of the link's reverse. Both are at the index that the link has among the
--- links from the router.
+-- For the link at the index `row` among the links from a router, `ends` has at the same index the
+-- index of the router where the link ends, and `reverses` has the index of the link's reverse.
 pub beside_row : (d : Database) (place : ℕ) (links : List Link) → links ≡ links_from_index d place → (ends : List ℕ) → All (λ end. end < length (router_list d)) ends
     → map (λ end. slice_index (router_list d) end) ends ≡ map (λ (l : Link). l.to) (links_from_index d place) → (reverses : List ℕ)
     → ((nth : ℕ) (e : Link) → nth < length (links_from_index d place) → IsReverseAt d (slice_index_or (links_from_index d place) nth e) (slice_index_or reverses nth 0))

@@ -1,4 +1,4 @@
--- Lemmas on which requests share a tree, and on how a tree gives the bounds in the last leg.
+-- Lemmas on which requests share a tree, and on how a tree gives the bounds of the last leg.
 use Rattle.std.proofs.Common.{◌≡◌, ◌⊎◌, inl, inr, ℕ, suc, ◌+◌, ◌<◌, ◌≤◌, nat_lt, if◌then◌else◌, Bool, true, false, List, replicate, slice_index_or, length, set, sym, ap, subst, ◌∙◌, refl, arith}
 use Rattle.std.proofs.lemmas.Bool.{cases_lt, false≢true}
 use Rattle.std.proofs.lemmas.Bool.Decides.{nat_tests}
@@ -19,14 +19,14 @@ use Rattle.cspf_search.proofs.Cuts.{last_target}
 use Rattle.cspf_search.proofs.LegBounds.{cut_at_edge}
 use Rattle.cspf_graph.proofs.RouterIndexes.{one_place, same_or_not}
 
--- If `LeadsOn` holds of a link for a request, the link is in the request's class, whatever
--- bandwidth the request asks for. A link is in a request's class if it has a reverse and passes the
--- request's affinities.
+-- If a link meets `LeadsOn` for a request, the link is in the request's class. A link is in a
+-- request's class if it has a reverse and passes the request's affinities, whatever bandwidth the
+-- request asks for.
 in_class : (d : Database) (q : Request) (l : Link) → LeadsOn d q l → IsInClass d q l
 in_class d q l leads = record { link = leads.admissible.link; reverse = leads.admissible.usable.reverse; affinity = leads.admissible.usable.admitted.affinity }
 
--- A tree gives lower bounds for the routers of the last leg. No leg comes after the last one, so
--- the bounds `ahead` of a next leg may be any.
+-- A tree gives lower bounds for the routers of the last leg. The bounds `ahead` of a next leg don't
+-- matter, because no leg follows the last one.
 pub leg_of_tree : (d : Database) (q : Request) (tree : Tree) → IsTree d q tree → (leg : ℕ) → leg ≡ length q.hops → (ahead : List ℕ)
     → IsLegBound d q leg tree.near.items tree.edge ahead
 leg_of_tree d q tree is leg last ahead = record {
@@ -38,7 +38,7 @@ leg_of_tree d q tree is leg last ahead = record {
       omega (arith, is.end p (record { within = within; is = there }));
 }
 
--- If two requests share trees, a link that is in the class of one request is in the class of the
+-- If two requests share trees, a link in the class of one request is also in the class of the
 -- other. A link is in a request's class if it has a reverse and passes the request's affinities.
 same_class : (d : Database) (q r : Request) → ShareTrees q r → (l : Link) → IsInClass d r l → IsInClass d q l
 same_class d q r share l is = record {
@@ -67,14 +67,13 @@ none_at count w =
       | inr past ↦ get_or_past (replicate count false) w false (omega (arith, past, length-replicate count false))
     ]
 
--- `IsTreeRing` speaks only of routers that are done: the search has looked at all links that end
--- there. So it holds if no router is done.
+-- If no router is done, `IsTreeRing` holds, because it is a statement about done routers only. A
+-- router is done if the search has looked at all links that end at this router.
 pub none_done_yet : (d : Database) (q : Request) (ring : TreeRing) → ((w : ℕ) → is_settled_there ring w ≡ false) → IsTreeRing d q ring
 none_done_yet d q ring none u w on l in_q over from to = absurd (false≢true (sym (none w) ∙ on))
 
--- A router is done if the search has looked at all links that end there. `IsTreeRing` still holds
--- if no cost and no number of links rises, and each done router keeps both. It also holds if only
--- the heap changes.
+-- `IsTreeRing` still holds after some costs or numbers of links are lowered, if each router that is
+-- done keeps both. A router is done if the search has looked at all links that end at this router.
 pub fallen_tree : (d : Database) (q : Request) (old new : TreeRing) → TreeFalls old new → IsTreeRing d q old → IsTreeRing d q new
 fallen_tree d q old new falls ring u w on l in_q over from end =
     let kept = falls.kept w on in
@@ -90,8 +89,8 @@ pub same_tree : (d : Database) (q : Request) (old new : TreeRing) → new.near �
 same_tree d q old new near links marks ring u w on l in_q over from end =
     rw (near, links) (ring u w (rw marks at on) l in_q over from end)
 
--- If no way may lead over a router, `IsTreeRing` still holds after the router is recorded as done,
--- although the search has looked at no links that end there.
+-- If no way may lead over a router, `IsTreeRing` still holds after this router is recorded as done,
+-- although the search hasn't looked at the links that end there.
 pub none_over : (d : Database) (q : Request) (to : ℕ) (ring : TreeRing) → IsTreeRing d q ring → ((router : ℕ) → IsIndexOf d router to → MayLeadOver d q router → ⊥)
     → AreTreeBounds d q ring.near.items ring.links.items (set ring.done.items to true)
 none_over d q to ring is shut u w on l in_q over from end =
@@ -100,8 +99,8 @@ none_over d q to ring is shut u w on l in_q over from end =
       | inr ne ↦ is u w (sym (get_or-set_other ring.done.items to w true false ne) ∙ on) l in_q over from end
     ]
 
--- If the search has looked at all links that end at one more router, `IsTreeRing` still holds after
--- this router is recorded as done.
+-- After the search has looked at all links that end at one more router, `IsTreeRing` still holds
+-- when this router is recorded as done.
 pub one_more_done : (d : Database) (q : Request) (to base count : ℕ) (old new : TreeRing) → IsTreeRing d q old → TreeFalls old new → AreLinksPassed d q base count new to
     → bound_at new.near.items to ≡ base → count ≤ bound_at new.links.items to + 1 → AreTreeBounds d q new.near.items new.links.items (set new.done.items to true)
 one_more_done d q to base count old new ring falls passed same more u w on l in_q over from end =
@@ -117,10 +116,9 @@ one_more_done d q to base count old new ring falls passed same more u w on l in_
           fallen_tree d q old new falls ring u w (sym (get_or-set_other new.done.items to w true false ne) ∙ on) l in_q over from end
     ]
 
--- No bound of a tree exceeds the tree's edge. Either the cost of a router is below the edge, and
--- the tree's number of links for this router is its entry in `links`. Or the cost is at least the
--- edge, and this number is 0. The edge is the least bound of a router that the search hasn't
--- settled.
+-- The tree's number of links for a router is its entry in `links` if the router's cost is below the
+-- tree's edge. Otherwise this number is 0. The edge is the least cost of the routers that the
+-- search hasn't settled.
 links_told : (tree : Tree) (place : ℕ)
     → ((bound_at tree.near.items place < tree.edge) × (tree_links tree place ≡ bound_at tree.links.items place)) ⊎ ((tree.edge ≤ bound_at tree.near.items place) × (tree_links tree place ≡ 0))
 links_told tree place =
@@ -131,11 +129,11 @@ links_told tree place =
       | false ↦ λ e. inr (grind (arith, nat_tests), refl)
     ] refl
 
--- Take a link for which `IsRankWithin` holds and that ends at a settled router, or a link to a
--- router that costs at least the tree's edge. Suppose that the bound of the router where the link
--- ends is lower by exactly the link's metric. Then the tree's number of links for that router is
--- lower by at most one. No bound of a tree exceeds the tree's edge. The edge is the least bound of
--- a router that the search hasn't settled.
+-- The tree's number of links stays consistent over a link when costs above the edge are lowered to
+-- the edge. If the bound at the link's start is exactly the bound at its end plus its metric, the
+-- number of links at its start is at most one more than at its end. The router at the link's end is
+-- either settled, and `IsRankWithin` holds over the link, or it costs at least the edge. The edge
+-- is the least cost of the routers that the search hasn't settled.
 links_within : (tree : Tree) (marks : List Bool) (u w metric : ℕ)
     → (slice_index_or marks w false ≡ true → IsRankWithin (bound_at tree.near.items u) (bound_at tree.links.items u) (bound_at tree.near.items w) (bound_at tree.links.items w + 1) metric)
     → (slice_index_or marks w false ≡ false → tree.edge ≤ bound_at tree.near.items w)
@@ -152,9 +150,9 @@ links_within tree marks u w metric within least just =
       ]
     ]
 
--- Suppose that a backward search gives the tail-end the cost 0 and no links. Suppose also that the
--- edge is at most the cost of each router that the search hasn't settled. Then the costs and the
--- numbers of links of the search, with this edge, are a tree in the sense of `IsTree`.
+-- The costs and the numbers of links that a backward search has found are, together with an edge, a
+-- tree in the sense of `IsTree`. The tail-end must have the cost 0 and no links, and the edge must
+-- be at most the cost of each router that the search hasn't settled.
 pub tree_of_ring : (d : Database) (q : Request) (ring : TreeRing) (tree : Tree) → tree.near ≡ ring.near → tree.links ≡ ring.links → IsTreeRing d q ring
     → ((w : ℕ) → w < length (router_list d) → is_settled_there ring w ≡ false → tree.edge ≤ bound_at ring.near.items w)
     → AreListed d → (to : ℕ) → IsIndexOf d q.to to → bound_at ring.near.items to ≡ 0 → bound_at ring.links.items to ≡ 0 → IsTree d q tree

@@ -9,7 +9,7 @@ use Rattle.cspf_search.specs.declared.limits.TheConstants.{COST_WEIGHT}
 use Rattle.cspf_search.specs.States.{State}
 use Rattle.cspf_search.specs.Settled.{Labels}
 
--- The walk `walk`. If a link is given, it is added at the walk's end.
+-- The links of `walk`, followed by the given link if there is one.
 abbrev pub walk_with : List Link → Option Link → List Link
 walk_with walk None = walk
 walk_with walk (Some l) = walk ++ (l ∷ [])
@@ -18,8 +18,8 @@ walk_with walk (Some l) = walk ++ (l ∷ [])
 abbrev pub walk_at : List (List Link) → ℕ → List Link
 walk_at walks i = slice_index_or walks i []
 
--- The walks `done`, followed by the walk of each node (the record of a walk). A node's parent is an
--- index into the walks before its own walk.
+-- The list `done`, followed by the walk of each node (the record of a walk). The `parent` of a node
+-- is the index of the earlier walk that the node continues.
 abbrev pub walks_after : List (List Link) → List Node → List (List Link)
 walks_after done [] = done
 walks_after done (n ∷ ns) = walks_after (done ++ (walk_with (walk_at done n.parent) n.by ∷ [])) ns
@@ -52,31 +52,32 @@ index_of nodes s = position (λ n. same_state (state_of n) s) nodes
 abbrev pub labels_of : List Node → Labels
 labels_of nodes s = option_map (λ i. walk_at (walks nodes) i) (index_of nodes s)
 
--- The rank of a walk: its cost and its number of links as one number above 0.
+-- The rank of a walk packs its cost and its number of links into one number. It is always above 0.
 abbrev pub walk_rank : List Link → ℕ
 walk_rank w = cost_of w * COST_WEIGHT + length w + 1
 
--- The rank of a node is the rank of its walk. For each link of the walk, and for each step to a
--- next leg at the same router, one other node comes before this node. So the number of the walk's
--- links plus the node's leg is at most the node's index plus 1. A node is the record of a walk, and
--- a walk's rank is its cost and its number of links as one number.
+-- The node's rank is the rank of its walk, which packs the walk's cost and its number of links into
+-- one number. The number of links plus the node's leg is at most the node's index plus 1, because
+-- each link and each step to a next leg needs one earlier node. The walk costs at most 2^32 for
+-- each of its links.
 pub record IsRanked (n : Node) (walk : List Link) (index : ℕ) : Type 0 where
   pub rank : n.rank ≡ walk_rank walk
   pub few : length walk + n.leg ≤ index + 1
   pub small : cost_of walk ≤ length walk * 2 ^ 32
 
--- If the walk of a node (the record of a walk) has a link, the node holds its last link.
+-- If the walk of a node (the record of a walk) has links, the node holds the last of these links.
 abbrev pub HasLast : Node → Type 0
 HasLast n = 1 < n.rank → IsSome n.by
 
--- The first node (the record of a walk): it has no link, and its parent is itself.
+-- The root is the first node (the record of a walk). It has no link, and its `parent` is its own
+-- index, 0.
 pub record IsRoot (n : Node) : Type 0 where
   pub parent : n.parent ≡ 0
   pub by : n.by ≡ None
 
--- The nodes (records of walks) form a tree: each but the root comes after its parent. No two nodes
--- have the same state. There are at most 8,192 nodes, which are the states of 1,024 routers in
--- eight legs.
+-- The nodes (records of walks) form a tree: every node except the root follows its parent in the
+-- list. No two nodes have the same state (a router in a leg). There are at most 8,192 nodes: at
+-- most one for each of 1,024 routers in each of eight legs.
 pub record AreNodes (nodes : List Node) : Type 0 where
   pub some : 0 < length nodes
   pub most : length nodes ≤ 8192
@@ -90,7 +91,8 @@ pub record AreNodes (nodes : List Node) : Type 0 where
       → IsRanked (slice_index_or nodes i d) (walk_at (walks nodes) i) i
   pub apart : AllPairs (λ m n. same_state (state_of m) (state_of n) ≡ false) nodes
 
--- The node (the record of a walk) may be appended to the settled nodes `nodes`.
+-- The node (the record of a walk) may be appended to the settled nodes `nodes`: its parent is one
+-- of them.
 pub record IsNext (nodes : List Node) (n : Node) : Type 0 where
   pub parent : n.parent < length nodes
   pub linked : HasLast n
@@ -105,6 +107,6 @@ pub record IsInLeg (q : Request) (n : Node) : Type 0 where
 abbrev pub AreInLegs : Request → List Node → Type 0
 AreInLegs q nodes = All (IsInLeg q) nodes
 
--- The node (the record of a walk) at the start: the head-end with a walk without links.
+-- The first node (the record of a walk): the head-end in the first leg, with a walk without links.
 abbrev pub root_of : Request → Node
 root_of q = record { parent = 0; by = None; leg = 1; router = q.from; rank = 1 }

@@ -1,5 +1,6 @@
 -- Private: the forward stars of the settled nodes in the search by rounds, and which states are
--- marked as settled. A state is a router in a leg, and a node is the record of a walk.
+-- marked as settled. A forward star has the links from one router. A state is a router in a leg,
+-- and a node is the record of a walk.
 use Rattle.std.specs.Prelude.{◌≡◌, ℕ, ◌+◌, ◌*◌, ◌%◌, ◌<◌, Bool, is_some, List, All, length, map, slice_index, slice_index_or}
 use Rattle.cspf_model.specs.declared.limits.TheConstants.{MOST_ROUTERS}
 use Rattle.cspf_model.specs.declared.link.Link.{Link}
@@ -13,9 +14,9 @@ use Rattle.cspf_search.specs.Arena.{state_of, index_of}
 use Rattle.cspf_search.specs.Frontier.{state_at, nowhere}
 use Rattle.cspf_graph.specs.Roles.{IsStateIndex}
 
--- The forward star `star` has the index of the state `s` (a router in a leg), and the links from
--- the router of `s`. For each of these links it also has the index of the router at the link's end,
--- and the index of the link's reverse.
+-- The forward star `star` has the index of the state `s` (a router in a leg) and the links from the
+-- router of `s`. For each link it also has the index of the router at the link's end, and the index
+-- of the link's reverse.
 pub record IsForwardStar (d : Database) (s : State) (star : ForwardStar) : Type 0 where
   pub state : s ≡ state_at d star.state
   pub place : star.state % MOST_ROUTERS < length (router_list d)
@@ -33,8 +34,8 @@ pub record AreForwardStars (d : Database) (nodes : List Node) (stars : List Forw
   pub each : (i : ℕ) (e : ForwardStar) → i < length nodes
       → IsForwardStar d (state_of (slice_index_or nodes i nowhere)) (slice_index_or stars i e)
 
--- The entry of a state in `marks` is `true` exactly if one of the nodes has this state. A state is
--- a router in a leg, and a node is the record of a walk.
+-- The list `marks` has an entry for each state (a router in a leg). The entry is `true` exactly if
+-- one of the nodes (records of walks) has this state.
 pub record AreStateMarks (d : Database) (q : Request) (nodes : List Node) (marks : List Bool) : Type 0 where
   pub many : length marks ≡ (length q.hops + 1) * MOST_ROUTERS
   pub each : (i : ℕ) (e : Bool) → IsStateIndex d q i

@@ -24,17 +24,18 @@ use Rattle.cspf_search.specs.Settled.{Labels, IsNoLater, IsClosed, locals_cmp}
 use Rattle.cspf_search.specs.Arena.{walk_at, walks, walk_of, walk_rank, state_of, index_of, IsNext}
 use Rattle.cspf_search.specs.Rounds.{CrossesFrom, CrossesBelow}
 
--- The state with the index `i`. A state is a router in a leg. The states of each leg have 1,024
--- indexes, in the order of the routers in the list of routers.
+-- The state (a router in a leg) with the index `i`. Each leg has 1,024 indexes, one for each
+-- possible index of a router in the list of routers.
 abbrev pub state_at : Database → ℕ → State
 state_at d i = record { leg = i / MOST_ROUTERS + 1; router = slice_index (router_list d) (i % MOST_ROUTERS) }
 
--- The node (the record of a walk) that is read at an index past the end of a list of nodes.
+-- The node (the record of a walk) that stands in for a missing element when a list of nodes is read
+-- past its last element.
 abbrev pub nowhere : Node
 nowhere = record { parent = 0; by = None; leg = 0; router = 0; rank = 1 }
 
--- The node that continues the walk of the node `from` by a link, or by the step to the next leg if
--- no link is given. `at` is the index of `from`. A node is the record of a walk.
+-- The node for the walk of the node `from`, continued by the given link, or by the step to the next
+-- leg if no link is given. `at` is the index of `from`. A node is the record of a walk.
 abbrev pub node_by : ℕ → Node → Option Link → Node
 node_by at from (Some l) = record {
   parent = at;
@@ -51,39 +52,40 @@ node_by at from None = record {
   rank = from.rank;
 }
 
--- The node that a label describes. A label gives, for a state, the best walk found so far. This
--- walk continues the walk of the settled node `parent` by one link, or by the step to the next leg
--- at the same router. A state is a router in a leg, and a node is the record of a walk.
+-- The node (the record of a walk) for the walk that a label holds. This walk continues the walk of
+-- the settled node at the index `label.parent`, either by one link or by the step to the next leg
+-- at the same router. A label holds the best walk found so far to a state, which is a router in a
+-- leg.
 abbrev pub node_of : Database → List Node → Label → Node
 node_of d nodes label =
     node_by label.parent (slice_index_or nodes label.parent nowhere)
     (slice_get (links_from_index d label.place) label.row)
 
--- The rank of a state to which no walk is known yet. A state is a router in a leg, and a walk's
--- rank is its cost and its number of links as one number.
+-- The rank in the label of a state (a router in a leg) to which no walk is known yet. It is greater
+-- than the rank of any walk.
 abbrev pub no_rank : ℕ
 no_rank = 18446744073709551615
 
--- The lift of the state at the index `i`: how much its key in the heap exceeds the rank of its
--- label. It is the state's bound times `COST_WEIGHT`, the weight of one unit of cost. A state is a
--- router in a leg, and a label holds the best walk found so far to a state. A walk's rank is its
--- cost and its number of links as one number.
+-- The lift of the state at the index `i`: how much the state's key in the heap exceeds the rank in
+-- its label. The lift is the state's bound times `COST_WEIGHT`, the weight of one unit of cost. A
+-- state is a router in a leg, and a label holds the best walk found so far to a state. A walk's
+-- rank packs its cost and its number of links into one number.
 abbrev pub lift : Goal → ℕ → ℕ
 lift goal i = slice_index_or goal.bounds.now i 0 * COST_WEIGHT
 
--- The rank of the walk `w` plus the lift `ahead` of its state exceeds `cap`, the rank of a known
--- walk to the tail-end. The lift of a state is its bound times `COST_WEIGHT`. A state is a router
--- in a leg, and a walk's rank is its cost and its number of links as one number.
+-- The walk `w` can't begin the best route: its rank plus `ahead`, the lift of its state, exceeds
+-- `cap`, the rank of a known walk to the tail-end. The lift of a state (a router in a leg) is its
+-- bound times `COST_WEIGHT`. A walk's rank packs its cost and its number of links into one number.
 pub record IsBeyond (cap ahead : ℕ) (w : List Link) : Type 0 where
   pub known : cap < no_rank
   pub behind : cap < walk_rank w + ahead
 
--- The label of a state that isn't settled describes a node with this state. Of the walks to this
--- state that satisfy `P`, none comes before that node's walk. A walk doesn't count if its rank plus
--- the lift of its state exceeds `cap`, the rank of a known walk to the tail-end. Such a walk can't
--- begin the best route. The lift of a state is its bound times `COST_WEIGHT`. A state is a router
--- in a leg, and a node is the record of a walk. A label holds the best walk found so far to a
--- state, and a walk's rank is its cost and its number of links as one number.
+-- The label of the state `t`, which isn't settled, holds the best walk to `t` among the walks that
+-- satisfy `P`. No other walk to `t` that satisfies `P` precedes the label's walk in the order of
+-- walks. A walk is left out of this comparison if it can't begin the best route: if its rank plus
+-- the lift `ahead` of `t` exceeds `cap`, the rank of a known walk to the tail-end. The lift of a
+-- state (a router in a leg) is its bound times `COST_WEIGHT`. A walk's rank packs its cost and its
+-- number of links into one number.
 pub record IsReached (d : Database) (nodes : List Node) (P : List Link → State → Type 0)
     (cap ahead : ℕ) (t : State) (label : Label) : Type 0 where
   pub place : label.place < length (router_list d)
@@ -95,8 +97,9 @@ pub record IsReached (d : Database) (nodes : List Node) (P : List Link → State
   pub first : (w : List Link) → P w t
       → IsNoLater (walk_of nodes (node_of d nodes label)) w ⊎ IsBeyond cap ahead w
 
--- What a label says of its state (a router in a leg). Either the state is settled, or its best walk
--- so far is known, or none of the walks to it so far can begin the best route.
+-- The label of the state `t` (a router in a leg) is right, in one of three cases. The state is
+-- settled. Or the label holds the best walk to this state so far. Or no walk to this state that
+-- satisfies `P` can begin the best route.
 pub data IsLabel (d : Database) (nodes : List Node) (P : List Link → State → Type 0)
     (cap ahead : ℕ) (t : State) (label : Label) : Type 0 where
   is_settled : (i : ℕ) → label.rank ≡ 0 → index_of nodes t ≡ Some i
@@ -106,10 +109,10 @@ pub data IsLabel (d : Database) (nodes : List Node) (P : List Link → State →
   is_unreached : index_of nodes t ≡ None → label.rank ≡ no_rank
       → ((w : List Link) → P w t → IsBeyond cap ahead w) → IsLabel d nodes P cap ahead t label
 
--- A key of the heap: the rank of a state's label plus the state's lift, which is its bound times
--- `COST_WEIGHT`, and then the index of the state. The heap gives the least key first. A state is a
--- router in a leg, and a label holds the best walk found so far to a state. A walk's rank is its
--- cost and its number of links as one number.
+-- A key in the heap: the rank in a state's label plus the state's lift, and then the index of the
+-- state. The lift is the state's bound times `COST_WEIGHT`. The heap gives the least key first. A
+-- state is a router in a leg, and a label holds the best walk found so far to a state. A walk's
+-- rank packs its cost and its number of links into one number.
 abbrev pub HeapKey : Type 0
 HeapKey = Reverse (ℕ × ℕ)
 
@@ -119,51 +122,50 @@ heap_key_cmp x y = ordering_then (nat_cmp y.0.0 x.0.0) (nat_cmp y.0.1 x.0.1)
 abbrev pub key_at : ℕ → ℕ → HeapKey
 key_at key i = record { 0 = (key, i) }
 
--- The label (the record of the best walk found so far to a state) that is read at an index past the
--- end of a list of labels.
+-- The label that stands in for a missing element when a list of labels is read past its last
+-- element. A label holds the best walk found so far to a state.
 abbrev pub no_label : Label
 no_label = record { rank = 18446744073709551615; parent = 0; place = 0; row = 0 }
 
 abbrev pub label_at : List Label → ℕ → Label
 label_at labels i = slice_index_or labels i no_label
 
--- In the leg of the state at the index `at`, the label of each target says that the target is
--- settled. A state is a router in a leg, and a label holds the best walk found so far to a state. A
--- leg's targets are the routers where it may end.
+-- In the leg of the state at the index `at`, all targets that a route may visit are settled,
+-- according to their labels. A state is a router in a leg, and a label holds the best walk found so
+-- far to a state. A leg's targets are the routers where it may end.
 abbrev pub AreTargetsSettled : Database → List Role → List Label → ℕ → Type 0
 AreTargetsSettled d roles labels at =
     (i : ℕ) → i % MOST_ROUTERS < length (router_list d) → i / MOST_ROUTERS ≡ at / MOST_ROUTERS
     → IsTrue (slice_index_or roles i nothing).target → (label_at labels i).rank ≡ 0
 
--- The floor is the first index after those of the leg of the state at the index `at`, and all
--- targets of this leg are settled. A state is a router in a leg, and a leg's targets are the
--- routers where it may end.
+-- The leg of the state at the index `at` is closed: all its targets that a route may visit are
+-- settled. `floor` is the first index of the next leg. A state is a router in a leg, and a leg's
+-- targets are the routers where it may end.
 pub record IsRaised (d : Database) (roles : List Role) (labels : List Label) (at floor : ℕ) : Type 0 where
   pub target : IsTrue (slice_index_or roles at nothing).target
   pub next : floor ≡ at - at % MOST_ROUTERS + MOST_ROUTERS
   pub settled : AreTargetsSettled d roles labels at
 
--- The number of the key is a rank above 0 plus the lift of the key's state, so it exceeds this
--- lift. The lift of a state is its bound times `COST_WEIGHT`. The index of the key is that of a
--- state of the request. A state is a router in a leg, and a walk's rank is its cost and its number
--- of links as one number.
+-- The first part of the key is the lift of the key's state plus a rank above 0, so it is greater
+-- than this lift. The second part is the index of a state of the request. The lift of a state (a
+-- router in a leg) is its bound times `COST_WEIGHT`. A walk's rank packs its cost and its number of
+-- links into one number.
 pub record IsKey (d : Database) (q : Request) (goal : Goal) (key : HeapKey) : Type 0 where
   pub some : lift goal key.0.1 < key.0.0
   pub most : key.0.0 < no_rank
   pub index : IsStateIndex d q key.0.1
 
--- The key is the one that the present label of its state gives, and the state isn't in a closed
--- leg: the state's index isn't below the floor. A state is a router in a leg, and a label holds the
--- best walk found so far to a state. The floor is the first index after the states of the closed
--- legs.
+-- The key still counts. It is the key that the present label of its state gives, and the state's
+-- leg isn't closed, since the state's index isn't below the floor. A state is a router in a leg,
+-- and a label holds the best walk found so far to a state. The floor is the first index after the
+-- states of the closed legs.
 pub record IsLive (goal : Goal) (labels : List Label) (key : HeapKey) : Type 0 where
   pub behind : goal.floor ≤ key.0.1
   pub same : (label_at labels key.0.1).rank + lift goal key.0.1 ≡ key.0.0
 
--- The label of each state after the closed legs is right in the sense of `IsLabel`, if only walks
--- that satisfy `P` count. The heap has a key for each of these states if the state isn't settled
--- and a walk to it is known. A state is a router in a leg, and a label holds the best walk found so
--- far to a state.
+-- The label of each state after the closed legs meets `IsLabel`, where only walks that satisfy `P`
+-- count. If such a state isn't settled and a walk to it is known, the heap has the state's key. A
+-- state is a router in a leg, and a label holds the best walk found so far to a state.
 pub record AreLabels (d : Database) (q : Request) (nodes : List Node)
     (P : List Link → State → Type 0) (goal : Goal) (labels : List Label) (keys : List HeapKey)
     : Type 0 where
@@ -180,10 +182,10 @@ pub record AreLabels (d : Database) (q : Request) (nodes : List Node)
       → (label_at labels i).rank < no_rank
       → Contains keys (key_at ((label_at labels i).rank + lift goal i) i)
 
--- The walk `w` continues one of the nodes before `at` by one link or by the step to the next leg,
--- and reaches the state `t`. Or it continues the node at `at`, by the step to the next leg or by
--- one of the first `row` links from its router. A state is a router in a leg, and a node is the
--- record of a walk.
+-- The walk `w` to the state `t` continues one of the nodes at indexes below `at`, by one link or by
+-- the step to the next leg. Or it continues the node at `at`, by the step to the next leg or by one
+-- of the first `row` links from the router at the index `place`. A state is a router in a leg, and
+-- a node is the record of a walk.
 abbrev pub CrossesUpTo : Database → Request → List Node → ℕ → ℕ → ℕ → List Link → State
     → Type 0
 CrossesUpTo d q nodes at place row w t =
@@ -203,36 +205,35 @@ abbrev pub NodeMayLeave : Database → List Node → ℕ → ℕ → Type 0
 NodeMayLeave d nodes at state =
     MayLeave d (slice_index (router_list d) (state % MOST_ROUTERS)) (length (walk_at (walks nodes) at))
 
--- The label may be offered to a state as the best walk found so far. The node that the label
--- describes continues one of the nodes `nodes`, and may be appended to them. A state is a router in
--- a leg, and a node is the record of a walk.
+-- The label may be offered to a state (a router in a leg). The walk that the label holds continues
+-- one of the nodes `nodes`, and its node may be appended to them. A node is the record of a walk,
+-- and a label holds the best walk found so far to a state.
 pub record IsOffer (d : Database) (nodes : List Node) (label : Label) : Type 0 where
   pub place : label.place < length (router_list d)
   pub parent : label.parent < length nodes
   pub next : IsNext nodes (node_of d nodes label)
 
--- The nodes that both labels describe have the same rank. A node is the record of a walk, and a
--- label holds the best walk found so far to a state. A walk's rank is its cost and its number of
--- links as one number.
+-- The walks of both labels have the same rank. A label holds the best walk found so far to a state,
+-- and a walk's rank packs its cost and its number of links into one number.
 pub record AreTied (d : Database) (nodes : List Node) (old label : Label) : Type 0 where
   pub other : IsOffer d nodes old
   pub rank : (node_of d nodes old).rank ≡ (node_of d nodes label).rank
 
--- The heap has all the keys that it had before, and one more key.
+-- The heap has gained one key: `new` has all keys of `old`, and the key `key`.
 pub record Gains (key : HeapKey) (old new : List HeapKey) : Type 0 where
   pub kept : IsHeap heap_key_cmp old → IsHeap heap_key_cmp new
   pub moved : IsPermutation (key ∷ old) new
 
--- The key isn't less than the key with the number `rank` and the index `i`. The number of a key is
--- the rank of a state's label plus the state's lift. The lift is the state's bound times
--- `COST_WEIGHT`. A label holds the best walk found so far to a state, and a walk's rank is its cost
--- and its number of links as one number.
+-- The key isn't less than the key with the parts `rank` and `i`. The first part of a key is the
+-- rank in a state's label plus the state's lift, and the second is the state's index. The lift is
+-- the state's bound times `COST_WEIGHT`. A walk's rank packs its cost and its number of links into
+-- one number.
 abbrev pub IsUpTo : ℕ → ℕ → HeapKey → Type 0
 IsUpTo rank i key = (rank < key.0.0) ⊎ ((rank ≡ key.0.0) × (i ≤ key.0.1))
 
--- A state (a router in a leg) waits if a walk to it is known and it isn't settled. Of all waiting
--- states in legs that aren't closed, the state with the index `i` has the least key. `old` has the
--- keys of the heap before this key was taken from it, and `new` those that are left.
+-- The state with the index `i` has the least key of all waiting states in legs that aren't closed.
+-- A state (a router in a leg) waits if a walk to it is known and it isn't settled. `old` has the
+-- keys of the heap before the key of `i` is popped, and `new` has the keys after that.
 pub record IsLeast (d : Database) (q : Request) (goal : Goal) (labels : List Label)
     (old : List HeapKey) (i : ℕ) (new : List HeapKey) : Type 0 where
   pub index : IsStateIndex d q i
@@ -246,17 +247,17 @@ pub record IsLeast (d : Database) (q : Request) (goal : Goal) (labels : List Lab
   pub others : (key : HeapKey) → Contains old key → IsLive goal labels key
       → (key.0.1 ≡ i) ⊎ Contains new key
 
--- All keys of states at indexes from the floor on, so in legs that aren't closed, are still in the
--- heap. No key is new. A state is a router in a leg, and the floor is the first index after the
--- states of the closed legs.
+-- The heap still has each key whose state has an index from `floor` on, and it has no new key. The
+-- states at lower indexes are in closed legs. A state is a router in a leg.
 pub record IsOpenOf (floor : ℕ) (old new : List HeapKey) : Type 0 where
   pub ordered : IsHeap heap_key_cmp new
   pub kept : (key : HeapKey) → Contains old key → floor ≤ key.0.1 → Contains new key
   pub only : (key : HeapKey) → Contains new key → Contains old key
 
--- The state keeps its old label. The offered label has the same rank, and its walk doesn't come
--- before the walk of the old label. A state is a router in a leg, and a label holds the best walk
--- found so far to a state. A walk's rank is its cost and its number of links as one number.
+-- The offered label loses a tie, so the state with the index `i` keeps its old label. Both labels
+-- have the same rank, and the old label's walk doesn't come later by the local addresses. A state
+-- is a router in a leg, and a label holds the best walk found so far to a state. A walk's rank
+-- packs its cost and its number of links into one number.
 pub record StaysAt (d : Database) (nodes : List Node) (i : ℕ) (label : Label)
     (old new : List Label) (old_keys new_keys : List HeapKey) : Type 0 where
   pub tie : label.rank ≡ (label_at old i).rank
@@ -265,14 +266,16 @@ pub record StaysAt (d : Database) (nodes : List Node) (i : ℕ) (label : Label)
   pub labels : new ≡ old
   pub keys : new_keys ≡ old_keys
 
--- The heap has the key of the offered label. If the old label had the same rank, the heap already
--- had this key, and nothing was added. A label holds the best walk found so far to a state, and a
--- walk's rank is its cost and its number of links as one number.
+-- The heap has the key of the offered label. If the old label has the same rank, the heap already
+-- has this key, and doesn't change. A label holds the best walk found so far to a state, and a
+-- walk's rank packs its cost and its number of links into one number.
 abbrev pub HasKey : ℕ → ℕ → HeapKey → List HeapKey → List HeapKey → Type 0
 HasKey rank before key old new = ((rank ≡ before) × (new ≡ old)) ⊎ Gains key old new
 
--- The state with the index `i` gets the offered label. A state is a router in a leg, and a label
--- holds the best walk found so far to a state.
+-- The state with the index `i` gets the offered label. If both labels have the same rank, the
+-- offered label's walk precedes the old one's by the local addresses. A state is a router in a leg,
+-- and a label holds the best walk found so far to a state. A walk's rank packs its cost and its
+-- number of links into one number.
 pub record GoesTo (d : Database) (nodes : List Node) (i : ℕ) (label : Label) (key : ℕ)
     (old new : List Label) (old_keys new_keys : List HeapKey) : Type 0 where
   pub first : label.rank ≡ (label_at old i).rank
@@ -281,9 +284,9 @@ pub record GoesTo (d : Database) (nodes : List Node) (i : ℕ) (label : Label) (
   pub labels : new ≡ set old i label
   pub keys : HasKey label.rank (label_at old i).rank (key_at key i) old_keys new_keys
 
--- The floor is the first index after the states (routers in legs) of the closed legs. If there is a
--- leg just before the floor, it is closed: all its states at which a route may go on to the next
--- leg are settled. The goal isn't below the floor.
+-- The last leg below the floor, if there is one, is closed: each of its routers at which a route
+-- may go on to the next leg is settled in it. The floor is the first index after the states
+-- (routers in legs) of the closed legs. The index of the goal isn't below the floor.
 pub record IsFloor (d : Database) (q : Request) (labels : Labels) (goal : Goal) : Type 0 where
   pub low : goal.floor ≤ goal.at
   pub shut : IsClosed d q labels (goal.floor / MOST_ROUTERS)

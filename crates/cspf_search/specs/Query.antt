@@ -1,5 +1,5 @@
--- Private: the query of a search, and the walks that continue a settled node by one link or by the
--- step to the next leg at the same router. A node is the record of a walk.
+-- Private: the query of a search, and the walks that continue a settled node (the record of a walk)
+-- by one link or by the step to the next leg at the same router.
 use Rattle.std.specs.Prelude.{◌≡◌, ℕ, ◌+◌, ◌%◌, ◌≤◌, List, length, nat_eq}
 use Rattle.std.specs.List.{AllByRecursion, IsDistinct}
 use Rattle.cspf_model.specs.declared.limits.TheConstants.{MOST_LEGS}
@@ -15,9 +15,9 @@ use Rattle.cspf_graph.specs.Lists.{AreListed}
 use Rattle.cspf_graph.specs.Roles.{AreRoles, AreTargets}
 use Rattle.cspf_search.specs.Frontier.{CrossesUpTo}
 
--- The query is right: its table lists the routers and the links of its database, and it has the
--- role of each state. It also has the targets of the leg to each hop. A state is a router in a leg,
--- and a leg's targets are the routers where it may end.
+-- The fields of the query agree with each other. Its table lists the routers and links of the
+-- database. Its `roles` say what a route may do at each router in each leg. Its `targets` are the
+-- routers where the leg to each hop may end.
 pub record IsQuery (query : Query) : Type 0 where
   pub listed : AreListed query.table.now
   pub links : AreLinksOf query.table.now (links_of query.table.now)
@@ -28,15 +28,15 @@ pub record IsQuery (query : Query) : Type 0 where
   pub roles : AreRoles query.table.now query.request.now query.roles.now
   pub targets : AreTargets query.table.now query.request.now query.targets.now
 
--- The walk continues the walk of one of the nodes before the index `at` by one link, or by the step
--- to the next leg at the same router. It then reaches the state that is given with it. A state is a
+-- The walk continues the walk of a node at an index below `at`, by one link or by the step to the
+-- next leg at the same router. The given state is the state that the walk reaches. A state is a
 -- router in a leg, and a node is the record of a walk.
 abbrev pub CrossesBefore : Query → List Node → ℕ → List Link → State → Type 0
 CrossesBefore query nodes at = CrossesBelow query.table.now query.request.now nodes (links_of query.table.now) at
 
--- The walk continues a node before the index `at` by one step, and reaches the state that is given
--- with it. Or it continues the node at `at`: by the step to the next leg, or by one of the first
--- `row` links from the node's router. `state` is the index of this node's state. A state is a
--- router in a leg, and a node is the record of a walk.
+-- The walk continues a node at an index below `at`, by one link or by the step to the next leg. Or
+-- it continues the node at `at`, by the step to the next leg or by one of the first `row` links
+-- from the router of `state`, which is the index of that node's state. The given state is the state
+-- that the walk reaches. A state is a router in a leg, and a node is the record of a walk.
 abbrev pub CrossesToRow : Query → List Node → ℕ → ℕ → ℕ → List Link → State → Type 0
 CrossesToRow query nodes at state row = CrossesUpTo query.table.now query.request.now nodes at (state % MOST_ROUTERS) row

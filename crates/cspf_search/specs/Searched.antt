@@ -1,4 +1,4 @@
--- Private: the nodes (records of walks) that each of the two searches settles.
+-- Private: what holds of the settled nodes (records of walks) when either of the two searches ends.
 use Rattle.std.specs.Prelude.{◌≡◌, ◌+◌, ◌*◌, ◌≤◌, None, List, length}
 use Rattle.cspf_model.specs.declared.limits.TheConstants.{MOST_ROUTERS}
 use Rattle.cspf_model.specs.declared.request.Request.{Request}
@@ -10,8 +10,8 @@ use Rattle.cspf_search.specs.States.{end_state}
 use Rattle.cspf_search.specs.Settled.{AreSettled}
 use Rattle.cspf_search.specs.Arena.{AreNodes, labels_of}
 
--- The nodes (records of walks) that a search has settled when it ends. Either the tail-end is
--- settled in the last leg, or there is no route.
+-- The nodes (records of walks) that a search has settled when it ends. If the tail-end isn't
+-- settled in the last leg, there is no route.
 pub record IsSearched (d : Database) (q : Request) (nodes : List Node) : Type 0 where
   pub arena : AreNodes nodes
   pub few : length nodes ≤ (length q.hops + 1) * MOST_ROUTERS

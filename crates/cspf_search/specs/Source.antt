@@ -1,5 +1,5 @@
--- Private: the settled node (the record of a walk) that the search with a heap continues from, and
--- the links from this node's router.
+-- Private: the source, which is the settled node (the record of a walk) whose walk the search with
+-- a heap continues, and the links from the source's router.
 use Rattle.std.specs.Prelude.{◌≡◌, ℕ, ◌≤◌, Some, List, slice_get, slice_index_or}
 use Rattle.cspf_model.specs.Database.{Database}
 use Rattle.cspf_db.specs.Index.{links_from_index, IsReverseAt}
@@ -12,9 +12,10 @@ use Rattle.cspf_graph.specs.Lists.{IsIndexOf}
 use Rattle.cspf_graph.specs.Roles.{IsStateIndex}
 use Rattle.cspf_search.specs.Query.{IsQuery, CrossesBefore, CrossesToRow}
 
--- The source is the settled node that the search continues from. Its state and its rank are given
--- with it. The leg of its state isn't closed. A state is a router in a leg, and a node is the
--- record of a walk. A walk's rank is its cost and its number of links as one number.
+-- The fields of the source agree with each other. The source is the settled node whose walk the
+-- search continues, with the node's state and rank. The state isn't in a closed leg. A state is a
+-- router in a leg, and a node is the record of a walk. A walk's rank packs its cost and its number
+-- of links into one number.
 pub record IsSource (source : Source) : Type 0 where
   pub query : IsQuery source.query
   pub goal : IsStateIndex source.query.table.now source.query.request.now source.goal.at
@@ -23,25 +24,25 @@ pub record IsSource (source : Source) : Type 0 where
   pub node : IsNodeAt source.query.table.now source.query.request.now source.nodes.now source.at source.state
   pub rank : source.rank ≡ (slice_index_or source.nodes.now source.at nowhere).rank
 
--- `edge` is a link from the router at the index `place` of the list of routers.
+-- `edge` is a link from the router at the index `place`, with the index of the router at its end
+-- and the index of its reverse.
 pub record IsEdge (d : Database) (place : ℕ) (edge : Edge) : Type 0 where
   pub row : slice_get (links_from_index d place) edge.row ≡ Some edge.link.now
   pub end : IsIndexOf d edge.link.now.to edge.end
   pub reverse : IsReverseAt d edge.link.now edge.reverse
 
--- The labels and the keys are right by `AreLabels` for all steps from the nodes before the source.
--- Labels were offered to all states that these nodes lead to, and none yet for the source itself. A
--- state is a router in a leg, and a node is the record of a walk. A label holds the best walk found
--- so far to a state.
+-- The labels and the keys meet `AreLabels` for all steps from the nodes that precede the source.
+-- The steps from the source itself don't count yet. A node is the record of a walk, and a label
+-- holds the best walk found so far to a state (a router in a leg).
 abbrev pub AreBefore : Source → List Label → List HeapKey → Type 0
 AreBefore source labels keys =
     AreLabels source.query.table.now source.query.request.now source.nodes.now (CrossesBefore source.query source.nodes.now source.at)
     source.goal labels keys
 
--- The labels and the keys are right by `AreLabels` for all steps from the nodes before the source.
--- They are also right for the source's step to the next leg at the same router, and for its first
--- `row` links. A node is the record of a walk, and a label holds the best walk found so far to a
--- state.
+-- The labels and the keys meet `AreLabels` for all steps from the nodes that precede the source.
+-- They also meet it for the step from the source to the next leg, and for the first `row` links
+-- from the source's router. A node is the record of a walk, and a label holds the best walk found
+-- so far to a state (a router in a leg).
 abbrev pub AreUpToRow : Source → ℕ → List Label → List HeapKey → Type 0
 AreUpToRow source row labels keys =
     AreLabels source.query.table.now source.query.request.now source.nodes.now

@@ -1,5 +1,5 @@
--- Private: walks over tight links. Over such a link the bound of a tree falls by exactly the
--- metric, and its number of links by one.
+-- Private: walks over tight links. A link is tight if the tree's bound falls by exactly the link's
+-- metric from its start to its end, and the tree's number of links falls by one.
 use Rattle.std.specs.Prelude.{◌≡◌, ℕ, ◌+◌, ◌<◌, ◌⊎◌, Some, List, ◌∷◌, ◌++◌, length, slice_get}
 use Rattle.std.specs.List.{AllByRecursion}
 use Rattle.cspf_model.specs.declared.link.Link.{Link}
@@ -16,40 +16,42 @@ use Rattle.cspf_search.specs.Source.{IsEdge}
 use Rattle.cspf_search.specs.States.{Reaches}
 use Rattle.cspf_search.specs.Trees.{MayLeadOver, tree_bound, tree_links}
 
--- The link `l` from the router at `place` is tight. The request may use the link, and a way to the
--- tail-end may lead over the router at its end. The bound at `place` is the link's metric plus the
--- bound at its end. The tree's number of links for the router at `place` is one more than for the
--- router at the link's end.
+-- The link `l` from the router at the index `place` is tight, and the request may use it. A way to
+-- the tail-end may lead over the router at its end. The tree's bound at the link's start is the
+-- link's metric plus the bound at its end. The tree's number of links at the start is one more than
+-- at the end.
 pub record IsTight (d : Database) (q : Request) (tree : Tree) (place : ℕ) (l : Link) : Type 0 where
   pub usable : IsUsable d q l
   pub over : MayLeadOver d q l.to
   pub falls : (end : ℕ) → IsIndexOf d l.to end → tree_bound tree place ≡ l.metric + tree_bound tree end
   pub fewer : (end : ℕ) → IsIndexOf d l.to end → tree_links tree place ≡ tree_links tree end + 1
 
--- None of the first `before` links from the router at `place` is tight. A link is tight if the
--- tree's bound falls over it by exactly its metric, and its number of links by one.
+-- None of the first `before` links from the router at the index `place` is tight. A link is tight
+-- if the tree's bound falls by exactly the link's metric from its start to its end, and the tree's
+-- number of links falls by one.
 abbrev pub AreSlack : Database → Request → Tree → ℕ → ℕ → Type 0
 AreSlack d q tree place before =
     (row : ℕ) (l : Link) → row < before → slice_get (links_from_index d place) row ≡ Some l → ¬ IsTight d q tree place l
 
--- `edge` is the first tight link from the router at `place`: none of the links before it is tight.
--- A link is tight if the tree's bound falls over it by exactly its metric, and its number of links
--- by one.
+-- `edge` is the first tight link from the router at the index `place`. A link is tight if the
+-- tree's bound falls by exactly the link's metric from its start to its end, and the tree's number
+-- of links falls by one.
 pub record IsNextTight (d : Database) (q : Request) (tree : Tree) (place : ℕ) (edge : Edge) : Type 0 where
   pub is_edge : IsEdge d place edge
   pub tight : IsTight d q tree place edge.link.now
   pub slack : AreSlack d q tree place edge.row
 
--- The way is made of admissible links, and leads from the router to the tail-end. The end of each
--- of these links is a router with transit, or the tail-end.
+-- The links of `way` are admissible and lead from the router to the tail-end. Each of them ends at
+-- a router with transit or at the tail-end.
 pub record IsWayOn (d : Database) (q : Request) (router : ℕ) (way : List Link) : Type 0 where
   pub links : AllByRecursion (IsAdmissible d q) way
   pub joined : AreJoined router way
   pub over : AllByRecursion (λ l. MayLeadOver d q l.to) way
   pub end : end_of router way ≡ q.to
 
--- The route begins with the walk, which leads to the router at `place`. The rest of the route costs
--- the tree's bound for this router, and has the tree's number of links for it.
+-- The route begins with the links of `walk`, which end at the router at the index `place`. The rest
+-- of the route costs the tree's bound for this router, and has the number of links that the tree
+-- gives for this router.
 pub record GoesOn (d : Database) (q : Request) (tree : Tree) (walk : List Link) (place : ℕ) (route : List Link) : Type 0 where
   pub rest : List Link
   pub whole : route ≡ walk ++ rest
@@ -57,8 +59,8 @@ pub record GoesOn (d : Database) (q : Request) (tree : Tree) (walk : List Link) 
   pub cost : cost_of rest ≡ tree_bound tree place
   pub many : length rest ≡ tree_links tree place
 
--- The route and the walk begin with the same links. At the first link in which they differ, the
--- route takes the link with the greater local address.
+-- The route and the walk begin with the same links. At the first difference, the route's link has
+-- the greater local address.
 pub record LeavesLater (walk route : List Link) : Type 0 where
   pub front : List Link
   pub taken : Link
@@ -69,11 +71,12 @@ pub record LeavesLater (walk route : List Link) : Type 0 where
   pub is_route : route ≡ front ++ (other ∷ rest)
   pub later : taken.local < other.local
 
--- The walk leads from the head-end, whose index is `from`, to the router at `place`. The walk's
--- cost is the tree's bound at the head-end minus the bound at `place`. In the same way, its number
--- of links is the difference of the tree's numbers of links for these routers. Take a route that
--- costs the tree's bound for the head-end, and has the tree's number of links for it. This route
--- begins with the walk, or leaves the walk by a link with a greater local address.
+-- The walk leads from the head-end, whose index is `from`, to the router at the index `place`. The
+-- walk's cost is the tree's bound for the head-end minus the bound for that router. The walk's
+-- number of links is the difference of the tree's numbers of links for the two routers.
+--
+-- Each route with the cost and the number of links that the tree gives for the head-end begins with
+-- the walk, or leaves the walk by a link with a greater local address.
 pub record IsTightWalk (d : Database) (q : Request) (tree : Tree) (from : ℕ) (walk : List Link) (place : ℕ) : Type 0 where
   pub within : place < length (router_list d)
   pub reaches : Reaches d q walk (record { leg = 1; router = router_at d place })

@@ -11,23 +11,25 @@ use Rattle.cspf_search.specs.Bounds.{bound_at}
 use Rattle.cspf_search.specs.Settled.{IsWithin}
 use Rattle.cspf_search.specs.Trees.{IsInClass, MayLeadOver}
 
--- All costs are those from a router to the tail-end. A link leads to a router with the cost
--- `ahead`. The cost `near` of the router where the link begins is at most `ahead` plus the link's
--- metric. If it is exactly this sum, this router has at most `count` links to the tail-end.
+-- The costs and numbers of links of two routers are consistent over a link between the routers. The
+-- router at the link's start has the cost `near` to the tail-end, over `links` links. The router at
+-- the link's end has the cost `ahead`. `near` is at most `ahead` plus the link's metric. If `near`
+-- is exactly this sum, `links` is at most `count`.
 abbrev pub IsRankWithin : ℕ → ℕ → ℕ → ℕ → ℕ → Type 0
 IsRankWithin near links ahead count metric = IsWithin near ahead metric × (near ≡ ahead + metric → links ≤ count)
 
--- A link is in the request's class if it has a reverse and passes the request's affinities. Take
--- such a link to a router over which a way may lead. If the router's entry in `marks` is `true`,
--- `IsRankWithin` holds between both ends of the link.
+-- The costs and numbers of links meet `IsRankWithin` over each link of the request's class, if the
+-- router at the link's end has the entry `true` in `marks` and a way to the tail-end may lead over
+-- this router. A link is in the class if it has a reverse and passes the request's affinities.
 abbrev pub AreTreeBounds : Database → Request → List ℕ → List ℕ → List Bool → Type 0
 AreTreeBounds d q near links marks =
     (u w : ℕ) → slice_index_or marks w false ≡ true → (l : Link) → IsInClass d q l → MayLeadOver d q l.to → IsIndexOf d l.from u → IsIndexOf d l.to w
     → IsRankWithin (bound_at near u) (bound_at links u) (bound_at near w) (bound_at links w + 1) l.metric
 
--- A link is in the request's class if it has a reverse and passes the request's affinities. Take
--- such a link to a router over which a way may lead. If the search has looked at all links that end
--- there, `IsRankWithin` holds between both ends of the link.
+-- The costs and numbers of links meet `IsRankWithin` over each link of the request's class, if the
+-- router at the link's end is done and a way to the tail-end may lead over this router. A link is
+-- in the class if it has a reverse and passes the request's affinities. A router is done if the
+-- search has looked at all links that end at this router.
 abbrev pub IsTreeRing : Database → Request → TreeRing → Type 0
 IsTreeRing d q ring = AreTreeBounds d q ring.near.items ring.links.items ring.done.items
 
@@ -35,37 +37,38 @@ IsTreeRing d q ring = AreTreeBounds d q ring.near.items ring.links.items ring.do
 abbrev pub is_settled_there : TreeRing → ℕ → Bool
 is_settled_there ring w = slice_index_or ring.done.items w false
 
--- The router `at` has a way to the tail-end that costs less than `ahead`, or one that costs `ahead`
--- and has at most `count` links.
+-- The router at the index `at` has a cost to the tail-end of at most `ahead`. If it is exactly
+-- `ahead`, the router's number of links is at most `count`.
 abbrev pub IsAsNear : TreeRing → ℕ → ℕ → ℕ → Type 0
 IsAsNear ring at ahead count =
     (bound_at ring.near.items at ≤ ahead) × (bound_at ring.near.items at ≡ ahead → bound_at ring.links.items at ≤ count)
 
--- No router's cost is greater than before. If a router's cost is the same as before, its number of
--- links isn't greater than before.
+-- No router's cost to the tail-end is greater in `new` than in `old`. If its cost is the same, its
+-- number of links isn't greater.
 abbrev pub IsTreeLower : TreeRing → TreeRing → Type 0
 IsTreeLower old new = (i : ℕ) → IsAsNear new i (bound_at old.near.items i) (bound_at old.links.items i)
 
--- No router has a greater cost to the tail-end than before, nor more links at the same cost. A
--- router is done if the search has looked at all links that end there. If a router is done after
--- the change, it was done before, and its cost and its number of links are the same as before.
+-- No router has a greater cost to the tail-end in `new` than in `old`, nor more links at the same
+-- cost. If a router is done in `new`, it was done in `old` with the same cost and the same number
+-- of links. A router is done if the search has looked at all links that end at this router.
 pub record TreeFalls (old new : TreeRing) : Type 0 where
   pub lower : IsTreeLower old new
   pub kept : (i : ℕ) → is_settled_there new i ≡ true
       → (is_settled_there old i ≡ true) × (bound_at new.near.items i ≡ bound_at old.near.items i) × (bound_at new.links.items i ≡ bound_at old.links.items i)
 
--- Suppose that the link at the index `at` passes the affinities of the request. Then the cost from
--- the router `from` to the tail-end is at most `base` plus the link's metric. If it is exactly this
--- sum, `from` has at most `count` links to the tail-end.
+-- The search has handled the link at the index `at`, which begins at the router `from`. If this
+-- link passes the affinities of the request, the cost from `from` to the tail-end is at most `base`
+-- plus the link's metric. If the cost is exactly this sum, `from` has at most `count` links to the
+-- tail-end.
 abbrev pub IsLinkPassed : Database → Request → ℕ → ℕ → TreeRing → ℕ → ℕ → Type 0
 IsLinkPassed d q base count ring from at =
     (l : Link) → slice_get (links_of d) at ≡ Some l → HasAffinity q l
     → IsRankWithin (bound_at ring.near.items from) (bound_at ring.links.items from) base count l.metric
 
--- A link is in the request's class if it has a reverse and passes the request's affinities. Take
--- such a link to the router `to`. The cost from the router where it begins to the tail-end is at
--- most `base` plus the link's metric. If the cost is exactly this sum, that router has at most
--- `count` links to the tail-end.
+-- The search has handled each link of the request's class that ends at the router `to`. The cost
+-- from the router at the link's start to the tail-end is at most `base` plus the link's metric. If
+-- the cost is exactly this sum, that router has at most `count` links to the tail-end. A link is in
+-- the class if it has a reverse and passes the request's affinities.
 abbrev pub AreLinksPassed : Database → Request → ℕ → ℕ → TreeRing → ℕ → Type 0
 AreLinksPassed d q base count ring to =
     (u : ℕ) (l : Link) → IsInClass d q l → IsIndexOf d l.from u → IsIndexOf d l.to to

@@ -25,29 +25,34 @@ pub record IsInClass (d : Database) (q : Request) (l : Link) : Type 0 where
   pub reverse : HasReverse d l
   pub affinity : HasAffinity q l
 
--- A way to the tail-end may lead over the router or end there: the router has transit, or it is the
--- tail-end.
+-- A way to the tail-end may lead over the router, because the router has transit, or it may end
+-- there, because the router is the tail-end.
 abbrev pub MayLeadOver : Database → Request → ℕ → Type 0
 MayLeadOver d q router = HasTransit d router ⊎ (router ≡ q.to)
 
--- The tree's bound for the router at the index `place`: a lower bound of the cost from there to the
--- tail-end.
+-- A lower bound of the cost from the router at the index `place` to the tail-end: the lesser of the
+-- router's own cost in the tree and the tree's edge.
 abbrev pub tree_bound : Tree → ℕ → ℕ
 tree_bound tree place = min (bound_at tree.near.items place) tree.edge
 
--- The tree's number of links for the router at the index `place`. It is 0 if the router's bound is
--- the tree's edge, the least cost of the routers that the search hasn't settled.
+-- The tree's number of links from the router at the index `place` to the tail-end. It is 0 if the
+-- router's bound is the tree's edge, which is the least cost of the routers that the search hasn't
+-- settled.
 abbrev pub tree_links : Tree → ℕ → ℕ
 tree_links tree place = if nat_lt (bound_at tree.near.items place) tree.edge then bound_at tree.links.items place else 0
 
--- A tree for the tail-end and the affinities of a request in a database. Take a link that has a
--- reverse, passes the affinities, and ends at a router with transit or at the tail-end. Over this
--- link, the bound falls at most by the link's metric. If the bound at its end isn't `NO_WAY`, the
--- bound at the router where it begins isn't `NO_WAY` either. If the bound falls by exactly the
--- metric, the number of links falls at most by one. At the tail-end the bound and the number of
--- links are 0. So the bound of a router is at most the cost of any way from there to the tail-end,
--- and it is `NO_WAY` only if there is no way. A way that costs exactly the bound has at least the
--- router's number of links.
+-- The tree belongs to the tail-end and the affinities of the request in the database. It gives for
+-- each router a lower bound of the cost to the tail-end, and a number of links. At the tail-end
+-- both are 0.
+--
+-- Links count here if they have a reverse, pass the affinities, and end at a router with transit or
+-- at the tail-end. For each such link, the bound at its start is at most the bound at its end plus
+-- its metric. If the bound at its start is exactly this sum, the number of links at its start is at
+-- most one more than at its end. If the bound at its end isn't `NO_WAY`, the bound at its start
+-- isn't `NO_WAY` either.
+--
+-- So the bound of a router is at most the cost of any way to the tail-end. A way that costs exactly
+-- the bound has at least the router's number of links. If the bound is `NO_WAY`, there is no way.
 pub record IsTree (d : Database) (q : Request) (tree : Tree) : Type 0 where
   pub links : (u w : ℕ) (l : Link) → IsInClass d q l → MayLeadOver d q l.to → IsIndexOf d l.from u → IsIndexOf d l.to w
       → IsWithin (tree_bound tree u) (tree_bound tree w) l.metric

@@ -1,5 +1,5 @@
-//! The settled walks of a search. A node keeps only the last link of its walk, and the index of the
-//! node whose walk ends before this link. So no walk is copied.
+//! The settled walks of a search. A node stands for one walk, and keeps only the last link of this
+//! walk, and the index of the node for the walk before this link. So no walk is copied.
 
 ghost use Rattle.cspf_search.specs.declared.limits.TheConstants.{COST_WEIGHT};
 ghost use Rattle.std.specs.Prelude.{◌≡◌, ◌-◌, ◌/◌, ◌%◌, ◌<◌, IfOk, length};
@@ -14,8 +14,8 @@ use cspf_model::Link;
 use std::alloc::{AllocError, Global};
 use std::cmp::Ordering;
 
-/// A walk that the search has settled at its state: the walk's last link, and the index of the node
-/// that has the walk before this link. A node has 24 bytes. A state is a router in a leg.
+/// A walk that the search has settled at its state (a router in a leg). The node keeps the walk's
+/// last link, and the index of the node for the walk without this link. A node has 24 bytes.
 #[derive(Drop)]
 pub(crate) struct Node<'a> {
     /// The rank of the walk: its cost times `COST_WEIGHT`, plus its number of links, plus 1.
@@ -24,13 +24,15 @@ pub(crate) struct Node<'a> {
     pub(crate) by: Last<'a>,
     /// The router that the walk has reached.
     pub(crate) router: Addr,
-    /// The index of the node (the record of a walk) whose walk this node continues.
+    /// The index of the node (the record of a walk) for this walk without its last link. The first
+    /// node has its own index, 0.
     pub(crate) parent: u16,
     /// The leg of the request that the walk has reached. The first leg is leg 1.
     pub(crate) leg: u16,
 }
 
-/// The number of links of a walk of this rank (its cost and number of links as one number).
+/// The number of links of a walk with the rank `rank`, which packs the walk's cost and its number
+/// of links into one number.
 fn links_in(rank: u64) -> usize
     requires { 0 < rank }
     ensures { result ≡ (rank - 1) % COST_WEIGHT }
@@ -56,7 +58,8 @@ pub(crate) fn cost_at(nodes: &[Node<'_>], at: usize) -> u64
     (nodes[at].rank - 1) / COST_WEIGHT
 }
 
-/// The index of the node (the record of a walk) of a router in a leg, if there is such a node.
+/// The index of the node (the record of a walk) that has reached the router `router` in the leg
+/// `leg`, if there is such a node.
 pub(crate) fn index_of(nodes: &[Node<'_>], leg: usize, router: Addr) -> Option<usize>
     ensures { result ≡ index_of nodes.now (record { leg = leg; router = router }) }
 {
@@ -83,9 +86,9 @@ pub(crate) fn links_to(
     Ok(links)
 }
 
-/// Compares the local addresses of two walks with the same number of links, from the first link on.
-/// The function goes back over both walks from their last links, and stops where both continue the
-/// same node (the record of a walk).
+/// Compares the local addresses of two walks with the same number of links, beginning at their
+/// first links. The function follows both walks back from their last links, and stops when both
+/// continue the same node (the record of a walk).
 pub(crate) fn locals<'a>(nodes: &[Node<'a>], a: &Node<'a>, b: &Node<'a>) -> Ordering
     requires arena { AreNodes nodes.now }
     requires first { IsNext nodes.now a.now }

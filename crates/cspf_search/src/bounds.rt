@@ -1,5 +1,6 @@
-//! Lower bounds of the cost from each state (a router in a leg) to the tail-end. A backward search,
-//! against the direction of the links, computes them from the last leg to the first.
+//! Lower bounds of the cost from each state (a router in a leg) to the tail-end. A backward search
+//! computes the bounds, from the last leg to the first. It follows the links against their
+//! direction.
 
 ghost use Rattle.std.specs.Prelude.{◌≡◌, ◌≢◌, ◌+◌, ◌-◌, ◌*◌, ◌<◌, ◌≤◌, ◌⊎◌, ◌↔◌, ℕ, min, true, false, IsTrue, IfOk, IfSome, OnOk, length, slice_index, slice_index_or, All, Contains};
 ghost use Rattle.cspf_search.specs.Query.{IsQuery};
@@ -22,18 +23,18 @@ use cspf_model::MOST_ROUTERS;
 use std::alloc::{AllocError, Global};
 use std::cmp::Reverse;
 
-/// How many routers the backward search settles at most in the last leg.
+/// The greatest number of routers that the backward search settles in the last leg.
 const RING: usize = 24;
 
-/// How many routers the backward search settles at most in a leg to a hop. This limit is higher
-/// than `RING`, because the search from the head-end looks at more routers before such a leg is
-/// closed.
+/// The greatest number of routers that the backward search settles in a leg to a hop. This limit is
+/// higher than `RING`, because the search from the head-end looks at more routers before such a leg
+/// is closed.
 const WIDE: usize = 64;
 
-/// Lowers the bound of the router `from`, if a link from it to a router with the bound `base` gives
-/// it a shorter way. `reverse` is the index of this link, or `NO_LINK` if there is no such link.
-/// The bound stays if the request doesn't admit the link, or if no walk may leave the router
-/// `from`.
+/// Lowers the bound of the router `from`, if the link at the index `reverse` gives this router a
+/// shorter way to the tail-end. This link begins at `from` and ends at a router with the bound
+/// `base`. If `reverse` is `NO_LINK`, there is no such link. The bound doesn't change if the
+/// request doesn't admit the link, or if no walk may leave `from`.
 fn pass(
     query: Query<'_>,
     from: u16,
@@ -63,8 +64,8 @@ fn pass(
     ring.lower(from, ahead)
 }
 
-/// Lowers the bound of each router that has a link to the router `to`, if the way over this link
-/// costs less than this bound. The bound of `to` is `base`. The links to `to` are the reverses of
+/// For each router with a link to the router `to`, lowers the router's bound if the way over this
+/// link costs less. The bound of `to` is `base`. The function finds these links as the reverses of
 /// the links from `to`.
 fn walk(query: Query<'_>, to: usize, base: u32, ring: &mut Ring) -> Result<(), AllocError>
     requires query { IsQuery query }
@@ -83,9 +84,9 @@ fn walk(query: Query<'_>, to: usize, base: u32, ring: &mut Ring) -> Result<(), A
     Ok(())
 }
 
-/// Looks at all links that end at the router `to`. The bound of a router is lowered if one of these
-/// links gives that router a shorter way. The function looks at no link if a route may not enter
-/// `to` by a link in this leg.
+/// Looks at all links that end at the router `to`. If such a link gives the router at its start a
+/// shorter way, that router's bound is lowered. If a route may not enter `to` by a link in this
+/// leg, the function looks at no link.
 fn take(query: Query<'_>, leg_index: usize, to: usize, ring: &mut Ring) -> Result<(), AllocError>
     requires query { IsQuery query }
     requires leg { leg_index ≤ length query.request.now.hops }
@@ -107,8 +108,8 @@ fn take(query: Query<'_>, leg_index: usize, to: usize, ring: &mut Ring) -> Resul
     Ok(())
 }
 
-/// Settles waiting routers in a leg, the router with the least bound first. It settles at most
-/// `most` routers, and only routers with bounds below `top`.
+/// Settles waiting routers in a leg, in the order of their bounds. It settles at most `most`
+/// routers, and only routers whose bounds are below `top`.
 fn grow(
     query: Query<'_>,
     leg_index: usize,
@@ -135,7 +136,7 @@ fn grow(
     Ok(())
 }
 
-/// The bound that the router at the index `place` has in the next leg.
+/// The bound of the router at the index `place` in the next leg.
 fn bound_ahead(ahead: &[u32], place: usize) -> u32
     ensures { result ≡ bound_at ahead.now place }
 {
@@ -145,9 +146,9 @@ fn bound_ahead(ahead: &[u32], place: usize) -> u32
     }
 }
 
-/// Whether the leg to the hop at the index `leg_index` is a dead end: none of its targets has a way
-/// to the tail-end from the next leg. Only targets count at which a route may go on to the next
-/// leg. A leg's targets are the routers where it may end.
+/// Whether the leg to the hop at the index `leg_index` is a dead end: none of its targets at which
+/// a route may go on to the next leg has a way to the tail-end from there. A leg's targets are the
+/// routers where it may end.
 fn is_dead_end(query: Query<'_>, leg_index: usize, ahead: &[u32]) -> bool
     requires query { IsQuery query }
     ensures { result ≡ true
@@ -166,22 +167,23 @@ fn is_dead_end(query: Query<'_>, leg_index: usize, ahead: &[u32]) -> bool
     true
 }
 
-/// The greater of `top` and `bound`. If `bound` is `NO_WAY`, the result is `top`.
+/// The greater of `top` and `bound`, or `top` if `bound` is `NO_WAY`.
 fn farther(top: u32, bound: u32) -> u32 {
     if bound < NO_WAY { bound.max(top) } else { top }
 }
 
-/// The bound at which the backward search of a leg may stop. `waiting` targets of the leg (routers
-/// where it may end) have a way to the tail-end, and `farthest` is the greatest of their bounds. If
-/// there are more than `WIDE` such targets, the result is `farthest`, and otherwise it is `NO_WAY`.
+/// The bound at which the backward search of a leg may stop. `waiting` is the number of the leg's
+/// targets (routers where it may end) that have a way to the tail-end, and `farthest` is the
+/// greatest of their bounds. The result is `farthest` if there are more than `WIDE` such targets,
+/// and otherwise `NO_WAY`.
 fn far_enough(waiting: usize, farthest: u32) -> u32 {
     if waiting > WIDE { farthest } else { NO_WAY }
 }
 
-/// Begins the backward search in the leg to the hop at `leg_index`. The search has looked at the
-/// links to no router yet. Each target (a router where the leg may end) at which a route may go on
-/// to the next leg gets its bound in the next leg. If such a target has a way to the tail-end, it
-/// waits to be settled. Returns the bound at which the backward search may stop.
+/// Begins the backward search in the leg to the hop at the index `leg_index`, with no router done
+/// yet. Each target at which a route may go on to the next leg gets its bound in the next leg. If
+/// this target has a way to the tail-end, it waits to be settled. Returns the bound at which the
+/// backward search may stop. A leg's targets are the routers where it may end.
 fn begin(
     query: Query<'_>,
     leg_index: usize,
@@ -208,8 +210,8 @@ fn begin(
     Ok(far_enough(ring.heap.len(), top))
 }
 
-/// Begins the backward search in the leg after the last hop. The search has looked at the links to
-/// no router yet. Only the tail-end, whose index is `to`, waits to be settled, with the bound 0.
+/// Begins the backward search in the leg after the last hop, with no router done yet. Only the
+/// tail-end, whose index is `to`, waits to be settled, and its bound is 0.
 fn begin_last(to: usize, ring: &mut Ring) -> Result<(), AllocError>
     requires { to < MOST_ROUTERS }
     ensures none { OnOk result ((w : ℕ) → is_done ring.new w ≡ false) }
@@ -221,9 +223,9 @@ fn begin_last(to: usize, ring: &mut Ring) -> Result<(), AllocError>
     Ok(())
 }
 
-/// Searches back from the targets of a leg (the routers where it may end), against the direction of
-/// the links, for lower bounds of the cost to the tail-end. `ahead` has the bounds of the next leg,
-/// and is empty in the last leg. `to` is the index of the tail-end.
+/// Searches for lower bounds of the cost to the tail-end in a leg. The search begins at the leg's
+/// targets (the routers where it may end), and follows the links against their direction. `ahead`
+/// has the bounds of the next leg, and is empty in the last leg. `to` is the index of the tail-end.
 fn search_back(
     query: Query<'_>,
     to: usize,
@@ -266,9 +268,9 @@ fn leg_edge(
     Ok(least_open(&ring.near, &ring.done, query.table.routers().len()))
 }
 
-/// Sets the bound of each router in a leg: the lesser of its entry in `near` and the edge `edge`.
-/// `first` is the index of the leg's first state, and `count` the number of routers. The edge is
-/// the least bound of a router that the search hasn't settled.
+/// Sets the bound of each router in a leg to the lesser of its entry in `near` and `edge`, the
+/// least bound of the routers that the search hasn't settled. `first` is the index of the leg's
+/// first state, and `count` is the number of routers. A state is a router in a leg.
 fn set_leg(bounds: &mut [u32], first: usize, count: usize, near: &[u32], edge: u32)
     requires within { first + count ≤ length bounds.old }
     requires near { count ≤ length near.now }
@@ -282,7 +284,7 @@ fn set_leg(bounds: &mut [u32], first: usize, count: usize, near: &[u32], edge: u
     }
 }
 
-/// Sets the bounds of all states (routers in legs) before the index `end` to `NO_WAY`.
+/// Sets the bounds of all states (routers in legs) at indexes below `end` to `NO_WAY`.
 fn shut(bounds: &mut [u32], end: usize)
     requires within { end ≤ length bounds.old }
     ensures before { (i : ℕ) → i < end → bound_at bounds.new i ≡ NO_WAY }
@@ -294,9 +296,8 @@ fn shut(bounds: &mut [u32], end: usize)
 }
 
 /// Sets the bound of each router in the first `legs` legs, from the last of these legs to the
-/// first. If no target of a leg has a way to the tail-end, it sets the bounds of this leg and of
-/// all earlier legs to `NO_WAY`, and stops. `to` is the index of the tail-end. A leg's targets are
-/// the routers where it may end.
+/// first. If a leg is a dead end, the function sets the bounds of this leg and of all earlier legs
+/// to `NO_WAY`, and stops. `to` is the index of the tail-end.
 fn set_legs(
     query: Query<'_>,
     to: usize,
@@ -345,8 +346,8 @@ fn set_last_leg(query: Query<'_>, tree: &Tree, bounds: &mut [u32])
     );
 }
 
-/// Sets the bound of each router in each leg. If there is a tree, it gives the bounds in the last
-/// leg. `to` is the index of the tail-end.
+/// Sets the bound of each router in each leg. If a tree is given, the bounds in the last leg come
+/// from this tree. `to` is the index of the tail-end.
 fn set_all(
     alloc: Global,
     query: Query<'_>,
@@ -386,9 +387,9 @@ fn shut_at(bounds: &mut [u32], first: usize, places: &[u16])
     }
 }
 
-/// Looks for a strict leg that no route can pass, and returns whether there is such a leg. If there
-/// is one, it sets to `NO_WAY` the bounds of the routers where the leg begins, and all bounds of
-/// earlier legs. `from` is the index of the head-end.
+/// Looks for a strict leg that no route can pass, and returns whether there is such a leg. If so,
+/// it sets two kinds of bounds to `NO_WAY`: those of the routers where this leg begins, and all
+/// bounds of earlier legs. `from` is the index of the head-end.
 fn shut_broken(query: Query<'_>, from: usize, bounds: &mut [u32]) -> bool
     requires query { IsQuery query }
     requires from { IsIndexOf query.table.now query.request.now.from from }
@@ -407,10 +408,10 @@ fn shut_broken(query: Query<'_>, from: usize, bounds: &mut [u32]) -> bool
     true
 }
 
-/// For each state, a lower bound of the cost from there to the tail-end. Near the targets of a leg,
-/// the bound is close to the cost. With a tree, it is close to the cost in the whole last leg.
-/// `from` and `to` are the indexes of the head-end and the tail-end. A state is a router in a leg,
-/// and a leg's targets are the routers where it may end.
+/// For each state (a router in a leg), a lower bound of the cost from this state to the tail-end.
+/// The bound is close to the cost near the targets of a leg, the routers where it may end. With a
+/// tree, it is close to the cost everywhere in the last leg. `from` and `to` are the indexes of the
+/// head-end and the tail-end.
 pub(crate) fn bounds(
     alloc: Global,
     query: Query<'_>,

@@ -4,8 +4,7 @@ ghost use Rattle.std.specs.Prelude.{◌≡◌, ◌*◌, ◌^◌, ◌<◌};
 use crate::limits::COST_WEIGHT;
 use cspf_model::Link;
 
-/// A link, with its index among the links from the same router, the index of its reverse, and the
-/// index of the router that it leads to.
+/// A link, with the index of the router that it leads to and the index of its reverse.
 #[derive(Clone, Copy)]
 pub(crate) struct Edge<'a> {
     /// The index of the link among the links from the same router.
@@ -21,8 +20,8 @@ pub(crate) struct Edge<'a> {
     ghost same: { metric ≡ link.now.metric },
 }
 
-/// How much a link's metric adds to the rank of a walk (its cost and number of links as one
-/// number).
+/// How much a link's metric adds to the rank of a walk, which packs the walk's cost and its number
+/// of links into one number.
 pub(crate) fn weight(link: &Link) -> u64
     ensures value { result ≡ link.now.metric * COST_WEIGHT }
     ensures small { result < 2 ^ 46 }

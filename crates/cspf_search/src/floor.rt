@@ -6,9 +6,9 @@ use crate::labels::Label;
 use crate::query::Query;
 use cspf_model::MOST_ROUTERS;
 
-/// Whether, in the leg of the state at the index `at`, each target at which a route may go on to
-/// the next leg is settled. In the last leg the result is `false`, because that leg leads to no
-/// hop. A state is a router in a leg, and a leg's targets are the routers where it may end.
+/// Whether the leg of the state at the index `at` is finished: all targets at which a route may go
+/// on to the next leg are settled. In the last leg the result is `false`, because this leg leads to
+/// no hop. A state is a router in a leg, and a leg's targets are the routers where it may end.
 fn are_settled(query: Query<'_>, labels: &[Label], at: usize) -> bool
     requires query { IsQuery query }
     requires many { length labels.now ≡ length query.roles.now }
@@ -28,11 +28,11 @@ fn are_settled(query: Query<'_>, labels: &[Label], at: usize) -> bool
     true
 }
 
-/// The floor after the state at the index `at` is settled: all states at indexes below it are in
-/// closed legs. Once all targets of a leg at which a route may go on to the next leg are settled,
-/// this leg and all earlier ones are closed. If `at` is the last such target of a leg to a hop, the
-/// floor becomes the first index of the next leg. Otherwise the floor stays. A state is a router in
-/// a leg, and a leg's targets are the routers where it may end.
+/// The floor after the state at the index `at` is settled. All states at indexes below the floor
+/// are in closed legs. A leg is closed once all its targets at which a route may go on to the next
+/// leg are settled, and then all earlier legs are closed too. If `at` is the last such target of a
+/// leg to a hop, the floor becomes the first index of the next leg. Otherwise the floor doesn't
+/// change. A state is a router in a leg, and a leg's targets are the routers where it may end.
 pub(crate) fn raised(query: Query<'_>, labels: &[Label], floor: usize, at: usize) -> usize
     requires query { IsQuery query }
     requires within { at < length query.roles.now }

@@ -1,6 +1,6 @@
-//! One step of the search with a heap. A link, or a step to the next leg, leads from a settled node
-//! to a state. This state is offered a label: the walk to it over the node. A state is a router in
-//! a leg, and a node is the record of a walk.
+//! One step of the search with a heap. A settled node leads to a state by a link or by the step to
+//! the next leg. This state is offered a label, which holds the walk over this node. A state is a
+//! router in a leg, and a node is the record of a walk.
 
 ghost use Rattle.cspf_model.specs.declared.limits.TheConstants.{MOST_LINKS};
 ghost use Rattle.std.specs.Prelude.{◌≡◌, ◌+◌, ◌*◌, ◌%◌, ◌<◌, ◌≤◌, ◌⊎◌, Some, length, slice_get, slice_index_or, OnOk};
@@ -28,12 +28,12 @@ use std::alloc::{AllocError, Global};
 use std::cmp::Ordering;
 use std::collections::BinaryHeap;
 
-/// The value of `row` in a label whose walk ends with a step to the next leg at the same router. In
-/// other labels, `row` is the index of the walk's last link among the links from its parent's
+/// The value of `row` in a label whose walk ends with the step to the next leg at the same router.
+/// In other labels, `row` is the index of the walk's last link among the links from the parent's
 /// router. A label holds the best walk found so far to a state.
 const TURN: u16 = u16::MAX;
 
-/// A settled node (the record of a walk) that the search continues from.
+/// A settled node (the record of a walk) whose walk the search continues.
 #[derive(Clone, Copy)]
 struct Source<'a> {
     query: Query<'a>,
@@ -44,15 +44,16 @@ struct Source<'a> {
     at: usize,
     /// The index of the source's state, which is a router in a leg.
     state: usize,
-    /// The rank (its cost and number of links as one number) of the source's walk.
+    /// The rank of the source's walk, which packs the walk's cost and its number of links into one
+    /// number.
     rank: u64,
 }
 
-/// Compares the local addresses of the walks of two labels of the same rank, from the first link
-/// on. If both walks continue the same node by a link, only these links are compared. The nodes of
-/// the labels are made only if one of the walks ends with a step to the next leg. A node is the
-/// record of a walk, and a label holds the best walk found so far to a state. A walk's rank is its
-/// cost and its number of links as one number.
+/// Compares the local addresses of the walks of two labels of the same rank, beginning at the first
+/// links. If both walks continue the same node by a link, only these two links are compared. The
+/// function builds the nodes of the labels only if one of the walks ends with a step to the next
+/// leg. A node is the record of a walk, and a label holds the best walk found so far to a state. A
+/// walk's rank packs its cost and its number of links into one number.
 fn compare_tied<'a>(table: &'a Table, nodes: &[Node<'a>], a: &Label, b: &Label) -> Ordering
     requires arena { AreNodes nodes.now }
     requires offered { IsOffer table.now nodes.now b.now }
@@ -70,11 +71,12 @@ fn compare_tied<'a>(table: &'a Table, nodes: &[Node<'a>], a: &Label, b: &Label) 
     locals(nodes, x, y).then(l.local.cmp(&m.local))
 }
 
-/// Offers a label to the state at the index `index`. A label of a lower rank replaces the old
-/// label, and its key goes into the heap. Of two labels of the same rank, the label whose walk
-/// comes first by local addresses is kept. In this case the state's key is already in the heap. A
-/// state is a router in a leg, and a label holds the best walk found so far to a state. A walk's
-/// rank is its cost and its number of links as one number.
+/// Offers a label to the state at the index `index`. If the offered label has a lower rank than the
+/// old label, the offered label replaces the old one, and the state's new key goes into the heap.
+/// If both labels have the same rank, the label whose walk precedes the other by local addresses is
+/// kept, and the heap has the state's key already. A state is a router in a leg, and a label holds
+/// the best walk found so far to a state. A walk's rank packs its cost and its number of links into
+/// one number.
 fn offer<'a>(
     table: &'a Table,
     nodes: &[Node<'a>],
@@ -107,9 +109,10 @@ fn offer<'a>(
     put(labels, heap, index, label, key)
 }
 
-/// Offers a label to the state that the source leads to by a step to the next leg: its router in
-/// the next leg. The source is the settled node that the search continues from. A node is the
-/// record of a walk, and a label holds the best walk found so far to a state.
+/// Offers a label to the state that the source leads to by the step to the next leg: the source's
+/// router in the next leg. The source is the settled node whose walk the search continues. A node
+/// is the record of a walk, and a label holds the best walk found so far to a state (a router in a
+/// leg).
 fn offer_turn(
     source: Source<'_>,
     labels: &mut [Label],
@@ -148,10 +151,10 @@ fn offer_turn(
     offer(query.table, source.nodes, labels, heap, index, label, key)
 }
 
-/// Offers a label to the state that a link leads to from the source, the settled node that the
-/// search continues from. It is required that the source's walk may leave the router where the link
-/// begins. A state is a router in a leg, and a node is the record of a walk. A label holds the best
-/// walk found so far to a state.
+/// Offers a label to the state that a link from the source leads to. The function requires that the
+/// source's walk may leave its router. The source is the settled node whose walk the search
+/// continues. A node is the record of a walk, and a label holds the best walk found so far to a
+/// state (a router in a leg).
 fn offer_link(
     source: Source<'_>,
     edge: Edge<'_>,
@@ -195,11 +198,10 @@ fn offer_link(
     offer(query.table, source.nodes, labels, heap, index, label, key)
 }
 
-/// Offers a label to each state that the node at the index `at` leads to: the walk to this state
-/// over the node. The first is the state that the node's step to the next leg at the same router
-/// leads to. If the node's walk may leave its router, the others are the states at the ends of the
-/// router's links. `state` is the index of the node's state. A state is a router in a leg, and a
-/// node is the record of a walk.
+/// Offers a label to each state that the node at the index `at` leads to. The first of these states
+/// is the node's router in the next leg. The others are the states at the ends of the router's
+/// links, if the node's walk may leave its router. `state` is the index of the node's state. A
+/// state is a router in a leg, and a node is the record of a walk.
 pub(crate) fn expand(
     query: Query<'_>,
     nodes: &[Node<'_>],

@@ -4,25 +4,26 @@ ghost use Rattle.cspf_search.specs.Frontier.{lift};
 
 use crate::limits::COST_WEIGHT;
 
-/// The goal of a search: the tail-end in the last leg. Also which legs are closed so far, and a
-/// lower bound of the cost from each state to the goal.
+/// The goal of a search (the tail-end in the last leg), how far legs are closed, and the lower
+/// bounds of the cost to the goal.
 #[derive(Clone, Copy)]
 pub(crate) struct Goal<'a> {
     /// The index of the goal's state: the tail-end in the last leg.
     pub(crate) at: usize,
-    /// The states below this index are in closed legs. A leg is closed once all of its targets that
-    /// a route may visit are settled, and all earlier legs are then closed too. The other states of
-    /// closed legs needn't be settled. A state is a router in a leg, and a leg's targets are the
-    /// routers where it may end.
+    /// The floor: all states at indexes below it are in closed legs. A leg is closed once all its
+    /// targets that a route may visit are settled, and then all earlier legs are closed too. Other
+    /// states of a closed leg need not be settled. A state is a router in a leg, and a leg's
+    /// targets are the routers where it may end.
     pub(crate) floor: usize,
-    /// For each state (a router in a leg), a lower bound of the cost from there to the tail-end.
+    /// For each state (a router in a leg), a lower bound of the cost from this state to the
+    /// tail-end.
     pub(crate) bounds: &'a [u32],
 }
 
-/// The lift of the state at the index `at`: how much its key in the heap exceeds the rank of its
-/// label. It is the state's bound times `COST_WEIGHT`, the weight of one unit of cost. A state is a
-/// router in a leg, and a label holds the best walk found so far to a state. A walk's rank is its
-/// cost and its number of links as one number.
+/// The lift of the state at the index `at`: how much the state's key in the heap exceeds the rank
+/// in its label. The lift is the state's bound times `COST_WEIGHT`, the weight of one unit of cost.
+/// A state is a router in a leg, and a label holds the best walk found so far to a state. A walk's
+/// rank packs its cost and its number of links into one number.
 pub(crate) fn lift(goal: Goal<'_>, at: usize) -> u64
     requires within { at < length goal.bounds.now }
     ensures value { result ≡ lift goal.entry at }

@@ -1,4 +1,4 @@
-//! The labels of states, the heap of waiting states, and how the next state to settle is found. A
+//! The labels of states, the heap of waiting states, and the choice of the next state to settle. A
 //! state is a router in a leg, and a label holds the best walk found so far to a state.
 
 ghost use Rattle.cspf_model.specs.declared.limits.TheConstants.{MOST_ROUTERS};
@@ -19,23 +19,23 @@ use std::alloc::{AllocError, Global};
 use std::cmp::Reverse;
 use std::collections::BinaryHeap;
 
-/// For a state (a router in a leg), the best walk that the search has seen so far.
+/// The best walk that the search has found so far to a state (a router in a leg).
 #[derive(Clone, Copy, Debug)]
 pub(crate) struct Label {
-    /// The walk's cost and number of links as one number above 0, as in `Node`. A settled state (a
-    /// router in a leg) has the rank 0.
+    /// The rank of the walk, as in `Node`: its cost and its number of links, packed into one number
+    /// above 0. The rank 0 means that the state (a router in a leg) is settled.
     pub(crate) rank: u64,
-    /// The index of the settled node (the record of a walk) that the walk continues from.
+    /// The index of the settled node (the record of a walk) whose walk this walk continues.
     pub(crate) parent: u16,
     /// The index of the parent's router in the list of routers.
     pub(crate) place: u16,
-    /// The index of the walk's last link among the links from the parent's router. An index past
-    /// these links means that the walk ends with the step to the next leg at the same router.
+    /// The index of the walk's last link among the links from the parent's router. If it is greater
+    /// than all indexes of these links, the walk ends with the step to the next leg at the same
+    /// router.
     pub(crate) row: u16,
 }
 
-/// The label of a state (a router in a leg) to which no walk is known yet. A label otherwise holds
-/// the best walk found so far to its state.
+/// The label of a state (a router in a leg) to which no walk is known yet.
 pub(crate) const OPEN: Label = Label {
     rank: u64::MAX,
     parent: 0,
@@ -43,8 +43,7 @@ pub(crate) const OPEN: Label = Label {
     row: 0,
 };
 
-/// The label of a state (a router in a leg) that is settled. A label otherwise holds the best walk
-/// found so far to its state.
+/// The label of a state (a router in a leg) that is settled.
 pub(crate) const SETTLED: Label = Label {
     rank: 0,
     parent: 0,
@@ -52,10 +51,10 @@ pub(crate) const SETTLED: Label = Label {
     row: 0,
 };
 
-/// The key of a waiting state. First comes the rank of its label plus the state's lift, which is
-/// its bound times `COST_WEIGHT`. Then comes the index of the state. A state is a router in a leg,
-/// and a label holds the best walk found so far to a state. A walk's rank is its cost and its
-/// number of links as one number.
+/// The key of a waiting state: the rank in its label plus the state's lift, and then the index of
+/// the state. The lift is the state's bound times `COST_WEIGHT`. A state is a router in a leg, and
+/// a label holds the best walk found so far to a state. A walk's rank packs its cost and its number
+/// of links into one number.
 pub(crate) type Waiting = Reverse<(u64, u64)>;
 
 /// The last link of a label's walk, or none if the walk ends with a step to the next leg at the
@@ -69,9 +68,9 @@ pub(crate) fn link_of<'a>(table: &'a Table, label: &Label) -> Option<&'a Link>
         .get(usize::from(label.row))
 }
 
-/// The node that a label describes. A label gives, for a state, the best walk found so far. This
-/// walk continues the walk of the settled node `parent` by one link, or by the step to the next leg
-/// at the same router. A state is a router in a leg, and a node is the record of a walk.
+/// The node (the record of a walk) for the walk that a label holds. This walk continues the walk of
+/// the settled node `label.parent`, either by one link or by the step to the next leg at the same
+/// router. A label holds the best walk found so far to a state, which is a router in a leg.
 pub(crate) fn node_of<'a>(table: &'a Table, nodes: &[Node<'a>], label: &Label) -> Node<'a>
     requires arena { AreNodes nodes.now }
     requires parent { label.now.parent < length nodes.now }
@@ -97,8 +96,8 @@ pub(crate) fn node_of<'a>(table: &'a Table, nodes: &[Node<'a>], label: &Label) -
     }
 }
 
-/// Gives the state at the index `at` this label, and puts its key into the heap. A state is a
-/// router in a leg, and a label holds the best walk found so far to a state.
+/// Sets the label of the state at the index `at`, and puts the state's key into the heap. A state
+/// is a router in a leg, and a label holds the best walk found so far to a state.
 pub(crate) fn put(
     labels: &mut [Label],
     heap: &mut BinaryHeap<Waiting, Global>,
@@ -117,11 +116,10 @@ pub(crate) fn put(
     Ok(())
 }
 
-/// Whether a key of the state `at` still counts: it is the key that the present label of the state
-/// gives, and the state isn't in a closed leg. Once all targets of a leg at which a route may go on
-/// to the next leg are settled, this leg and all earlier ones are closed. A state is a router in a
-/// leg, and a label holds the best walk found so far to a state. A leg's targets are the routers
-/// where it may end.
+/// Whether a key of the state at the index `at` still counts: it is the key that the present label
+/// of the state gives, and the state isn't in a closed leg. A leg is closed once all its targets at
+/// which a route may go on to the next leg are settled. A state is a router in a leg, and a label
+/// holds the best walk found so far to a state. A leg's targets are the routers where it may end.
 fn is_live(goal: Goal<'_>, labels: &[Label], key: u64, at: usize) -> bool
     requires within { at < length labels.now }
     requires bounds { length goal.bounds.now ≡ length labels.now }
@@ -131,10 +129,11 @@ fn is_live(goal: Goal<'_>, labels: &[Label], key: u64, at: usize) -> bool
     at >= goal.floor && labels[at].rank == key - lift(goal, at)
 }
 
-/// Takes keys from the heap, and returns the index of the waiting state with the least key. Keys
-/// that aren't those of their state's present label are dropped. So are the keys of states below
-/// the floor, which are in closed legs. A state is a router in a leg, and a label holds the best
-/// walk found so far to a state. The floor is the first index after the states of the closed legs.
+/// Pops keys from the heap up to the first key that still counts, and returns the index of this
+/// key's state. It is the waiting state with the least key. A key no longer counts if its state has
+/// another label now, or if its state is in a closed leg, below the floor. A state is a router in a
+/// leg, and a label holds the best walk found so far to a state. The floor is the first index after
+/// the states of the closed legs.
 pub(crate) fn least(
     table: &Table,
     request: &Request,
@@ -161,8 +160,8 @@ pub(crate) fn least(
     None
 }
 
-/// Drops from the heap the keys of states (routers in legs) in closed legs. These are the states at
-/// indexes below `floor`.
+/// Removes from the heap the keys of states in closed legs: the states at indexes below `floor`. A
+/// state is a router in a leg.
 pub(crate) fn drop_closed(
     alloc: Global,
     heap: &mut BinaryHeap<Waiting, Global>,

@@ -1,4 +1,4 @@
-//! The last link of a walk, as a reference into the table, so that no link is copied.
+//! The last link of a walk, kept as a reference into the table, so that no link is copied.
 
 ghost use Rattle.std.specs.Prelude.{◌≡◌, option_map};
 

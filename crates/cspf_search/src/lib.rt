@@ -1,8 +1,9 @@
-//! The least route of a request in a table's database. A route may begin or end at a router that is
-//! marked as without transit, but it passes through no such router. Three functions compute it.
-//! `best` searches with a heap. `best_by_tree` searches with a heap too, and with a tree that many
-//! requests share. `best_by_rounds` searches round by round. The answer of each function meets
-//! `IsBestAnswer` of `cspf_model`.
+//! Computes the least route of a request in a table's database. A route may begin or end at a
+//! router that is marked as without transit, but it passes through no such router.
+//!
+//! `best` searches with a heap. `best_by_tree` searches with a heap, and with a tree that many
+//! requests share. `best_by_rounds` searches round by round. The answer of each of these functions
+//! meets `IsBestAnswer` of `cspf_model`.
 #![tactic(auto)]
 
 mod arena;

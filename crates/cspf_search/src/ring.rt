@@ -1,4 +1,4 @@
-//! The state of the backward search in one leg. The bounds of the leg are read from it.
+//! The state of the backward search in one leg, from which the bounds of the leg are read.
 
 ghost use Rattle.std.specs.Prelude.{◌≡◌, ◌<◌, ◌≤◌, ℕ, false, IfSome, OnOk, length, set};
 ghost use Rattle.cspf_model.specs.declared.limits.TheConstants.{MOST_ROUTERS};
@@ -17,7 +17,7 @@ type WaitingRouter = Reverse<(u32, u16)>;
 pub(crate) struct Ring {
     /// For each router, the least bound found so far.
     pub(crate) near: Vec<u32>,
-    /// For each router, whether the search has looked at all links that end there.
+    /// For each router, whether the search has looked at all links that end at this router.
     pub(crate) done: Vec<bool>,
     /// The keys of the routers that wait to be settled.
     pub(crate) heap: BinaryHeap<WaitingRouter, Global>,
@@ -28,8 +28,7 @@ pub(crate) struct Ring {
 impl Ring {
     ghost use Rattle.cspf_search.specs.Bounds.{Falls, bound_at, is_done};
 
-    /// The state of a backward search before it begins: the search has looked at no links, and no
-    /// router waits to be settled.
+    /// The state of a backward search before it begins. No router waits to be settled.
     pub(crate) fn new(alloc: Global) -> Result<Self, AllocError> {
         Ok(Ring {
             near: Vec::from_elem(alloc, 0u32, MOST_ROUTERS)?,
@@ -38,8 +37,8 @@ impl Ring {
         })
     }
 
-    /// Resets this state for a new backward search. All bounds are `NO_WAY`, and the heap is empty.
-    /// No router is done: the search has looked at no links.
+    /// Resets this state for a new backward search: all bounds are `NO_WAY`, no router is done, and
+    /// the heap is empty.
     pub(crate) fn clear(&mut self)
         ensures { (w : ℕ) → is_done self.new w ≡ false }
     {
@@ -62,8 +61,8 @@ impl Ring {
         Ok(())
     }
 
-    /// Makes `ahead` the bound of the router `from`, if `ahead` is less than the router's present
-    /// bound. The router then waits to be settled.
+    /// Lowers the bound of the router `from` to `ahead`, if `ahead` is less than this bound. The
+    /// router then waits to be settled.
     pub(crate) fn lower(&mut self, from: u16, ahead: u32) -> Result<(), AllocError>
         requires within { from < MOST_ROUTERS }
         ensures falls { OnOk result (Falls self.old self.new) }
@@ -79,7 +78,7 @@ impl Ring {
         Ok(())
     }
 
-    /// Takes the waiting router with the least bound from the heap, and returns its index.
+    /// Pops the waiting router with the least bound from the heap, and returns its index.
     pub(crate) fn nearest(&mut self) -> Option<usize>
         ensures within { IfSome result (λ at. at < MOST_ROUTERS) }
         ensures bounds { self.new.near ≡ self.old.near }

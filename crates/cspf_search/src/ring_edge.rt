@@ -1,13 +1,13 @@
-//! The edge of a backward search: the least bound of the routers that it hasn't settled.
+//! The edge of a backward search: the least bound of the routers that the search hasn't settled.
 
 ghost use Rattle.std.specs.Prelude.{◌≡◌, ◌<◌, ◌≤◌, ℕ, false, length, slice_index_or};
 ghost use Rattle.cspf_search.specs.Bounds.{bound_at};
 
 use crate::limits::NO_WAY;
 
-/// The least bound among the first `count` routers that aren't done, or `NO_WAY` if all are done.
-/// `near` has the bound of each router. A router is done if its entry in `done` is `true`: the
-/// search has looked at all links that end there.
+/// The least bound of those among the first `count` routers that aren't done, or `NO_WAY` if all
+/// are done. `near` has the bound of each router. `done` says of each router whether the search has
+/// looked at all links that end there.
 pub(crate) fn least_open(near: &[u32], done: &[bool], count: usize) -> u32
     requires bounds { count ≤ length near.now }
     requires marks { count ≤ length done.now }

@@ -1,6 +1,7 @@
-//! One round of the search by rounds. It finds the first of the nodes (records of walks) to which a
-//! link, or a step to the next leg, leads from a settled node. It skips a settled node if a lower
-//! bound shows that all nodes that it leads to come after the best node found so far.
+//! One round of the search by rounds. The settled nodes (records of walks) lead to other nodes, by
+//! links and by steps to the next leg. A round finds the first of these other nodes. It skips a
+//! settled node if a lower bound shows that all nodes that this one leads to come after the best
+//! node found so far.
 
 ghost use Rattle.std.specs.Prelude.{◌≡◌, ◌⊎◌, ◌+◌, ◌-◌, ◌%◌, ◌<◌, ◌↔◌, true, Some, None, IsTrue, length, slice_get, slice_index_or};
 ghost use Rattle.std.specs.Option.{ForSome, IsSomeAnd};
@@ -25,9 +26,9 @@ use cspf_graph::{accepts, may_leave_at};
 use cspf_model::{Link, MOST_ROUTERS, Request};
 use std::cmp::Ordering;
 
-/// Compares two nodes by the cost of their walks, then by the number of links, then by the leg,
-/// then by the local addresses from the first link on. The ranks of the nodes compare the cost and
-/// the number of links at once.
+/// Compares two nodes by the cost of their walks, then by the number of links, then by the leg, and
+/// then by the local addresses, beginning at the first links. The rank of a node packs the cost and
+/// the number of links into one number. A node is the record of a walk.
 fn compare<'a>(nodes: &[Node<'a>], a: &Node<'a>, b: &Node<'a>) -> Ordering
     requires arena { AreNodes nodes.now }
     requires first { IsNext nodes.now a.now }
@@ -42,8 +43,8 @@ fn compare<'a>(nodes: &[Node<'a>], a: &Node<'a>, b: &Node<'a>) -> Ordering
     locals(nodes, a, b)
 }
 
-/// Whether there is a best node so far whose rank is lower than `rank`. A node is the record of a
-/// walk, and a walk's rank is its cost and its number of links as one number.
+/// Whether the best node so far, if there is one, has a lower rank than `rank`. A node is the
+/// record of a walk, and a walk's rank packs its cost and its number of links into one number.
 fn is_late(best: &Option<Node<'_>>, rank: u64) -> bool
     ensures { IsTrue result ↔ IsSomeAnd best.now (λ kept. kept.rank < rank) }
 {
@@ -53,7 +54,7 @@ fn is_late(best: &Option<Node<'_>>, rank: u64) -> bool
     }
 }
 
-/// Keeps the node (the record of a walk) as the best one, if it comes before the best one so far.
+/// If the node (the record of a walk) precedes the best node so far, keeps it as the best node.
 fn keep<'a>(nodes: &[Node<'a>], best: &mut Option<Node<'a>>, node: Node<'a>)
     requires arena { AreNodes nodes.now }
     requires first { ForSome best.old (IsNext nodes.now) }
@@ -74,10 +75,10 @@ pub(crate) struct Round<'a, 'b> {
     pub(crate) query: Query<'b>,
     /// The settled nodes (records of walks).
     pub(crate) nodes: &'a [Node<'b>],
-    /// The forward star of each settled node (the record of a walk), which has the links from the
-    /// node's router.
+    /// The forward star of each settled node. A forward star has the links from the node's router,
+    /// and a node is the record of a walk.
     pub(crate) stars: &'a [ForwardStar<'b>],
-    /// For each state, which is a router in a leg, whether the search has settled it.
+    /// For each state (a router in a leg), whether the search has settled it.
     pub(crate) marks: &'a [bool],
 }
 
@@ -87,19 +88,19 @@ struct Look<'a, 'b> {
     query: Query<'b>,
     /// The settled nodes (records of walks).
     nodes: &'a [Node<'b>],
-    /// For each state, which is a router in a leg, whether the search has settled it.
+    /// For each state (a router in a leg), whether the search has settled it.
     marks: &'a [bool],
-    /// The index, among the settled nodes (records of walks), of the node from which the round
-    /// looks.
+    /// The index, among the settled nodes, of the node from which the round looks. A node is the
+    /// record of a walk.
     at: usize,
     /// The forward star of the node (the record of a walk) from which the round looks.
     star: ForwardStar<'b>,
 }
 
-/// The node that the step to the next leg at the same router leads to from the node of `look`.
-/// There is none in the last leg, or if the router of the node of `look` isn't a target of its leg.
-/// There is none either if the state of this router in the next leg is already settled. A node is
-/// the record of a walk, and a leg's targets are the routers where it may end.
+/// The node that the node of `look` leads to by the step to the next leg at the same router. The
+/// result is `None` in the last leg, or if a route may not go on to the next leg at this router. It
+/// is also `None` if the state of this router in the next leg is settled already. A state is a
+/// router in a leg, and a node is the record of a walk.
 fn look_at_turn<'b>(look: Look<'_, 'b>) -> Option<Node<'b>>
     requires look { IsLook look }
     ensures { IsFirst look.entry.nodes.now (LeadsToRow look.entry 0) result }
@@ -125,10 +126,11 @@ fn look_at_turn<'b>(look: Look<'_, 'b>) -> Option<Node<'b>>
     })
 }
 
-/// The link leads to a node. Keeps this node as the best one if it comes before the best node so far.
-/// The request has to admit the link, and a route has to be allowed to enter the router at the
-/// link's end. The walk of the node of `look` may leave its router, and the state at the link's end
-/// isn't settled. A state is a router in a leg, and a node is the record of a walk.
+/// Keeps the node at the link's end as the best one, if it precedes the best node so far. The node
+/// counts only if the request admits the link, the link has a reverse, and a route may enter the
+/// router at the link's end. The function requires that the walk of the node of `look` may leave
+/// its router, and that the state at the link's end isn't settled. A state is a router in a leg,
+/// and a node is the record of a walk.
 fn look_at_link<'b>(look: Look<'_, 'b>, edge: Edge<'b>, best: &mut Option<Node<'b>>)
     requires look { IsLook look }
     requires leaves { NodeMayLeave look.query.table.now look.nodes.now look.at look.star.state }
@@ -164,10 +166,11 @@ fn look_at_link<'b>(look: Look<'_, 'b>, edge: Edge<'b>, best: &mut Option<Node<'
     keep(nodes, best, node);
 }
 
-/// The link at the index `row` leads to a node. Keeps this node as the best one if it comes before
-/// the best node so far. It does so only if the state at the link's end isn't settled, the request
-/// admits the link, and a route may enter the router there. The walk of the node of `look` may
-/// leave its router. A state is a router in a leg, and a node is the record of a walk.
+/// Keeps the node at the end of the link at the index `row` as the best one, if it precedes the
+/// best node so far. The node counts only if its state isn't settled, the request may use the link,
+/// and a route may enter the router at the link's end. The function requires that the walk of the
+/// node of `look` may leave its router. A state is a router in a leg, and a node is the record of a
+/// walk.
 fn look_at_row<'b>(look: Look<'_, 'b>, row: usize, best: &mut Option<Node<'b>>)
     requires look { IsLook look }
     requires leaves { NodeMayLeave look.query.table.now look.nodes.now look.at look.star.state }
@@ -193,7 +196,7 @@ fn look_at_row<'b>(look: Look<'_, 'b>, row: usize, best: &mut Option<Node<'b>>)
 }
 
 /// The first of the nodes that the node of `look` leads to, by the step to the next leg at the same
-/// router or by a link. A link counts only if the node's walk may leave its router. A node is the
+/// router or by a link. Links count only if the node's walk may leave its router. A node is the
 /// record of a walk.
 fn look_from<'b>(look: Look<'_, 'b>) -> Option<Node<'b>>
     requires look { IsLook look }
@@ -213,8 +216,8 @@ fn look_from<'b>(look: Look<'_, 'b>) -> Option<Node<'b>>
     best
 }
 
-/// The rank of the node, or a number above all ranks if there is no node. A node is the record of a
-/// walk, and a walk's rank is its cost and its number of links as one number.
+/// The rank of the node, or a number above all ranks if no node is given. A node is the record of a
+/// walk, and a walk's rank packs its cost and its number of links into one number.
 fn low_of(found: &Option<Node<'_>>) -> u64
     ensures { result ≡ low_of found.now }
 {
@@ -224,17 +227,18 @@ fn low_of(found: &Option<Node<'_>>) -> u64
     }
 }
 
-/// Whether a settled node can be skipped: it leads to no node, or only to nodes that come after the
-/// best one. `low` is a lower bound of the ranks of the nodes that it leads to. A node is the
-/// record of a walk, and a walk's rank is its cost and its number of links as one number.
+/// Whether a round can skip a settled node, because this node leads to no other node, or only to
+/// nodes that come after the best node so far. `low` is a lower bound of the ranks of the nodes
+/// that the settled node leads to. A node is the record of a walk, and a walk's rank packs its cost
+/// and its number of links into one number.
 fn is_passed(best: &Option<Node<'_>>, low: u64) -> bool
     ensures { result ≡ true → (low ≡ no_rank) ⊎ (low_of best.now < low) }
 {
     low == u64::MAX || low_of(best) < low
 }
 
-/// If a node (the record of a walk) was found, and it comes before the best one so far, keeps it as
-/// the best one.
+/// If there is a node `found` (the record of a walk), and it precedes the best node so far, keeps
+/// it as the best node.
 fn keep_found<'a>(nodes: &[Node<'a>], best: &mut Option<Node<'a>>, found: Option<Node<'a>>)
     requires arena { AreNodes nodes.now }
     requires first { ForSome best.old (IsNext nodes.now) }
@@ -246,10 +250,10 @@ fn keep_found<'a>(nodes: &[Node<'a>], best: &mut Option<Node<'a>>, found: Option
     }
 }
 
-/// The first of all nodes to which a link, or a step to the next leg, leads from a settled node.
-/// Before and after the call, `lows` has, for each settled node, a lower bound of the ranks of the
-/// nodes that it leads to. A node is the record of a walk, and a walk's rank is its cost and its
-/// number of links as one number.
+/// The first of all nodes that the settled nodes lead to, by a link or by the step to the next leg.
+/// `lows` has, for each settled node, a lower bound of the ranks of the nodes that this node leads
+/// to. The call updates these bounds. A node is the record of a walk, and a walk's rank packs its
+/// cost and its number of links into one number.
 pub(crate) fn first<'b>(round: Round<'_, 'b>, lows: &mut Vec<u64>) -> Option<Node<'b>>
     requires round { IsRound round }
     requires lows { AreLows round.query.table.now round.query.request.now round.nodes.now lows.old.items }

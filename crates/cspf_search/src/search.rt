@@ -1,5 +1,5 @@
-//! The two searches: `settled` searches round by round, and `reached` with a heap. Also the outcome
-//! of a request, which follows from the best walks that a search has settled.
+//! The two searches: `settled` searches round by round, and `reached` searches with a heap. This
+//! module also makes the outcome of a request from the walks that a search has settled.
 
 ghost use Rattle.cspf_search.specs.Bounds.{bound_at};
 ghost use Rattle.cspf_model.specs.declared.limits.TheConstants.{MOST_ROUTE_LINKS};
@@ -40,8 +40,8 @@ use cspf_model::{MOST_ROUTERS, Outcome, Request, Route};
 use std::alloc::{AllocError, Global};
 use std::collections::BinaryHeap;
 
-/// The nodes at the start of a search. There is one node: the head-end in the first leg, with a
-/// walk without links.
+/// The list of nodes at the start of a search. It has one node: the head-end in the first leg, with
+/// a walk without links.
 fn rooted<'a>(alloc: Global, request: &'a Request) -> Result<Vec<Node<'a>>, AllocError>
     ensures { IfOk result (λ nodes. nodes.items ≡ root_of request.now ∷ []) }
 {
@@ -57,10 +57,9 @@ fn rooted<'a>(alloc: Global, request: &'a Request) -> Result<Vec<Node<'a>>, Allo
     Ok(nodes)
 }
 
-/// The node (the record of a walk) to settle next: the best walk to a state, which is a router in a
-/// leg. There is none if the tail-end is settled in the last leg. There is none either if neither a
-/// link nor a step to the next leg at the same router leads from a settled state to an unsettled
-/// one.
+/// The node (the record of a walk) to settle next. The result is `None` if the search is finished:
+/// the tail-end is settled in the last leg, or no link and no step to the next leg leads from a
+/// settled state to a state that isn't settled. A state is a router in a leg.
 fn next<'b>(round: Round<'_, 'b>, lows: &mut Vec<u64>) -> Option<Node<'b>>
     requires round { IsRound round }
     requires lows { AreLows round.query.table.now round.query.request.now round.nodes.now lows.old.items }
@@ -78,8 +77,8 @@ fn next<'b>(round: Round<'_, 'b>, lows: &mut Vec<u64>) -> Option<Node<'b>>
 }
 
 /// All nodes that the search by rounds settles. The search ends when the tail-end is settled in the
-/// last leg. It also ends when no further state can be reached, by a link or by going from one leg
-/// to the next. A state is a router in a leg, and a node is the record of a walk.
+/// last leg, or when no further state can be reached. A state is a router in a leg, and a node is
+/// the record of a walk.
 fn settled<'a>(alloc: Global, query: Query<'a>) -> Result<Vec<Node<'a>>, AllocError>
     requires query { IsQuery query }
     requires known { IsRouterOf query.table.now query.request.now.from }
@@ -122,8 +121,8 @@ fn route_to(alloc: Global, nodes: &[Node<'_>], at: usize) -> Result<Route, Alloc
     Ok(Route::new(links, cost_at(nodes, at)))
 }
 
-/// Whether the bounds rule out every way from the state at the index `at` (a router in a leg) to
-/// the tail-end.
+/// Whether the bound of the state at the index `at` (a router in a leg) says that the tail-end
+/// can't be reached from there.
 fn is_shut(goal: Goal<'_>, at: usize) -> bool
     requires { at < length goal.bounds.now }
     ensures { result ≡ true → bound_at goal.entry.bounds.now at ≡ NO_WAY }
@@ -131,9 +130,9 @@ fn is_shut(goal: Goal<'_>, at: usize) -> bool
     goal.bounds[at] == NO_WAY
 }
 
-/// The floor after the state at the index `at` (a router in a leg) is settled: all states at
-/// indexes below it are in closed legs. If the floor rises, the keys of the states below it are
-/// dropped from the heap.
+/// The floor after the state at the index `at` (a router in a leg) is settled. All states at
+/// indexes below the floor are in closed legs. If the floor rises, the function drops the keys of
+/// these states from the heap.
 fn close(
     alloc: Global,
     query: Query<'_>,
@@ -158,10 +157,10 @@ fn close(
     Ok(next)
 }
 
-/// All nodes (records of walks) that the search with a heap settles. If the bounds rule out every
-/// way from the head-end, only the head-end is settled. `from` and `to` are the indexes of the
-/// head-end and the tail-end in the list of routers. A tree, if there is one, gives the bounds in
-/// the last leg.
+/// All nodes (records of walks) that the search with a heap settles. If the bound of the head-end
+/// says that the tail-end can't be reached, only the head-end is settled. `from` and `to` are the
+/// indexes of the head-end and the tail-end in the list of routers. If a tree is given, the bounds
+/// in the last leg come from this tree.
 fn reached<'a>(
     alloc: Global,
     query: Query<'a>,
@@ -203,7 +202,7 @@ fn reached<'a>(
     Ok(nodes)
 }
 
-/// The outcome that follows from the nodes (records of walks) that a search has settled.
+/// The outcome of the request, from the nodes (records of walks) that a search has settled.
 fn answer(alloc: Global, query: Query<'_>, nodes: &[Node<'_>]) -> Result<Outcome, AllocError>
     requires query { IsQuery query }
     requires ends { HasEnds query.table.now query.request.now }
@@ -217,8 +216,9 @@ fn answer(alloc: Global, query: Query<'_>, nodes: &[Node<'_>]) -> Result<Outcome
     Ok(Outcome::Route(route_to(alloc, nodes, at)?))
 }
 
-/// All nodes (records of walks) that a search settles. This is the search by rounds if `by_rounds`
-/// is true. Otherwise it is the search with a heap, which uses the tree if there is one.
+/// All nodes (records of walks) that a search settles. If `by_rounds` is true, the nodes come from
+/// the search by rounds. Otherwise they come from the search with a heap, which uses the tree if
+/// one is given.
 fn searched<'a>(
     alloc: Global,
     query: Query<'a>,
@@ -241,9 +241,10 @@ fn searched<'a>(
     }
 }
 
-/// The best answer to a request in the table's database. If a tree is given and it alone gives the
-/// least route, nothing is searched. Otherwise the answer is found by rounds if `by_rounds` is
-/// true, and else with a heap and the tree, if one is given.
+/// The best answer to a request in the table's database. If a tree is given, and the route follows
+/// from the tree alone, nothing is searched. Otherwise the answer comes from the search by rounds
+/// if `by_rounds` is true, and else from the search with a heap, which uses the tree if one is
+/// given.
 fn best_by(
     alloc: Global,
     table: &Table,
@@ -278,11 +279,12 @@ fn best_by(
 }
 
 /// The best answer to a request in the table's database (RFC 2702 7). The answer is `UnknownFrom`
-/// if the database doesn't have the head-end, and otherwise `UnknownTo` if it doesn't have the
-/// tail-end. Otherwise it is the route that comes before all others, or `NoRoute` if there is no
-/// route. A route is a walk of admissible links that passes through no router without transit (RFC
-/// 6987). The hops of the request cut the route into legs (RFC 3209 4.3.3). A state is a router in
-/// a leg, and the search settles states with a heap.
+/// if the head-end isn't in the database, and else `UnknownTo` if the tail-end isn't. Otherwise it
+/// is the least route, or `NoRoute` if there is no route.
+///
+/// A route is a walk of admissible links that passes through no router without transit (RFC 6987).
+/// The hops of the request cut the route into legs (RFC 3209 4.3.3). A state is a router in a leg,
+/// and the search settles states with a heap.
 pub fn best(alloc: Global, table: &Table, request: &Request) -> Result<Outcome, AllocError>
     ensures { IfOk result (λ outcome.
         IsBestAnswer table.now request.now (answer_of outcome)) }
@@ -291,8 +293,8 @@ pub fn best(alloc: Global, table: &Table, request: &Request) -> Result<Outcome, 
 }
 
 /// The answer of `best`, computed with a tree. `Tree::grow` makes the tree for the request's
-/// tail-end and affinities in the same database. If the request has no hops, the bounds of the tree
-/// may already give the least route, and then nothing is searched. Otherwise the search uses these
+/// tail-end and affinities in the same database. If the request has no hops, the least route may
+/// follow from the tree alone, and then nothing is searched. Otherwise the search uses the tree's
 /// bounds in the last leg, so it settles fewer routers.
 pub fn best_by_tree(
     alloc: Global,
@@ -307,9 +309,9 @@ pub fn best_by_tree(
     best_by(alloc, table, request, false, Some(tree))
 }
 
-/// The answer of `best`, computed by a slower and simpler search. Each round settles the first of
-/// all states (routers in legs) to which a link, or a step to the next leg, leads from a settled
-/// state.
+/// The answer of `best`, computed by a slower and simpler search. Each round settles one state: the
+/// first of all states that a link, or a step to the next leg, leads to from a settled state. A
+/// state is a router in a leg.
 pub fn best_by_rounds(
     alloc: Global,
     table: &Table,

@@ -1,4 +1,5 @@
-//! Strict legs that no route can pass. If a request has such a leg, nothing is searched.
+//! Strict legs that no route can pass. If a request has such a leg, it has no route, and the search
+//! with a heap settles only the head-end.
 
 ghost use Rattle.std.specs.Prelude.{◌≡◌, ◌<◌, true, false, IfSome, length};
 ghost use Rattle.cspf_db.specs.Index.{router_list};
@@ -39,8 +40,8 @@ fn joins(query: Query<'_>, leg_index: usize, place: u16) -> bool
     false
 }
 
-/// Whether the leg to a hop is strict and no route can pass it. `starts` are the routers at which
-/// the leg begins, by their indexes in the list of routers.
+/// Whether the leg to the hop at the index `leg_index` is strict and no route can pass it. `starts`
+/// are the routers at which the leg begins, by their indexes in the list of routers.
 pub(crate) fn is_broken(query: Query<'_>, leg_index: usize, starts: &[u16]) -> bool
     requires query { IsQuery query }
     requires leg { leg_index < length query.request.now.hops }
@@ -58,8 +59,9 @@ pub(crate) fn is_broken(query: Query<'_>, leg_index: usize, starts: &[u16]) -> b
     true
 }
 
-/// The routers at which the leg to a hop begins, by their indexes in the list of routers. The first
-/// leg begins at the head-end, and each other leg at the targets of the leg before it.
+/// The routers at which the leg to the hop at the index `leg_index` begins, by their indexes in the
+/// list of routers. The first leg begins at the head-end, and each other leg begins at the targets
+/// of the leg before it. A leg's targets are the routers where it may end.
 pub(crate) fn starts_of<'a>(query: Query<'a>, head: &'a [u16], leg_index: usize) -> &'a [u16]
     requires query { IsQuery query }
     requires head { AreTargetsOf query.table.now query.request.now 0 head.now }
@@ -73,8 +75,8 @@ pub(crate) fn starts_of<'a>(query: Query<'a>, head: &'a [u16], leg_index: usize)
     }
 }
 
-/// The index of the hop of the first strict leg that no route can pass. `head` has one item: the
-/// index of the head-end in the list of routers.
+/// The index of the first hop whose leg is strict and can't be passed by any route. `head` has one
+/// element: the index of the head-end in the list of routers.
 pub(crate) fn first_broken(query: Query<'_>, head: &[u16]) -> Option<usize>
     requires query { IsQuery query }
     requires head { AreTargetsOf query.table.now query.request.now 0 head.now }

@@ -11,9 +11,10 @@ use cspf_graph::listed;
 use cspf_model::{MOST_ROUTERS, Request};
 use std::alloc::{AllocError, Global};
 
-/// For each router, a lower bound of the cost from there to one tail-end. It holds for ways over
-/// links that pass the affinities of the tree, whatever their unreserved bandwidth is. For the ways
-/// that cost no more than this bound, the tree also has a lower bound of their number of links.
+/// For each router, a lower bound of the cost from this router to one tail-end. The bound holds for
+/// all ways over links that pass the affinities of the tree, whatever bandwidth these links have
+/// left. For ways that cost no more than the bound, the tree also has a lower bound of their number
+/// of links.
 #[derive(Drop)]
 pub struct Tree {
     /// For each router, the least cost to the tail-end that the search found, or `NO_WAY`.
@@ -34,8 +35,9 @@ impl Tree {
     ghost use Rattle.cspf_model.specs.Database.{IsRouterOf};
     ghost use Rattle.cspf_search.specs.Trees.{IsTree, ShareTrees, tree_bound, tree_links};
 
-    /// The tree for the tail-end and the affinities of a request, or none if no link begins or ends
-    /// at the tail-end. All requests with this tail-end and these affinities share the tree.
+    /// The tree for the tail-end and the affinities of a request. The result is `None` if no link
+    /// begins or ends at the tail-end. All requests with this tail-end and these affinities share
+    /// the tree.
     pub fn grow(alloc: Global, table: &Table, request: &Request) -> Result<Option<Tree>, AllocError>
         ensures known { IfOk result (λ grown. IfSome grown (λ tree. (r : Asked)
             → ShareTrees request.now r → IsTree table.now r tree)) }
@@ -68,10 +70,9 @@ impl Tree {
         self.near[place].min(self.edge)
     }
 
-    /// Take each way from the router at the index `place` to the tail-end, if this way costs no
-    /// more than the router's bound. The result is a lower bound of the number of links of these
-    /// ways. It is 0 if the router's bound is the edge, the least cost of the routers that the
-    /// search hasn't settled.
+    /// A lower bound of the number of links of certain ways from the router at the index `place` to
+    /// the tail-end: those that cost no more than the router's bound. It is 0 if the router's bound
+    /// is the edge, the least cost of the routers that the search hasn't settled.
     pub(crate) fn least_links(&self, place: usize) -> u16
         requires { place < MOST_ROUTERS }
         ensures { result ≡ tree_links self.now place }

@@ -1,5 +1,5 @@
 //! The state of the backward search that grows a tree. The waiting routers are ordered by cost, and
-//! at the same cost by their number of links.
+//! then by their number of links.
 
 ghost use Rattle.std.specs.Prelude.{◌≡◌, ◌<◌, ◌≤◌, ℕ, true, false, IfOk, IfSome, OnOk, length};
 ghost use Rattle.cspf_model.specs.declared.limits.TheConstants.{MOST_ROUTERS};
@@ -19,9 +19,9 @@ type RankedRouter = Reverse<(u32, u16, u16)>;
 pub(crate) struct TreeRing {
     /// For each router, the least cost to the tail-end found so far, or `NO_WAY`.
     pub(crate) near: Vec<u32>,
-    /// For each router, the least number of links found so far for a way of the cost in `near`.
+    /// For each router, the least number of links found so far for a way with the cost in `near`.
     pub(crate) links: Vec<u16>,
-    /// For each router, whether the search has looked at all links that end there.
+    /// For each router, whether the search has looked at all links that end at this router.
     pub(crate) done: Vec<bool>,
     /// The keys of the routers that wait to be settled.
     heap: BinaryHeap<RankedRouter, Global>,
@@ -34,8 +34,8 @@ impl TreeRing {
     ghost use Rattle.cspf_search.specs.Bounds.{bound_at};
     ghost use Rattle.cspf_search.specs.TreeSteps.{IsAsNear, TreeFalls, is_settled_there};
 
-    /// The state of a search that has looked at no links yet. Only the tail-end, whose index is
-    /// `to`, waits to be settled, with the cost 0 and no links. No other router has a way yet.
+    /// The state of a search before it looks at any link. Only the tail-end, whose index is `to`,
+    /// waits to be settled, with the cost 0 and no links. All other routers have the cost `NO_WAY`.
     pub(crate) fn begin(alloc: Global, to: usize) -> Result<Self, AllocError>
         requires { to < MOST_ROUTERS }
         ensures none { IfOk result (λ ring. (w : ℕ) → is_settled_there ring w ≡ false) }
@@ -53,8 +53,8 @@ impl TreeRing {
         Ok(ring)
     }
 
-    /// Whether the router `at` has a way to the tail-end that costs less than `ahead`, or one that
-    /// costs `ahead` and has at most `count` links.
+    /// Whether the router at the index `at` has a way to the tail-end that costs less than `ahead`,
+    /// or a way that costs `ahead` and has at most `count` links.
     pub(crate) fn is_as_near(&self, at: usize, ahead: u32, count: u16) -> bool
         requires { at < MOST_ROUTERS }
         ensures near { result ≡ true → IsAsNear self.now at ahead count }
@@ -65,9 +65,9 @@ impl TreeRing {
         near < ahead || (near == ahead && self.links[at] <= count)
     }
 
-    /// Gives the router `from` a way of the cost `ahead` with `count` links. Nothing changes if
-    /// this router already has a way that costs less, or one of the same cost with at most as many
-    /// links. If the router gets this way, it waits to be settled.
+    /// Offers the router `from` a way of `count` links with the cost `ahead`. If this way is better
+    /// than the router's present way, the router gets it, and then waits to be settled. It is
+    /// better if it costs less, or if it costs the same and has fewer links.
     pub(crate) fn lower(&mut self, from: u16, ahead: u32, count: u16) -> Result<(), AllocError>
         requires within { from < MOST_ROUTERS }
         ensures falls { OnOk result (TreeFalls self.old self.new) }
@@ -84,7 +84,7 @@ impl TreeRing {
         Ok(())
     }
 
-    /// Takes the first of the waiting routers from the heap, and returns its index.
+    /// Pops the first of the waiting routers from the heap, and returns its index.
     pub(crate) fn nearest(&mut self) -> Option<usize>
         ensures within { IfSome result (λ at. at < MOST_ROUTERS) }
         ensures bounds { self.new.near ≡ self.old.near }

@@ -1,5 +1,6 @@
-//! Grows a tree by a search that goes from the tail-end against the direction of the links, and
-//! settles all routers. The search uses a link if the link has a reverse and passes the affinities.
+//! Grows a tree by a backward search: it starts at the tail-end, follows the links against their
+//! direction, and settles all routers. The search uses a link only if the link has a reverse and
+//! passes the affinities.
 
 ghost use Rattle.std.specs.Prelude.{◌≡◌, ◌≢◌, ◌<◌, ◌↔◌, ℕ, IsTrue, OnOk, length, slice_index};
 ghost use Rattle.cspf_columns.specs.declared.limits.TheConstants.{NO_LINK};
@@ -17,10 +18,10 @@ use cspf_graph::accepts;
 use cspf_model::{MOST_ROUTERS, Request};
 use std::alloc::AllocError;
 
-/// Offers the router `from` a way that begins with a link to a router whose cost to the tail-end is
-/// `base`. The way has `count` links. `reverse` is the index of the link, or `NO_LINK` if there is
-/// no such link. Nothing is offered if the link doesn't pass the affinities of `any`, a request for
-/// no bandwidth.
+/// Offers the router `from` a way of `count` links to the tail-end. The way begins with the link at
+/// the index `reverse`, which leads to a router whose cost to the tail-end is `base`. If `reverse`
+/// is `NO_LINK`, or the link doesn't pass the affinities of `any`, nothing is offered. `any` is a
+/// request for no bandwidth.
 fn pass(
     table: &Table,
     any: &Request,
@@ -49,9 +50,9 @@ fn pass(
     ring.lower(from, ahead, count)
 }
 
-/// Offers, to each router that has a link to the router `to`, the way over this link. The way has
-/// `count` links, and its part after `to` costs `base`. The links that end at `to` are the reverses
-/// of the links from `to`.
+/// Offers to each router with a link to the router `to` the way over this link. This way has
+/// `count` links, and the part from `to` on costs `base`. The function finds these links as the
+/// reverses of the links from `to`.
 fn walk(
     table: &Table,
     any: &Request,
@@ -75,7 +76,7 @@ fn walk(
     Ok(())
 }
 
-/// Whether a way to the tail-end may lead over the router `to`, or may end there.
+/// Whether a way to the tail-end may lead over the router `to` or end there.
 pub(crate) fn may_lead_over(table: &Table, any: &Request, to: usize) -> bool
     requires { to < length (router_list table.now) }
     ensures { IsTrue result
@@ -84,8 +85,8 @@ pub(crate) fn may_lead_over(table: &Table, any: &Request, to: usize) -> bool
     table.transit_at(to) || table.routers()[to] == any.to
 }
 
-/// Looks at all links that end at the router `to`. Each router where such a link begins is offered
-/// the way over this link. The function looks at no link if no way may lead over `to`.
+/// Looks at all links that end at the router `to`, and offers the router at the start of each link
+/// the way over this link. If no way may lead over `to`, the function looks at no link.
 fn take(table: &Table, any: &Request, to: usize, ring: &mut TreeRing) -> Result<(), AllocError>
     requires any { any.now.bandwidth ≡ 0 }
     requires listed { AreListed table.now }
@@ -108,8 +109,7 @@ fn take(table: &Table, any: &Request, to: usize, ring: &mut TreeRing) -> Result<
     Ok(())
 }
 
-/// Settles all waiting routers: those of the least cost first, and at the same cost those with the
-/// fewest links first.
+/// Settles all waiting routers, in the order of their costs, and then of their numbers of links.
 pub(crate) fn settle(table: &Table, any: &Request, ring: &mut TreeRing) -> Result<(), AllocError>
     requires any { any.now.bandwidth ≡ 0 }
     requires listed { AreListed table.now }

@@ -1,10 +1,12 @@
-//! The route that the bounds of a tree give without a search. A link that the request may use is
-//! *tight* if two things hold. From its router to its end the bound falls by exactly its metric,
-//! and the number of links falls by exactly one. Take a route that costs no more than the
-//! head-end's bound, and has no more links than the tree's number of links for the head-end. All
-//! links of such a route are tight. Where two such routes part, the link that comes earlier in the
-//! table has the lower local address, so its route comes first. So the walk over the first tight
-//! link of each router is the least route, if it leads to the tail-end.
+//! The route that follows from a tree without a search. A link that the request may use is *tight*
+//! if two things hold. From the link's start to its end, the tree's bound falls by exactly the
+//! link's metric, and the tree's number of links falls by exactly one.
+//!
+//! If a route costs no more than the head-end's bound, and has no more links than the tree gives
+//! for the head-end, all its links are tight. If two such routes part at a router, the link that
+//! comes earlier in the table has the lower local address, so its route comes first. So the walk
+//! that follows the first tight link from each router is the least route, if it leads to the
+//! tail-end.
 
 ghost use Rattle.std.specs.Prelude.{◌≡◌, ◌<◌, ◌↔◌, IfOk, IfSome, IsTrue, length};
 ghost use Rattle.cspf_model.specs.Best.{IsBestRoute};
@@ -24,9 +26,10 @@ use cspf_graph::accepts;
 use cspf_model::{Request, Route};
 use std::alloc::{AllocError, Global};
 
-/// Whether a link from the router at the index `place` is tight for the request. A link is tight if
-/// the request may use it, the tree's bound falls over it by exactly its metric, and the number of
-/// links by one. The bounds are compared first, because they rule out most links.
+/// Whether a link from the router at the index `place` is tight for the request: the request may
+/// use the link, and from its start to its end, the tree's bound falls by exactly the link's
+/// metric, and the tree's number of links falls by one. The bounds are compared first, because this
+/// rules out most links.
 fn is_tight(table: &Table, request: &Request, tree: &Tree, place: usize, edge: Edge<'_>) -> bool
     requires listed { AreListed table.now }
     requires links { AreLinksOf table.now (links_of table.now) }
@@ -46,9 +49,9 @@ fn is_tight(table: &Table, request: &Request, tree: &Tree, place: usize, edge: E
     accepts(edge.link, request) && may_lead_over(table, request, edge.end)
 }
 
-/// The first link from the router at the index `place` that is tight, if there is one. A link is
-/// tight if the request may use it, the bound falls over it by exactly its metric, and the number
-/// of links by one.
+/// The first tight link from the router at the index `place`, if there is one. A link is tight if
+/// the request may use it, and from its start to its end, the tree's bound falls by exactly the
+/// link's metric, and the tree's number of links falls by one.
 fn tight_from<'a>(
     table: &'a Table,
     request: &Request,
@@ -81,10 +84,11 @@ fn tight_from<'a>(
     None
 }
 
-/// The route over the first tight link of each router, from the head-end on. A link is tight if the
-/// tree's bound falls over it by exactly its metric, and the number of links by one. There is no
-/// route if these links don't lead to the tail-end. The request has no hops. `from` and `to` are
-/// the indexes of the head-end and the tail-end in the list of routers.
+/// The route that follows the first tight link from each router, beginning at the head-end. The
+/// request must have no hops. The result is `None` if these links don't lead to the tail-end. A
+/// link is tight if the tree's bound falls by exactly the link's metric from its start to its end,
+/// and the tree's number of links falls by one. `from` and `to` are the indexes of the head-end and
+/// the tail-end in the list of routers.
 fn follow(
     alloc: Global,
     table: &Table,
@@ -101,8 +105,7 @@ fn follow(
     requires to { IsIndexOf table.now request.now.to to }
     ensures { IfOk result (λ found. IfSome found (IsBestRoute table.now request.now)) }
 {
-    // The contract of `links` says that the links of a router are in order of their local
-    // addresses.
+    // The contract of `links` says that the links of a router are sorted by their local addresses.
     let _rows = table.links();
     let mut links = Vec::with_capacity(alloc, ROOM_FOR_LINKS)?;
     let mut place = from;
@@ -122,9 +125,10 @@ fn follow(
     Ok(None)
 }
 
-/// The least route of a request without hops, if a tree for its tail-end and affinities gives it
-/// without a search. If the request has hops or there is no tree, the result is `None`. `from` and
-/// `to` are the indexes of the head-end and the tail-end in the list of routers.
+/// The least route of a request without hops, if it follows from a tree for the request's tail-end
+/// and affinities. The result is `None` if it doesn't follow, if the request has hops, or if there
+/// is no tree. `from` and `to` are the indexes of the head-end and the tail-end in the list of
+/// routers.
 pub(crate) fn walk_by_tree(
     alloc: Global,
     table: &Table,

@@ -1,4 +1,4 @@
--- How two walks compare if each of them is made of two walks, one after the other.
+-- How two walks compare if each of them consists of two walks, one after the other.
 use Rattle.std.proofs.Common.{◌≡◌, ◌≢◌, inl, inr, ℕ, ◌+◌, ◌<◌, ◌⊎◌, List, [], ◌∷◌, ◌++◌, length, refl, sym, ap, ◌∙◌, arith, length-append}
 use Rattle.std.specs.Ordering.{nat_cmp, ordering_then}
 use Rattle.std.specs.declared.cmp.Ordering.{Ordering}
@@ -22,8 +22,8 @@ neither_less Less p first second = absurd (first refl)
 neither_less Equal p first second = second
 neither_less Greater p first second = first
 
--- If `ordering_then` of two comparisons isn't `Less`, the first is `Greater`, or the first is
--- `Equal` and the second isn't `Less`.
+-- Of two comparisons in sequence, `p` decides only if `o` is `Equal`. If the result isn't `Less`,
+-- either `o` is `Greater`, or `o` is `Equal` and `p` isn't `Less`.
 greater_or_tied : (o p : Ordering) → ordering_then o p ≢ Less → (o ≡ Greater) ⊎ ((o ≡ Equal) × (p ≢ Less))
 greater_or_tied Less p h = absurd (h refl)
 greater_or_tied Equal p h = inr (refl, h)
@@ -35,8 +35,8 @@ above a b h = grind (arith, nat_tests)
 level : (a b : ℕ) → nat_cmp a b ≡ Equal → a ≡ b
 level a b h = grind (arith, nat_tests)
 
--- A walk with cost `a` and `m` links doesn't come before a walk with cost `b` and `n` links. `o` is
--- the last comparison, which decides if both the costs and the numbers of links are equal.
+-- A walk with cost `a` and `m` links doesn't precede a walk with cost `b` and `n` links. If both
+-- costs are equal, and both numbers of links are equal, the comparison `o` decides.
 abbrev IsNoEarlier : ℕ → ℕ → ℕ → ℕ → Ordering → Type 0
 IsNoEarlier a b m n o = (b < a) ⊎ ((a ≡ b) × ((n < m) ⊎ ((m ≡ n) × (o ≢ Less))))
 
@@ -68,10 +68,10 @@ ties a b e = grind (arith, nat_tests)
 by_last : (a b m n : ℕ) (o : Ordering) → a ≡ b → m ≡ n → o ≢ Less → ordering_then (nat_cmp a b) (ordering_then (nat_cmp m n) o) ≢ Less
 by_last a b m n o e f h = unless_less (nat_cmp a b) (ordering_then (nat_cmp m n) o) (ties a b e) (unless_less (nat_cmp m n) o (ties m n f) h)
 
--- Two pairs of walks are compared, each pair as one walk after the other. If neither walk of the
--- first pair comes before its counterpart in the second, the first pair doesn't come before the
--- second pair. The last comparison `r` decides only if the costs and the numbers of links are
--- equal.
+-- Two pairs of walks are compared, each pair as one longer walk. If no walk of the first pair
+-- precedes the walk in the same position of the second pair, the first longer walk doesn't precede
+-- the second. The walks are given by their costs and numbers of links. The comparison `r` decides
+-- if the longer walks have equal costs and equal numbers of links.
 put_together : (a b c e m n s t : ℕ) (o p r : Ordering) → IsNoEarlier a b m n o → IsNoEarlier c e s t p → (m ≡ n → o ≢ Less → p ≢ Less → r ≢ Less)
     → ordering_then (nat_cmp (a + c) (b + e)) (ordering_then (nat_cmp (m + s) (n + t)) r) ≢ Less
 put_together a b c e m n s t o p r (inl dear) (inl second) last = by_cost (a + c) (b + e) (ordering_then (nat_cmp (m + s) (n + t)) r) (omega arith)
@@ -83,8 +83,8 @@ put_together a b c e m n s t o p r (inr (cost, inr first)) (inr (more, inl long)
 put_together a b c e m n s t o p r (inr (cost, inr first)) (inr (more, inr second)) last =
     by_last (a + c) (b + e) (m + s) (n + t) r (omega arith) (let tied = first.0 in let too = second.0 in omega arith) (last first.0 first.1 second.1)
 
--- two lists are compared by their first parts and then by their last parts, if the first parts have
--- the same length
+-- two lists are compared by their prefixes `xs` and `ys` and then by the rest, if these prefixes
+-- have the same length
 parts_compared : (xs ys us vs : List ℕ) → length xs ≡ length ys
     → slice_cmp nat_cmp (xs ++ us) (ys ++ vs) ≡ ordering_then (slice_cmp nat_cmp xs ys) (slice_cmp nat_cmp us vs)
 parts_compared [] [] us vs e = refl
@@ -103,8 +103,8 @@ locals_compared v w x y e =
 pub cost_of-append : (v w : List Link) → cost_of (v ++ w) ≡ cost_of v + cost_of w
 cost_of-append v w = sum_by-append (λ (l : Link). l.metric) v w
 
--- If `v` doesn't come before `w`, and `x` doesn't come before `y`, then `v` followed by `x` doesn't
--- come before `w` followed by `y`.
+-- If `v` doesn't precede `w`, and `x` doesn't precede `y`, then `v` followed by `x` doesn't precede
+-- `w` followed by `y`.
 pub joined_no_earlier : (v w x y : List Link) → walk_cmp v w ≢ Less → walk_cmp x y ≢ Less → walk_cmp (v ++ x) (w ++ y) ≢ Less
 joined_no_earlier v w x y first second =
     rw (cost_of-append v x, cost_of-append w y, length-append v x, length-append w y)
@@ -113,7 +113,7 @@ joined_no_earlier v w x y first second =
     (opened _ _ _ _ _ first) (opened _ _ _ _ _ second)
     (λ same front back. rw (locals_compared v w x y same) (neither_less _ _ front back)))
 
--- no walk comes before the walk without links
+-- no walk precedes the walk without links
 pub none_earlier : (v : List Link) → walk_cmp v [] ≢ Less
 none_earlier [] less = absurd (cc)
 none_earlier (l ∷ v) less = by_length (cost_of (l ∷ v)) (length (l ∷ v)) (slice_cmp nat_cmp (locals_of (l ∷ v)) []) (omega arith) less

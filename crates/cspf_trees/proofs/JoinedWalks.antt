@@ -1,4 +1,4 @@
--- Lemmas on walks, and on legs, that are put one after the other.
+-- Lemmas on joining walks, and on joining legs, one after the other.
 use Rattle.std.proofs.Common.{◌≡◌, inl, inr, ℕ, suc, ◌+◌, List, [], ◌∷◌, ◌++◌, ◌⊎◌, length, map, refl, sym, ap, subst, ◌∙◌, arith, append-nil}
 use Rattle.std.specs.List.{AllByRecursion, flat_map}
 use Rattle.std.proofs.lemmas.List.Concat.{flat_map-append}
@@ -50,15 +50,14 @@ module _ (d : Database) where
   pass_after [] all = tt
   pass_after (l ∷ w) all = all.1
 
-  -- if links pass only through routers with transit, and the first link begins at such a router, so
-  -- does each link
+  -- if links pass only through routers with transit, and the first link begins at such a router,
+  -- each of the links begins at such a router
   begin_from : (a : ℕ) (w : List Link) → AreJoined a w → HasTransit d a → PassTransit w → BeginAtTransit w
   begin_from a [] joined here passed = tt
   begin_from a (l ∷ w) joined here passed = (subst (HasTransit d) (sym joined.0) here, passed)
 
-  -- Two walks, one after the other, pass only through routers with transit if each walk does so by
-  -- itself. The router between the two walks needs transit as well, unless the first walk has no
-  -- links.
+  -- If two walks pass only through routers with transit, so does the first walk followed by the
+  -- second. The router between them must have transit too, unless the first walk has no links.
   pub pass_both : (a : ℕ) (v w : List Link) → AreJoined a w → (HasTransit d a ⊎ (v ≡ [])) → PassTransit v → PassTransit w → PassTransit (v ++ w)
   pass_both a [] w joined joint first second = second
   pass_both a (l ∷ v) w joined (inl transit) first second = begin_both v w first (begin_from a w joined transit second)
@@ -71,8 +70,7 @@ module _ (d : Database) where
   pass_in_parts (l ∷ v) w all = let parts = begin_in_parts v w all in (parts.0, pass_after w parts.1)
 
 module _ (d : Database) (q : Request) where
-  -- If some links are the first legs of a request, and more links are its next leg, then all of
-  -- them are legs of the request.
+  -- If one more leg is appended to the first legs of a request, they are all legs of the request.
   pub one_more_leg : (first a : ℕ) (legs : List (List Link)) (leg : List Link) → AreLegs d q first a legs
       → IsLeg d q (first + length legs) (end_of a (flat_map (λ links. links) legs)) leg → AreLegs d q first a (legs ++ (leg ∷ []))
   one_more_leg first a [] leg are is = (let here : first + 0 ≡ first = omega arith in subst (λ k. IsLeg d q k a leg) here is, tt)
@@ -85,8 +83,8 @@ module _ (d : Database) (q : Request) where
         (subst (λ r. IsLeg d q (first + length (links ∷ legs)) r leg) end is)),
   )
 
--- if one more leg follows some legs, the links of all these legs are those of the first legs, and
--- then those of the last one
+-- the links of some legs and one more leg are the links of the first legs, followed by those of the
+-- last leg
 pub links_and_leg : (legs : List (List Link)) (leg : List Link) → flat_map (λ links. links) (legs ++ (leg ∷ [])) ≡ flat_map (λ links. links) legs ++ leg
 links_and_leg legs leg =
     flat_map-append (λ (links : List Link). links) legs (leg ∷ []) ∙ ap (λ last. flat_map (λ links. links) legs ++ last) (append-nil leg)

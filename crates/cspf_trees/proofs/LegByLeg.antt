@@ -1,5 +1,5 @@
--- If each leg has only one target, the best routes of the legs, put one after the other, are the
--- best route of the request. A leg's targets are the routers where it may end.
+-- If each leg has only one target, the best routes of the legs, one after the other, are the best
+-- route of the request. A leg's targets are the routers where it may end.
 use Rattle.std.proofs.Common.{◌≡◌, ◌≢◌, inl, ℕ, suc, ◌+◌, ◌<◌, ◌≤◌, List, [], ◌∷◌, ◌++◌, ◌⊎◌, length, slice_get, slice_index, refl, sym, ap, subst, ◌∙◌, arith, append-nil, append_assoc, length-append, bit_and, bit_xor}
 use Rattle.std.specs.List.{AllByRecursion, flat_map}
 use Rattle.std.specs.declared.cmp.Ordering.TheVariants.{Less}
@@ -54,7 +54,7 @@ stays_in_loose d q at loose [] = tt
 stays_in_loose d q at loose (router ∷ routers) = (inl loose, stays_in_loose d q at loose routers)
 
 module _ (d : Database) (q : Request) where
-  -- before the first leg, each route begins with the walk without links, and all its legs follow
+  -- each route begins with the walk without links, followed by all legs of the route
   begins : (route : List Link) → IsRoute d q route → GoesOnInLegs d q 0 q.from [] route
   begins route is = record {
     front = [];
@@ -78,8 +78,9 @@ module _ (d : Database) (q : Request) where
     least = begins;
   }
 
-  -- After the links `front`, the route takes the links `leg` to the router `target`, the only
-  -- target of that leg (a router where it may end). Then it takes its other legs `rest`.
+  -- The route consists of the links `front`, then the leg `leg` to the router `target`, and then
+  -- its other legs `rest`. `target` is the only target of the leg `leg` (a router where it may
+  -- end).
   record TakesLeg (count router target : ℕ) (walk route : List Link) : Type 0 where
     front : List Link
     leg : List Link
@@ -112,8 +113,8 @@ module _ (d : Database) (q : Request) where
     takes_leg : (route : List Link) → GoesOnInLegs d q count router walk route → TakesLeg count router target walk route
     takes_leg route g = next_leg route g.front g.legs g.whole g.number g.each g.arrives g.order
 
-    -- If the leg that the route takes doesn't come before the links `links`, the route up to this
-    -- leg's end doesn't come before the walk followed by these links.
+    -- If the route's next leg doesn't precede the links `links`, the route's prefix up to the end
+    -- of this leg doesn't precede the walk followed by `links`.
     goes_on_after : (route : List Link) (t : TakesLeg count router target walk route) (links : List Link) → walk_cmp t.leg links ≢ Less
         → GoesOnInLegs d q (suc count) target (walk ++ links) route
     goes_on_after route t links least = record {
@@ -126,9 +127,9 @@ module _ (d : Database) (q : Request) where
       order = joined_no_earlier t.front walk t.leg links t.order least;
     }
 
-    -- Suppose that each route begins with links to the next leg's target (a router where the leg
-    -- may end) that don't come before the walk followed by `links`. Then this longer walk is the
-    -- least walk through all legs up to that one.
+    -- The walk followed by `links` is the least walk through all legs up to the next one, if each
+    -- route has a prefix that ends at the next leg's target (a router where the leg may end) and
+    -- doesn't precede this longer walk.
     one_more : IsLeastSoFar d q count router walk → (links : List Link) → IsWalk d q (walk ++ links) → end_of router links ≡ target
         → ((route : List Link) → IsRoute d q route → GoesOnInLegs d q (suc count) target (walk ++ links) route)
         → IsLeastSoFar d q (suc count) target (walk ++ links)
@@ -153,7 +154,7 @@ module _ (d : Database) (q : Request) where
         }
 
     -- if the walk already ends at the target of the next leg (a router where this leg may end), it
-    -- is also the least walk through that leg
+    -- is also the least walk through this next leg
     pub least_after_none : IsLeastSoFar d q count router walk → target ≡ router → IsLeastSoFar d q (suc count) target walk
     least_after_none before same =
         subst (IsLeastSoFar d q (suc count) target) (append-nil walk)
@@ -161,7 +162,7 @@ module _ (d : Database) (q : Request) where
         (λ route is. let t = takes_leg route (before.least route is) in goes_on_after route t [] (none_earlier t.leg)))
 
     module _ (law : AreRoutesWithoutHops) (p : Request) (asks : AsksForLeg q p router target) where
-      -- the leg that a route takes is a route of the request for this leg
+      -- the next leg of a route is a route of the request for this leg
       leg_is_route : (route : List Link) → IsRoute d q route → (t : TakesLeg count router target walk route) → IsRoute d p t.leg
       leg_is_route route is t =
           let tail = flat_map (λ links. links) t.rest in
@@ -184,8 +185,8 @@ module _ (d : Database) (q : Request) where
           let t = takes_leg route (before.least route is) in
           none t.leg (leg_is_route route is t)
 
-      -- the walk so far, followed by the best route of the next leg, is the least walk through that
-      -- leg
+      -- the walk so far, followed by the best route of the next leg, is the least walk through this
+      -- next leg
       pub least_after_leg : IsLeastSoFar d q count router walk → (HasTransit d router ⊎ (walk ≡ [])) → (links : List Link) → IsBestRoute d p links
           → IsLeastSoFar d q (suc count) target (walk ++ links)
       least_after_leg before joint links best =
@@ -203,7 +204,7 @@ module _ (d : Database) (q : Request) where
           arrives
           (λ route is. let t = takes_leg route (before.least route is) in goes_on_after route t links (best.least t.leg (leg_is_route route is t)))
 
-  -- a route has no more links after its last leg, so it doesn't come before the walk
+  -- a route has no more links after its last leg, so it doesn't precede the walk
   all_taken : (walk route front : List Link) (legs : List (List Link)) → front ++ flat_map (λ links. links) legs ≡ route
       → suc (length q.hops) + length legs ≡ suc (length q.hops) → walk_cmp front walk ≢ Less → walk_cmp route walk ≢ Less
   all_taken walk route front [] whole number order = subst (λ w. walk_cmp w walk ≢ Less) (sym (append-nil front) ∙ whole) order

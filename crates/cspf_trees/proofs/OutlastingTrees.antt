@@ -1,5 +1,5 @@
--- A tree of a database is also a tree of each database that differs from it only in unreserved
--- bandwidths. The only owner of a prefix is also its only owner in such a database.
+-- If two databases differ only in unreserved bandwidths, each tree of one database is a tree of the
+-- other, and a prefix that has only one owner in one database has the same only owner in the other.
 use Rattle.std.proofs.Common.{◌≡◌, ℕ, ◌+◌, ◌<◌, ◌⊎◌, IsTrue, Option, Some, None, IfSome, length, slice_index, slice_index_or, refl, sym, ap, subst, inl, inr, ◌∙◌}
 use Rattle.std.specs.Prelude.{◌≢◌, bit_and, bit_xor}
 use Rattle.std.specs.Option.{option_map}
@@ -31,8 +31,8 @@ record HasShapeOf (d : Database) (l : Link) : Type 0 where
   is_link : IsLinkOf d link
   shape : shape_of link ≡ shape_of l
 
--- if the link at the key of `l` in the database differs from `l` at most in its unreserved
--- bandwidth, `HasShapeOf` holds of the database and `l`
+-- the database meets `HasShapeOf` for the link `l`, if its link at the key of `l` differs from `l`
+-- at most in the unreserved bandwidth
 at_key : (d : Database) (l : Link) (o : Option Link) → link_at d (key_of l) ≡ o → option_map shape_of o ≡ Some (shape_of l) → HasShapeOf d l
 at_key d l None at is = absurd (cc)
 at_key d l (Some m) at is =
@@ -43,8 +43,9 @@ at_key d l (Some m) at is =
       shape = same;
     }
 
--- Links of one shape differ at most in their unreserved bandwidths. If two links have the shapes of
--- a link and of its reverse, they are reverses of each other too.
+-- If the link `r` is the reverse of the link `l`, links with the same shapes as `l` and `r` are
+-- also reverses of each other. Links with the same shape differ at most in their unreserved
+-- bandwidths.
 reversed : (l m r s : Link) → shape_of m ≡ shape_of l → shape_of s ≡ shape_of r → IsReverse l r → IsReverse m s
 reversed l m r s there back is = record {
   from = ap (λ t. t.from) back ∙ is.from ∙ sym (ap (λ t. t.to) there);
@@ -53,12 +54,13 @@ reversed l m r s there back is = record {
   remote = ap (λ t. t.remote) back ∙ is.remote ∙ sym (ap (λ t. t.local) there);
 }
 
--- two links that differ at most in their unreserved bandwidths begin and end at the same routers
+-- if a link begins or ends at a router, so does each link that differs from it at most in its
+-- unreserved bandwidth
 ends_alike : (router : ℕ) (l m : Link) → shape_of m ≡ shape_of l → EndsAt router l → EndsAt router m
 ends_alike router l m same (inl from) = inl (ap (λ s. s.from) same ∙ from)
 ends_alike router l m same (inr to) = inr (ap (λ s. s.to) same ∙ to)
 
--- two links with the same groups pass the same affinities
+-- a link passes the affinities of a request if a link with the same groups does
 passes : (q : Request) (l m : Link) → l.group ≡ m.group → HasAffinity q l → HasAffinity q m
 passes q l m same is = record {
   exclude_any = subst (λ g. bit_and g q.exclude_any ≡ 0) same is.exclude_any;
@@ -79,7 +81,7 @@ module _ (d e : Database) (one : HaveOneShape d e) where
       let m = there_too is.0 is.1 in
       (m.link, m.is_link, ends_alike router is.0 m.link m.shape is.2)
 
-  -- if a prefix covers an address of a router in the database `e`, it covers an address of that
+  -- if a prefix covers an address of a router in the database `e`, it covers an address of this
   -- router in `d`
   covered_too : (prefix : PrefixParts) (router : ℕ) → CoversAddressOf e prefix router → CoversAddressOf d prefix router
   covered_too prefix router (inl own) = inl own
@@ -98,7 +100,8 @@ module _ (d e : Database) (one : HaveOneShape d e) where
   owns_too : (prefix : PrefixParts) (router : ℕ) → Owns e prefix router → Owns d prefix router
   owns_too prefix router is = record { known = router_too router is.known; covered = covered_too prefix router is.covered }
 
--- if `d` differs from `e` only in unreserved bandwidths, then `e` differs from `d` only in these
+-- if `d` differs from `e` only in unreserved bandwidths, `e` differs from `d` only in unreserved
+-- bandwidths
 in_turn : (d e : Database) → HaveOneShape d e → HaveOneShape e d
 in_turn d e one = record { marks = sym one.marks; links = λ k. sym (one.links k) }
 
@@ -111,9 +114,9 @@ owner_kept d e prefix router one is = record {
 }
 
 module _ (d e : Database) (one : HaveOneShape d e) (routers : router_list e ≡ router_list d) where
-  -- Links of one shape differ at most in their unreserved bandwidths. If a link is in a request's
-  -- class in the database `e`, the link of its shape in `d` is also in that class. A link is in a
-  -- request's class if it has a reverse and passes the request's affinities.
+  -- If a link is in a request's class in the database `e`, the link with the same shape in `d` is
+  -- also in this class. Links with the same shape differ at most in their unreserved bandwidths. A
+  -- link is in a request's class if it has a reverse and passes the request's affinities.
   in_class_too : (q : Request) (l : Link) → IsInClass e q l → (m : HasShapeOf d l) → IsInClass d q m.link
   in_class_too q l is m =
       let back = there_too d e one is.reverse.0 is.reverse.1 in
@@ -123,8 +126,7 @@ module _ (d e : Database) (one : HaveOneShape d e) (routers : router_list e ≡ 
         affinity = passes q l m.link (sym (ap (λ t. t.group) m.shape)) is.affinity;
       }
 
-  -- a router that has an index in the list of routers of the database `e` has the same index in
-  -- that of `d`
+  -- a router has the same index in the lists of routers of the databases `e` and `d`
   index_too : (router there place : ℕ) → there ≡ router → IsIndexOf e router place → IsIndexOf d there place
   index_too router there place same is = record {
     within = subst (λ rs. place < length rs) routers is.within;
@@ -157,14 +159,12 @@ module _ (d e : Database) (one : HaveOneShape d e) (routers : router_list e ≡ 
 pub trees_outlast : ShapesTellRouters → TreesOutlastBandwidth
 trees_outlast tells d e q tree one is = tree_too d e one (tells d e one) q tree is
 
--- if the tree of a row is a tree of a database, it is also a tree of each database that differs
--- from it only in unreserved bandwidths
+-- the tree of a row is still a tree of the database after a change of unreserved bandwidths only
 row_kept : (d e : Database) (row : TreeRow) → TreesOutlastBandwidth → HaveOneShape d e → (o : Option Tree) → IfSome o (λ tree. (q : Request) → HasClass q row.class → IsTree d q tree) → IfSome o (λ tree. (q : Request) → HasClass q row.class → IsTree e q tree)
 row_kept d e row law one None is = tt
 row_kept d e row law one (Some tree) is = λ q class. law d e q tree one (is q class)
 
--- if kept trees are trees of a database, they are also trees of each database that differs from it
--- only in unreserved bandwidths
+-- kept trees are still trees of the database after a change of unreserved bandwidths only
 pub trees_kept : (d e : Database) (trees : Trees) → TreesOutlastBandwidth → HaveOneShape d e → AreTreesOf d trees → AreTreesOf e trees
 unfolding AreTreesOf
 trees_kept d e trees law one are = (

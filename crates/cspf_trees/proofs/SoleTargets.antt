@@ -14,18 +14,19 @@ use Rattle.cspf_db.specs.Index.{router_list}
 use Rattle.cspf_db.specs.Owners.{AreOwners}
 use Rattle.cspf_trees.specs.LegsInTurn.{IsSoleOwner, IsSoleTarget}
 
--- if a list has only one item, the item that is read at any index of the list is this item
+-- if a list has only one element, reading the list at an index below its length gives this element
 one_item : (x y k : ℕ) → k < length (x ∷ []) → slice_index_or (x ∷ []) k y ≡ y → y ≡ x
 one_item x y zero h e = sym e
 one_item x y (suc k) h e = absurd (omega arith)
 
--- a list of length 1 is the list of its first item
+-- a list of length 1 consists of its first element
 alone : (xs : List ℕ) → length xs ≡ 1 → xs ≡ slice_index xs 0 ∷ []
 alone [] one = absurd (omega arith)
 alone (x ∷ []) one = refl
 alone (x ∷ (y ∷ xs)) one = absurd (omega arith)
 
--- if the list of a prefix's owners has only one index, the router at that index is the only owner
+-- if the list of the indexes of a prefix's owners has only one element, the router at this index is
+-- the only owner of the prefix
 pub sole_owner_at : (d : Database) (prefix : PrefixParts) (places : List ℕ) → length places ≡ 1 → AreOwners d prefix places
     → ((router : ℕ) → Contains (router_list d) router ↔ IsRouterOf d router) → IsSoleOwner d prefix (slice_index (router_list d) (slice_index places 0))
 sole_owner_at d prefix places one are known =
@@ -39,14 +40,14 @@ sole_owner_at d prefix places one are known =
           sym (at.2 0) ∙ ap (slice_index (router_list d)) (one_item place at.0 there.0 there.1 there.2);
     }
 
--- a hop that is read from the list of hops at an index is the request's hop at this index
+-- the hop that is read from the list of hops at an index is the request's hop at this index
 pub hop_at : (hops items : List Hop) (at count : ℕ) (hop : Hop) → items ≡ hops → count ≡ at → at < length items → hop ≡ slice_index_or items at hop → slice_get hops count ≡ Some hop
 hop_at hops items at count hop same here within is =
     rw (here, ← same) (slice_get-get_or items at hop within ∙ ap Some (sym is))
 
 module _ (d : Database) (q : Request) where
-  -- if a router is the only owner of a loose hop's prefix, it is the only target of the leg to that
-  -- hop
+  -- if a router is the only owner of a loose hop's prefix, it is the only target of the leg to this
+  -- hop (the only router where the leg may end)
   pub hop_target : (at : ℕ) (hop : Hop) (router : ℕ) → slice_get q.hops at ≡ Some hop → IsLoose (slice_get q.hops at) → IsSoleOwner d hop.prefix router → IsSoleTarget d q at router
   hop_target at hop router is loose owner = record {
     loose = loose;
@@ -64,9 +65,9 @@ module _ (d : Database) (q : Request) where
         sole = λ other target. subst (λ o. IsTargetOf d q.to o other) past target;
       }
 
-  -- Suppose that `targets` has the only target of each of the first legs, and that `router` is the
-  -- only target of the next leg. Then `targets` with `router` added has the only target of each leg
-  -- up to that one. A leg's targets are the routers where it may end.
+  -- If `targets` has the only target of each of the first legs, and the only target of the next leg
+  -- is appended, the longer list has the only target of each leg up to the next one. A leg's
+  -- targets are the routers where it may end.
   pub targets_push : (targets : List ℕ) (router : ℕ) → ((at : ℕ) → at < length targets → IsSoleTarget d q at (slice_index targets at)) → IsSoleTarget d q (length targets) router
       → (at : ℕ) → at < length (targets ++ (router ∷ [])) → IsSoleTarget d q at (slice_index (targets ++ (router ∷ [])) at)
   targets_push targets router each last at within =

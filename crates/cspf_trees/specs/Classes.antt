@@ -1,4 +1,4 @@
--- Private: a request is of a class if it has the tail-end and the affinities of the class.
+-- Private: classes of requests. A class is all requests with one tail-end and the same affinities.
 use Rattle.std.specs.Prelude.{◌≡◌}
 use Rattle.cspf_model.specs.declared.request.Request.{Request}
 use Rattle.cspf_trees.specs.declared.class.Class.{Class}

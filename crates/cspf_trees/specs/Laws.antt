@@ -1,4 +1,5 @@
--- The law that a tree of a database outlasts changes of the unreserved bandwidths.
+-- The law that a tree of a database is still a tree of it after changes of unreserved bandwidths
+-- only.
 use Rattle.cspf_model.specs.declared.request.Request.{Request}
 use Rattle.cspf_model.specs.Database.{Database}
 use Rattle.cspf_db.specs.Shapes.{HaveOneShape}

@@ -1,4 +1,4 @@
--- Private: what is known of a walk after one more leg was answered.
+-- Private: what follows for a walk from the answer to one more leg.
 use Rattle.std.specs.Prelude.{◌≡◌, ℕ, List, ◌++◌}
 use Rattle.cspf_model.specs.declared.link.Link.{Link}
 use Rattle.cspf_model.specs.declared.request.Request.{Request}
@@ -9,14 +9,14 @@ use Rattle.cspf_trees.specs.declared.legs.LegStep.{LegStep}
 use Rattle.cspf_trees.specs.declared.legs.LegStep.TheVariants.{On, NoRoute, Unknown}
 use Rattle.cspf_trees.specs.LegsInTurn.{IsLeastSoFar}
 
--- the new walk is the old walk with the links `more` after it, and ends at the router `router`
+-- the new walk is the old walk with the links `more` appended, and ends at the router `router`
 pub record IsLonger (more : List Link) (router : ℕ) (old new : LegWalk) : Type 0 where
   pub links : new.links.items ≡ old.links.items ++ more
   pub at : new.at ≡ router
 
--- What is known after one more leg was answered. Either each route begins with links that end at
--- this leg's target (a router where the leg may end) and don't come before the walk. Or the request
--- has no route, or nothing is known.
+-- What follows from the answer to one more leg, in each of the three cases of `LegStep`. `On`: the
+-- walk is the least walk through the first `count` legs. `NoRoute`: the request has no route.
+-- `Unknown`: nothing follows.
 abbrev pub IsLegStep : Database → Request → ℕ → LegWalk → LegStep → Type 0
 IsLegStep d q count walk On = IsLeastSoFar d q count walk.at walk.links.items
 IsLegStep d q count walk NoRoute = (route : List Link) → ¬ IsRoute d q route

@@ -1,5 +1,5 @@
--- Private: requests whose legs each have only one target (a router where the leg may end), and how
--- these legs are answered one after the other.
+-- Private: requests for which each leg has only one target (a router where the leg may end), and
+-- how the legs of such a request are answered one after the other.
 use Rattle.std.specs.Prelude.{◌≡◌, ◌≢◌, ℕ, suc, ◌+◌, ◌<◌, List, [], ◌++◌, length, slice_get, slice_index}
 use Rattle.std.specs.List.{flat_map}
 use Rattle.std.specs.declared.cmp.Ordering.TheVariants.{Less}
@@ -18,8 +18,8 @@ pub record IsSoleOwner (d : Database) (prefix : PrefixParts) (router : ℕ) : Ty
   pub owns : Owns d prefix router
   pub sole : (other : ℕ) → Owns d prefix other → other ≡ router
 
--- The leg to the hop at this index is loose, and the router is its only target (a router where the
--- leg may end). The index after that of the last hop stands for the leg to the tail-end.
+-- The leg to the hop at the index `at` is loose, and the router is its only target (a router where
+-- the leg may end). If `at` is the number of hops, the leg is the one to the tail-end.
 pub record IsSoleTarget (d : Database) (q : Request) (at router : ℕ) : Type 0 where
   pub loose : IsLoose (slice_get q.hops at)
   pub target : IsTarget d q (suc at) router
@@ -43,15 +43,16 @@ pub record AsksForLeg (q leg : Request) (start target : ℕ) : Type 0 where
   pub include_all : leg.include_all ≡ q.include_all
   pub hops : leg.hops ≡ []
 
--- the answer is the best one to a request for one leg of `q`, from the router `start` to the router
--- `target`
+-- the answer is the best answer to a request for one leg of `q`, from the router `start` to the
+-- router `target`
 pub record IsLegAnswer (d : Database) (q : Request) (start target : ℕ) (answer : Answer) : Type 0 where
   pub leg : Request
   pub asks : AsksForLeg q leg start target
   pub best : IsBestAnswer d leg answer
 
--- The route begins with some links that end at the router, and these links don't come before the
--- walk. They take the place of the first `count` legs. After them come the other legs of the route.
+-- The route begins with the links `front`, which take the place of its first `count` legs, and its
+-- other legs follow. The links `front` end at the router `router`, and don't precede the walk in
+-- the order of walks.
 pub record GoesOnInLegs (d : Database) (q : Request) (count router : ℕ) (walk route : List Link) : Type 0 where
   pub front : List Link
   pub legs : List (List Link)
@@ -61,8 +62,9 @@ pub record GoesOnInLegs (d : Database) (q : Request) (count router : ℕ) (walk 
   pub arrives : end_of q.from front ≡ router
   pub order : walk_cmp front walk ≢ Less
 
--- The walk consists of the first `count` legs of the request, and ends at the router. Each route
--- begins with some links that end at the router and don't come before the walk.
+-- The walk consists of the first `count` legs of the request, and ends at the router `router`. Each
+-- route has a prefix that ends at this router and doesn't precede the walk in the order of walks,
+-- as `GoesOnInLegs` says.
 pub record IsLeastSoFar (d : Database) (q : Request) (count router : ℕ) (walk : List Link) : Type 0 where
   pub is_walk : IsWalk d q walk
   pub legs : List (List Link)

@@ -5,10 +5,10 @@ use Rattle.cspf_trees.specs.declared.owner_row.OwnerRow.{OwnerRow}
 use Rattle.cspf_trees.specs.LegsInTurn.{IsSoleOwner}
 
 -- If the row was set in the generation `generation`, its router is the only owner of its prefix in
--- the database. A new generation begins when all owners are forgotten.
+-- the database. A new generation begins each time that all owners are forgotten.
 abbrev pub HasOwnerOf : Database → ℕ → OwnerRow → Type 0
 HasOwnerOf d generation row = row.generation ≡ generation → IsSoleOwner d row.prefix row.router
 
--- the row, which may keep a prefix with its only owner, keeps none
+-- the row keeps no prefix and no owner
 abbrev pub IsEmptyOwnerRow : OwnerRow → Type 0
 IsEmptyOwnerRow row = row.generation ≡ 0

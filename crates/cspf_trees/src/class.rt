@@ -37,8 +37,8 @@ fn mixed(hash: u64, number: u32) -> u64 {
     (hash ^ u64::from(number)).wrapping_mul(0x9e37_79b9_7f4a_7c15)
 }
 
-/// The index of the first of the `WAYS` consecutive rows among which the row of a class (the
-/// requests with one tail-end and the same affinities) may be.
+/// The index of the first row for a class. The class may have its row here or in the next `WAYS` -
+/// 1 rows. A class is all requests with one tail-end and the same affinities.
 pub(crate) fn first_row(class: &Class) -> usize
     ensures { result + WAYS ≤ MOST_TREES }
 {

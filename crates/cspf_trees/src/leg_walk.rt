@@ -1,4 +1,4 @@
-//! The walk along the answers of the first legs of a request.
+//! The walk along the routes of the first legs of a request.
 
 ghost use Rattle.std.specs.Prelude.{◌≡◌, ◌+◌, ◌<◌, ◌≤◌, ◌^◌, ◌↔◌, ◌⊎◌, true, false, IfOk, IsTrue, [], length};
 ghost use Rattle.cspf_model.specs.Walks.{cost_of};
@@ -9,10 +9,10 @@ use cspf_db::Table;
 use cspf_model::{Link, MOST_ROUTE_LINKS, Route};
 use std::alloc::{AllocError, Global};
 
-/// At most `MOST_ROUTE_LINKS` links that follow each other, and the router at which they end.
+/// A walk of at most `MOST_ROUTE_LINKS` links, and the router at which it ends.
 #[derive(Drop)]
 pub(crate) struct LegWalk {
-    /// The router at which the links end.
+    /// The router at which the walk ends.
     pub(crate) at: Addr,
     /// The links.
     pub(crate) links: Vec<Link>,
@@ -48,7 +48,7 @@ impl LegWalk {
         }
     }
 
-    /// Whether links may follow the walk: the router at its end has transit, or the walk has no
+    /// Whether the walk may be continued: the router at its end has transit, or the walk has no
     /// links yet.
     pub(crate) fn may_go_on(&self, table: &Table) -> bool
         ensures { IsTrue result
@@ -57,8 +57,8 @@ impl LegWalk {
         self.links.is_empty() || table.transit(self.at)
     }
 
-    /// Appends the links of a route that ends at the router `to`, unless the walk would then have
-    /// more than `MOST_ROUTE_LINKS` links. Returns whether it has appended the links.
+    /// Appends the links of a route that ends at the router `to`, and returns `true`. If the walk
+    /// would then have more than `MOST_ROUTE_LINKS` links, appends nothing and returns `false`.
     pub(crate) fn append(&mut self, route: &Route, to: Addr) -> Result<bool, AllocError>
         ensures longer { IfOk result (λ fits.
             fits ≡ true → IsLonger route.now to self.old self.new) }
@@ -80,8 +80,7 @@ impl LegWalk {
         requires linked { AreLinked self.now.links.items }
         ensures { IfOk result (λ route. route ≡ self.now.links.items) }
     {
-        // A route may be kept for a long time, so this copy takes no memory for more links than it
-        // has.
+        // The copy has no spare capacity, because a route may be kept for a long time.
         let links = Vec::from_slice(alloc, self.links.as_slice())?;
         let cost = cost_along(&self.links);
         Ok(Route::new(links, cost))

@@ -1,7 +1,7 @@
-//! Answers requests whose hops are all loose and each have only one owner of their prefix. The legs
-//! are answered one after the other. Each leg is answered as a request without hops, by the tree of
-//! this request's class (the requests with one tail-end and the same affinities). The best routes
-//! of the legs, one after the other, are the best route of the request.
+//! Answers requests leg by leg, if all their hops are loose, and the prefix of each hop has only
+//! one owner. Each leg is answered as a request without hops, with the tree of this request's
+//! class. The best routes of the legs, one after the other, are the best route of the request. A
+//! class is all requests with one tail-end and the same affinities.
 
 ghost use Rattle.std.specs.Prelude.{◌≡◌, ◌≢◌, ◌+◌, ◌<◌, ℕ, true, IfOk, IfSome, length, slice_get};
 ghost use Rattle.cspf_model.specs.Best.{IsBestAnswer};
@@ -18,26 +18,27 @@ use cspf_db::Table;
 use cspf_model::{MOST_LEGS, Outcome, Request, route_without_hops};
 use std::alloc::{AllocError, Global};
 
-/// What the answer to one more leg shows about the request's routes.
+/// What follows for the request's routes from the answer to one more leg.
 enum LegStep {
-    /// The walk now leads to the target of the leg (a router where it may end). No route leads to
-    /// this target over links that come before the walk in the order of routes.
+    /// The walk now leads to the target of the leg (a router where it may end). It is the least
+    /// walk through the legs so far.
     On,
     /// The request has no route.
     NoRoute,
-    /// The answers to the legs don't tell whether the request has a route.
+    /// The answers to the legs don't show whether the request has a route.
     Unknown,
 }
 
-/// Whether a request has hops, all of which are loose.
+/// Whether a request has hops and all of them are loose.
 fn has_loose_hops(request: &Request) -> bool
     ensures { result ≡ true → (at : ℕ) → IsLoose (slice_get request.now.hops at) }
 {
     !request.hops.is_empty() && request.hops.as_slice().iter().all(|hop| hop.loose)
 }
 
-/// The target of each leg (a router where it may end), if the request has hops, all of them are
-/// loose, and each leg has only one target. Otherwise the result is `None`.
+/// The only target of each leg. The result is `None` if the request has no hops, if a hop isn't
+/// loose, or if a leg doesn't have exactly one target. A leg's targets are the routers where it may
+/// end.
 fn sole_targets(
     trees: &mut Trees,
     alloc: Global,
@@ -103,8 +104,8 @@ fn answer_leg(
     trees.best_by_row(alloc, table, &leg)
 }
 
-/// Answers one more leg, from the end of the walk to the leg's target `to` (a router where the leg
-/// may end), and appends its route to the walk.
+/// Answers one more leg: from the end of the walk to the leg's only target `to` (a router where the
+/// leg may end). Appends the leg's route to the walk.
 fn go_on(
     trees: &mut Trees,
     alloc: Global,
@@ -143,10 +144,10 @@ fn go_on(
     }
 }
 
-/// The best answer to a request whose hops are all loose and each have only one owner. The answer
-/// is found leg by leg. The result is `None` for other requests, and if the head-end or the
-/// tail-end is unknown. The result is also `None` if the walk would pass a router without transit
-/// between two legs, or would have more than `MOST_ROUTE_LINKS` links.
+/// The best answer to a request, found leg by leg. The result is `None` if the request has no hops,
+/// if a hop isn't loose, or if the prefix of a hop doesn't have exactly one owner. It is also
+/// `None` if the head-end or the tail-end is unknown, if the walk would pass a router without
+/// transit between two legs, or if the walk would have more than `MOST_ROUTE_LINKS` links.
 pub(crate) fn best_by_legs(
     trees: &mut Trees,
     alloc: Global,

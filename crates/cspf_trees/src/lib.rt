@@ -1,12 +1,12 @@
-//! Answers many requests in one database. `Trees` keep a tree for each tail-end and set of
-//! affinities that is asked for often. If a tree is kept for a request, the request is answered by
-//! `best_by_tree` of `cspf_search`. Each answer meets the contract of `best`, whichever trees are
+//! Answers many requests in one database. `Trees` keep a tree for each pair of a tail-end and
+//! affinities that is requested often. If a tree is kept for a request, `best_by_tree` of
+//! `cspf_search` answers the request. Each answer meets the contract of `best`, whichever trees are
 //! kept.
 //!
-//! If all hops of a request are loose, and the prefix of each hop is owned by only one router, the
-//! legs are answered one after the other. The owner of a hop's prefix is kept for later hops with
-//! this prefix. `specs/Trees.antt` says when the kept trees are trees of a database. A `TreeTable`
-//! is a table with the trees of its database.
+//! If all hops of a request are loose, and the prefix of each hop has only one owner, the legs are
+//! answered one after the other. The owner of a prefix is kept for later hops with the same prefix.
+//! `specs/Trees.antt` defines when the kept trees are trees of a database. A `TreeTable` is a table
+//! with the trees of its database.
 #![tactic(auto)]
 
 mod class;

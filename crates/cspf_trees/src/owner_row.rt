@@ -1,4 +1,4 @@
-//! A row for a prefix, and for the only router that owns this prefix.
+//! A row that keeps a prefix and the only router that owns it.
 
 ghost use Rattle.std.specs.Prelude.{◌≡◌, ◌<◌, All, IfOk, IfSome, length};
 ghost use Rattle.cspf_model.specs.Database.{Database};
@@ -10,11 +10,11 @@ use crate::limits::OWNER_ROWS;
 use cspf_addr::{Addr, Prefix};
 use std::alloc::{AllocError, Global};
 
-/// A prefix, and the only router that owns it. A row may also have no owner.
+/// A prefix and the only router that owns it. An empty row keeps neither.
 #[derive(Clone, Copy)]
 pub(crate) struct OwnerRow {
-    /// The number of the generation of owners in which the row was set. The next generation begins
-    /// each time that all owners are forgotten. The number is 0 if the row has no owner.
+    /// The generation of owners in which the row was set, or 0 if the row is empty. A new
+    /// generation begins each time that all owners are forgotten.
     pub(crate) generation: u64,
     /// The prefix.
     pub(crate) prefix: Prefix,
@@ -22,8 +22,8 @@ pub(crate) struct OwnerRow {
     pub(crate) router: Addr,
 }
 
-/// All rows for prefixes, without owners. Each row is made with this prefix and this router, which
-/// are never read from it.
+/// The rows for prefixes, all of them empty. `prefix` and `router` only fill the fields of the
+/// rows, and are never read from them.
 pub(crate) fn empty_owners(
     alloc: Global,
     prefix: Prefix,
@@ -43,7 +43,7 @@ pub(crate) fn empty_owners(
     Ok(rows)
 }
 
-/// The index of the only row in which a prefix may be.
+/// The index of the only row that may keep the prefix.
 pub(crate) fn owner_index(prefix: Prefix) -> usize
     ensures { result < OWNER_ROWS }
 {
@@ -52,8 +52,8 @@ pub(crate) fn owner_index(prefix: Prefix) -> usize
     (hash >> 53) as usize % OWNER_ROWS
 }
 
-/// The router of the row, if the row was set in this generation and for this prefix. A new
-/// generation begins when all owners are forgotten.
+/// The router of the row, if the row was set in this generation for this prefix. A new generation
+/// begins each time that all owners are forgotten.
 pub(crate) fn owner_in(row: &OwnerRow, generation: u64, prefix: Prefix) -> Option<Addr>
     ensures { (d : Database) → HasOwnerOf d generation row.now
         → IfSome result (IsSoleOwner d prefix) }

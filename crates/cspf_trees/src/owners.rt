@@ -1,4 +1,4 @@
-//! Keeps, for each of many prefixes, the router that is its only owner in one database.
+//! Keeps, for many prefixes, the router that is the only owner of the prefix in one database.
 
 ghost use Rattle.std.specs.Prelude.{◌<◌, ◌≤◌, All, IfOk, IfSome};
 ghost use Rattle.cspf_trees.specs.LegsInTurn.{IsSoleOwner};
@@ -10,23 +10,23 @@ use cspf_db::Table;
 use cspf_model::MOST_ROUTERS;
 use std::alloc::{AllocError, Global};
 
-/// Prefixes of earlier hops, each with the only router that owns it in one database. A row keeps
-/// the prefix that was put in it last.
+/// Prefixes of earlier hops, each with the only router that owns it in one database. Each row keeps
+/// the last prefix that was put into it.
 #[derive(Drop)]
 pub(crate) struct Owners {
-    /// The rows, each of which keeps at most one prefix with its only owner: either none or
-    /// `OWNER_ROWS` rows.
+    /// The rows: either none or `OWNER_ROWS` rows. Each row keeps at most one prefix with its only
+    /// owner.
     rows: Vec<OwnerRow>,
-    /// The number of the present generation of owners, 1 or later. A new generation begins when all
-    /// owners are forgotten. A row of an earlier generation counts as empty.
+    /// The present generation of owners, which is at least 1. A new generation begins each time
+    /// that all owners are forgotten. A row of an earlier generation counts as empty.
     generation: u64,
-    /// Whether this set may make rows, and so keep owners.
+    /// Whether rows may be allocated, so that owners can be kept.
     keeps: bool,
     ghost begun: { 0 < generation },
     ghost past: { All (λ row. row.generation ≤ generation) rows.items },
 }
 
-/// The only router that owns a prefix, found by a look at each router. The result is `None` if no
+/// The only router that owns a prefix, found by checking each router. The result is `None` if no
 /// router owns the prefix, or more than one.
 fn read_owner(alloc: Global, table: &Table, prefix: Prefix) -> Result<Option<Addr>, AllocError>
     ensures { IfOk result (λ found. IfSome found (IsSoleOwner table.now prefix)) }
@@ -45,8 +45,8 @@ impl Owners {
     ghost use Rattle.cspf_trees.specs.Owners.{AreOwnersOf};
     ghost use Rattle.cspf_trees.specs.declared.limits.TheConstants.{OWNER_ROWS};
 
-    /// A set without owners, so it can be used with any database. If `keeps` is true, the set keeps
-    /// the owners that are found later. The call takes no memory.
+    /// An empty set of owners, which can be used with any database. If `keeps` is true, owners that
+    /// are found later are kept. The call allocates no memory.
     pub(crate) fn new(alloc: Global, keeps: bool) -> Owners
         ensures { (d : Database) → AreOwnersOf d result }
     {
@@ -57,8 +57,8 @@ impl Owners {
         }
     }
 
-    /// Forgets all owners, so that the set can be used with any database. The memory of the rows is
-    /// kept for later owners.
+    /// Forgets all owners, so that the set can be used with any database. The memory of the rows
+    /// stays allocated for later owners.
     pub(crate) fn clear(&mut self)
         ensures { (d : Database) → AreOwnersOf d self.new }
     {
@@ -69,9 +69,8 @@ impl Owners {
         }
     }
 
-    /// Makes the rows that keep prefixes and their owners, if there are none yet and this set may
-    /// keep owners. Returns whether there are rows. Each new row counts as empty, although it has
-    /// this prefix and this router.
+    /// Allocates the rows, if there are none yet and owners may be kept. Returns whether there are
+    /// rows. The new rows are empty: `prefix` and `router` only fill their fields.
     fn fill(&mut self, alloc: Global, prefix: Prefix, router: Addr) -> bool
         ensures owners { (d : Database) → AreOwnersOf d self.old → AreOwnersOf d self.new }
         ensures many { result ≡ true → length self.new.rows.items ≡ OWNER_ROWS }
@@ -91,7 +90,8 @@ impl Owners {
         }
     }
 
-    /// Keeps the router as the only owner of the prefix, if this set has rows or can make them.
+    /// Keeps the router as the only owner of the prefix, if there are rows, or rows can be
+    /// allocated.
     fn keep(&mut self, alloc: Global, prefix: Prefix, router: Addr)
         ensures { (d : Database) → IsSoleOwner d prefix router
             → AreOwnersOf d self.old → AreOwnersOf d self.new }
@@ -118,7 +118,7 @@ impl Owners {
     }
 
     /// The only owner of a prefix. The result is `None` if no router owns the prefix, or more than
-    /// one. If the owner isn't kept yet, it is found by a look at each router, and then kept.
+    /// one. If the owner isn't kept yet, it is found by checking each router, and then kept.
     pub(crate) fn sole_owner(
         &mut self,
         alloc: Global,

@@ -1,5 +1,5 @@
-//! A row for a class: all requests with one tail-end and the same affinities. The row gets a tree
-//! for the class once enough requests of the class were counted.
+//! A row for one class of requests. The row gets a tree for the class once enough requests of the
+//! class are counted. A class is all requests with one tail-end and the same affinities.
 
 ghost use Rattle.std.specs.Prelude.{◌≡◌, ◌+◌, ◌<◌, ◌≤◌, true, false, All, None, IfOk, IfSome, length};
 ghost use Rattle.cspf_model.specs.declared.request.Request.{Request as Asked};
@@ -16,24 +16,25 @@ use cspf_model::Request;
 use cspf_search::Tree;
 use std::alloc::{AllocError, Global};
 
-/// A class (the requests with one tail-end and the same affinities), and the tree of the class if
-/// it has one. Also how often the class was asked for recently.
+/// A class of requests, the number of its recent requests, and its tree if one is grown. A class is
+/// all requests with one tail-end and the same affinities.
 #[derive(Drop)]
 pub(crate) struct TreeRow {
-    /// The number of the generation of trees in which the row was set. The next generation begins
-    /// each time that all trees are forgotten.
+    /// The generation of trees in which the row was set. A new generation begins each time that all
+    /// trees are forgotten.
     pub(crate) generation: u64,
     /// The class of the row: all requests with one tail-end and the same affinities.
     pub(crate) class: Class,
-    /// How many requests of the class (the requests with one tail-end and the same affinities) were
-    /// counted, less one for each request of another class that took one away.
+    /// The number of requests of the row's class that are counted, lowered by one for each request
+    /// of another class that came to this row. A class is all requests with one tail-end and the
+    /// same affinities.
     pub(crate) asks: u32,
-    /// The tree of the class (the requests with one tail-end and the same affinities), if one was
-    /// grown.
+    /// The tree of the row's class, or `None` if no tree is grown yet. A class is all requests with
+    /// one tail-end and the same affinities.
     pub(crate) tree: Option<Tree>,
 }
 
-/// All rows for classes of requests, none of which has a tree yet.
+/// The rows for classes of requests, all of them without a tree.
 pub(crate) fn empty_rows(alloc: Global) -> Result<Vec<TreeRow>, AllocError>
     ensures many { IfOk result (λ rows. length rows.items ≡ MOST_TREES) }
     ensures empty { IfOk result (λ rows. All IsEmptyTreeRow rows.items) }
@@ -57,7 +58,7 @@ pub(crate) fn empty_rows(alloc: Global) -> Result<Vec<TreeRow>, AllocError>
     Ok(rows)
 }
 
-/// Grows a tree for the class of a request. The result is `None` if memory is refused or the
+/// Grows a tree for the class of a request. The result is `None` if memory is refused, or if the
 /// tail-end is unknown. A class is all requests with one tail-end and the same affinities.
 fn grown(alloc: Global, table: &Table, request: &Request) -> Option<Tree>
     ensures { IfSome result (λ tree. (r : Asked)
@@ -69,9 +70,9 @@ fn grown(alloc: Global, table: &Table, request: &Request) -> Option<Tree>
     }
 }
 
-/// Whether a tree is to be grown for a class (the requests with one tail-end and the same
-/// affinities) after `asks` requests of the class were counted. `due` is the number of requests
-/// that this takes, or `None` if no tree may be grown.
+/// Whether a class gets a tree after `asks` of its requests are counted. `due` is the number of
+/// requests that are needed, or `None` if no tree may be grown. A class is all requests with one
+/// tail-end and the same affinities.
 fn is_due(due: Option<u32>, asks: u32) -> bool
     ensures { due ≡ None → result ≡ false }
 {
@@ -81,9 +82,9 @@ fn is_due(due: Option<u32>, asks: u32) -> bool
     }
 }
 
-/// Counts one more request in the row of its class (the requests with one tail-end and the same
-/// affinities). The tree of the class is grown when the number of counted requests reaches `due`.
-/// If `due` is `None`, no tree is grown.
+/// Counts one more request in the row of its class. If at least `due` requests are then counted and
+/// the class has no tree yet, its tree is grown. If `due` is `None`, no tree is grown. A class is
+/// all requests with one tail-end and the same affinities.
 fn count(alloc: Global, table: &Table, request: &Request, due: Option<u32>, row: &mut TreeRow)
     requires class { HasClass request.now row.old.class }
     requires row { HasTreeOf table.now row.old.generation row.old }
@@ -100,11 +101,13 @@ fn count(alloc: Global, table: &Table, request: &Request, due: Option<u32>, row:
     }
 }
 
-/// Counts a request in a row, and returns whether the row is then of the request's class (the
-/// requests with one tail-end and the same affinities). Suppose that the row is of another class. A
-/// request without hops then takes away one of the requests that the row has counted. If none is
-/// left, the row becomes one of the request's class. A request with hops changes no row, because a
-/// tree helps only in its last leg. If `due` is `None`, no tree is grown.
+/// Counts a request in a row, and returns whether the row then belongs to the request's class. A
+/// class is all requests with one tail-end and the same affinities.
+///
+/// If the row belongs to another class, a request without hops lowers the row's count by one. If
+/// the count is already 0, the row is given to the request's class instead. A request with hops
+/// changes no row, because a tree helps only in the last leg of such a request. If `due` is `None`,
+/// no tree is grown.
 pub(crate) fn ask(
     alloc: Global,
     table: &Table,
@@ -142,7 +145,7 @@ pub(crate) fn ask(
     true
 }
 
-/// How many trees the row of a class has: 0 or 1.
+/// The number of trees in the row of a class: 0 or 1.
 pub(crate) fn trees_of(row: &TreeRow) -> usize
     ensures { result ≡ row_count row.now }
 {
@@ -152,10 +155,10 @@ pub(crate) fn trees_of(row: &TreeRow) -> usize
     }
 }
 
-/// How many of the requests that were counted for the row's class (the requests with one tail-end
-/// and the same affinities) are left. A request of another class takes one away, or takes over the
-/// row if none is left. A row of an earlier generation has none left. A new generation begins when
-/// all trees are forgotten.
+/// The count of the row's class, or 0 if the row is of an earlier generation. The count is lowered
+/// by requests of other classes, and the row is given to another class when it is 0. A class is all
+/// requests with one tail-end and the same affinities. A new generation begins each time that all
+/// trees are forgotten.
 fn asks_left(row: &TreeRow, generation: u64) -> u32 {
     if row.generation == generation {
         row.asks
@@ -164,10 +167,11 @@ fn asks_left(row: &TreeRow, generation: u64) -> u32 {
     }
 }
 
-/// The index of the row for a class (the requests with one tail-end and the same affinities), among
-/// the `WAYS` rows from the index `first` on. This is the row of this generation and this class, if
-/// there is one. Otherwise it is the row with the fewest requests left, as `asks_left` counts them.
-/// A new generation begins when all trees are forgotten.
+/// The index of the row for a class, among the `WAYS` rows from the index `first` on. If the class
+/// has a row of this generation there, the result is the index of that row. Otherwise it is the
+/// index of the row with the lowest count, as `asks_left` gives it. A class is all requests with
+/// one tail-end and the same affinities. A new generation begins each time that all trees are
+/// forgotten.
 pub(crate) fn find(rows: &[TreeRow], first: usize, class: &Class, generation: u64) -> usize
     requires { first + WAYS ≤ length rows.now }
     ensures { result < length rows.now }

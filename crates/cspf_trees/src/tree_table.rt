@@ -1,4 +1,4 @@
-//! A table with trees of its database.
+//! A table together with trees of its database.
 
 ghost use Rattle.std.specs.Prelude.{◌≡◌, IfOk, IfErr, OnOk, OnErr};
 ghost use Rattle.cspf_model.specs.Best.{IsBestAnswer};
@@ -14,8 +14,8 @@ use cspf_model::{Batch, Outcome, Refusal, Request};
 use std::alloc::{AllocError, Global};
 use std::marker::Model;
 
-/// A table that answers requests. It keeps trees of its database for pairs of a tail-end and
-/// affinities that are asked for often.
+/// A table that answers requests. It keeps trees of its database for the pairs of a tail-end and
+/// affinities that are requested often.
 #[derive(Drop)]
 pub struct TreeTable {
     /// The table.
@@ -65,8 +65,8 @@ impl TreeTable {
         &self.table
     }
 
-    /// The best answer to a request. It is found with a tree if the request's tail-end and
-    /// affinities are asked for often.
+    /// The best answer to a request. If the request's tail-end and affinities are requested often,
+    /// a tree speeds up the search.
     pub fn best(&mut self, alloc: Global, request: &Request) -> Result<Outcome, AllocError>
         ensures same { self.new ≡ self.old }
         ensures best { IfOk result (λ outcome.
@@ -75,8 +75,9 @@ impl TreeTable {
         self.trees.best(alloc, &self.table, request)
     }
 
-    /// Absorbs a batch as `Table::try_absorb` does. If an absorbed batch changes only unreserved
-    /// bandwidths, the trees are kept. After any other absorbed batch the trees are forgotten.
+    /// Absorbs a batch like `Table::try_absorb`. If the batch is absorbed and changes only
+    /// unreserved bandwidths, the trees are kept. If it is absorbed and changes more, the trees are
+    /// forgotten.
     pub fn try_absorb(&mut self, batch: &Batch) -> Result<(), Refusal>
         ensures ok { OnOk result (Fits self.old.database batch.now) }
         ensures changed { OnOk result (self.new ≡ record self.old {

@@ -1,4 +1,4 @@
-//! Trees of one database, and the answers that are found with them.
+//! Trees of one database, and the answers that they help to find.
 
 ghost use Rattle.std.specs.Prelude.{◌≡◌, ◌≤◌, All};
 ghost use Rattle.cspf_trees.specs.TreeRows.{tree_count};
@@ -15,32 +15,32 @@ use cspf_model::{Batch, Outcome, Request};
 use cspf_search::{best, best_by_tree};
 use std::alloc::{AllocError, Global};
 
-/// Trees of one database. There are at most `MOST_TREES` trees, and at most as many as the limit
-/// that `new` was given. The bounds of each tree take `TREE_BYTES` bytes. A tree is grown at the
-/// sixth request without hops for its tail-end and affinities. If there are already as many trees
-/// as allowed, or memory is refused, requests are searched without a tree.
+/// Trees of one database. There are at most `MOST_TREES` trees, and no more than the limit that was
+/// given to `new`. The bounds of each tree need `TREE_BYTES` bytes. A tree is grown at the sixth
+/// request without hops for its tail-end and affinities. If no further tree is allowed, or memory
+/// is refused, requests are answered without a tree.
 ///
 /// Each row for a class counts the requests of this class: those with one tail-end and the same
-/// affinities. These rows take 393,216 bytes from the first request on. The rows for prefixes with
-/// only one owner take 49,152 bytes from the first such prefix on. If no trees are allowed, there
-/// are no rows.
+/// affinities. These rows need 393,216 bytes, which are allocated at the first request. The rows
+/// for prefixes with only one owner need 49,152 bytes, which are allocated for the first such
+/// prefix. If no trees are allowed, there are no rows.
 #[derive(Drop)]
 pub struct Trees {
-    /// The rows, each of which keeps at most the tree of one class: either none or `MOST_TREES`
-    /// rows. A class is all requests with one tail-end and the same affinities.
+    /// The rows for classes of requests: either none or `MOST_TREES` rows. Each row keeps at most
+    /// one tree. A class is all requests with one tail-end and the same affinities.
     rows: Vec<TreeRow>,
-    /// The number of the present generation of trees. A new generation begins when all trees are
+    /// The present generation of trees. A new generation begins each time that all trees are
     /// forgotten. A row of an earlier generation counts as empty.
     generation: u64,
-    /// How many trees there are at most.
+    /// The greatest number of trees that is allowed.
     most: usize,
-    /// A tree is grown once this many requests without hops were counted for its class (the
-    /// requests with one tail-end and the same affinities).
+    /// The number of requests without hops that must be counted for a class before its tree is
+    /// grown. A class is all requests with one tail-end and the same affinities.
     due: u32,
-    /// How many trees the rows have, those of earlier generations included. A new generation begins
-    /// when all trees are forgotten.
+    /// The number of trees in all rows, including rows of earlier generations. A new generation
+    /// begins each time that all trees are forgotten.
     count: usize,
-    /// The only router that owns the prefix, for prefixes of earlier hops that have only one owner.
+    /// Prefixes of earlier hops, each with the only router that owns it.
     owners: Owners,
     ghost past: { All (λ row. row.generation ≤ generation) rows.items },
     ghost counted: { tree_count rows.items ≡ count },
@@ -59,8 +59,8 @@ impl Trees {
     ghost use Rattle.cspf_trees.specs.TreeRows.{IsAskedOf};
     ghost use Rattle.cspf_trees.specs.Trees.{AreTreesOf};
 
-    /// A set without trees, so it can be used with any database. It will have at most `most` trees.
-    /// The call takes no memory.
+    /// An empty set of trees, which can be used with any database. It will have at most `most`
+    /// trees. The call allocates no memory.
     pub fn new(alloc: Global, most: usize) -> Trees
         ensures trees { (d : Database) → AreTreesOf d result }
         ensures most { result.most ≡ most }
@@ -68,8 +68,8 @@ impl Trees {
         Trees::from_ask(alloc, most, ASKS_FOR_A_TREE)
     }
 
-    /// Does what `new` does, but a tree is grown at the `due`-th request without hops for its
-    /// tail-end and affinities. A `due` above 64 counts as 64.
+    /// Like `new`, but a tree is grown at the `due`-th request without hops for its tail-end and
+    /// affinities. A `due` above 64 counts as 64.
     pub fn from_ask(alloc: Global, most: usize, due: u32) -> Trees
         ensures trees { (d : Database) → AreTreesOf d result }
         ensures most { result.most ≡ most }
@@ -85,7 +85,7 @@ impl Trees {
     }
 
     /// Forgets all trees and owners, so that the set can be used with any database. The memory of
-    /// the rows is kept for later trees and owners.
+    /// the rows stays allocated for later trees and owners.
     pub fn clear(&mut self)
         ensures trees { (d : Database) → AreTreesOf d self.new }
         ensures most { self.new.most ≡ self.old.most }
@@ -99,9 +99,8 @@ impl Trees {
         }
     }
 
-    /// If the batch changes only unreserved bandwidths, keeps the trees and the owners for the
-    /// database after the batch. Otherwise the call forgets the trees and the owners. The table has
-    /// the database before the batch.
+    /// Keeps the trees and the owners for the database after the batch, if the batch changes only
+    /// unreserved bandwidths. Otherwise forgets them. `table` has the database before the batch.
     pub(crate) fn keep_over(&mut self, table: &Table, batch: &Batch)
         requires { AreTreesOf table.now self.old }
         ensures trees { AreTreesOf (after_changes table.now batch.now.changes) self.new }
@@ -116,7 +115,7 @@ impl Trees {
         self.clear();
     }
 
-    /// Makes the rows that count requests and keep trees, if there are none yet and trees are
+    /// Allocates the rows that count requests and keep trees, if there are none yet and trees are
     /// allowed. Returns whether there are rows.
     #[tactic(auto, unfolding(crate::specs::Trees::AreTreesOf))]
     fn fill(&mut self, alloc: Global) -> bool
@@ -140,10 +139,10 @@ impl Trees {
         }
     }
 
-    /// Counts a request for its class (the requests with one tail-end and the same affinities), and
-    /// returns the index of the class's row. The result is `None` if the class still has no row:
-    /// either other classes have all rows that it may get, or the request has hops. The result is
-    /// also `None` if no trees are allowed, or if memory for the rows is refused.
+    /// Counts a request for its class, and returns the index of the row of this class. The result
+    /// is `None` if the class still has no row: other classes have all rows that it may use, or the
+    /// request has hops. The result is also `None` if no trees are allowed, or if memory for the
+    /// rows is refused. A class is all requests with one tail-end and the same affinities.
     fn ask_row(&mut self, alloc: Global, table: &Table, request: &Request) -> Option<usize>
         requires { AreTreesOf table.now self.old }
         ensures trees { AreTreesOf table.now self.new }
@@ -171,8 +170,8 @@ impl Trees {
         if asked { Some(at) } else { None }
     }
 
-    /// The best answer to a request, found with the tree of its class (the requests with one
-    /// tail-end and the same affinities) if there is one.
+    /// The best answer to a request, found with the tree of its class if there is one. A class is
+    /// all requests with one tail-end and the same affinities.
     #[tactic(auto, unfolding(crate::specs::Trees::AreTreesOf))]
     pub(crate) fn best_by_row(
         &mut self,
@@ -212,10 +211,10 @@ impl Trees {
         self.owners.sole_owner(alloc, table, prefix)
     }
 
-    /// The best answer to a request in the table's database, which is the database of the trees.
-    /// The answer is that of `best` of `cspf_search`. If all hops are loose and each have only one
-    /// owner, each leg is answered with the tree of its class. A class is all requests with one
-    /// tail-end and the same affinities.
+    /// The best answer to a request in the table's database, which must be the database of the
+    /// trees. The answer is that of `best` of `cspf_search`. If all hops are loose, and the prefix
+    /// of each hop has only one owner, each leg is answered with the tree of its class. A class is
+    /// all requests with one tail-end and the same affinities.
     pub fn best(
         &mut self,
         alloc: Global,

@@ -11,9 +11,9 @@ use std::test::Fail;
 use std::thread;
 use std::thread::Threads;
 
-/// Draws one number from the counter. Returns how many draws the worker has left before, the number
-/// that is drawn, and how many draws the worker has left afterwards. All three are 0 if the worker
-/// has no draws left.
+/// Draws one number from the counter. Returns three numbers: the draws that the worker has left
+/// before, the number that is drawn, and the draws that the worker has left afterwards. All three
+/// are 0 if the worker has no draws left.
 fn drawn(drawer: &mut Drawer<'_>) -> [u64; 3]
     ensures { drawer.new.counter ≡ drawer.old.counter }
 {
@@ -37,8 +37,8 @@ fn in_turn(rt: HostRuntime) -> Result<(), Fail> {
     Ok(())
 }
 
-/// Without requests a worker draws once from the counter, and the number that it draws is no
-/// request's index.
+/// Without requests, a worker may draw once from the counter. The number that it draws is not the
+/// index of a request.
 #[test]
 fn no_requests(rt: HostRuntime) -> Result<(), Fail> {
     let (counter, mut first) = Counter::open(rt.alloc(), 0)?;
@@ -52,8 +52,8 @@ fn no_requests(rt: HostRuntime) -> Result<(), Fail> {
     Ok(())
 }
 
-/// Makes `count` new drawers, with which workers draw numbers from the counter. The draws that they
-/// may make come from the first seat, which records the draws that no drawer has yet.
+/// Makes `count` new drawers, with which workers draw numbers from the counter. The drawers get
+/// their draws from the first seat, which has the draws that no drawer has yet.
 fn drawers_of<'a>(
     alloc: Global,
     counter: &'a Counter,
@@ -71,8 +71,8 @@ fn drawers_of<'a>(
     Ok(all)
 }
 
-/// Draws from the counter until it gets a number that is no request's index. Counts each number
-/// before this one.
+/// Draws numbers from the counter until a drawn number is not the index of a request. Counts each
+/// number before this last one.
 fn count_drawn(counts: &[AtomicU64], drawer: &mut Drawer<'_>) {
     while drawer.left() != 0 {
         let number = drawer.draw();
@@ -83,7 +83,8 @@ fn count_drawn(counts: &[AtomicU64], drawer: &mut Drawer<'_>) {
     }
 }
 
-/// Workers in several threads draw the number of each request from the counter once.
+/// Checks that workers in several threads draw the index of each request from the counter exactly
+/// once.
 fn each_is_drawn_once<R: Threads + Abort + Sync>(
     rt: &R,
     alloc: Global,
@@ -109,13 +110,13 @@ fn each_is_drawn_once<R: Threads + Abort + Sync>(
     Ok(())
 }
 
-/// Eight threads draw the numbers of 1,000 requests from one counter.
+/// Eight threads draw the indexes of 1,000 requests from one counter.
 #[test]
 fn from_eight_threads(rt: HostRuntime) -> Result<(), Fail> {
     each_is_drawn_once(&rt, rt.alloc(), 1000, 8)
 }
 
-/// As many workers as a counter allows draw the number of the only request.
+/// The greatest allowed number of workers draw the index of the only request.
 #[test]
 fn one_request_and_all_drawers(rt: HostRuntime) -> Result<(), Fail> {
     each_is_drawn_once(&rt, rt.alloc(), 1, MOST_DRAWERS)

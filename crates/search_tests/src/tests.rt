@@ -1,5 +1,5 @@
-//! Answers of both searches and of trees, in small networks and in drawn networks: ties, reverses,
-//! unknown head-ends and tail-ends, and hops.
+//! Answers of both searches and of trees: ties, reverses, unknown head-ends and tail-ends, and
+//! hops. Some networks are small and have known answers, and others are drawn at random.
 
 mod drawn;
 mod legs;
@@ -26,9 +26,9 @@ const THREE: u32 = 0x0303_0303;
 
 const FOUR: u32 = 0x0404_0404;
 
-// A link: each of its two routers followed by its interface address, then the metric, and the
-// unreserved bandwidth at all priorities but 7. At priority 7 no bandwidth is unreserved. The
-// groups are 0x6.
+// A link: its router and interface at the start, its router and interface at the end, the metric,
+// and the unreserved bandwidth at the priorities 0 to 6. At priority 7 no bandwidth is unreserved.
+// The groups are 0x6.
 type Row = (u32, u32, u32, u32, u32, u64);
 
 fn link(row: &Row) -> Result<Link, Fail> {
@@ -46,7 +46,7 @@ fn table_of(alloc: Global, changes: &[Change]) -> Result<Table, AllocError> {
     Ok(table)
 }
 
-// Applies changes as one batch. All of them fit.
+// Applies the changes, which must fit, as one batch.
 fn change(alloc: Global, table: &mut Table, changes: &[Change]) -> Result<(), AllocError> {
     let changes = Vec::from_slice(alloc, changes)?;
     table.absorb(&Batch { number: 1, changes });
@@ -68,7 +68,7 @@ fn reverse(row: &Row) -> Row {
     (to, remote, from, local, metric, 0)
 }
 
-// Whether `rows` has a link in the direction of `other` between the two interfaces of `other`.
+// Whether `rows` has a link that begins and ends at the same routers and interfaces as `other`.
 fn runs(rows: &[Row], other: &Row) -> bool {
     let mut found = false;
     for row in rows {
@@ -78,7 +78,7 @@ fn runs(rows: &[Row], other: &Row) -> bool {
     found
 }
 
-// A table of these links. Each link whose reverse isn't among them gets a reverse.
+// A table of these links, and of a reverse for each link whose reverse isn't among them.
 fn table(alloc: Global, rows: &[Row]) -> Result<Table, Fail> {
     let mut both = Vec::new(alloc);
     for row in rows {
@@ -122,7 +122,7 @@ fn request(
     Ok(Request::new(1, from, to, setup, 1000, exclude, any, all, hops)?)
 }
 
-// The request without its hops.
+// The request, but without hops.
 fn without_hops(request: &Request) -> Request {
     Request {
         id: request.id,
@@ -147,7 +147,7 @@ fn draw(seed: &mut u32) -> u32 {
     x
 }
 
-// Fails with both outcomes unless they are the same.
+// Fails if the two outcomes differ, and then shows both.
 fn check_same(outcome: &Outcome, other: &Outcome) -> Result<(), Fail> {
     if is_same(outcome, other) {
         Ok(())
@@ -156,7 +156,7 @@ fn check_same(outcome: &Outcome, other: &Outcome) -> Result<(), Fail> {
     }
 }
 
-// The answer by a tree, or `None` if no link begins or ends at the tail-end.
+// The answer that is found with a tree, or `None` if no link begins or ends at the tail-end.
 fn by_tree(alloc: Global, table: &Table, request: &Request) -> Result<Option<Outcome>, Fail> {
     match Tree::grow(alloc, table, request)? {
         Some(tree) => Ok(Some(best_by_tree(alloc, table, request, &tree)?)),
@@ -164,7 +164,8 @@ fn by_tree(alloc: Global, table: &Table, request: &Request) -> Result<Option<Out
     }
 }
 
-// The answer of `best`. Fails unless the search by rounds and a tree give the same answer.
+// The answer of `best`. Fails if the search by rounds or the search with a tree gives another
+// answer.
 fn answered(alloc: Global, table: &Table, request: &Request) -> Result<Outcome, Fail> {
     let outcome = best(alloc, table, request)?;
     check_same(&outcome, &best_by_rounds(alloc, table, request)?)?;
@@ -187,21 +188,20 @@ fn is_same(a: &Outcome, b: &Outcome) -> bool {
     }
 }
 
-// The answer that a request should get.
+// The answer that a request must get.
 #[derive(Clone, Copy, Debug)]
 enum Wanted {
-    // The route of this cost along the links with these remote addresses.
+    // A route of this cost. Its links have these remote addresses.
     Route(u64, &'static [u32]),
-    // The route of this cost along the links with these remote addresses. It visits some router
-    // twice.
+    // A route of this cost that visits a router twice. Its links have these remote addresses.
     Again(u64, &'static [u32]),
     NoRoute,
     UnknownFrom,
     UnknownTo,
 }
 
-// Whether the outcome is the route of this cost along the links with these remote addresses.
-// `again` says whether the route visits some router twice.
+// Whether the outcome is a route of this cost whose links have these remote addresses. `again` says
+// whether the route must visit a router twice.
 fn is_route(outcome: &Outcome, cost: u64, again: bool, remotes: &[u32]) -> bool {
     let Outcome::Route(route) = outcome else {
         return false;
@@ -213,7 +213,7 @@ fn is_route(outcome: &Outcome, cost: u64, again: bool, remotes: &[u32]) -> bool 
     same && route.cost() == cost && route.again() == again
 }
 
-// Whether the outcome is the answer that is wanted.
+// Whether the outcome is the wanted answer.
 fn is_wanted(outcome: &Outcome, wanted: Wanted) -> bool {
     match wanted {
         Wanted::Route(cost, remotes) => is_route(outcome, cost, false, remotes),
@@ -225,14 +225,14 @@ fn is_wanted(outcome: &Outcome, wanted: Wanted) -> bool {
 }
 
 // A case: the routers that are marked as without transit, the head-end and the tail-end, the hops,
-// and the answer that is wanted.
+// and the wanted answer.
 type Case = (&'static [u32], (u32, u32), &'static [u8], Wanted);
 
-// A network: its links, whether the table has the links' reverses too, and its cases.
+// A network: its links, whether the table also gets the reverses of the links, and the cases.
 type Network = (&'static [Row], bool, &'static [Case]);
 
-// The answer to the request of a case in a network of these links. `both` says whether the table
-// has the links' reverses too.
+// The answer to the request of a case in a network of these links. If `both` is true, the table
+// also has the reverses of the links.
 fn answer_of(alloc: Global, rows: &[Row], both: bool, case: &Case) -> Result<Outcome, Fail> {
     let (marks, ends, hops, _) = *case;
     let mut table = if both {
@@ -244,7 +244,7 @@ fn answer_of(alloc: Global, rows: &[Row], both: bool, case: &Case) -> Result<Out
     answered(alloc, &table, &request(ends, 0, (0, 0, 0), hops)?)
 }
 
-// Fails unless each case of each network gets the answer that it wants.
+// Fails if a case of one of the networks doesn't get its wanted answer.
 fn assert_networks(rt: &impl Abort, alloc: Global, networks: &[Network]) -> Result<(), Fail> {
     for (rows, both, cases) in networks {
         for case in *cases {

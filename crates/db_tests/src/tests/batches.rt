@@ -1,5 +1,5 @@
-//! What a table does with batches: it replaces links, refuses changes, and accepts what fits when
-//! it is full. Also which fields and keys links and requests have.
+//! What a table does with batches: it replaces links, refuses changes, and accepts batches that fit
+//! when it is full. Also which fields and keys links and requests have.
 use super::edits::Edit::{self, Node, Put, Remove};
 use super::edits::{answer, answers, assert_case, batch_of, link};
 use cspf_addr::{Addr, Hop, Hops, Mask, Prefix};
@@ -27,8 +27,8 @@ const SEVEN: Edit = Put(ONE, 7, TWO, 6);
 
 const LAST: Edit = Put(ONE, 16384, TWO, 16385);
 
-// The link that runs from 1.1.1.1 by the interface `local` to 2.2.2.2. Its remote address differs
-// from `local` in the last bit.
+// The link from 1.1.1.1 to 2.2.2.2 with the local address `local`. Its remote address differs from
+// `local` in the last bit.
 fn one_to_two(local: u32) -> Result<Link, LinkError> {
     link(ONE, local, TWO, local ^ 1)
 }
@@ -43,8 +43,8 @@ fn puts(alloc: Global, first: u32, end: u32) -> Result<Batch, Fail> {
     Ok(Batch { number: 1, changes })
 }
 
-// The link from 1.1.1.1 by the interface 5 to 3.3.3.3. Its other attributes differ from those of
-// `one_to_two`.
+// The link from 1.1.1.1 to 3.3.3.3 with the local address 5. Its other attributes differ from those
+// of `one_to_two`.
 fn other_link() -> Result<Link, LinkError> {
     Link::new(
         Addr::new(ONE),
@@ -57,8 +57,8 @@ fn other_link() -> Result<Link, LinkError> {
     )
 }
 
-// Whether a link runs from 1.1.1.1 by the interface 5 to the router and the interface that `to`
-// gives. The link also has to have the metric and the group of `of_links`, and the unreserved
+// Whether a link leads from 1.1.1.1, with the local address 5, to the router and the interface in
+// `to`. The link must also have the metric and the group in `of_links`, and the unreserved
 // bandwidths `free`.
 fn has_fields(link: &Link, to: (u32, u32), of_links: (u32, u32), free: [u64; 8]) -> bool {
     let from = (link.from.number(), link.local.number());
@@ -66,7 +66,7 @@ fn has_fields(link: &Link, to: (u32, u32), of_links: (u32, u32), free: [u64; 8])
     ends && (link.metric, link.group.bits()) == of_links && link.free == free
 }
 
-// Whether a change has the key of the link from 1.1.1.1 by this interface.
+// Whether a change has the key of the link from 1.1.1.1 with this local address.
 fn is_on_key(edit: Edit, local: u32) -> Result<bool, LinkError> {
     let (from, interface) = edit.change()?.key();
     Ok(from.number() == ONE && interface == Some(Addr::new(local)))
@@ -91,7 +91,8 @@ fn links(rt: HostRuntime) -> Result<(), Fail> {
     Ok(())
 }
 
-// Why a request from a router to the same router, with this setup priority, is refused.
+// The reason for which a request with this setup priority and with the same head-end and tail-end
+// is refused.
 fn refusal(setup: u8) -> Option<RequestError> {
     let (one, none) = (Addr::new(ONE), Mask::new(0));
     Request::new(7, one, one, setup, 1, none, none, none, Hops::none()).err()
@@ -104,7 +105,7 @@ fn request(id: u64, hops: Hops) -> Result<Request, RequestError> {
     Request::new(id, one, two, 7, 9, low, middle, high, hops)
 }
 
-// Whether a request has the fields that `request` gives it.
+// Whether a request has the same fields as one that the function `request` makes.
 fn is_request(request: &Request, id: u64, hops: Hops) -> bool {
     let numbers = request.id == id && request.setup == 7 && request.bandwidth == 9;
     let ends = request.from.number() == ONE && request.to.number() == TWO;
@@ -131,7 +132,7 @@ fn is_batch(batch: &Batch, number: u32, changes: &[Change]) -> bool {
     batch.number == number && batch.changes.as_slice() == changes
 }
 
-// Whether the copy of a batch stays as it is when a change is removed from the batch.
+// Whether the copy of a batch doesn't change when a change is removed from the batch.
 fn is_copied(alloc: Global, batch: &mut Batch, changes: &[Change]) -> Result<bool, Fail> {
     let copy = batch.copy(alloc)?;
     let _ = batch.changes.pop();
@@ -147,8 +148,8 @@ fn a_copied_batch(rt: HostRuntime) -> Result<(), Fail> {
     Ok(())
 }
 
-// Whether the table accepts the changes, by one call or by two. After the changes, the table has to
-// have exactly these links, and to find them by their keys.
+// Whether the table accepts the changes: by one call if `at_once` is true, and otherwise by two.
+// After the changes, the table must have exactly these links, and must find them by their keys.
 fn leaves(
     alloc: Global,
     table: &mut Table,
@@ -187,9 +188,9 @@ fn a_replaced_link(rt: HostRuntime) -> Result<(), Fail> {
     replace(&rt, rt.alloc(), &mut Table::new(rt.alloc())?)
 }
 
-// Puts a link and its reverse. Then the link gets another metric, and the reverse gets no
-// unreserved bandwidth. Then the link is put as it was first, and the router that it runs from is
-// marked as without transit.
+// Puts a link and its reverse. Then gives the link another metric, and the reverse no unreserved
+// bandwidth. Then puts the first version of the link again, and marks the router where the link
+// begins as without transit.
 fn change_attributes(rt: &impl Abort, alloc: Global, table: &mut Table) -> Result<(), Fail> {
     let (old, mut full) = (link(ONE, 4, TWO, 5)?, link(TWO, 5, ONE, 4)?);
     let mut dear = old;
@@ -221,14 +222,14 @@ fn new_attributes(rt: HostRuntime) -> Result<(), Fail> {
     change_attributes(&rt, rt.alloc(), &mut Table::new(rt.alloc())?)
 }
 
-// Whether an empty table refuses the batch for this reason, and stays empty.
+// Whether an empty table refuses the batch for this reason, and is still empty afterwards.
 fn refuses(alloc: Global, batch: &Batch, refusal: Refusal) -> Result<bool, Fail> {
     let mut table = Table::new(alloc)?;
     let refuses = answer(&mut table, batch, false) == Err(refusal);
     Ok(refuses && table.links().is_empty() && !table.has_router(Addr::new(ONE)))
 }
 
-// Two changes with the same key, and a removal from an empty table.
+// Two changes with the same key, and the removal of a link from an empty table.
 const REFUSED: &[(&[Edit], Refusal)] = &[
     (&[FIVE, FIVE], Refusal::Duplicate { at: 2 }),
     (&[Remove(ONE, 1), SEVEN], Refusal::Absent { at: 1 }),
@@ -246,7 +247,7 @@ fn refused_changes(rt: HostRuntime) -> Result<(), Fail> {
     Ok(())
 }
 
-// A table with the links whose local addresses are 0 to 16,383.
+// A full table: the local addresses of its links are 0 to 16,383.
 fn full_table(alloc: Global) -> Result<Table, Fail> {
     let mut table = Table::new(alloc)?;
     for first in 0..4 {
@@ -256,9 +257,9 @@ fn full_table(alloc: Global) -> Result<Table, Fail> {
     Ok(table)
 }
 
-// Changes to a full table, what the table answers to them, and whether it then has its first link
-// and its last link. If a batch puts one link and removes another, in either order, a full table
-// stays full.
+// Changes to a full table, the table's answer, and whether the table then has the links with the
+// local addresses 0 and 16,384. A full table accepts a batch that puts one link and removes
+// another, in either order.
 const FULL: &[(&[Edit], Result<(), Refusal>, bool, bool)] = &[
     (&[], Ok(()), true, false),
     (&[LAST], Err(Refusal::Full), true, false),
@@ -266,12 +267,12 @@ const FULL: &[(&[Edit], Result<(), Refusal>, bool, bool)] = &[
     (&[FIRST, Remove(ONE, 16384)], Ok(()), true, false),
 ];
 
-// Whether the table has a link from 1.1.1.1 by this interface.
+// Whether the table has a link from 1.1.1.1 with this local address.
 fn has_link(table: &Table, local: u32) -> bool {
     table.find(Addr::new(ONE), Addr::new(local)).is_some()
 }
 
-// Makes the changes of `FULL` to a full table.
+// Makes the changes of `FULL` to a full table, one after the other.
 fn change_full(rt: &impl Abort, alloc: Global, table: &mut Table) -> Result<(), Fail> {
     for (at, (edits, wanted, first, last)) in FULL.iter().enumerate() {
         let answers = answers(alloc, table, edits, *wanted)?;
@@ -312,8 +313,8 @@ fn as_many_routers_as_are_kept(rt: HostRuntime) -> Result<(), Fail> {
     Ok(())
 }
 
-// Whether the table has 1,024 routers. It has to have each router of the list whose flag is set,
-// and none of the others.
+// Whether the table has 1,024 routers, including each router of the list whose flag is `true`, and
+// none of the others in the list.
 fn has_routers(table: &Table, routers: &[(u32, bool)]) -> bool {
     for (router, known) in routers {
         if table.has_router(Addr::new(*router)) != *known {
@@ -325,11 +326,11 @@ fn has_routers(table: &Table, routers: &[(u32, bool)]) -> bool {
 
 const TOO_MANY: Result<(), Refusal> = Err(Refusal::TooManyRouters);
 
-// Changes to a table that has one link from the router 0 to each of the routers 1 to 1,023, and
-// what the table answers to them. The last item lists routers, and whether the table has each of
-// them after the changes.
+// Changes to a table that has one link from the router 0 to each of the routers 1 to 1,023, and the
+// table's answer. The last element lists routers, and says of each whether the table has it after
+// the changes.
 const STAR: &[(&[Edit], Result<(), Refusal>, &[(u32, bool)])] = &[
-    // a link to a new router is refused alone, and accepted together with the removal of the only
+    // a link to a new router is refused alone, but accepted together with the removal of the only
     // link to another router
     (&[Put(0, 1024, 1024, 1025)], TOO_MANY, &[(1024, false)]),
     (
@@ -337,7 +338,7 @@ const STAR: &[(&[Edit], Result<(), Refusal>, &[(u32, bool)])] = &[
         Ok(()),
         &[(1024, true), (1023, false)],
     ),
-    // a link is replaced by one to a new router; the second batch also puts a link from the new
+    // a link is replaced by a link to a new router; the second batch also puts a link from the new
     // router
     (&[Put(0, 5, 2000, 4)], Ok(()), &[(2000, true), (5, false)]),
     (
@@ -355,9 +356,9 @@ const STAR: &[(&[Edit], Result<(), Refusal>, &[(u32, bool)])] = &[
     ),
 ];
 
-// What a table with the links of `star` answers to the batch, by one call or by two. The second
-// result is whether the table then has exactly those routers of the list whose flags are true, and
-// 1,024 routers in all.
+// The answer of a table with the links of `star` to the batch, by one call if `at_once` is true,
+// and otherwise by two. The second result is whether the table then has 1,024 routers, including
+// exactly those routers of the list whose flags are `true`.
 fn change_star(
     alloc: Global,
     star: &Batch,
@@ -371,8 +372,8 @@ fn change_star(
     Ok((answer, has_routers(&table, routers)))
 }
 
-// Absorbs each batch of `STAR` twice: by the calls `check` and `absorb`, and by the call
-// `try_absorb`. Both ways have to give what `STAR` says.
+// Absorbs each batch of `STAR` in two ways: by the calls `check` and `absorb`, and by the call
+// `try_absorb`. Both must give the results in `STAR`.
 fn change_stars(rt: &impl Abort, alloc: Global, star: &Batch) -> Result<(), Fail> {
     for (at, (edits, wanted, routers)) in STAR.iter().enumerate() {
         let batch = batch_of(alloc, edits)?;
@@ -390,7 +391,7 @@ fn routers_that_come_as_others_go(rt: HostRuntime) -> Result<(), Fail> {
 }
 
 // A router, the address and the length of a prefix, and whether the router owns the prefix. The
-// table has the link from 1.1.1.1 by 10.0.12.1 to 2.2.2.2.
+// table has only the link from 1.1.1.1 to 2.2.2.2 with the local address 10.0.12.1.
 const OWNERS: &[(u32, u32, u8, bool)] = &[
     (ONE, INTERFACE, 24, true),
     (TWO, INTERFACE, 24, false),
@@ -408,7 +409,7 @@ fn assert_owners(rt: &impl Abort, table: &Table) -> Result<(), Fail> {
     Ok(())
 }
 
-// Which routers own prefixes that cover an interface, and prefixes that cover other addresses.
+// Which routers own a prefix that covers an interface or another address.
 #[test]
 fn owners_of_prefixes(rt: HostRuntime) -> Result<(), Fail> {
     let one_link = [Put(ONE, INTERFACE, TWO, INTERFACE ^ 1)];

@@ -1,6 +1,6 @@
-//! One test works on a table, and another test leaves its table empty. Both make the same batches.
-//! `tests/scarce` counts how often each test takes memory. The counts are equal, because looking at
-//! a batch, absorbing it and reading the table take no memory.
+//! Two tests make the same batches, but only one of them uses its table. `tests/scarce` counts the
+//! allocations of each test. The counts are equal, because checking a batch, absorbing it and
+//! reading the table allocate no memory.
 use super::edits::Edit::{self, Node, Put, Remove};
 use super::edits::{assert_case, batch_of, put};
 use cspf_addr::{Addr, Prefix};
@@ -15,14 +15,13 @@ const FEW: [&[Edit]; 10] = [
     &[],
     // this batch puts a link and its reverse, and marks a router as without transit
     &[Put(1, 10, 2, 20), Put(2, 20, 1, 10), Node(1, false)],
-    // this batch puts the same links again, which the table already has
+    // this batch puts links that the table already has
     &[Put(1, 10, 2, 20), Put(2, 20, 1, 10)],
-    // this batch makes a link run to a new router
+    // this batch makes a link lead to a new router
     &[Put(1, 10, 3, 30)],
-    // this batch removes the link from router 1, and the mark that says that router 1 has no
-    // transit
+    // this batch removes the link from router 1, and the mark of router 1 as without transit
     &[Remove(1, 10), Node(1, true)],
-    // each of these batches has two changes of the same key
+    // each of these batches has two changes with the same key
     &[Put(1, 10, 2, 20), Remove(1, 10)],
     &[Node(5, false), Node(5, true)],
     // each of these batches removes a link that the table doesn't have
@@ -42,10 +41,10 @@ fn many(alloc: Global, first: u32, end: u32, routers: u32) -> Result<Batch, Fail
     Ok(Batch { number: 1, changes })
 }
 
-// Batches of links from the router 0: the first local address, the number after the last local
-// address, and to how many other routers the links run. Four batches fill the table. The next two
-// batches put the same links again, and links to other routers. The last three bring too many
-// routers, too many links, and too many changes.
+// Batches of links from the router 0, each given by three numbers: the first local address, the
+// last local address plus 1, and the number of other routers. Four batches fill the table. The next
+// two batches put the same links again, the second of them to other routers. The last three batches
+// have too many routers, too many links, and too many changes.
 const MANY: [(u32, u32, u32); 9] = [
     (0, 4096, 1000),
     (4096, 8192, 1000),
@@ -70,7 +69,7 @@ fn batches(alloc: Global) -> Result<Vec<Batch>, Fail> {
     Ok(all)
 }
 
-// How many items are found by all calls that read a table.
+// The number of elements that all calls for reading a table find.
 fn reads(table: &Table, prefix: Prefix) -> usize {
     let mut found = table.ends().len().wrapping_add(table.marks().len());
     for (at, router) in table.routers().iter().enumerate() {
@@ -86,7 +85,7 @@ fn reads(table: &Table, prefix: Prefix) -> usize {
     found.wrapping_add(reads_of_links(table))
 }
 
-// How many links of the table are found by `find` and have a reverse, as `has_reverse` says.
+// The number of links of the table that `find` finds and that have a reverse by `has_reverse`.
 fn reads_of_links(table: &Table) -> usize {
     let mut found = 0usize;
     for link in table.links() {
@@ -97,8 +96,8 @@ fn reads_of_links(table: &Table) -> usize {
 }
 
 // Checks each batch, absorbs it by `try_absorb` and again by `absorb`, and then reads the table.
-// The result is how many items these reads find, plus the number of batches for which `check` and
-// `try_absorb` agree and `changes_shape` is true.
+// The result is the number of elements that these reads find, plus the number of batches for which
+// `check` and `try_absorb` agree and `changes_shape` is true.
 fn work(table: &mut Table, batches: &[Batch], prefix: Prefix) -> usize {
     let mut found = 0usize;
     for batch in batches {

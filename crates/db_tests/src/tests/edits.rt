@@ -1,6 +1,6 @@
-//! What the tests share: links that differ only in their routers and interfaces, and changes whose
-//! addresses are given by numbers. Also how a table answers a batch, and `assert_case`, which has
-//! the only assertion of these tests.
+//! What the tests share: links that differ only in their routers and interfaces, changes whose
+//! addresses are given as numbers, and the answer of a table to a batch. `assert_case` has the only
+//! assertion of these tests.
 use cspf_addr::{Addr, Mask};
 use cspf_db::Table;
 use cspf_model::{Batch, Change, Link, LinkError, Refusal};
@@ -8,19 +8,18 @@ use std::alloc::Global;
 use std::process::Abort;
 use std::test::Fail;
 
-// Fails with the name and the number of a case if the case doesn't hold.
+// Fails with the name and the number of a case if `holds` is false.
 pub(super) fn assert_case(rt: &impl Abort, name: &str, number: usize, holds: bool) {
     assert!(rt; holds, "{name} {number}");
 }
 
-// A change, whose addresses are given by their numbers.
+// A change, with its addresses as numbers.
 #[derive(Clone, Copy)]
 pub(super) enum Edit {
-    // Puts a link. The numbers are those of the router that it runs from, its local interface, the
-    // router that it runs to, and its remote interface.
+    // Puts a link. The numbers are the router and the interface at its start, and the router and
+    // the interface at its end.
     Put(u32, u32, u32, u32),
-    // Removes a link. The numbers are those of the router that it runs from, and of its local
-    // interface.
+    // Removes a link. The numbers are the router and the interface at its start.
     Remove(u32, u32),
     // Sets whether a router has transit.
     Node(u32, bool),
@@ -77,8 +76,8 @@ pub(super) fn batch_of(alloc: Global, edits: &[Edit]) -> Result<Batch, Fail> {
     Ok(Batch { number: 1, changes })
 }
 
-// What a table answers to a batch. If the batch fits, the table absorbs it: by `try_absorb` if
-// `at_once`, and otherwise by `absorb` after `check`.
+// The answer of a table to a batch. If the batch fits, the table absorbs it: by `try_absorb` if
+// `at_once` is true, and otherwise by `absorb` after `check`.
 pub(super) fn answer(table: &mut Table, batch: &Batch, at_once: bool) -> Result<(), Refusal> {
     if at_once {
         return table.try_absorb(batch);

@@ -1,4 +1,4 @@
-//! The table has to say which routers have transit, after batches that mark routers as without
+//! Which routers have transit according to the table, after batches that mark routers as without
 //! transit or remove such marks.
 use super::edits::Edit::{self, Node, Put, Remove};
 use super::edits::{answer, answers, assert_case, drop_of, node, put};
@@ -10,8 +10,8 @@ use std::alloc::{AllocError, Global};
 use std::process::Abort;
 use std::test::Fail;
 
-// Whether the table finds each of its routers by its Router ID. The router at an index has to be
-// marked as without transit exactly if its Router ID is one of `marks`.
+// Whether the table finds each of its routers by its Router ID, and says at the router's index that
+// the router is without transit exactly if its Router ID is in `marks`.
 fn are_routers_marked(table: &Table, marks: &[u32]) -> bool {
     for (at, router) in table.routers().iter().enumerate() {
         let marked = marks.contains(&router.number());
@@ -22,8 +22,8 @@ fn are_routers_marked(table: &Table, marks: &[u32]) -> bool {
     true
 }
 
-// How many addresses below 2,048 are routers of the table. The result is `None` if the addresses
-// below 2,048 that are marked as without transit aren't exactly `marks`.
+// The number of addresses below 2,048 that are routers of the table. The result is `None` if the
+// marked addresses below 2,048 aren't exactly `marks`. A marked address is without transit.
 fn count_routers(table: &Table, marks: &[u32]) -> Option<usize> {
     let mut known = 0usize;
     for number in 0..2048 {
@@ -36,7 +36,8 @@ fn count_routers(table: &Table, marks: &[u32]) -> Option<usize> {
     Some(known)
 }
 
-// Whether the table lists exactly the addresses `marks` as marked, so as without transit.
+// Whether the table's list of marked addresses is exactly `marks`. A marked address is without
+// transit.
 fn are_listed(table: &Table, marks: &[u32]) -> bool {
     for router in table.marks() {
         if !marks.contains(&router.number()) {
@@ -46,27 +47,27 @@ fn are_listed(table: &Table, marks: &[u32]) -> bool {
     table.marks().len() == marks.len()
 }
 
-// Whether all calls that say which addresses are marked as without transit name exactly the
-// addresses `marks`, and there are `routers` routers. All addresses are below 2,048.
+// Whether all calls agree that exactly the addresses `marks` are marked as without transit, and the
+// table has `routers` routers. All addresses are below 2,048.
 fn are_marks(table: &Table, marks: &[u32], routers: usize) -> bool {
     let known = count_routers(table, marks) == Some(routers) && table.routers().len() == routers;
     known && are_listed(table, marks) && are_routers_marked(table, marks)
 }
 
-// A batch, what the table answers to it, and what the table has after that: which addresses are
-// marked as without transit, and how many routers there are.
+// A batch, the table's answer to it, and the state of the table after it: the addresses that are
+// marked as without transit, and the number of routers.
 type Step = (&'static [Edit], Result<(), Refusal>, &'static [u32], usize);
 
 const MARKS_THAT_COME: &[Step] = &[
     (&[], Ok(()), &[], 0),
-    // an address without links that is marked as without transit is no router of the table, and it
-    // may be marked again
+    // an address without links that is marked as without transit is no router of the table, and may
+    // be marked again
     (&[Node(1, false)], Ok(()), &[1], 0),
     (&[Node(1, false)], Ok(()), &[1], 0),
-    // to give transit to an address that already has transit changes nothing
+    // giving transit to an address that already has transit changes nothing
     (&[Node(2, true)], Ok(()), &[1], 0),
-    // links are put at router 1, which is marked as without transit; the new router 3 is marked in
-    // the batch that puts its link
+    // links are put at router 1, which is marked as without transit; router 3 is new, and is marked
+    // in the same batch that puts its link
     (
         &[Put(1, 7, 2, 7), Node(3, false), Put(3, 8, 1, 8)],
         Ok(()),
@@ -88,14 +89,14 @@ const MARKS_THAT_GO: &[Step] = &[
         3,
     ),
     (&[Node(1, true), Node(2, false)], Ok(()), &[2, 3], 3),
-    // all links are removed, and with them all routers, but the addresses stay marked as without
-    // transit
+    // when all links are removed, there are no routers any more, but the addresses are still marked
+    // as without transit
     (&[Remove(1, 7), Remove(3, 8)], Ok(()), &[2, 3], 0),
     (&[Node(3, true), Node(2, true)], Ok(()), &[], 0),
 ];
 
-// The key of a router's mark (that it is without transit) differs from the keys of the router's
-// links, whatever their local addresses are.
+// The key of a router's mark as without transit differs from the keys of the router's links,
+// whatever their local addresses are.
 const KEYS_OF_MARKS: &[Step] = &[
     (
         &[Put(5, 0, 6, 0), Put(5, 5, 6, 5), Node(5, false)],
@@ -112,7 +113,8 @@ const KEYS_OF_MARKS: &[Step] = &[
 ];
 
 // The first batch marks router 9 as without transit. Each of the next four sets the transit of
-// router 5 twice, to the same value or to another. The last batch is refused for its links.
+// router 5 twice, to the same value or to another. The last batch is refused because it removes a
+// link that the table doesn't have.
 const REFUSED: &[Step] = &[
     (&[Node(9, false)], Ok(()), &[9], 0),
     (
@@ -164,7 +166,7 @@ const REFUSED: &[Step] = &[
 
 const ROUTERS_AND_MARKS: &[Step] = &[
     // two batches mark addresses as without transit: some below, between and above those of the
-    // routers 3 and 6, and that of router 6
+    // routers 3 and 6, and router 6
     (
         &[Put(3, 1, 6, 1), Node(1, false), Node(4, false)],
         Ok(()),
@@ -172,7 +174,7 @@ const ROUTERS_AND_MARKS: &[Step] = &[
         2,
     ),
     (&[Node(6, false), Node(9, false)], Ok(()), &[1, 4, 6, 9], 2),
-    // routers with and without transit are added, with addresses before, between and after those of
+    // routers with and without transit are added, with addresses below, between and above those of
     // the other routers
     (
         &[Put(1, 1, 4, 1), Put(9, 1, 2, 1)],
@@ -180,7 +182,7 @@ const ROUTERS_AND_MARKS: &[Step] = &[
         &[1, 4, 6, 9],
         6,
     ),
-    // each batch removes two routers and takes transit away from one; the first batch also gives
+    // each batch removes two routers and marks one as without transit; the first batch also gives
     // transit to a router, and the second adds a router
     (
         &[Remove(1, 1), Node(6, true), Node(2, false)],
@@ -194,12 +196,12 @@ const ROUTERS_AND_MARKS: &[Step] = &[
         &[1, 2, 4, 8, 9],
         3,
     ),
-    // router 2 is removed, and the routers 8 and 9 stay; router 8 gets transit again
+    // router 2 is removed, but the routers 8 and 9 are not; router 8 gets transit again
     (&[Remove(9, 1), Node(8, true)], Ok(()), &[1, 2, 4, 9], 2),
 ];
 
-// Absorbs the batches of the steps into the table, one after the other. After each, the table has
-// to be as the step says.
+// Absorbs the batches of the steps into the table, one after the other. After each batch, the table
+// must be in the state of the step.
 fn make(
     rt: &impl Abort,
     name: &str,
@@ -214,8 +216,8 @@ fn make(
     Ok(())
 }
 
-// Absorbs the batches of the steps into an empty table, one after the other. After each, the table
-// has to be as the step says.
+// Absorbs the batches of the steps into an empty table, one after the other. After each batch, the
+// table must be in the state of the step.
 fn make_all(rt: &impl Abort, name: &str, steps: &[Step], alloc: Global) -> Result<(), Fail> {
     make(rt, name, steps, alloc, &mut Table::new(alloc)?)
 }
@@ -253,8 +255,8 @@ fn nodes(alloc: Global, first: u32, end: u32, transit: bool) -> Result<Vec<Chang
     Ok(changes)
 }
 
-// How many addresses below 4,096 are marked as without transit, how many of these marks the table
-// lists, and how many routers it has.
+// The numbers of addresses below 4,096 that are marked as without transit, of marks that the table
+// lists, and of the table's routers.
 fn counts(table: &Table) -> [usize; 3] {
     let mut marked = 0usize;
     for number in 0..4096 {
@@ -266,7 +268,7 @@ fn counts(table: &Table) -> [usize; 3] {
 }
 
 // Marks the addresses 0 to 1,023 as without transit. Returns whether the table accepts this batch,
-// then has exactly these marks, and would accept the batch again.
+// then has exactly these marks, and would accept the same batch again.
 fn fill(alloc: Global, table: &mut Table) -> Result<bool, AllocError> {
     let changes = nodes(alloc, 0, 1024, false)?;
     let all = Batch { number: 1, changes };
@@ -274,7 +276,7 @@ fn fill(alloc: Global, table: &mut Table) -> Result<bool, AllocError> {
     Ok(fits && counts(table) == [1024, 1024, 0] && table.check(&all) == Ok(()))
 }
 
-// Whether the address `first` has transit, and whether the address `second` has it.
+// Whether the address `first` has transit, and whether the address `second` has transit.
 fn transit_of(table: &Table, first: u32, second: u32) -> (bool, bool) {
     let first = table.transit(Addr::new(first));
     (first, table.transit(Addr::new(second)))
@@ -282,12 +284,11 @@ fn transit_of(table: &Table, first: u32, second: u32) -> (bool, bool) {
 
 const TOO_MANY: Result<(), Refusal> = Err(Refusal::TooManyMarks);
 
-// Changes to a table in which the addresses 0 to 1,023 are marked as without transit. With each:
-// what the table answers, and whether the addresses 0 and 1,024 then have transit.
+// Changes to a table in which the addresses 0 to 1,023 are marked as without transit. With each
+// batch come the table's answer, and whether the addresses 0 and 1,024 then have transit.
 const MORE: &[(&[Edit], Result<(), Refusal>, (bool, bool))] = &[
-    // Each of these batches would mark one address too many as without transit. It marks the
-    // address 1,024. It also gives transit to an address that has transit, marks a marked address
-    // again, or puts a link.
+    // Each of these batches marks the address 1,024, which is one mark too many. Each of them also
+    // gives transit to an address that has transit, marks a marked address again, or puts a link.
     (
         &[Node(1024, false), Node(1025, true)],
         TOO_MANY,
@@ -303,13 +304,13 @@ const MORE: &[(&[Edit], Result<(), Refusal>, (bool, bool))] = &[
         TOO_MANY,
         (false, true),
     ),
-    // address 1,024 is marked as without transit in place of address 0; the next batch marks
-    // address 0 in place of address 1,024
+    // address 1,024 is marked as without transit instead of address 0; the next batch marks address
+    // 0 instead of address 1,024
     (&[Node(1024, false), Node(0, true)], Ok(()), (true, false)),
     (&[Node(0, false), Node(1024, true)], Ok(()), (false, true)),
 ];
 
-// Whether a table has 1,024 marks of addresses without transit and no routers, and whether the two
+// Whether a table has no routers and 1,024 marks of addresses without transit, and the two
 // addresses have transit as `transit` says.
 fn is_full(table: &Table, (first, second): (u32, u32), transit: (bool, bool)) -> bool {
     counts(table) == [1024, 1024, 0] && transit_of(table, first, second) == transit
@@ -331,7 +332,8 @@ fn one_mark_more_than_are_kept(rt: HostRuntime) -> Result<(), Fail> {
     change_full(&rt, rt.alloc(), &mut Table::new(rt.alloc())?)
 }
 
-// A batch that marks the addresses 1,024 to 2,047 as without transit, in place of 0 to 1,023.
+// A batch that marks the addresses 1,024 to 2,047 as without transit, and removes the marks of 0 to
+// 1,023.
 fn all_others(alloc: Global) -> Result<Batch, AllocError> {
     let mut changes = nodes(alloc, 1024, 2048, false)?;
     for router in 0..1024 {
@@ -340,8 +342,8 @@ fn all_others(alloc: Global) -> Result<Batch, AllocError> {
     Ok(Batch { number: 1, changes })
 }
 
-// Marks the addresses 0 to 1,023 as without transit, and then other addresses in place of these.
-// Returns whether 1,024 addresses are then marked, among them 1,024 and not 1,023.
+// Marks the addresses 0 to 1,023 as without transit, and then the addresses 1,024 to 2,047 instead.
+// Returns whether 1,024 addresses are then marked, including 1,024 but not 1,023.
 fn takes_others(alloc: Global, table: &mut Table) -> Result<bool, AllocError> {
     let is_filled = fill(alloc, table)?;
     table.absorb(&all_others(alloc)?);
@@ -365,8 +367,8 @@ fn star(alloc: Global, count: u32) -> Result<Vec<Change>, Fail> {
     Ok(changes)
 }
 
-// A batch that puts `links` links from router 0, marks the routers from 0 to `marks` - 1 as without
-// transit, and makes the changes `more`.
+// A batch that puts `links` links from router 0, marks the routers 0 to `marks` - 1 as without
+// transit, and makes the further changes `more`.
 fn star_with_marks(alloc: Global, links: u32, marks: u32, more: &[Edit]) -> Result<Batch, Fail> {
     let mut changes = star(alloc, links)?;
     for router in 0..marks {
@@ -378,9 +380,10 @@ fn star_with_marks(alloc: Global, links: u32, marks: u32, more: &[Edit]) -> Resu
     Ok(Batch { number: 1, changes })
 }
 
-// A batch, and what an empty table answers to it. The two numbers are how many links from router 0
-// the batch puts, and how many routers it marks as without transit. Further changes of the batch
-// follow. The last number is how many marks, and also how many routers, the table then has.
+// A batch, and the answer of an empty table to it. The first two numbers are the number of links
+// from router 0 that the batch puts, and the number of routers that it marks as without transit.
+// The further changes of the batch follow. The last number is both the number of marks and the
+// number of routers that the table then has.
 type Star = (u32, u32, &'static [Edit], Result<(), Refusal>, usize);
 
 const STARS: &[Star] = &[
@@ -403,11 +406,11 @@ const STARS: &[Star] = &[
     ),
     (0, 4096, &[], TOO_MANY, 0),
     (0, 4096, &[Node(0, true)], Err(Refusal::TooLong), 0),
-    // this batch makes as many routers, and as many addresses without transit, as a table may have
+    // this batch makes the greatest allowed numbers of routers and of addresses without transit
     (1023, 1024, &[], Ok(()), 1024),
 ];
 
-// Whether the table gives the wanted answer to the batch, and then has `left` routers, and as many
+// Whether the table gives the wanted answer to the batch, and then has `left` routers and `left`
 // marks of routers without transit.
 fn takes(
     alloc: Global,
@@ -426,8 +429,8 @@ fn take_stars(rt: &impl Abort, alloc: Global, table: &mut Table) -> Result<(), F
     Ok(())
 }
 
-// If a batch would mark too many routers as without transit, and breaks another rule too, it is
-// refused for the other rule.
+// If a batch marks too many routers as without transit, but breaks another rule too, the refusal
+// names the other rule.
 #[test]
 fn marks_behind_other_refusals(rt: HostRuntime) -> Result<(), Fail> {
     let limits = MOST_MARKS == 1024 && MOST_CHANGES == 4096;
@@ -435,8 +438,8 @@ fn marks_behind_other_refusals(rt: HostRuntime) -> Result<(), Fail> {
     take_stars(&rt, rt.alloc(), &mut Table::new(rt.alloc())?)
 }
 
-// A change that is drawn at random. It puts a new link between two of eight routers, removes a link
-// of the table, or sets whether one of twelve addresses has transit.
+// A random change. It puts a new link between two of eight routers, removes a link of the table, or
+// sets whether one of twelve addresses has transit.
 fn drawn_change(draw: &mut Draw, table: &Table) -> Result<Change, LinkError> {
     match (draw.below(6), draw.link_of(table)) {
         (0, Some(link)) => Ok(drop_of(link.from.number(), link.local.number())),
@@ -450,8 +453,7 @@ fn drawn_change(draw: &mut Draw, table: &Table) -> Result<Change, LinkError> {
     }
 }
 
-// A batch of one to four changes that are drawn at random. Two of the changes may have the same
-// key.
+// A batch of one to four random changes. Two of the changes may have the same key.
 fn drawn_batch(alloc: Global, draw: &mut Draw, table: &Table) -> Result<Batch, Fail> {
     let mut changes = Vec::new(alloc);
     for _ in 0..draw.below(4).wrapping_add(1) {
@@ -472,7 +474,7 @@ fn has_twins(changes: &[Change]) -> bool {
     false
 }
 
-// Makes the changes to the list of the addresses without transit, one change after the other.
+// Applies the changes to the list of addresses without transit, one change after the other.
 fn mark_plainly(marked: &mut [bool; 16], changes: &[Change]) {
     for change in changes {
         if let Change::Node { router, transit } = change {
@@ -481,7 +483,7 @@ fn mark_plainly(marked: &mut [bool; 16], changes: &[Change]) {
     }
 }
 
-// The numbers of the addresses whose flags in `marked` are set.
+// The addresses whose flags in `marked` are `true`.
 fn listed(alloc: Global, marked: &[bool; 16]) -> Result<Vec<u32>, AllocError> {
     let mut marks = Vec::new(alloc);
     for router in 0..16 {
@@ -492,9 +494,9 @@ fn listed(alloc: Global, marked: &[bool; 16]) -> Result<Vec<u32>, AllocError> {
     Ok(marks)
 }
 
-// Whether the table absorbs the batch if `fits` is true, and refuses it otherwise. After this, the
-// routers that the table marks as without transit have to be those of `marked`, with the changes of
-// the batch if it fits.
+// Whether the table absorbs the batch if `fits` is true, and refuses it otherwise. Afterwards, the
+// addresses that the table marks as without transit must be those in `marked`. If the batch fits,
+// the changes of the batch are applied to `marked` first.
 fn absorbs(
     alloc: Global,
     table: &mut Table,
@@ -511,9 +513,8 @@ fn absorbs(
     Ok(answers && are_marks(table, &marks, routers))
 }
 
-// Absorbs batches that are drawn at random. After each batch, the routers that the table marks as
-// without transit are counted. The result is how many batches are refused, and the sum of these
-// counts.
+// Absorbs random batches. After each batch, the marks of addresses without transit are counted. The
+// result is the number of refused batches, and the sum of these counts.
 fn absorb_drawn(rt: &impl Abort, alloc: Global, table: &mut Table) -> Result<(u32, usize), Fail> {
     let (mut marked, mut draw) = ([false; 16], Draw { state: 9 });
     let (mut refused, mut marks) = (0u32, 0usize);
@@ -537,7 +538,8 @@ fn marks_after_drawn_batches(rt: HostRuntime) -> Result<(), Fail> {
 }
 
 // A batch that puts `links` links from router 0, and sets the transit of the routers 0 to 1,023.
-// Every second router, from `first` on, is marked as without transit, and the others get transit.
+// Every second router, beginning with `first`, is marked as without transit, and the others get
+// transit.
 fn each_second(alloc: Global, links: u32, first: u32) -> Result<Batch, Fail> {
     let mut changes = star(alloc, links)?;
     for router in 0..1024 {
@@ -546,8 +548,8 @@ fn each_second(alloc: Global, links: u32, first: u32) -> Result<Batch, Fail> {
     Ok(Batch { number: 1, changes })
 }
 
-// Whether, for each router, the table says the same about its transit by the router's index as by
-// its Router ID.
+// Whether the table gives for each router the same answer about its transit by index and by Router
+// ID.
 fn are_alike(table: &Table) -> bool {
     for (at, router) in table.routers().iter().enumerate() {
         if table.transit_at(at) != table.transit(*router) {
@@ -557,8 +559,8 @@ fn are_alike(table: &Table) -> bool {
     true
 }
 
-// Absorbs a batch with `links` links. Returns whether every second one of 1,024 routers, from
-// `first` on, is then marked as without transit.
+// Absorbs a batch with `links` links. Returns whether every second one of 1,024 routers, beginning
+// with `first`, is then marked as without transit.
 fn marks_each_second(
     alloc: Global,
     table: &mut Table,
@@ -570,7 +572,7 @@ fn marks_each_second(
     Ok(transit && counts(table) == [512, 512, 1024] && are_alike(table))
 }
 
-// Of the routers 0 to 1,023, a first batch marks the even ones as without transit. A second batch
+// A first batch marks the even ones of the routers 0 to 1,023 as without transit. A second batch
 // marks the odd ones, and gives transit to the even ones.
 fn mark_each_second(rt: &impl Abort, alloc: Global, table: &mut Table) -> Result<(), Fail> {
     let marks_even = marks_each_second(alloc, table, 1023, 0)?;

@@ -1,5 +1,5 @@
-//! The table has to say which routers own an address that a prefix covers, and at which indexes a
-//! router's links are. Batches put and remove links, so that other links move to other indexes.
+//! Which routers own a prefix, and which indexes the links of a router have, according to the
+//! table. Batches put and remove links, so that other links move to other indexes.
 use super::edits::Edit::{self, Put, Remove};
 use super::edits::{answer, assert_case, batch_of};
 use super::reverses::Draw;
@@ -17,8 +17,8 @@ const SECOND: u32 = 0x0a00_0002;
 
 const THIRD: u32 = 0x0a00_0003;
 
-// The local addresses of the routers' interfaces: 192.168.0.1, 192.168.1.1 and so on. Each link has
-// the remote interface 172.16.0.1.
+// The local addresses of links: 192.168.0.1, 192.168.1.1 and so on. Each link has the remote
+// address 172.16.0.1.
 const ZERO_1: u32 = 0xc0a8_0001;
 
 const ONE_1: u32 = 0xc0a8_0101;
@@ -40,7 +40,7 @@ fn listed(alloc: Global, table: &Table, prefix: Prefix) -> Result<Vec<u16>, Allo
     Ok(owners)
 }
 
-// Looks at each router, and returns whether exactly the routers at the indexes `owners` own the
+// Checks each router, and returns whether exactly the routers at the indexes `owners` own the
 // prefix.
 fn are_owners(table: &Table, owners: &[u16], prefix: Prefix) -> bool {
     let mut count = 0usize;
@@ -58,7 +58,8 @@ fn are_owners(table: &Table, owners: &[u16], prefix: Prefix) -> bool {
 // The address and the length of a prefix, and the indexes of the routers that own it.
 type Case = (u32, u8, &'static [u16]);
 
-// Whether exactly the routers of a case own its prefix.
+// Whether the table lists exactly the owners of a case, and checking each router finds the same
+// owners.
 fn is_owned(alloc: Global, table: &Table, (address, length, wanted): &Case) -> Result<bool, Fail> {
     let prefix = Prefix::new(Addr::new(*address), *length)?;
     let owners = listed(alloc, table, prefix)?;
@@ -74,9 +75,9 @@ const LINKS: &[Edit] = &[
     Put(SECOND, TWO_1, THIRD, REMOTE),
 ];
 
-// First come prefixes that routers own by their Router IDs. Then come prefixes that one or several
-// routers own by the local address of a router's first, last or middle link. Last come prefixes
-// without an owner, which cover no interface or only a remote interface.
+// First come prefixes that routers own by their Router IDs. Then come prefixes that routers own by
+// the local address of their first, last or middle link. Last come prefixes without an owner, which
+// cover no interface or only a remote interface.
 const OWNERS: &[Case] = &[
     (FIRST, 32, &[0]),
     (SECOND, 32, &[1]),
@@ -96,7 +97,7 @@ const OWNERS: &[Case] = &[
     (REMOTE, 32, &[]),
 ];
 
-// The link from the highest local address of a router is removed, and a link from a lower local
+// The router's link with the highest local address is removed, and a link with a lower local
 // address is put.
 const MOVE: &[Edit] = &[Remove(FIRST, SEVEN_1), Put(FIRST, ZERO_1, THIRD, REMOTE)];
 
@@ -107,7 +108,7 @@ const OWNERS_AFTER_MOVE: &[Case] = &[
     (TWO_1, 32, &[1]),
 ];
 
-// A router is removed with all its links.
+// All links of a router are removed, and so is the router.
 const GO: &[Edit] = &[
     Remove(FIRST, ONE_1),
     Remove(FIRST, ONE_5),
@@ -123,7 +124,7 @@ const OWNERS_AFTER_GO: &[Case] = &[
     (0, 0, &[0, 1]),
 ];
 
-// The name of a case, a batch that comes after `LINKS`, and the owners after this batch.
+// The name of a case, a batch that follows `LINKS`, and the owners after this batch.
 const STEPS: &[(&str, &[Edit], &[Case])] = &[
     ("owners", &[], OWNERS),
     ("owners after a move", MOVE, OWNERS_AFTER_MOVE),
@@ -135,8 +136,7 @@ fn takes(alloc: Global, table: &mut Table, edits: &[Edit]) -> Result<bool, Fail>
     Ok(answer(table, &batch_of(alloc, edits)?, true) == Ok(()))
 }
 
-// Absorbs `LINKS` and then the batch of a step. After this, the owners have to be those of the
-// step.
+// Absorbs `LINKS` and then the batch of a step. Afterwards, the owners must be those of the step.
 fn make(
     rt: &impl Abort,
     alloc: Global,
@@ -151,8 +151,8 @@ fn make(
     Ok(())
 }
 
-// Absorbs `LINKS` and then the batch of a step into an empty table. After this, the owners have to
-// be those of the step.
+// Absorbs `LINKS` and then the batch of a step into an empty table. Afterwards, the owners must be
+// those of the step.
 fn make_all(rt: &impl Abort, alloc: Global, step: &(&str, &[Edit], &[Case])) -> Result<(), Fail> {
     make(rt, alloc, &mut Table::new(alloc)?, step)
 }
@@ -165,7 +165,7 @@ fn owners_after_batches(rt: HostRuntime) -> Result<(), Fail> {
     Ok(())
 }
 
-// Whether `out` has exactly the links that run from the router.
+// Whether `out` has exactly the links that begin at the router.
 fn are_links_from(table: &Table, router: Addr, out: &[Link]) -> bool {
     let mut count = 0usize;
     for link in table.links() {
@@ -179,7 +179,7 @@ fn are_links_from(table: &Table, router: Addr, out: &[Link]) -> bool {
     count == out.len()
 }
 
-// Whether the table gives for each router exactly the links that are found by looking at each link.
+// Whether the table gives for each router exactly the links that are found by checking all links.
 fn are_spans(table: &Table) -> bool {
     for (at, router) in table.routers().iter().enumerate() {
         if !are_links_from(table, *router, table.out_at(at)) {
@@ -189,8 +189,8 @@ fn are_spans(table: &Table) -> bool {
     true
 }
 
-// How many routers own a prefix. The result is `None` if the table's list differs from what a look
-// at each router finds.
+// The number of routers that own a prefix. The result is `None` if the table's list of owners
+// differs from what checking each router finds.
 fn count_owners(
     alloc: Global,
     table: &Table,
@@ -206,11 +206,11 @@ fn count_owners(
     }
 }
 
-// The lengths of the prefixes that are drawn at random.
+// The lengths of the random prefixes.
 const LENGTHS: &[u8] = &[0, 27, 29, 30, 31, 32];
 
-// Draws prefixes of each length at random. The result is the number of owners of the prefix that
-// has the most owners, or `None` if the owners of a prefix are wrong.
+// Draws a random prefix of each length. The result is the greatest number of owners of such a
+// prefix, or `None` if the owners of a prefix are wrong.
 fn most_owners(alloc: Global, table: &Table, draw: &mut Draw) -> Result<Option<usize>, Fail> {
     let mut most = 0;
     for length in LENGTHS {
@@ -222,8 +222,8 @@ fn most_owners(alloc: Global, table: &Table, draw: &mut Draw) -> Result<Option<u
     Ok(Some(most))
 }
 
-// Absorbs batches of a few changes that are drawn at random. The result is the number of owners of
-// the drawn prefix that has the most owners.
+// Absorbs random batches of a few changes. The result is the greatest number of owners of a random
+// prefix.
 fn absorb_drawn(rt: &impl Abort, alloc: Global, table: &mut Table) -> Result<usize, Fail> {
     let mut draw = Draw { state: 11 };
     let mut owners = 0;

@@ -1,5 +1,5 @@
-//! The table has to give the index of each link's reverse. Batches put and remove links and
-//! reverses, so that other links move to other indexes.
+//! Which index the reverse of each link has, according to the table. Batches put and remove links
+//! and reverses, so that other links move to other indexes.
 use super::edits::Edit::{self, Put, Remove};
 use super::edits::{answer, answers, assert_case, link};
 use cspf_addr::{Addr, Mask};
@@ -9,7 +9,7 @@ use std::alloc::{AllocError, Global};
 use std::process::Abort;
 use std::test::Fail;
 
-// The reverse of `link`, with other attributes: it joins the same two interfaces in the other
+// The reverse of `link`, with other attributes. It joins the same two interfaces in the opposite
 // direction.
 fn back(link: &Link) -> Result<Link, LinkError> {
     Link::new(
@@ -28,7 +28,7 @@ fn is_reverse(link: &Link, other: &Link) -> bool {
         && (other.to, other.remote) == (link.from, link.local)
 }
 
-// The index of the reverse of a link, found by a look at each of the links.
+// The index of the reverse of a link, found by checking all links.
 fn plain_reverse(links: &[Link], link: &Link) -> Option<usize> {
     for (at, other) in links.iter().enumerate() {
         if is_reverse(link, other) {
@@ -38,13 +38,13 @@ fn plain_reverse(links: &[Link], link: &Link) -> Option<usize> {
     None
 }
 
-// The index of a reverse as the table gives it: `NO_LINK` stands for no reverse.
+// The index of a reverse as the table gives it: `NO_LINK` if there is no reverse.
 fn index_of(reverse: Option<usize>) -> usize {
     reverse.unwrap_or(usize::from(NO_LINK))
 }
 
-// How many of the links `out` have a reverse. The result is `None` if the table and a plain search
-// differ about the reverse of one of them.
+// The number of the links `out` that have a reverse. The result is `None` if the table gives
+// another reverse for one of them than a search through all links.
 fn count_out(table: &Table, out: &[Link], reverses: &[u16]) -> Option<u32> {
     let mut both = 0u32;
     for (link, reverse) in out.iter().zip(reverses) {
@@ -62,8 +62,8 @@ fn count_out(table: &Table, out: &[Link], reverses: &[u16]) -> Option<u32> {
     }
 }
 
-// How many links of the table have a reverse. The result is `None` if the table and a plain search
-// differ about the reverse of one of them.
+// The number of links of the table that have a reverse. The result is `None` if the table gives
+// another reverse for one of them than a search through all links.
 fn count_reverses(table: &Table) -> Option<u32> {
     let mut both = 0u32;
     for at in 0..table.routers().len() {
@@ -88,8 +88,8 @@ const THERE: Edit = Put(20, 1, 30, 2);
 
 const BACK: Edit = Put(30, 2, 20, 1);
 
-// A batch that fits, and what the table has after this batch: the indexes of the reverses of all
-// its links, and whether it has the reverse of `THERE`.
+// A batch that fits, and the state of the table after it: the indexes of the reverses of all links,
+// and whether the table has the reverse of `THERE`.
 type Step = (&'static [Edit], &'static [u16], bool);
 
 // A link is put alone, and its reverse is put in a later batch.
@@ -99,8 +99,8 @@ const COME: &[Step] = &[
     (&[BACK], &[1, 0], true),
 ];
 
-// A link and its reverse are put in two batches, and later in one batch. When the link `THERE` is
-// removed alone, the table still has its reverse.
+// A link and its reverse are put in two batches, and later in one batch. When the link `THERE`
+// alone is removed, its reverse is still in the table.
 const COME_AND_GO: &[Step] = &[
     (&[THERE], &[NO_LINK], false),
     (&[BACK], &[1, 0], true),
@@ -118,25 +118,24 @@ const REPLACED: &[Step] = &[
     (&[THERE], &[1, 0], true),
     (&[Put(30, 2, 20, 3)], &[NO_LINK, NO_LINK], false),
     (&[BACK], &[1, 0], true),
-    // the link or its reverse runs to another router
+    // the link or its reverse leads to another router
     (&[Put(20, 1, 40, 2)], &[NO_LINK, NO_LINK], true),
     (&[THERE], &[1, 0], true),
     (&[Put(30, 2, 10, 1)], &[NO_LINK, NO_LINK], false),
-    // the links in the other direction join the same two routers by other interfaces, so no link
-    // has a reverse
+    // the links in the opposite direction join the same two routers over other interfaces, so no
+    // link has a reverse
     (
         &[Remove(30, 2), Put(30, 3, 20, 4), Put(30, 4, 20, 3)],
         &[NO_LINK, NO_LINK, NO_LINK],
         false,
     ),
-    // a link is put between two other interfaces, and the table already has its reverse
+    // a link between two other interfaces is put, and its reverse is already in the table
     (&[Put(20, 4, 30, 3)], &[NO_LINK, 2, 1, NO_LINK], false),
 ];
 
 const MOVED: &[Step] = &[
     (&[THERE, BACK], &[1, 0], true),
-    // other links are put, whose keys are before those of the two links, between them, and after
-    // them
+    // other links are put, with keys below those of the two links, between them, and above them
     (
         &[Put(10, 1, 20, 7), Put(10, 2, 30, 7)],
         &[NO_LINK, NO_LINK, 3, 2],
@@ -153,7 +152,8 @@ const MOVED: &[Step] = &[
         true,
     ),
     (&[Remove(10, 2)], &[NO_LINK, 3, NO_LINK, 1, NO_LINK], true),
-    // a link is put while its reverse is removed, and another link is put whose reverse stays
+    // one link is put while its reverse is removed, and another link is put whose reverse isn't
+    // removed
     (
         &[Remove(10, 1), Put(20, 7, 10, 1), Put(20, 9, 40, 1)],
         &[4, NO_LINK, NO_LINK, 5, 0, 3],
@@ -166,7 +166,7 @@ const MOVED: &[Step] = &[
     ),
 ];
 
-// Whether the table accepts the batch of a step, and then has the reverses that the step wants.
+// Whether the table accepts the batch of a step, and then has the reverses of the step.
 fn takes(alloc: Global, table: &mut Table, step: &Step) -> Result<bool, Fail> {
     let (edits, reverses, has_back) = step;
     let answers = answers(alloc, table, edits, Ok(()))?;
@@ -175,8 +175,8 @@ fn takes(alloc: Global, table: &mut Table, step: &Step) -> Result<bool, Fail> {
     Ok(holds && found.as_slice() == *reverses && count_reverses(table).is_some())
 }
 
-// Absorbs the batches of the steps into the table, one after the other. After each, the table has
-// to be as the step says.
+// Absorbs the batches of the steps into the table, one after the other. After each batch, the table
+// must be in the state of the step.
 fn make(
     rt: &impl Abort,
     alloc: Global,
@@ -189,8 +189,8 @@ fn make(
     Ok(())
 }
 
-// Absorbs the batches of the steps into an empty table, one after the other. After each, the table
-// has to be as the step says.
+// Absorbs the batches of the steps into an empty table, one after the other. After each batch, the
+// table must be in the state of the step.
 fn make_all(rt: &impl Abort, alloc: Global, steps: &(&str, &[Step])) -> Result<(), Fail> {
     make(rt, alloc, &mut Table::new(alloc)?, steps)
 }
@@ -210,7 +210,7 @@ fn reverses_after_batches(rt: HostRuntime) -> Result<(), Fail> {
     Ok(())
 }
 
-// Whether one of the changes has the key of this change.
+// Whether one of the changes has the same key as `change`.
 fn has_key(changes: &[Change], change: &Change) -> bool {
     for other in changes {
         if other.key() == change.key() {
@@ -234,13 +234,13 @@ pub(super) struct Draw {
 }
 
 impl Draw {
-    // A number below `most`, drawn at random, or 0 if `most` is 0.
+    // A random number below `most`, or 0 if `most` is 0.
     pub(super) fn below(&mut self, most: u32) -> u32 {
         self.state = self.state.wrapping_mul(1664525).wrapping_add(1013904223);
         (self.state >> 16).checked_rem(most).unwrap_or(0)
     }
 
-    // A link of the table, drawn at random, or `None` if the table has no links.
+    // A random link of the table, or `None` if the table has no links.
     pub(super) fn link_of(&mut self, table: &Table) -> Option<Link> {
         let links = table.links();
         if links.is_empty() {
@@ -249,16 +249,15 @@ impl Draw {
         links.get(self.below(links.len() as u32) as usize).copied()
     }
 
-    // A link between two of eight routers, drawn at random. Each router has `interfaces`
-    // interfaces.
+    // A random link between two of eight routers. Each router has `interfaces` interfaces.
     fn new_link(&mut self, interfaces: u32) -> Result<Link, LinkError> {
         let from = self.below(8);
         let to = from.wrapping_add(1).wrapping_add(self.below(7)) % 8;
         link(from, self.below(interfaces), to, self.below(interfaces))
     }
 
-    // A change to the table, drawn at random. It puts a new link, the reverse of a link, or a link
-    // back over other interfaces. Or it removes a link, or makes a link run to another router.
+    // A random change to the table. It puts a new link, puts the reverse of a link, puts a link
+    // back over other interfaces, removes a link, or makes a link lead to another router.
     fn change(&mut self, table: &Table, interfaces: u32) -> Result<Change, LinkError> {
         let kind = self.below(8);
         let Some(old) = self.link_of(table) else {
@@ -275,8 +274,8 @@ impl Draw {
         }
     }
 
-    // A batch that fits the table, with `count` changes that are drawn at random. It has fewer
-    // changes if 100,000 draws don't give as many with different keys.
+    // A batch of `count` random changes that fits the table. It has fewer changes if 100,000 draws
+    // give fewer changes with different keys.
     pub(super) fn batch(
         &mut self,
         alloc: Global,
@@ -298,9 +297,9 @@ impl Draw {
     }
 }
 
-// Draws a batch of `count` changes, and has the table absorb it. The result is how many links of
-// the table then have reverses. It is `None` if the batch has fewer changes, if the table refuses
-// it, or if a reverse is wrong.
+// Draws a random batch of `count` changes, and lets the table absorb it. The result is the number
+// of links of the table that then have reverses. It is `None` if the batch has fewer changes, if
+// the table refuses the batch, or if a reverse is wrong.
 fn absorb_drawn(
     alloc: Global,
     table: &mut Table,
@@ -313,8 +312,8 @@ fn absorb_drawn(
     Ok(if fits { count_reverses(table) } else { None })
 }
 
-// Absorbs batches of a few changes that are drawn at random. After each batch, the links that have
-// reverses are counted. The result is the sum of these counts.
+// Absorbs random batches of a few changes. After each batch, the links that have reverses are
+// counted. The result is the sum of these counts.
 fn absorb_many(rt: &impl Abort, alloc: Global, table: &mut Table) -> Result<u32, Fail> {
     let mut draw = Draw { state: 7 };
     let mut all = 0u32;
@@ -334,8 +333,8 @@ fn reverses_after_drawn_batches(rt: HostRuntime) -> Result<(), Fail> {
     Ok(())
 }
 
-// Absorbs batches of 300 changes that are drawn at random. The result is how many links have
-// reverses after the last batch.
+// Absorbs random batches of 300 changes. The result is the number of links that have reverses after
+// the last batch.
 fn absorb_long(rt: &impl Abort, alloc: Global, table: &mut Table) -> Result<u32, Fail> {
     let mut draw = Draw { state: 8 };
     let mut last = 0;

@@ -1,5 +1,5 @@
-//! The rows of a table, which are its links, and the routers between which they run. Batches put
-//! and remove the links in any order.
+//! The rows of a table, which are its links, and the routers that the links join. Batches put and
+//! remove the links in any order.
 use super::edits::Edit::{Put, Remove};
 use super::edits::{assert_case, batch_of, link};
 use cspf_addr::Addr;
@@ -9,15 +9,15 @@ use std::alloc::Global;
 use std::process::Abort;
 use std::test::Fail;
 
-// The link with this number in a full table, in the order of the links' keys. Each of 1,024 routers
-// has 16 links.
+// The link at the index `n` of a full table. The links are in the order of their keys, and each of
+// 1,024 routers has 16 links.
 fn numbered(n: u32) -> Result<Link, LinkError> {
     let from = n / 16;
     let local = n % 16;
     link(from, local, (from + 1 + local * 64) % 1024, local)
 }
 
-// The number of the link that change `i` puts or removes. The numbers ascend if `order` is 0,
+// The index of the link that change `i` puts or removes. The indexes ascend if `order` is 0,
 // descend if it is 1, and are mixed if it is 2.
 fn nth(order: u32, i: u32) -> u32 {
     match order {
@@ -27,7 +27,7 @@ fn nth(order: u32, i: u32) -> u32 {
     }
 }
 
-// Puts all links, or removes every third link of each router, in the order that `order` gives.
+// Puts all links, or removes every third link of each router, in the given order.
 fn change_all(alloc: Global, table: &mut Table, order: u32, put: bool) -> Result<(), Fail> {
     for part in 0..4 {
         let first = part * 4096;
@@ -46,8 +46,8 @@ fn change_all(alloc: Global, table: &mut Table, order: u32, put: bool) -> Result
     Ok(())
 }
 
-// Whether a row of the table (a link) has the routers and the local address of the link with the
-// number `n` in a full table.
+// Whether a row of the table (a link) has the same routers and the same local address as the link
+// at the index `n` of a full table.
 fn is_numbered(row: Option<&Link>, n: u32) -> Result<bool, LinkError> {
     let link = numbered(n)?;
     Ok(match row {
@@ -56,8 +56,8 @@ fn is_numbered(row: Option<&Link>, n: u32) -> Result<bool, LinkError> {
     })
 }
 
-// Whether the table has exactly the links of a full table, in the order of their keys. If
-// `dropped`, every third link of each router has to be missing.
+// Whether the table has exactly the links of a full table, in the order of their keys. If `dropped`
+// is true, every third link of each router must be missing.
 fn are_links(table: &Table, dropped: bool) -> Result<bool, LinkError> {
     let mut rows = table.links().iter();
     for n in 0..16384 {
@@ -71,8 +71,8 @@ fn are_links(table: &Table, dropped: bool) -> Result<bool, LinkError> {
     Ok(rows.next().is_none())
 }
 
-// Whether each of the links runs from the router `from`. `ends` has to have for each link the index
-// of the router to which it runs.
+// Whether each of the links begins at the router `from`, and `ends` has for each link the index of
+// the router where it ends.
 fn are_ends(routers: &[Addr], from: Addr, out: &[Link], ends: &[u16]) -> bool {
     for (link, end) in out.iter().zip(ends) {
         if link.from != from || routers.get(*end as usize) != Some(&link.to) {
@@ -83,7 +83,7 @@ fn are_ends(routers: &[Addr], from: Addr, out: &[Link], ends: &[u16]) -> bool {
 }
 
 // Whether the router has the index `at` and the links `out`, and `ends` has for each link the index
-// of the router to which it runs.
+// of the router where it ends.
 fn has_links(table: &Table, at: usize, router: Addr, out: &[Link], ends: &[u16]) -> bool {
     let is_one = table.place_of(router) == Some(at) && table.out(router).len() == out.len();
     is_one && are_ends(table.routers(), router, out, ends)
@@ -100,8 +100,8 @@ fn are_routers(table: &Table, count: usize) -> bool {
     table.routers().len() == 1024
 }
 
-// Puts all links, or removes every third link of each router. After this, the rows of the table
-// have to be the links that are left.
+// Puts all links, or removes every third link of each router. Afterwards, the rows of the table
+// must be the remaining links.
 fn assert_rows(
     rt: &impl Abort,
     alloc: Global,
@@ -134,8 +134,8 @@ fn rows_in_any_order(rt: HostRuntime) -> Result<(), Fail> {
     Ok(())
 }
 
-// Whether the router 1 has the index `one` and the router 2 has the index `two`. No link may run
-// from these two routers, and the table has to have `routers` routers.
+// Whether the router 1 has the index `one` and the router 2 has the index `two`. No link may begin
+// at these two routers, and the table must have `routers` routers.
 fn has_places(table: &Table, one: Option<usize>, two: Option<usize>, routers: usize) -> bool {
     let (first, second) = (Addr::new(1), Addr::new(2));
     let places = table.place_of(first) == one && table.place_of(second) == two;
@@ -143,7 +143,7 @@ fn has_places(table: &Table, one: Option<usize>, two: Option<usize>, routers: us
     places && no_links && table.routers().len() == routers
 }
 
-// Puts a link to the router 1, and then removes it.
+// Puts a link to the router 1, and then removes this link.
 fn come_and_go(rt: &impl Abort, alloc: Global, table: &mut Table) -> Result<(), Fail> {
     table.absorb(&batch_of(alloc, &[Put(0, 0, 1, 0)])?);
     assert_case(
@@ -186,8 +186,8 @@ fn change_pairs(
     Ok(())
 }
 
-// Whether the routers have these numbers, and each link has the index of the router to which it
-// runs.
+// Whether the routers have the addresses `names`, and `ends` has for each link the index of the
+// router where it ends.
 fn are_listed(table: &Table, names: &[u32]) -> bool {
     for (at, router) in table.routers().iter().enumerate() {
         let (out, ends) = (table.out_at(at), table.ends_at(at));
@@ -224,7 +224,7 @@ const ALL: &[u32] = &[
     1, 2, 3, 4, 5, 6, 7, 8, 9, 10, 11, 12, 13, 14, 20, 21, 22, 30, 31, 32, 33, 34,
 ];
 
-// Pairs of routers, whether the links between them are put or removed, and the numbers of the
+// Pairs of routers, whether the links between them are put or removed, and the addresses of all
 // routers after this step.
 const STEPS: &[(&[(u32, u32)], bool, &[u32])] = &[
     (&[(10, 30), (30, 20), (20, 10)], true, &[10, 20, 30]),

@@ -7,8 +7,7 @@ use cspf_model::{Batch, Change, Link, LinkError};
 use std::alloc::Global;
 use std::test::Fail;
 
-// A link with its reverse. A router, and an address without links, are marked: the mark says that
-// it has no transit.
+// A link and its reverse. One router, and one address without links, are marked as without transit.
 const START: [Edit; 4] = [
     Put(1, 10, 2, 20),
     Put(2, 20, 1, 10),
@@ -16,22 +15,22 @@ const START: [Edit; 4] = [
     Node(9, false),
 ];
 
-// Batches whose changes keep the shape of the database: they change at most unreserved bandwidths.
+// Batches that don't change the shape of the database: they change at most unreserved bandwidths.
 const KEPT: [&[Edit]; 5] = [
     // this batch has no changes
     &[],
     // this batch puts links that the table already has
     &[Put(1, 10, 2, 20), Put(2, 20, 1, 10)],
-    // this batch marks addresses that are already marked as without transit
+    // this batch marks addresses as without transit that are marked already
     &[Node(1, false), Node(9, false)],
     // this batch gives transit to addresses that already have transit
     &[Node(2, true), Node(8, true)],
-    // this batch gives transit, puts a link and takes transit away, and each of these changes
-    // nothing
+    // this batch gives transit, puts a link and marks an address as without transit, and none of
+    // these changes has an effect
     &[Node(2, true), Put(1, 10, 2, 20), Node(9, false)],
 ];
 
-// Batches whose changes change more of the database than unreserved bandwidths.
+// Batches that change more of the database than unreserved bandwidths.
 const CHANGED: [&[Edit]; 11] = [
     // each of these batches puts a link with another key
     &[Put(3, 10, 2, 20)],
@@ -44,7 +43,7 @@ const CHANGED: [&[Edit]; 11] = [
     // each of these batches gives transit to an address that is marked as without transit
     &[Node(1, true)],
     &[Node(9, true)],
-    // each of these batches marks an address as without transit that wasn't marked before
+    // each of these batches marks an address as without transit that isn't marked yet
     &[Node(2, false)],
     &[Node(8, false)],
     // in each of these batches, only the first change or only the last one changes more than
@@ -53,16 +52,16 @@ const CHANGED: [&[Edit]; 11] = [
     &[Node(1, false), Put(2, 20, 1, 10), Put(1, 10, 3, 20)],
 ];
 
-// A table with the links of `START`, and with its marks of routers without transit.
+// A table with the links and the marks of `START`. A marked address is without transit.
 fn started(alloc: Global) -> Result<Table, Fail> {
     let mut table = Table::new(alloc)?;
     table.absorb(&batch_of(alloc, &START)?);
     Ok(table)
 }
 
-// How many batches come before the first one for which `changes_shape` doesn't return `wanted`. If
-// there is none, the result is the number of batches. `changes_shape` says whether a batch changes
-// more than unreserved bandwidths.
+// The number of batches before the first one for which `changes_shape` doesn't return `wanted`. If
+// there is no such batch, the result is the number of all batches. `changes_shape` says whether a
+// batch changes more than unreserved bandwidths.
 fn right(alloc: Global, batches: &[&[Edit]], wanted: bool) -> Result<usize, Fail> {
     let table = started(alloc)?;
     for (at, edits) in batches.iter().enumerate() {
@@ -73,14 +72,14 @@ fn right(alloc: Global, batches: &[&[Edit]], wanted: bool) -> Result<usize, Fail
     Ok(batches.len())
 }
 
-// The first link of `START`, with this metric, group and unreserved bandwidths.
+// The first link of `START`, but with this metric, group and unreserved bandwidths.
 fn valued(metric: u32, group: u32, free: [u64; 8]) -> Result<Link, LinkError> {
     let (from, local, to, remote) = (Addr::new(1), Addr::new(10), Addr::new(2), Addr::new(20));
     Link::new(from, local, to, remote, metric, Mask::new(group), free)
 }
 
-// Whether `changes_shape` is true of a batch that puts both links of `START`, the first one with
-// these values.
+// The result of `changes_shape` for a batch that puts both links of `START`, the first one with
+// this metric, group and unreserved bandwidths.
 fn changes(alloc: Global, metric: u32, group: u32, free: [u64; 8]) -> Result<bool, Fail> {
     let first = Change::Put(valued(metric, group, free)?);
     let changes = vec![in alloc; put(2, 20, 1, 10)?, first]?;

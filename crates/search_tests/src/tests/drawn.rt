@@ -1,6 +1,7 @@
-//! Drawn networks, in which both searches and the trees of the network have to agree. In some
-//! networks, routers are marked as without transit. Such a network gives the same answers as one
-//! without marked routers, in which the links from those routers have no unreserved bandwidth.
+//! Networks that are drawn at random, in which both searches and the trees must agree. In some
+//! networks, routers are marked as without transit. Such a network must give the same answers as
+//! another network without marked routers, in which the links from those routers have no unreserved
+//! bandwidth.
 
 ghost use Rattle.cspf_trees.specs.Trees.{AreTreesOf};
 
@@ -12,8 +13,8 @@ use cspf_trees::{MOST_TREES, Trees};
 use std::alloc::{AllocError, Global};
 use std::test::Fail;
 
-// A metric, which depends on the kind of the network: from 0 to 3, so that routes tie; always 1; or
-// from 1 to 1,000.
+// A random metric that depends on the kind of the network: from 0 to 3 for kind 0, so that routes
+// tie; always 1 for kind 1; or from 1 to 1,000.
 fn drawn_metric(seed: &mut u32, kind: u32) -> u32 {
     match kind {
         0 => draw(seed) % 4,
@@ -22,7 +23,7 @@ fn drawn_metric(seed: &mut u32, kind: u32) -> u32 {
     }
 }
 
-// A link between two interfaces. One in eight of these links has no unreserved bandwidth.
+// A link between two interfaces. One in eight such links has no unreserved bandwidth.
 fn drawn_link(seed: &mut u32, kind: u32, from: (u32, u32), to: (u32, u32)) -> Row {
     let metric = drawn_metric(seed, kind);
     let free = if draw(seed) % 8 == 0 { 0 } else { 1000 };
@@ -46,8 +47,8 @@ fn drawn(alloc: Global, seed: &mut u32) -> Result<Vec<Row>, Fail> {
     Ok(rows)
 }
 
-// The routers of a network that are marked as without transit: one to three in a third of the
-// networks, and none in the others.
+// The routers of a network that are marked as without transit. A third of the networks have one to
+// three such routers, and the other networks have none.
 fn drawn_marks(alloc: Global, seed: &mut u32) -> Result<Vec<u32>, AllocError> {
     let mut marks = Vec::new(alloc);
     let most = if draw(seed) % 3 == 0 {
@@ -64,10 +65,10 @@ fn drawn_marks(alloc: Global, seed: &mut u32) -> Result<Vec<u32>, AllocError> {
     Ok(marks)
 }
 
-// A table without marked routers that answers requests from `from` as the network does in which the
-// routers `marks` are without transit. It has no unreserved bandwidth on the links from these
-// routers, except `from`, nor on the links to `from`. With 0 for `from` it answers the requests
-// from all routers that aren't in `marks`.
+// A table without marked routers that gives the requests from `from` the same answers as the
+// network in which the routers `marks` are without transit. Two kinds of links have no unreserved
+// bandwidth in this table: the links from the routers `marks` other than `from`, and the links to
+// `from`. If `from` is 0, the table fits the requests from all routers that aren't in `marks`.
 fn unmarked(alloc: Global, rows: &[Row], marks: &[u32], from: u32) -> Result<Table, Fail> {
     let mut open = Vec::new(alloc);
     for row in rows {
@@ -80,8 +81,8 @@ fn unmarked(alloc: Global, rows: &[Row], marks: &[u32], from: u32) -> Result<Tab
     one_way(alloc, &open)
 }
 
-// The address of a router. Routers 0 to 3 have addresses in 10.0.0.0/30, and routers 4 to 11 have
-// addresses in 10.0.0.0/28.
+// The address of a router. The routers 0 to 3 have addresses in 10.0.0.0/30, and the routers 4 to
+// 11 have other addresses in 10.0.0.0/28.
 fn router(number: u32) -> u32 {
     0x0a00_0000 + number % 12
 }
@@ -95,15 +96,15 @@ const HOPS: [&[u8]; 6] = [
     b"0.0.1.0/24l 10.0.0.1/32l 10.0.0.0/28s",
 ];
 
-// A request between two drawn routers, with these hops.
+// A request with these hops between two random routers.
 fn drawn_request(seed: &mut u32, hops: &[u8]) -> Result<Request, Fail> {
     let from = draw(seed) % 12;
     let to = from + 1 + draw(seed) % 11;
     request((router(from), router(to)), 0, (0, 0, 0), hops)
 }
 
-// A network, and its routers that are marked as without transit. It has a table with these routers
-// marked, and a table that `unmarked` makes, in which no router is marked.
+// A network and its routers that are marked as without transit, with two tables: `marked`, in which
+// these routers are marked, and `open`, which comes from `unmarked` and has no marked router.
 #[derive(Drop)]
 struct DrawnNetwork {
     rows: Vec<Row>,
@@ -125,8 +126,8 @@ fn drawn_network(alloc: Global, seed: &mut u32) -> Result<DrawnNetwork, Fail> {
     })
 }
 
-// The answer of a table in which no router is marked as without transit. The table is made so that
-// it answers as the network with its marked routers does.
+// The answer of a table without marked routers, which must be the same as that of the network with
+// its marked routers. A marked router is without transit.
 fn without_marks(
     alloc: Global,
     network: &DrawnNetwork,
@@ -141,8 +142,8 @@ fn without_marks(
     }
 }
 
-// Asks the trees six times for the request without its hops. After this there is a tree for its
-// tail-end and affinities.
+// Lets the trees answer the request without its hops six times. Then there is a tree for the
+// request's tail-end and affinities.
 fn ask_without_hops(
     alloc: Global,
     table: &Table,
@@ -159,7 +160,7 @@ fn ask_without_hops(
     Ok(())
 }
 
-// Fails unless the trees answer the request three times with this outcome.
+// Fails if the trees don't give this outcome for the request three times.
 fn check_asks(
     alloc: Global,
     table: &Table,
@@ -177,7 +178,7 @@ fn check_asks(
     Ok(())
 }
 
-// Fails unless the trees answer the request three times with this outcome before they have a tree
+// Fails if the trees don't give this outcome for the request, three times before they have a tree
 // for it, and three times afterwards.
 fn check_trees(
     alloc: Global,
@@ -194,9 +195,9 @@ fn check_trees(
     check_asks(alloc, table, request, outcome, trees)
 }
 
-// Whether a request has a route. Fails unless the trees give the same answer as the searches. If
-// routers of the network are marked as without transit, the table in which none is marked has to
-// give the same answer as well.
+// Whether a request has a route. Fails if the trees give another answer than the searches. If the
+// network has routers that are marked as without transit, the function also fails if the table
+// without marked routers gives another answer.
 fn has_route(
     alloc: Global,
     network: &DrawnNetwork,
@@ -217,7 +218,8 @@ fn has_route(
     Ok(matches!(outcome, Outcome::Route(_)))
 }
 
-// How many of 16 requests in a drawn network have a route. `trees` is cleared first.
+// The number of those among 16 requests in a random network that have a route. `trees` is cleared
+// first.
 fn drawn_routes(alloc: Global, seed: &mut u32, trees: &mut Trees) -> Result<u32, Fail> {
     let network = drawn_network(alloc, seed)?;
     trees.clear();
@@ -231,8 +233,8 @@ fn drawn_routes(alloc: Global, seed: &mut u32, trees: &mut Trees) -> Result<u32,
     Ok(routes)
 }
 
-// In 125 networks, some with routers marked as without transit, both searches and the trees give
-// the same answers to 2,000 requests.
+// In 125 networks, some of them with routers marked as without transit, both searches and the trees
+// give the same answers to 2,000 requests.
 #[test]
 fn drawn_networks(rt: HostRuntime) -> Result<(), Fail> {
     let mut seed = 2463534242;

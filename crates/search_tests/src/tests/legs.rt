@@ -1,6 +1,6 @@
-//! The requests have legs (parts of the route between hops) that are answered one after the other,
-//! each by a tree for the router of its hop. Some are asked in small networks with known routes.
-//! Others are asked in drawn networks, where the search by rounds has to agree.
+//! Requests whose legs (parts of the route between hops) are answered one after the other, each
+//! with a tree for the router at the leg's end. Some tests use small networks with known routes.
+//! Other tests draw networks at random, and check that the search by rounds gives the same answers.
 
 ghost use Rattle.std.specs.Prelude.{◌+◌, ◌<◌};
 
@@ -13,8 +13,8 @@ use cspf_trees::TreeTable;
 use std::alloc::Global;
 use std::test::Fail;
 
-// A square of links. ONE reaches FOUR by TWO at a cost of 2, and by THREE at a cost of 4. The link
-// between TWO and THREE has no unreserved bandwidth.
+// Four routers in a square. ONE reaches FOUR over TWO at a cost of 2, and over THREE at a cost of
+// 4. The link between TWO and THREE has no unreserved bandwidth.
 const SQUARE: [Row; 5] = [
     (ONE, 0x0a00_0c01, TWO, 0x0a00_0c02, 1, 1000),
     (TWO, 0x0a00_1802, FOUR, 0x0a00_1804, 1, 1000),
@@ -27,10 +27,10 @@ const BY_TWO: &[u32] = &[0x0a00_0c02, 0x0a00_1804];
 
 const BY_THREE: &[u32] = &[0x0a00_0d03, 0x0a00_2204];
 
-// The route from ONE by TWO to FOUR, on to THREE, and back to FOUR.
+// The route from ONE over TWO to FOUR, on to THREE, and back to FOUR.
 const ROUND: &[u32] = &[0x0a00_0c02, 0x0a00_1804, 0x0a00_2203, 0x0a00_2204];
 
-// The route from ONE to TWO, back to ONE, and by THREE to FOUR.
+// The route from ONE to TWO, back to ONE, and over THREE to FOUR.
 const BACK: &[u32] = &[0x0a00_0c02, 0x0a00_0c01, 0x0a00_0d03, 0x0a00_2204];
 
 const SEVEN: &[u8] =
@@ -40,7 +40,7 @@ const CASES: [Case; 22] = [
     (&[], (ONE, FOUR), b"2.2.2.2/32l", Route(2, BY_TWO)),
     (&[], (ONE, FOUR), b"3.3.3.3/32l", Route(4, BY_THREE)),
     (&[], (ONE, FOUR), b"10.0.13.3/32l", Route(4, BY_THREE)),
-    // the two ways from TWO to THREE both cost 3, so the first local address decides which way the
+    // the two ways from TWO to THREE both cost 3, so the first local address decides which one the
     // route takes
     (&[], (ONE, FOUR), b"2.2.2.2/32l 3.3.3.3/32l", Again(6, BACK)),
     (
@@ -49,8 +49,8 @@ const CASES: [Case; 22] = [
         b"2.2.2.2/32l 3.3.3.3/32l",
         Again(6, ROUND),
     ),
-    // the next requests have two consecutive hops whose prefixes one router owns, or a hop whose
-    // prefix the head-end or the tail-end owns
+    // each of the next requests has two consecutive hops whose prefixes the same router owns, or a
+    // hop whose prefix the head-end or the tail-end owns
     (
         &[],
         (ONE, FOUR),
@@ -96,30 +96,30 @@ const CASES: [Case; 22] = [
         b"3.3.3.3/32l 4.4.4.4/32l 10.0.34.4/32l",
         Route(4, BY_THREE),
     ),
-    // a usable link leads to the strict hop in some of these requests, and no such link in the
-    // others
+    // in the first request, a usable link leads to the strict hop; in the second request, no usable
+    // link leads to it
     (&[], (ONE, FOUR), b"3.3.3.3/32s", Route(4, BY_THREE)),
     (&[], (ONE, FOUR), b"2.2.2.2/32l 3.3.3.3/32s", NoRoute),
-    // two routers own the prefix of a hop, or no router owns it
+    // the prefix of the hop is owned by two routers, or by no router
     (&[], (ONE, FOUR), b"2.0.0.0/7l", Route(2, BY_TWO)),
     (&[TWO], (ONE, FOUR), b"2.0.0.0/7l", Route(4, BY_THREE)),
     (&[], (ONE, FOUR), b"9.9.9.9/32l", NoRoute),
 ];
 
-// The link in the other direction, with the same metric and unreserved bandwidth.
+// The link in the opposite direction, with the same metric and unreserved bandwidth.
 fn back(row: &Row) -> Row {
     let (from, local, to, remote, metric, free) = *row;
     (to, remote, from, local, metric, free)
 }
 
-// A table with trees that has absorbed these changes. All of them fit.
+// A table with trees that has absorbed these changes, which must fit.
 fn table_after(alloc: Global, changes: Vec<Change>) -> Result<TreeTable, Fail> {
     let mut table = TreeTable::new(alloc)?;
     table.try_absorb(&Batch { number: 1, changes })?;
     Ok(table)
 }
 
-// A table of `SQUARE` in which the routers `marks` are marked as without transit.
+// A table of the links of `SQUARE`, in which the routers `marks` are marked as without transit.
 fn square(alloc: Global, marks: &[u32]) -> Result<TreeTable, Fail> {
     let mut changes = Vec::new(alloc);
     for row in &SQUARE {
@@ -132,8 +132,8 @@ fn square(alloc: Global, marks: &[u32]) -> Result<TreeTable, Fail> {
     table_after(alloc, changes)
 }
 
-// Whether the request of a case gets the wanted answer nine times. At the sixth time a tree is
-// grown.
+// Whether the request of a case gets the wanted answer nine times in a row. The sixth request grows
+// a tree.
 fn holds(alloc: Global, case: &Case) -> Result<bool, Fail> {
     let (marks, ends, hops, wanted) = *case;
     let mut table = square(alloc, marks)?;
@@ -155,14 +155,14 @@ fn legs_in_a_square(rt: HostRuntime) -> Result<(), Fail> {
     Ok(())
 }
 
-// A change that puts a link from the router to FOUR. No request can use this link, but its
-// interface has the address of a hop.
+// A change that puts a link from the router to FOUR. The request can't use this link, but the local
+// address of the link is the address of a hop, so the router owns the hop's prefix.
 fn put(router: u32, free: u64) -> Result<Change, Fail> {
     let row = (router, 0x0a00_6301, FOUR, 0x0a00_6302, 1, free);
     Ok(Change::Put(link(&row)?))
 }
 
-// A change that removes the link which `put` puts.
+// A change that removes the link of `put`.
 fn out(router: u32) -> Change {
     Change::Remove {
         from: Addr::new(router),
@@ -170,8 +170,9 @@ fn out(router: u32) -> Change {
     }
 }
 
-// One table answers the same request five times. The address of its hop is at TWO, then at TWO and
-// THREE, at THREE, at TWO again, and last at no router.
+// One table answers the same request again and again, while the address of its hop moves: from TWO
+// alone to TWO and THREE, to THREE alone, to TWO and THREE again, to TWO alone, and at last to no
+// router.
 #[test]
 fn hop_that_moves(rt: HostRuntime) -> Result<(), Fail> {
     let alloc = rt.alloc();
@@ -196,7 +197,7 @@ fn hop_that_moves(rt: HostRuntime) -> Result<(), Fail> {
     Ok(())
 }
 
-// The next pseudo-random number below `below`.
+// The next pseudo-random number, which is less than `below`.
 fn draw(seed: &mut u32, below: u32) -> u32
     requires { 0 < below }
     ensures { result < below }
@@ -205,13 +206,13 @@ fn draw(seed: &mut u32, below: u32) -> u32
     (*seed >> 8) % below
 }
 
-// The address of a router, drawn from ten routers.
+// The address of a random router out of ten.
 fn drawn_router(seed: &mut u32) -> u32 {
     0x0a00_0001 + draw(seed, 10)
 }
 
-// A link between two drawn routers, with a metric from 0 to 2. Some of these links have no
-// unreserved bandwidth. No link with another number has the same interfaces.
+// A link between two random routers, with a metric from 0 to 2. Some such links have no unreserved
+// bandwidth. Links with different numbers have different interfaces.
 fn drawn_row(seed: &mut u32, number: u32) -> Row
     requires { number < 100 }
 {
@@ -230,8 +231,8 @@ fn drawn_row(seed: &mut u32, number: u32) -> Row
     )
 }
 
-// A table of 20 drawn links and most of their reverses, with at most two routers that are marked as
-// without transit.
+// A table of 20 random links and most of their reverses. At most two routers are marked as without
+// transit.
 fn drawn_table(alloc: Global, seed: &mut u32) -> Result<TreeTable, Fail> {
     let mut changes = Vec::new(alloc);
     for number in 0..20 {
@@ -248,8 +249,8 @@ fn drawn_table(alloc: Global, seed: &mut u32) -> Result<TreeTable, Fail> {
     table_after(alloc, changes)
 }
 
-// A drawn address for a hop: that of an interface, of the head-end, of the tail-end, of the hop
-// before, or of a router.
+// A random address for a hop: that of an interface, of the head-end, of the tail-end, of the
+// previous hop, or of a router.
 fn drawn_address(seed: &mut u32, ends: (u32, u32), before: u32) -> u32 {
     match draw(seed, 8) {
         0 => 0x0a01_0000 + draw(seed, 40),
@@ -260,8 +261,8 @@ fn drawn_address(seed: &mut u32, ends: (u32, u32), before: u32) -> u32 {
     }
 }
 
-// One to seven drawn hops. One hop in twenty is strict. One hop in twenty has a prefix of 30 bits,
-// so up to four routers own its prefix.
+// One to seven random hops. One hop in twenty is strict. One hop in twenty has a prefix of 30 bits,
+// so that up to four routers own this prefix.
 fn drawn_hops(seed: &mut u32, ends: (u32, u32)) -> Result<Hops, Fail> {
     let mut hops = Hops::none();
     let mut address = ends.0;
@@ -277,8 +278,9 @@ fn drawn_hops(seed: &mut u32, ends: (u32, u32)) -> Result<Hops, Fail> {
     Ok(hops)
 }
 
-// A drawn request with hops. Its include-any mask is 0 or 0x2. So the requests to one tail-end are
-// of two classes. A class shares a tree: it has one tail-end and one set of affinities.
+// A random request with hops. Its include-any mask is 0 or 0x2, so the requests with the same
+// tail-end form two classes. The requests of a class have the same tail-end and the same
+// affinities, and share a tree.
 fn drawn_request(seed: &mut u32) -> Result<Request, Fail> {
     let from = draw(seed, 10);
     let to = (from + 1 + draw(seed, 9)) % 10;
@@ -289,7 +291,7 @@ fn drawn_request(seed: &mut u32) -> Result<Request, Fail> {
     Ok(Request::new(1, from, to, 0, 1000, none, any, none, hops)?)
 }
 
-// The answer of the search by rounds. Fails unless the trees give the same answer three times.
+// The answer of the search by rounds. Fails if the trees don't give the same answer three times.
 fn answered_alike(
     alloc: Global,
     table: &mut TreeTable,
@@ -303,7 +305,7 @@ fn answered_alike(
     Ok(outcome)
 }
 
-// How many of 40 requests in a drawn network have a route.
+// The number of those among 40 requests in a random network that have a route.
 fn routes_by_legs(alloc: Global, seed: &mut u32) -> Result<u32, Fail> {
     let mut table = drawn_table(alloc, seed)?;
     let mut routes = 0u32;

@@ -1,4 +1,4 @@
-//! Routes are found in networks in which some routers are marked as without transit.
+//! Routes in networks in which some routers are marked as without transit.
 
 use super::Wanted::{Again, NoRoute, Route, UnknownFrom, UnknownTo};
 use super::{
@@ -7,7 +7,8 @@ use super::{
 };
 use std::test::Fail;
 
-// A square of links. ONE reaches FOUR by TWO at a cost of 2, and by THREE at a cost of 4.
+// Four routers in a square. ONE reaches FOUR over TWO at a cost of 2, and over THREE at a cost of
+// 4.
 const SQUARE: &[Row] = &[
     (ONE, 0x0a00_0c01, TWO, 0x0a00_0c02, 1, 1000),
     (TWO, 0x0a00_1802, FOUR, 0x0a00_1804, 1, 1000),
@@ -19,11 +20,11 @@ const BY_TWO: &[u32] = &[0x0a00_0c02, 0x0a00_1804];
 
 const BY_THREE: &[u32] = &[0x0a00_0d03, 0x0a00_2204];
 
-// The address of no router.
+// An address that belongs to no router.
 const NINE: u32 = 0x0909_0909;
 
-// Hops that make legs (parts of the route between hops) without links at the head-end and at the
-// tail-end.
+// Hops for which all legs (parts of the route between hops) except one have no links: they stay at
+// the head-end or at the tail-end.
 const ENDS: &[u8] = b"1.1.1.1/32l 0.0.0.0/0s 1.1.1.1/32s 4.4.4.4/32l 0.0.0.0/0s";
 
 const ROUND: &[Case] = &[
@@ -45,8 +46,8 @@ const ROUND: &[Case] = &[
         b"",
         Route(1, &[0x0a00_0c02]),
     ),
-    // the hop's prefix is owned only by a router that is marked as without transit, or also by a
-    // router with transit
+    // the hop's prefix is owned only by a router that is marked as without transit, or by a router
+    // with transit
     (&[TWO], (ONE, FOUR), b"2.2.2.2/32l", NoRoute),
     (&[THREE], (ONE, FOUR), b"2.2.2.2/32l", Route(2, BY_TWO)),
     (&[ONE, FOUR], (ONE, FOUR), b"2.2.2.2/32l", Route(2, BY_TWO)),
@@ -58,9 +59,9 @@ const ROUND: &[Case] = &[
     (&[TWO, NINE], (ONE, NINE), b"", UnknownTo),
 ];
 
-// ONE reaches FOUR by TWO and by THREE at the same cost, but no bandwidth is unreserved on the link
-// to THREE. So along the links by TWO the bounds of a tree fall by exactly the metrics, even if TWO
-// is marked as without transit.
+// ONE reaches FOUR over TWO and over THREE at the same cost, but the link to THREE has no
+// unreserved bandwidth. The links over TWO are tight in the bounds of a tree, even if TWO is marked
+// as without transit: over each of them, the bound falls by exactly the metric.
 const EQUAL: &[Row] = &[
     (ONE, 0x0a00_0c01, TWO, 0x0a00_0c02, 1, 1000),
     (TWO, 0x0a00_1802, FOUR, 0x0a00_1804, 1, 1000),
@@ -81,12 +82,12 @@ fn routes_round_marked_routers(rt: HostRuntime) -> Result<(), Fail> {
 
 const BY_HOP: &[u8] = b"2.2.2.2/32l";
 
-// The least route by the hop comes back through the head-end, whether or not the tail-end is marked
-// as without transit.
+// The least route over the hop comes back through the head-end, whether or not the tail-end is
+// marked as without transit.
 const BACK: &[u32] = &[0x0a00_0c02, 0x0a00_0c01, 0x0a00_0d03];
 
 // Links from ONE to TWO and back, and from both of them to THREE, with two choices of metrics. In
-// the last network, the only way by the hop goes through the tail-end and comes back to it.
+// the last network, the only way over the hop goes through the tail-end and comes back to it.
 const WAYS_BACK: [Network; 5] = [
     (
         &[
@@ -108,8 +109,7 @@ const WAYS_BACK: [Network; 5] = [
             (&[TWO], (ONE, THREE), BY_HOP, NoRoute),
         ],
     ),
-    // this network has the links of the network before, but not the link from TWO to THREE, so
-    // there is no route
+    // this network is the previous one without the link from TWO to THREE, so there is no route
     (
         &[
             (ONE, 0x0a00_0c01, TWO, 0x0a00_0c02, 0, 1000),
@@ -142,8 +142,7 @@ const WAYS_BACK: [Network; 5] = [
             (&[TWO], (ONE, THREE), BY_HOP, NoRoute),
         ],
     ),
-    // this network has the links of the network before, but not the link from TWO to THREE, so
-    // there is no route
+    // this network is the previous one without the link from TWO to THREE, so there is no route
     (
         &[
             (ONE, 0x0a00_0c01, TWO, 0x0a00_0c02, 1, 1000),
@@ -181,7 +180,7 @@ fn ways_back_to_the_ends(rt: HostRuntime) -> Result<(), Fail> {
     assert_networks(&rt, rt.alloc(), &WAYS_BACK)
 }
 
-// If a router is marked as without transit, and the mark is removed, the router has transit again.
+// A router that is marked as without transit has transit again after the mark is removed.
 #[test]
 fn marks_that_go(rt: HostRuntime) -> Result<(), Fail> {
     let alloc = rt.alloc();

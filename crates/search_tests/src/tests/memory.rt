@@ -1,5 +1,5 @@
-//! Trees while memory is refused: each request gets its answer, or the error that memory is
-//! refused. Once there is memory again, each request gets its answer.
+//! Trees while allocations are refused: each request gets its answer or an allocation error. Once
+//! allocations succeed again, each request gets its answer.
 
 ghost use Rattle.cspf_trees.specs.Trees.{AreTreesOf};
 
@@ -18,7 +18,8 @@ fn has_memory(alloc: Global) -> bool {
     }
 }
 
-// Whether the request gets the route over the link nine times. At the sixth time a tree is grown.
+// Whether the request gets its route of one link nine times in a row. The sixth request grows a
+// tree.
 fn are_routes(
     alloc: Global,
     table: &Table,
@@ -35,8 +36,8 @@ fn are_routes(
     Ok(all)
 }
 
-// Whether the request gets this route nine times in a new table that has absorbed these changes,
-// with new trees.
+// Whether the request gets this route nine times in a row, from a new table that has absorbed these
+// changes, and with new trees.
 fn are_routes_after(
     alloc: Global,
     changes: &[Change],

@@ -15,9 +15,9 @@ use std::test::Fail;
 // A link from ONE to TWO.
 const LINK: Row = (ONE, 0x0a00_0c01, TWO, 0x0a00_0c02, 10, 1000);
 
-// Routes of equal cost. Of these, a route with fewer links comes first. Of routes with equally many
-// links, the order is decided by the first local address in which they differ, and not by the last
-// one. Addresses compare as numbers.
+// Routes of equal cost. The route with fewer links is preferred. Between routes with the same
+// number of links, the first pair of local addresses that differ decides, not the last one.
+// Addresses compare as numbers.
 const TIES: [Network; 3] = [
     (
         &[
@@ -76,9 +76,9 @@ const LINKS: [Network; 9] = [
         &[LINK],
         true,
         &[
-            // seven hops whose prefix every router owns change nothing in the route
+            // seven hops whose prefix every router owns don't change the route
             (&[], (ONE, TWO), SEVEN, Route(10, &[0x0a00_0c02])),
-            // no bandwidth is unreserved on the reverse
+            // the reverse has no unreserved bandwidth
             (&[], (TWO, ONE), b"", NoRoute),
             // an unknown head-end is reported before an unknown tail-end
             (&[], (THREE, FOUR), b"", UnknownFrom),
@@ -87,8 +87,8 @@ const LINKS: [Network; 9] = [
     ),
     // the only link has no reverse
     (&[LINK], false, &[(&[], (ONE, TWO), b"", NoRoute)]),
-    // A link back isn't the reverse if it joins other interfaces at one end or at both ends. It
-    // isn't the reverse either if it leads to another router.
+    // A link back isn't the reverse if it has another interface at one of its ends or at both, or
+    // if it leads to another router.
     (
         &[LINK, (TWO, 0x0a00_0d02, ONE, 0x0a00_0d01, 10, 1000)],
         false,
@@ -127,8 +127,8 @@ fn links_and_reverses(rt: HostRuntime) -> Result<(), Fail> {
     assert_networks(&rt, rt.alloc(), &LINKS)
 }
 
-// The route through the strict hop 10.9.0.0/16. The leg to this hop (the part of the route up to
-// it) may visit both routers that the prefix covers, and no others.
+// The route over the strict hop 10.9.0.0/16. The leg to this hop (the part of the route up to it)
+// may visit both routers that own the prefix, and no others.
 const STRICT: &[u32] = &[0x0a00_0302, 0x0a00_0601, 0x0a00_0504];
 
 const HOPS: [Network; 3] = [
@@ -159,7 +159,7 @@ const HOPS: [Network; 3] = [
             ),
         ],
     ),
-    // the route passes the tail-end before it reaches the hop, and ends at the tail-end again
+    // the route passes through the tail-end on the way to the hop, and ends at the tail-end
     (
         &[
             LINK,
@@ -174,7 +174,8 @@ const HOPS: [Network; 3] = [
             Again(30, &[0x0a00_0c02, 0x0a00_1703, 0x0a00_1702]),
         )],
     ),
-    // TWO owns the address of its interface to FOUR, though the request can't use that link
+    // TWO owns the address of its interface to FOUR, although the request can't use the link to
+    // FOUR
     (
         &[
             LINK,
@@ -196,7 +197,7 @@ fn hops(rt: HostRuntime) -> Result<(), Fail> {
     assert_networks(&rt, rt.alloc(), &HOPS)
 }
 
-// A table of the link and of its reverse, which has these groups.
+// A table of `LINK` and its reverse. The reverse has these groups.
 fn with_reverse(alloc: Global, groups: u32) -> Result<Table, Fail> {
     let (there, mut back) = (link(&LINK)?, link(&reverse(&LINK))?);
     back.group = Mask::new(groups);

@@ -1,5 +1,5 @@
-//! The tests draw networks of seven shapes. Requests that are answered with trees of lower bounds,
-//! grown at the first request, have to get the answers of the search by rounds.
+//! Networks of seven shapes, drawn at random. Requests are answered with trees of lower bounds,
+//! which are grown at the first request. They must get the answers of the search by rounds.
 
 ghost use Rattle.cspf_trees.specs.Trees.{AreTreesOf};
 
@@ -12,21 +12,21 @@ use cspf_trees::{MOST_TREES, Trees};
 use std::alloc::Global;
 use std::test::Fail;
 
-// How many routers a network has.
+// The number of routers of a network.
 const ROUTERS: u32 = 36;
 
-// How many circuits a network has at most.
+// The greatest number of circuits of a network.
 const CIRCUITS: u32 = 140;
 
-// The numbers of the two routers that a circuit joins, in a network of this shape. If both numbers
-// are the same, there is no such circuit.
+// The two routers that the circuit `number` joins in a network of this shape. If both are the same,
+// there is no such circuit.
 fn circuit(seed: &mut u32, shape: u32, number: u32) -> (u32, u32) {
     match shape {
-        // all routers form a cycle, and circuits join any two of them
+        // all routers form a cycle, and further circuits join random pairs of routers
         0 if number < 36 => (number, (number + 1) % 36),
         0 if number < 72 => (draw(seed) % 36, draw(seed) % 36),
         // Six routers form a cycle with three chords. Each of 12 more routers has two circuits to
-        // this cycle, and each of 18 others has two circuits to these 12.
+        // this cycle, and each of the other 18 routers has two circuits to these 12.
         1 if number < 6 => (number, (number + 1) % 6),
         1 if number < 9 => (number - 6, number - 3),
         1 if number < 33 => (6 + (number - 9) / 2, draw(seed) % 6),
@@ -41,18 +41,18 @@ fn circuit(seed: &mut u32, shape: u32, number: u32) -> (u32, u32) {
         4 if number < 90 => (6 + number / 3, draw(seed) % 6),
         // the routers form a cycle
         5 if number < 36 => (number, (number + 1) % 36),
-        // each router has four circuits to the next one
+        // four circuits join each router to the next one
         6 => (number / 4, number / 4 + 1),
         _ => (0, 0),
     }
 }
 
-// The address of a router: 10.0.0.0 to 10.0.0.35.
+// The address of a router, from 10.0.0.0 to 10.0.0.35.
 fn router(number: u32) -> Addr {
     Addr::new(0x0a00_0000 + number % ROUTERS)
 }
 
-// A drawn metric: always 1, from 0 to 3, or from 1 to 1,000, as `kind` says.
+// A random metric: always 1 for kind 0, from 0 to 3 for kind 1, and otherwise from 1 to 1,000.
 fn metric(seed: &mut u32, kind: u32) -> u32 {
     match kind {
         0 => 1,
@@ -61,8 +61,7 @@ fn metric(seed: &mut u32, kind: u32) -> u32 {
     }
 }
 
-// A link that is in one or two of three groups. One in 32 of these links has no unreserved
-// bandwidth.
+// A link that is in one or two of three groups. One in 32 such links has no unreserved bandwidth.
 fn shaped_link(seed: &mut u32, kind: u32, from: (u32, u32), to: (u32, u32)) -> Result<Link, Fail> {
     let room = if draw(seed) % 32 == 0 { 0 } else { 1000 };
     let group = Mask::new(1 + draw(seed) % 3 * 2);
@@ -80,8 +79,8 @@ fn shaped_link(seed: &mut u32, kind: u32, from: (u32, u32), to: (u32, u32)) -> R
     Ok(link?)
 }
 
-// A table of a network of this shape, with metrics of this kind. One in three of these networks has
-// a router that is marked as without transit.
+// A table of a network of this shape, with metrics of this kind. One in three such networks has a
+// router that is marked as without transit.
 fn shaped_table(alloc: Global, seed: &mut u32, shape: u32, kind: u32) -> Result<Table, Fail> {
     let mut changes = Vec::new(alloc);
     for number in 0..CIRCUITS {
@@ -103,8 +102,8 @@ fn shaped_table(alloc: Global, seed: &mut u32, shape: u32, kind: u32) -> Result<
     Ok(table_of(alloc, &changes)?)
 }
 
-// Lists of hops. In the first three lists, only one router owns the prefix of each hop. In the
-// other lists, several routers own the prefix of a hop.
+// Lists of hops. In the first three lists, the prefix of each hop has only one owner. In the other
+// two, the prefix of a hop has several owners.
 const HOPS: [&[u8]; 5] = [
     b"10.0.0.7/32l",
     b"10.0.0.7/32l 10.0.0.7/32l 10.0.0.30/32l",
@@ -116,7 +115,7 @@ const HOPS: [&[u8]; 5] = [
 // The affinity masks of requests: exclude-any, include-any and include-all.
 const MASKS: [(u32, u32, u32); 4] = [(0, 0, 0), (0, 0, 0), (4, 0, 0), (0, 6, 1)];
 
-// A request between two drawn routers. One in eight of these requests has hops.
+// A request between two random routers. One in eight such requests has hops.
 fn shaped_request(seed: &mut u32) -> Result<Request, Fail> {
     let from = draw(seed) % ROUTERS;
     let to = from + 1 + draw(seed) % (ROUTERS - 1);
@@ -129,8 +128,9 @@ fn shaped_request(seed: &mut u32) -> Result<Request, Fail> {
     request(ends, 0, masks, hops)
 }
 
-// Whether the trees answer a request as the search by rounds does. A request with hops is first
-// asked without its hops, so that there is a tree for its tail-end and affinities.
+// Whether the trees give the same answer to a request as the search by rounds. If the request has
+// hops, it is first answered without its hops, so that there is a tree for its tail-end and
+// affinities.
 fn agree(alloc: Global, table: &Table, request: &Request, trees: &mut Trees) -> Result<bool, Fail>
     requires { AreTreesOf table.now trees.old }
     ensures { AreTreesOf table.now trees.new }
@@ -142,7 +142,8 @@ fn agree(alloc: Global, table: &Table, request: &Request, trees: &mut Trees) -> 
     Ok(is_same(&found, &best_by_rounds(alloc, table, request)?))
 }
 
-// How many of 200 requests the trees of the table answer as the search by rounds does.
+// The number of those among 200 requests to which the trees of the table and the search by rounds
+// give the same answer.
 fn count_agreed(
     alloc: Global,
     seed: &mut u32,
@@ -162,8 +163,9 @@ fn count_agreed(
     Ok(count)
 }
 
-// How many of 200 requests the trees answer as the search by rounds does. They are asked in a new
-// network of this shape with metrics of this kind. `trees` is cleared first.
+// The number of those among 200 requests in a new network to which the trees and the search by
+// rounds give the same answer. The network has this shape and metrics of this kind. `trees` is
+// cleared first.
 fn agreed(
     alloc: Global,
     seed: &mut u32,
@@ -177,7 +179,7 @@ fn agreed(
 }
 
 // Requests that are answered with trees of lower bounds, grown at the first request, get the
-// answers of the search by rounds. This is tried for 100,800 requests in 504 networks.
+// answers of the search by rounds. The test checks 100,800 requests in 504 networks.
 #[test]
 fn shapes(rt: HostRuntime) -> Result<(), Fail> {
     let mut seed = 2463534242;

@@ -1,11 +1,11 @@
-//! Strict hops that a usable link leads to, and strict hops without such a link.
+//! Strict hops: some can be reached over a usable link, and others can't.
 
 use super::Wanted::{NoRoute, Route};
 use super::{Case, FOUR, ONE, Row, THREE, TWO, assert_networks};
 use std::test::Fail;
 
-// ONE reaches FOUR by TWO at a cost of 2, and by THREE at a cost of 4. The link from TWO to THREE
-// and its reverse have no unreserved bandwidth.
+// ONE reaches FOUR over TWO at a cost of 2, and over THREE at a cost of 4. The link from TWO to
+// THREE and its reverse have no unreserved bandwidth.
 const ROWS: &[Row] = &[
     (ONE, 0x0a00_0c01, TWO, 0x0a00_0c02, 1, 1000),
     (TWO, 0x0a00_1802, FOUR, 0x0a00_1804, 1, 1000),
@@ -26,7 +26,7 @@ const CASES: &[Case] = &[
         b"3.3.3.3/32s 4.4.4.4/32s",
         Route(4, BY_THREE),
     ),
-    // the leg to a strict hop (the part of the route up to it) has no links if the leg begins at an
+    // a leg to a strict hop (the part of the route up to this hop) has no links if it begins at an
     // owner of the hop's prefix
     (
         &[],
@@ -41,8 +41,8 @@ const CASES: &[Case] = &[
         b"0.0.0.0/0s 1.1.1.1/32s",
         Route(2, BY_TWO),
     ),
-    // TWO and THREE own the prefix of the first hop, and of these two only THREE owns that of the
-    // second
+    // TWO and THREE own the prefix of the first hop, but only THREE owns the prefix of the second
+    // hop
     (
         &[],
         (ONE, FOUR),

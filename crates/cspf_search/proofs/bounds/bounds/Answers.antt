@@ -17,7 +17,7 @@ returns-then-shut_broken c =
     let put = written_back bounds.len c.shut_broken.new.bounds c.deref_mut.result.now bounds.items c.shut_broken.auto.bounds c.deref_mut.ensures.value bounds.ok.0 in
     rw put (c.shut_broken.ensures.found c.if-shut_broken.true)
 
--- If `shut_broken` finds no strict leg that is impassable for routes, all bounds are still 0.
+-- If `shut_broken` finds no strict leg that no route can pass, all bounds are still 0.
 still_zeros : (c : goal.After-deref_mut-2) → c.deref_mut-2.result.now ≡ replicate (c.args.query.legs * 1024) 0
 still_zeros c =
     let bounds = c.in_ok-bounds.bounds in

@@ -22,7 +22,7 @@ pub returns-else-index-base-clause-ring : goal.returns-else-index-base-clause-ri
 returns-else-index-base-clause-ring c =
     fallen_ring c.args.query.table.now c.args.query.request.now c.args.leg_index c.args.ring.now c.walk.new.ring c.in_ok-walk.ensures.falls c.requires.ring
 
--- If the role of a router in the leg says that a route may not enter, no link may lead a route
+-- If a route may not enter a router in the leg, by the router's role, no link may lead a route
 -- there.
 shut : (d : Database) (q : Request) (roles : List Role) (leg to : ℕ) → AreListed d → AreRoles d q roles → leg ≤ length q.hops → (e : Role) → (slice_index_or roles (leg * 1024 + to) e).enter ≡ false
     → (l : Link) → MayEnter d q (leg + 1) l.to → IsIndexOf d l.to to → ⊥

@@ -10,8 +10,8 @@ use Rattle.cspf_search.proofs.Backs.{locals_by, locals_by_one, one_more}
 use Rattle.cspf_search.proofs.Ranks.{one_length}
 use Rattle.cspf_search.proofs.frontier.compare_tied.Goals as goal
 
--- If the row of a label is the index of a link, the label's walk is the walk of its parent node,
--- continued by this link. A node is the record of a walk, and a label holds the best walk found so
+-- If the row of a label is the index of a link, the label's walk is the walk of its parent node
+-- with this link appended. A node is the record of a walk, and a label holds the best walk found so
 -- far to a state.
 walk_by : (d : Database) (nodes : List Node) (a : Label) (l : Link) → slice_get (links_from_index d a.place) a.row ≡ Some l
     → walk_of nodes (node_of d nodes a) ≡ walk_at (walks nodes) a.parent ++ (l ∷ [])

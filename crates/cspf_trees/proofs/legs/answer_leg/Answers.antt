@@ -7,7 +7,7 @@ use Rattle.cspf_model.specs.Outcome.{answer_of}
 use Rattle.cspf_trees.specs.LegsInTurn.{AsksForLeg, IsLegAnswer}
 use Rattle.cspf_trees.proofs.legs.answer_leg.Goals as goal
 
--- the best answer to the request for a leg is an answer to this leg in the sense of `IsLegAnswer`
+-- the best answer to the request for a leg meets `IsLegAnswer`
 to_leg : {E : Type 0} (d : Database) (q leg : Request) (start target : ℕ) → AsksForLeg q leg start target → (r : Result Outcome E)
     → IfOk r (λ outcome. IsBestAnswer d leg (answer_of outcome)) → IfOk r (λ outcome. IsLegAnswer d q start target (answer_of outcome))
 to_leg d q leg start target asks (Ok outcome) best = record { leg = leg; asks = asks; best = best }
