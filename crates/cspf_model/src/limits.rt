@@ -8,7 +8,7 @@ pub const MOST_LINKS: usize = 16384;
 /// which its links begin or end.
 pub const MOST_ROUTERS: usize = 1024;
 
-/// The greatest number of addresses that may be marked as those of routers without transit.
+/// The greatest number of routers that a database may mark as without transit.
 pub const MOST_MARKS: usize = 1024;
 
 /// The greatest number of changes that a batch may have.
