@@ -9,7 +9,7 @@ use Rattle.cspf_model.specs.Targets.{IsTargetOf, IsLoose, IsInside}
 use Rattle.cspf_model.specs.Legs.{IsCutInto}
 use Rattle.cspf_model.specs.HopLaws.{AreRoutesWithoutHops}
 
--- If a request has no hops, the search for its first hop finds none.
+-- If a request has no hops, `slice_get` gives `None` for its first hop.
 no_first_hop : (q : Request) → q.hops ≡ [] → slice_get q.hops 0 ≡ None
 no_first_hop q none = ap (λ hops. slice_get hops 0) none
 
