@@ -31,7 +31,7 @@ at_place : (cs : List Change) (at : ℕ) (d : Change) → at < length cs
     → change_at cs (at + 1) ≡ Some (slice_index_or cs at d)
 at_place cs at d within = ap (change_at cs) (add-one at) ∙ slice_get-get_or cs at d within
 
--- If a change at a lower index than `at` has the key of the change at `at`, some of the first `at`
+-- If a change at a lower index than `at` has the key of the change at `at`, one of the first `at`
 -- changes has this key.
 repeated_before : (cs : List Change) (at earlier : ℕ) (d : Change) → at < length cs → earlier < at
     → key_changed (slice_index_or cs earlier d) ≡ key_changed (slice_index_or cs at d)
