@@ -137,8 +137,8 @@ merged_removal old rows at next k by_key le h has =
       subst AreByKey left (by_key-without (out ++ drop next rows) (length out) sorted),
     )
 
--- The next lemmas: if a row's key is neither below the key `k` nor equal to `k`, the keys of this
--- row and of all later rows are above `k`. A row is a link.
+-- The next two lemmas: if a row's key is neither below the key `k` nor equal to `k`, the keys of
+-- this row and of all later rows are above `k`. A row is a link.
 higher : (o : Ordering) → is_lt o ≡ false → is_eq o ≡ false → o ≡ Greater
 higher Less no_less no_tie = absurd (cc)
 higher Equal no_less no_tie = absurd (cc)

@@ -102,7 +102,8 @@ module _ (rows : List Link) (by_key : AreByKey rows) (at : ℕ) (within : at < l
   pub here : (i : ℕ) (d : Link) → i < length rows → key_of (slice_index_or rows i d) ≡ k → i ≡ at
   here i d h same = one_index rows by_key i at d d h within (same ∙ sym (has d))
 
-  -- if the row (a link) at the index `i` has the same reverse as the row at `at`, then `i` is `at`
+  -- if the row (a link) at `at` is the reverse of the row at `i`, and the row at `n` is the reverse
+  -- of the row at `at`, then `i` is `n`
   partner : (i n : ℕ) (d : Link) → i < length rows → n < length rows → IsReverse (slice_index_or rows at d) (slice_index_or rows n d) → IsReverse (slice_index_or rows i d) (slice_index_or rows at d) → i ≡ n
   partner i n d h inside is back = one_index rows by_key i n d d h inside (one_key (slice_index_or rows at d) _ _ (turned _ _ back) is)
 
