@@ -159,9 +159,9 @@ above_next rows next k by_key no_less no_tie i d lo h =
           subst (λ n. key_cmp (key_of (get_or rows n d)) k ≡ Greater) (sym same) first
     ] refl
 
--- Suppose that the row (a link) at the index `next` has the key of a change. If this row is
--- replaced by the link that the change puts, or removed for a removal, the rows make the changed
--- database, and are still in order of their keys.
+-- Suppose that the row (a link) at the index `next` has the key of a change. If the change puts a
+-- link, replace this row by the link; for a removal, remove this row. The rows then make the
+-- changed database, and are still in order of their keys.
 pub merged_over : (old rows : List Link) (at next : ℕ) (c : Change) → AreByKey (old ++ drop at rows) → at ≤ next → next < length rows → HoldsAt (λ m. link_key (key_of m) ≡ key_changed c) rows next
     → (database_of (((old ++ between at next rows) ++ links_put (c ∷ [])) ++ drop (next + 1) rows) ≡ relinked (database_of (old ++ drop at rows)) c)
     × AreByKey (((old ++ between at next rows) ++ links_put (c ∷ [])) ++ drop (next + 1) rows)
@@ -196,8 +196,8 @@ removed_none old rows at next k by_key le gap last =
         ] refl
 
 -- Suppose that the keys of the rows (links) from `next` on are above the key of a change. If the
--- link that the change puts is inserted in front of these rows, or nothing for a removal, the rows
--- make the changed database, and are still in order of their keys.
+-- change puts a link, insert this link in front of these rows; for a removal, insert nothing. The
+-- rows then make the changed database, and are still in order of their keys.
 pub merged_before : (old rows : List Link) (at next : ℕ) (c : Change) → AreByKey (old ++ drop at rows) → at ≤ next → AllWithin (λ m. change_key_cmp (link_key (key_of m)) (key_changed c) ≡ Greater) rows next (length rows)
     → EndsBelow (old ++ between at next rows) (key_changed c)
     → (database_of (((old ++ between at next rows) ++ links_put (c ∷ [])) ++ drop next rows) ≡ relinked (database_of (old ++ drop at rows)) c)

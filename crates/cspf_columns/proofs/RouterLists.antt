@@ -32,8 +32,8 @@ pub router_gap : (routers : List ℕ) (router : ℕ) (r : Result ℕ ℕ) → Ar
     → IfErr r (IsPartitionPoint (λ y. nat_cmp y router ≡ Less) (λ y. nat_cmp y router ≡ Greater) routers)
 router_gap routers router r rising found = gap_from (λ y. nat_cmp y router) routers r found (searchable nat_cmp_total with_nothing routers router (test_from_true _ rising))
 
--- inserting a router between the lower and the higher routers of a list is the same as putting its
--- entry in the list's entries
+-- if a list of routers is seen as map entries (`with_nothing`), inserting a router between the
+-- lower and the higher routers is the same as `put`
 pub put-new : (routers : List ℕ) (router at : ℕ) → at ≤ length routers → IsPartitionPoint (λ y. nat_cmp y router ≡ Less) (λ y. nat_cmp y router ≡ Greater) routers at
     → map with_nothing (insert routers at router) ≡ put nat_cmp router tt (map with_nothing routers)
 put-new routers router at h gap = sym (put-gap nat_cmp_total with_nothing routers at router h gap.0 gap.1)

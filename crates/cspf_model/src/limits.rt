@@ -21,6 +21,5 @@ pub const MOST_VERSIONS: u32 = 1_000_000;
 /// The greatest number of legs that a route may have: one to each hop, and one to the tail-end.
 pub const MOST_LEGS: usize = MOST_HOPS + 1;
 
-/// The greatest number of links that a route may have. Each leg has fewer links than a database has
-/// routers.
+/// The greatest number of links that a `Route` may have: `MOST_ROUTERS - 1` links for each leg.
 pub const MOST_ROUTE_LINKS: usize = MOST_LEGS * (MOST_ROUTERS - 1);

@@ -87,8 +87,8 @@ pub full-first : (s : set.FinSet nat_cmp) (l : Link) → 1024 < set.len (set.ins
 full-first s l full = omega (arith, full, len-insert-le (set.insert s l.from) l.to)
 
 -- The routers of the untouched links are added to a set, link by link. If the set has more than
--- 1,024 routers after the routers of the link `l` are added, it has more than 1,024 routers at the
--- end.
+-- 1,024 routers after the routers of the link `l` are added, the set has more than 1,024 routers
+-- after all are added.
 pub full-row : (s old : set.FinSet nat_cmp) (l : Link) (rows : List Link) (cs : List Change) (i : ℕ)
     → i < length rows → l ≡ slice_index_or rows i l → true ≡ is_untouched cs l
     → with_ends s (rows_untouched (drop i rows) cs) ≡ with_ends old (rows_untouched rows cs)
@@ -102,8 +102,8 @@ full-row s old l rows cs i within read left same full =
     (arith, full, len-with_ends-le (with_ends s (l ∷ [])) (rows_untouched (drop (i + 1) rows) cs), ap set.len next)
 
 -- The routers of the links that the changes put are added to a set, link by link. If the set has
--- more than 1,024 routers after the routers of the link `l` are added, it has more than 1,024
--- routers at the end.
+-- more than 1,024 routers after the routers of the link `l` are added, the set has more than 1,024
+-- routers after all are added.
 pub full-put : (s old : set.FinSet nat_cmp) (c : Change) (l : Link) (cs : List Change) (i : ℕ)
     → i < length cs → c ≡ slice_index_or cs i c → c ≡ Put l
     → with_ends s (links_put (drop i cs)) ≡ with_ends old (links_put cs)

@@ -82,7 +82,7 @@ module _ (marks : List ℕ) (priority : 0 < 8) (two_ends : router 1 ≢ router 3
 
 -- The routers in `marks` are marked as without transit, and the requests lead from 1.1.1.1 to
 -- 3.3.3.3 without hops. If the links are a walk of each such request that `made` builds, they are a
--- walk of each such request.
+-- walk of every such request.
 walks : (marks : List ℕ) (walk : List Link) → ((priority : 0 < 8) (two_ends : router 1 ≢ router 3) → IsWalk (network triangle marks) (made (asked_fields (router 3) []) priority two_ends) walk)
     → IsWalkWithMarks marks walk
 walks marks walk each q says = for_each (asked_fields (router 3) []) (λ q. IsWalk (network triangle marks) q walk) each q says

@@ -55,8 +55,7 @@ fn rise(keys: &[(Addr, Option<Addr>)]) -> bool
     true
 }
 
-/// Whether no two changes have the same key. The slice `keys` is memory in which the keys are
-/// sorted.
+/// Whether no two changes have the same key. The call uses the slice `keys` to sort the keys.
 fn are_apart_in(keys: &mut [(Addr, Option<Addr>)], changes: &[Change]) -> bool
     requires { length keys.old ≡ length changes.now }
     ensures { result ≡ true → AreOnceEach changes.now }
