@@ -90,9 +90,9 @@ ends_joined rows more routers ends more_ends are also = record {
       map-append (λ e. slice_index routers e) ends more_ends ∙ (λ t. are.each t ++ also.each t) ∙ sym (map-append (λ (l : Link). l.to) rows more);
 }
 
--- If the first `at` rows (links) are dropped, and the first `at` items of the column of ends, the
--- result is the column of ends of the remaining rows. For each row, the column of ends has the
--- index of the router at which the row ends.
+-- If the first `at` rows (links) and the first `at` items of the column of ends are dropped, the
+-- remaining items are the column of ends of the remaining rows. For each row, the column of ends
+-- has the index of the router at which the row ends.
 pub ends_behind : (rows : List Link) (routers ends : List ℕ) (at : ℕ) → AreEndsOf rows routers ends → AreEndsOf (drop at rows) routers (drop at ends)
 ends_behind rows routers ends at are = record {
   within = All-drop (λ e. e < length routers) at ends are.within;

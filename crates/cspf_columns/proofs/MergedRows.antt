@@ -174,7 +174,7 @@ merged_over old rows at next (Remove from local) by_key le h has =
 merged_over old rows at next (Node router transit) by_key le h has = absurd (link_not_mark _ router (has (some_row rows next h)))
 
 -- if the keys of the rows (links) from `next` on are above the key of a removal, and the key of the
--- last merged row is below it, the removal changes nothing
+-- last merged row is below this key, the removal changes nothing
 removed_none : (old rows : List Link) (at next : ℕ) (k : Key) → AreByKey (old ++ drop at rows) → at ≤ next → AllWithin (λ m. key_cmp (key_of m) k ≡ Greater) rows next (length rows) → EndsBelow (old ++ between at next rows) (link_key k)
     → (database_of ((old ++ between at next rows) ++ drop next rows) ≡ relinked (database_of (old ++ drop at rows)) (Remove k.0 k.1)) × AreByKey ((old ++ between at next rows) ++ drop next rows)
 removed_none old rows at next k by_key le gap last =

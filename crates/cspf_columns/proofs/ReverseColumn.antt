@@ -55,8 +55,8 @@ reverse_test d l n told =
       | false ↦ λ e. (λ _. told.0 (eqb-false n NO_LINK e), λ _. refl)
     ] refl
 
--- for each link that begins at a router, the slice of the column of reverses has the index of the
--- link's reverse, or `NO_LINK`; the slice is taken at the range of these links
+-- the slice of the column of reverses at the range of a router's links has, for each of these
+-- links, the index of its reverse, or `NO_LINK`
 reverses_beside : (d : Database) (rows : List Link) (marks : List ℕ) (column : List ℕ) (first end at : ℕ) → marked_database rows marks ≡ d → AreByKey rows → AreReversesBut no_key rows column
     → first ≤ end → end ≤ length rows → between first end rows ≡ links_from_index d at → (nth : ℕ) (l : Link) → nth < length (links_from_index d at)
     → IsReverseAt d (slice_index_or (links_from_index d at) nth l) (slice_index_or (between first end column) nth 0)

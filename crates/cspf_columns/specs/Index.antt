@@ -1,5 +1,4 @@
--- The lists of a database's links and of its routers, both in order, and of the links from each
--- router.
+-- A database's links in order, its routers in order, and the links that begin at each router.
 use Rattle.std.specs.Prelude.{◌≡◌, ◌≢◌, ◌<◌, ℕ, List, map, filter, length, nat_eq, slice_index, slice_index_or}
 use Rattle.std.specs.Ordering.{nat_cmp}
 use Rattle.std.specs.FinMap as finite

@@ -20,9 +20,9 @@ pub record AreMergedBelow (rows : List Link) (at : ℕ) (merged : Vec Link Globa
   pub capacity : vec_len merged + (length rows - at) < vec_capacity merged
   pub capacity_of_ends : vec_len merged + (length rows - at) < vec_capacity merged_ends
 
--- One change is merged. Before the step, all rows (links) are `old` and the rows from index `at`
--- on. After the step, all rows are `new` and the rows from index `next` on. The change turns the
--- former into the latter, and adds at most one row.
+-- One change is merged. Before the step, the list of all rows (links) is `old` followed by the rows
+-- from index `at` on. After the step, it is `new` followed by the rows from index `next` on. The
+-- change turns the first list into the second list, and adds at most one row.
 pub record IsMergedUpTo (change : Change) (rows : List Link) (at : ℕ) (old new : Vec Link Global) (next : ℕ) : Type 0 where
   pub bound : next ≤ length rows
   pub changed : database_of (new.items ++ drop next rows) ≡ relinked (database_of (old.items ++ drop at rows)) change

@@ -39,8 +39,8 @@ pub record IsPlaceOf (routers : List ℕ) (router place : ℕ) : Type 0 where
   pub within : place < length routers
   pub found : slice_index routers place ≡ router
 
--- if a router of the list `routers` is also in the list `others`, `places` has its index in
--- `others`, at the index that the router has in `routers`
+-- `places` has an item for each router of the list `routers`. If the list `others` also has this
+-- router, the item is the router's index in `others`.
 abbrev pub ArePlacesIn : List ℕ → List ℕ → List ℕ → Type 0
 ArePlacesIn others routers places =
     (at : ℕ) → at < length routers → Contains others (slice_index routers at)

@@ -118,8 +118,8 @@ fn merge_one(
     next + usize::from(is_at(&columns.rows, next, from, local))
 }
 
-/// Merges changes, in order of their keys, into the rows (links) and the column of ends. For each
-/// row, a column of ends has the index of the router at which the link ends.
+/// Merges changes, which are in order of their keys, into the rows (links) and the column of ends.
+/// For each row, a column of ends has the index of the router at which the link ends.
 pub(crate) fn merge(
     merged: &mut Vec<Link>,
     merged_ends: &mut Vec<u16>,

@@ -75,8 +75,8 @@ fn keep_one(kept: &mut Vec<Addr>, places: &mut Vec<u16>, router: Addr, stays: bo
     }
 }
 
-/// Copies to `kept` the routers at which rows (links) begin or end, and lists in `places` the index
-/// of each kept router in `kept`.
+/// Copies to `kept` the routers at which rows (links) begin or end. Lists in `places` an index for
+/// each router of `routers`: for each kept router, its index in `kept`.
 pub(crate) fn keep_ends(
     kept: &mut Vec<Addr>,
     places: &mut Vec<u16>,

@@ -27,8 +27,9 @@ pub fn replay_into(table: &mut Table, batches: &[Batch]) -> Result<(), UnfitBatc
     ensures err { IfErr result (λ unfit. IsFirstUnfit batches.now unfit.number unfit.refusal) }
     ensures stopped { OnErr result (IsStoppedReplay batches.now table.new) }
 {
-    // Laws: if a batch is appended to a list of batches, its changes act on the database that the
-    // list makes. The longer list is lawful if the list is lawful and the batch fits this database.
+    // Laws: if a batch is appended to a list of batches, the batch's changes act on the database
+    // that the list makes. The longer list is lawful if the list is lawful and the batch fits this
+    // database.
     absorbing();
     lawful_batches();
     for batch in batches {

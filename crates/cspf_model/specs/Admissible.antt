@@ -11,8 +11,8 @@ pub record HasAffinity (q : Request) (l : Link) : Type 0 where
   pub include_all :
       (q.include_all ≡ 0) ⊎ (bit_xor (bit_and l.group q.include_all) q.include_all ≡ 0)
 
--- The link passes the affinities of the request, and it has the request's bandwidth unreserved at
--- the request's setup priority.
+-- The link passes the affinities of the request. At the request's setup priority, at least the
+-- request's bandwidth is unreserved on the link.
 pub record IsAdmitted (q : Request) (l : Link) : Type 0 where
   pub affinity : HasAffinity q l
   pub room : q.bandwidth ≤ slice_index l.free q.setup

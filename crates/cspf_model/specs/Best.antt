@@ -12,7 +12,7 @@ pub record IsBestRoute (d : Database) (q : Request) (walk : List Link) : Type 0 
   pub is_route : IsRoute d q walk
   pub least : (other : List Link) → IsRoute d q other → walk_cmp other walk ≢ Less
 
--- An answer to a request: the head-end or the tail-end is unknown, there is no route, or a route.
+-- An answer to a request: an unknown head-end, an unknown tail-end, no route, or a route.
 pub data Answer : Type 0 where
   unknown_from : Answer
   unknown_to : Answer

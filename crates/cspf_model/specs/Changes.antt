@@ -51,7 +51,7 @@ mark_left (Put l) = false
 mark_left (Remove from local) = false
 mark_left (Node router transit) = not transit
 
--- The last change in a list that has this key, if there is one.
+-- The last change with this key in a list, or `None` if no change has this key.
 abbrev pub last_on : ChangeKey → List Change → Option Change
 last_on k changes = find (λ c. eq_by_cmp change_key_cmp k (key_changed c)) (reverse changes)
 
@@ -129,7 +129,7 @@ abbrev pub AreLawfulAfter : Database → List NumberedChanges → Type 0
 AreLawfulAfter d [] = Unit {0}
 AreLawfulAfter d (b ∷ bs) = Fits d b × AreLawfulAfter (after_changes d b.changes) bs
 
--- The list of batches is lawful: each batch fits the database that the preceding batches make. They
--- start from the database without links and marks.
+-- The list of batches is lawful: each batch fits the database that the preceding batches make. The
+-- first batch has to fit the database without links and marks.
 abbrev pub AreLawful : List NumberedChanges → Type 0
 AreLawful batches = AreLawfulAfter no_links batches

@@ -37,7 +37,7 @@ link_at d k = map.get d.links k
 abbrev pub IsMarked : Database → ℕ → Type 0
 IsMarked d router = IsTrue (set.contains d.marks router)
 
--- Routes may pass through the router, because it isn't marked.
+-- The router isn't marked, so routes may pass through it.
 abbrev pub HasTransit : Database → ℕ → Type 0
 HasTransit d router = ¬ IsMarked d router
 

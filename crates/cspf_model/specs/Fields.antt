@@ -93,8 +93,8 @@ abbrev pub AreFieldsOfRequests : Type 0
 AreFieldsOfRequests =
     (q : Request) (fields : RequestFields) → HasRequestFields q fields ↔ (fields_of_request q ≡ fields)
 
--- The reason why no request can have these fields. Either the setup priority is above 7. Or the
--- setup priority is at most 7, and the head-end is also the tail-end.
+-- The reason why no request can have these fields. Either the setup priority is above 7, or it is
+-- at most 7 and the head-end is also the tail-end.
 abbrev pub IsRequestFault : RequestFields → RequestError → Type 0
 IsRequestFault fields Priority = 7 < fields.setup
 IsRequestFault fields SameEnds = (fields.setup ≤ 7) × (fields.from ≡ fields.to)

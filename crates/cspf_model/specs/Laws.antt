@@ -47,8 +47,8 @@ OneDatabase =
     (batches : List NumberedChanges) (d e : Database)
     → IsDatabaseOf d batches → IsDatabaseOf e batches → d ≡ e
 
--- If a batch is appended to a list of batches, its changes act in order on the database that the
--- list makes.
+-- If a batch is appended to a list of batches, the batch's changes act in order on the database
+-- that the list makes.
 abbrev pub OneMoreBatch : Type 0
 OneMoreBatch =
     (batches : List NumberedChanges) (b : NumberedChanges)
@@ -79,8 +79,7 @@ abbrev pub LinksAreAtTheirKeys : Type 0
 LinksAreAtTheirKeys =
     (batches : List NumberedChanges) → AreAtTheirKeys (database_after batches)
 
--- A list that has only routers of the database, and none of them twice, is at most `router_count`
--- long.
+-- The length of a list of different routers of a database is at most `router_count`.
 abbrev pub NoRouterIsLeftOut : Type 0
 NoRouterIsLeftOut =
     (d : Database) (routers : List ℕ) → IsDistinct nat_eq routers

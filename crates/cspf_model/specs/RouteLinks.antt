@@ -15,7 +15,7 @@ abbrev pub routers_on : List Link → List ℕ
 routers_on [] = []
 routers_on (l ∷ ls) = routers_of l.from (l ∷ ls)
 
--- Some router is twice among the routers that `routers_on` lists for the links.
+-- The list `routers_on links` has some router twice.
 abbrev pub VisitsTwice : List Link → Type 0
 VisitsTwice links = ¬ IsDistinct nat_eq (routers_on links)
 

@@ -34,8 +34,8 @@ pub fn last_change_decides()
     ensures one { OneDatabase }
 {}
 
-/// If a batch is appended to a list of batches, its changes act in order on the database that the
-/// list makes.
+/// If a batch is appended to a list of batches, the batch's changes act in order on the database
+/// that the list makes.
 pub fn absorbing()
     ensures { OneMoreBatch }
 {}
@@ -49,8 +49,8 @@ pub fn lawful_batches()
 {}
 
 /// If each link of a database is stored at the link's own key, `router_count` counts the routers of
-/// the database. This is so for the database after any list of batches. In any database, a list of
-/// different routers of the database is at most `router_count` long.
+/// the database. This is so for the database after any list of batches. The length of a list of
+/// different routers of any database is at most `router_count`.
 pub fn counted_routers()
     ensures counted { RoutersAreCounted }
     ensures distinct { NoRouterIsLeftOut }

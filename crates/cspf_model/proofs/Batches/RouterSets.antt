@@ -34,8 +34,8 @@ len-from_distinct (x ∷ xs) apart =
     none_of x (y ∷ ys) all =
         ap (λ b. b || list_any (eq_by_cmp nat_cmp x) ys) all.0 ∙ none_of x ys all.1
 
--- If a number that compares as equal to the inserted number is already a member, the insertion
--- doesn't change whether it is a member.
+-- If each number that compares as equal to the inserted number is already a member, the insertion
+-- adds no member.
 same_or : (tie there : Bool) → (tie ≡ true → there ≡ true) → there ≡ (tie || there)
 same_or true there tied = tied refl
 same_or false there tied = refl
@@ -70,8 +70,8 @@ module _ (xs : List ℕ) (x : ℕ) (new : list_any (λ y. eqb y x) xs ≡ false)
   pub set-push : set.from_list {R = nat_cmp} (xs ++ x ∷ []) ≡ set.insert (set.from_list xs) x
   set-push = set.from_list_push nat_cmp_total set.nat_cmp-IsAntisymmetric xs x
 
-  -- If the numbers in `xs` are different, inserting `x` into their set gives `length xs + 1`
-  -- members.
+  -- If the numbers in `xs` are different, inserting `x` into their set gives a set with `length xs
+  -- + 1` members.
   pub len-push : IsDistinct (eq_by_cmp nat_cmp) xs
       → set.len (set.insert (set.from_list {R = nat_cmp} xs) x) ≡ length xs + 1
   len-push apart =

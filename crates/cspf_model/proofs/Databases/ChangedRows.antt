@@ -23,7 +23,7 @@ use Rattle.cspf_model.proofs.Databases.LastChanges.{link_at-after_change}
 use Rattle.cspf_model.proofs.Databases.LinksOfRows.{link_at-database_of}
 use Rattle.cspf_model.proofs.Databases.OneChange.{same_database, same_options, found_too}
 
--- The first link of the list that has this key, if there is one.
+-- The first link with this key in the list, or `None` if no link has this key.
 at_key : List Link → Key → Option Link
 at_key links k = find key_cmp k (map entry_of links)
 

@@ -1,4 +1,5 @@
--- A list of different routers of a database is at most as long as the database has routers.
+-- The length of a list of different routers of a database is at most the number of the database's
+-- routers.
 use Rattle.std.proofs.Common.{◌≡◌, ℕ, ◌-◌, ◌≤◌, ◌⊎◌, inl, inr, Bool, true, false, cond, Some, List, [], ◌∷◌, length, map, sym, ap, subst, ◌∙◌, arith, nat_eq}
 use Rattle.std.specs.Ordering.{nat_cmp, eq_by_cmp}
 use Rattle.std.specs.Cmp.{nat_cmp_total}
@@ -23,7 +24,7 @@ kept r [] s apart all = tt
 kept r (q ∷ rs) s apart all =
     (set.contains-remove nat_cmp_total s r q ∙ grind (arith, apart.0, all.0), kept r rs s apart.1 all.1)
 
--- A list of different members of a set is at most as long as the set has members.
+-- The length of a list of different members of a set is at most the size of the set.
 length-le-len : (rs : List ℕ) (s : set.FinSet nat_cmp) → IsDistinct nat_eq rs
     → AllByRecursion (λ q. set.contains s q ≡ true) rs → length rs ≤ set.len s
 unfolding IsDistinct
@@ -75,7 +76,8 @@ in_ends : (d : Database) (routers : List ℕ) → AllByRecursion (IsRouterOf d) 
 in_ends d [] all = tt
 in_ends d (r ∷ rs) all = (router_in_ends d r all.0, in_ends d rs all.1)
 
--- A list of different routers of a database is at most as long as the database has routers.
+-- The length of a list of different routers of a database is at most the number of the database's
+-- routers.
 pub length-le-router_count : (d : Database) (routers : List ℕ) → IsDistinct nat_eq routers
     → AllByRecursion (IsRouterOf d) routers → length routers ≤ router_count d
 length-le-router_count d routers apart all = length-le-len routers _ apart (in_ends d routers all)

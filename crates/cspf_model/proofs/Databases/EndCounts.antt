@@ -94,8 +94,8 @@ any-values p (l ∷ rows) apart =
 ends_set : List Link → set.FinSet nat_cmp
 ends_set links = set.from_list (ends_of links)
 
--- If the links in `rows` have different keys, the database made from them has as many routers as
--- the set of the routers at which these links begin or end.
+-- If the links in `rows` have different keys, the number of routers of the database made from them
+-- is the size of the set of the routers at which these links begin or end.
 pub router_count-database_of : (rows : List Link) → HaveOwnKeys rows
     → router_count (database_of rows) ≡ set.len (set.from_list {R = nat_cmp} (ends_of rows))
 router_count-database_of rows apart =
@@ -250,8 +250,8 @@ or_split false b e f g = g e
 -- In this part, the links in `rows` have different keys, the changes have different keys, and the
 -- changes act on the database that is made from `rows`.
 module _ (rows : List Link) (cs : List Change) (apart : HaveOwnKeys rows) (once : AreOnceEach cs) where
-  -- After the changes, the database has as many routers as the set of the routers of the untouched
-  -- links and of the links that the changes put.
+  -- After the changes, the number of the database's routers is the size of a set: the routers of
+  -- the untouched links, and of the links that the changes put.
   pub router_count-after : router_count (all_relinked (database_of rows) cs) ≡ set.len (with_ends (with_ends set.empty (rows_untouched rows cs)) (links_put cs))
   router_count-after =
       ap router_count (sym (database-rows_after rows cs once))
@@ -309,8 +309,8 @@ len-insert-most s k =
     one_more true n = omega arith
     one_more false n = omega arith
 
--- Adding the router `k` to a set makes the set larger by at most `most`, if the set already has `k`
--- when `most` is 0.
+-- Adding the router `k` to a set makes the set larger by at most `most`. If `most` is 0, the set
+-- has to have `k` already.
 pub one_end : (s : set.FinSet nat_cmp) (k most : ℕ) → (most ≡ 0 → set.contains s k ≡ true) → set.len (set.insert s k) ≤ set.len s + most
 one_end s k zero there = omega (arith, set.len-insert nat_cmp_total s k ∙ ap (λ b. cond b (set.len s) (set.len s + 1)) (there refl))
 one_end s k (suc most) there = omega (arith, len-insert-most s k)
@@ -344,8 +344,8 @@ with_ends-turned s xs ys =
 -- This part counts the routers that the database has after the changes. To count them, the code
 -- adds the routers of the links to a set.
 module _ (rows : List Link) (cs : List Change) (apart : HaveOwnKeys rows) (once : AreOnceEach cs) where
-  -- After the changes, the database has as many routers as the set of the routers of the links that
-  -- the changes put and of the untouched links.
+  -- After the changes, the number of the database's routers is the size of a set: the routers of
+  -- the links that the changes put, and of the untouched links.
   counted : router_count (all_relinked (database_of rows) cs) ≡ set.len (with_ends (with_ends set.empty (links_put cs)) (rows_untouched rows cs))
   counted = router_count-after rows cs apart once ∙ ap set.len (with_ends-turned set.empty (rows_untouched rows cs) (links_put cs))
 

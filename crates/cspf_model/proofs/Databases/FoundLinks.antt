@@ -33,8 +33,8 @@ pub link_at-no_row : (rows : List Link) (k : Key) → All (λ l. key_of l ≢ k)
     → link_at (database_of rows) k ≡ None
 link_at-no_row rows k none = link_at-database_of rows k ∙ find-no_row rows k none
 
--- If `rows` are the links of a database, the database has a router exactly if some link in `rows`
--- begins or ends at this router.
+-- If `rows` has exactly the links of a database, the database has a router exactly if some link in
+-- `rows` begins or ends at this router.
 pub tells : (d : Database) (rows : List Link) (router : ℕ) (b : Bool) → AreLinksOf d rows
     → (b ≡ true → (at : ℕ) × (at < length rows) × HoldsAt (EndsAt router) rows at)
     → (b ≡ false → All (λ l. ¬ EndsAt router l) rows) → IsTrue b ↔ IsRouterOf d router

@@ -177,8 +177,8 @@ changes_of-push (a ∷ batches) b =
     ap (λ cs. a.changes ++ cs) (changes_of-push batches b)
     ∙ sym (append_assoc a.changes (changes_of batches) b.changes)
 
--- If a batch is appended to a list of batches, its changes act in order on the database that the
--- list makes.
+-- If a batch is appended to a list of batches, the batch's changes act in order on the database
+-- that the list makes.
 pub one_more_batch : OneMoreBatch
 one_more_batch batches b =
     ap (after_changes no_links) (changes_of-push batches b)

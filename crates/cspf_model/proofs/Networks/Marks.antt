@@ -110,8 +110,8 @@ again_unmarked =
 pub middle : IsNoWalkWithMarks (router 2 ∷ []) way_by_2
 middle q says walk = walk.transit.0 (marks-network triangle (router 2 ∷ []) (router 2))
 
--- If 1.1.1.1 is marked as without transit, the links that lead back to 1.1.1.1 and leave it again
--- aren't a walk.
+-- If 1.1.1.1 is marked as without transit, the links from 1.1.1.1 to 2.2.2.2, back to 1.1.1.1, and
+-- on to 3.3.3.3 aren't a walk.
 pub again : IsNoWalkWithMarks (router 1 ∷ []) way_by_1_again
 again q says walk = walk.transit.1.0 (marks-network triangle (router 1 ∷ []) (router 1))
 

@@ -24,7 +24,7 @@ only_leg_arrives d q walk none (leg ∷ []) cut =
 only_leg_arrives d q walk none (leg ∷ next ∷ legs) cut =
     absurd (omega (arith, cut.number, ap length none))
 
--- If a request has no hops, its only leg may visit any routers.
+-- If a request has no hops, the only leg of a walk may visit any router.
 stays_inside : (d : Database) (q : Request) → q.hops ≡ [] → (routers : List ℕ)
     → AllByRecursion (IsInside d q 1) routers
 stays_inside d q none [] = tt

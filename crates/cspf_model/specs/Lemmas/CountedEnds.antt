@@ -37,9 +37,9 @@ HasListedEnds routers (Put l) = Contains routers l.from × Contains routers l.to
 HasListedEnds routers (Remove from local) = Unit {0}
 HasListedEnds routers (Node router transit) = Unit {0}
 
--- The links that the changes put lead to at most `most` routers outside of the list `routers`. If a
--- set contains the list's routers, the two ends of these links add at most `most` routers to the
--- set.
+-- The links that the changes put begin and end at no more than `most` routers outside of the list
+-- `routers`. If a set has all routers of the list, adding the routers of these links adds at most
+-- `most` members.
 abbrev pub BringsAtMost : List ℕ → List Change → ℕ → Type 0
 BringsAtMost routers changes most =
     (s : FinSet nat_cmp) → All (λ r. contains s r ≡ true) routers
