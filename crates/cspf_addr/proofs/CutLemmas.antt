@@ -66,8 +66,8 @@ after_none mark text found = sym (drop_all _ text (omega (arith, position_none m
 abbrev pub Lacks : ℕ → List ℕ → Type 0
 Lacks mark text = AllByRecursion (λ byte. byte ≢ mark) text
 
--- If a text has only decimal digits, and `mark` is a byte below the digit 0, no byte of the text is
--- `mark`.
+-- If a text has only decimal digits, and `mark` is below 48 (the byte of the digit 0), no byte of
+-- the text is `mark`.
 pub Lacks-digits : (mark : ℕ) (text : List ℕ) → mark < 48 → AllDigits 10 text → Lacks mark text
 Lacks-digits mark [] low digits = tt
 Lacks-digits mark (byte ∷ rest) low digits =

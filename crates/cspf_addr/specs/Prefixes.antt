@@ -39,7 +39,8 @@ pub record IsPrefixText (text : List ℕ) (address : ℕ) (digits : List ℕ) : 
   pub decimal : IsTrue (is_decimal digits)
   pub whole : text ≡ address_text address ++ 47 ∷ digits
 
--- the prefix of this length with the first bits of the address, if the length is at most 32
+-- the prefix of this length with the first bits of the address, or the error `TooLong` if the
+-- length is above 32
 abbrev pub prefix_with : ℕ → ℕ → Result PrefixParts PrefixError
 prefix_with length address =
     if nat_le length 32 then Ok (with_first_bits length address) else Err error.TooLong

@@ -15,7 +15,7 @@ use std::alloc::{AllocError, Global};
 pub struct Hop {
     /// The route reaches the hop at any router with an address that this prefix covers.
     pub prefix: Prefix,
-    /// Whether the hop is loose. Otherwise it is strict.
+    /// True for a loose hop, and false for a strict hop.
     pub loose: bool,
 }
 

@@ -1,4 +1,4 @@
--- Databases that differ only in unreserved bandwidths.
+-- Databases that differ at most in unreserved bandwidths.
 use Rattle.std.specs.Prelude.{◌≡◌, ℕ}
 use Rattle.std.specs.Option.{option_map}
 use Rattle.cspf_model.specs.declared.link.Link.{Link}

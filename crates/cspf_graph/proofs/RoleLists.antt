@@ -19,8 +19,8 @@ use Rattle.cspf_graph.proofs.RouterIndexes.{one_place, same_or_not}
 
 -- `Old`, `Now` and `Next` are three states of a property of indexes. `Now` holds of the indexes of
 -- which `Old` holds, and of the indexes in `front` of which `More` holds. `Next` adds the index
--- `place` to `Now` if `More` holds of `place`. Then `Next` is what `Now` is, with `place` appended
--- to `front`.
+-- `place` to `Now` if `More` holds of `place`. Then `Next` holds of the indexes of which `Old`
+-- holds, and of the indexes in `front` with `place` appended of which `More` holds.
 pub with_index : (Old More Now Next : ℕ → Type 0) (n : ℕ) (front : List ℕ) (place : ℕ)
     → ((p : ℕ) → p < n → Now p ↔ (Old p ⊎ (Contains front p × More p)))
     → (Next place ↔ (Now place ⊎ More place)) → ((p : ℕ) → p ≢ place → Next p ↔ Now p)
@@ -238,7 +238,7 @@ one_item x (suc k) d low = absurd (omega (arith, low))
 none_there : (p : ℕ) → Contains [] p → ⊥
 none_there p (k, low, is) = omega (arith, low)
 
--- The only target of leg 0, which ends before the first hop, is the head-end.
+-- The only target of leg 0 is the head-end, where the first leg begins.
 pub head_alone : (d : Database) (q : Request) (listed : AreListed d) (from : ℕ) → IsIndexOf d q.from from → AreTargetsOf d q 0 (from ∷ [])
 head_alone d q listed from start = record {
   within = λ k x low. rw (one_item from k x low) start.within;

@@ -30,9 +30,8 @@ pub record MayTurn (d : Database) (q : Request) (leg router : ℕ) : Type 0 wher
   pub target : IsTarget d q leg router
   pub stands : MayStand d q router
 
--- `i` is the index of a state: a pair of a leg of the request and a router. Each leg has 1,024
--- indexes. The index of a state is the leg's first index plus the router's index in the list of
--- routers.
+-- `i` is the index of a state. A state is a pair of a leg and a router. Each leg has 1,024 indexes.
+-- The index of a state is the leg's first index plus the router's index in the list of routers.
 pub record IsStateIndex (d : Database) (q : Request) (i : ℕ) : Type 0 where
   pub low : i < (length q.hops + 1) * MOST_ROUTERS
   pub place : i % MOST_ROUTERS < length (router_list d)

@@ -19,8 +19,8 @@ use Rattle.cspf_model.proofs.Databases.EndCounts.{any-ends_of, contains-with_end
 use Rattle.cspf_columns.proofs.EndColumn.{length-ends}
 use Rattle.cspf_columns.proofs.RouterPlaces.{one_place}
 
--- One of the changes puts a link at a router exactly if one of the links that the changes put
--- begins or ends at this router.
+-- Testing the changes (`puts_at`) gives the same result as testing the links that the changes put
+-- (`is_at`).
 pub puts_there : (router : ℕ) (cs : List Change) → list_any (puts_at router) cs ≡ list_any (is_at router) (links_put cs)
 puts_there router [] = refl
 puts_there router (Put l ∷ cs) = ap (λ b. is_at router l || b) (puts_there router cs)

@@ -25,8 +25,9 @@ pub record AreMarks (marks : Vec ℕ Global) : Type 0 where
   pub most : length marks.items ≤ MOST_MARKS
   pub room : ROOM_FOR_MARKS ≤ vec_capacity marks
 
--- The invariant of a table: its columns, its marks, and its column that says of each router whether
--- it has transit. A marked Router ID needn't be a router of the database.
+-- The invariant of a table. It concerns the table's columns, its marks, and the column that says of
+-- each router whether the router has transit. A marked Router ID needn't be a router of the
+-- database.
 pub record IsTable (a : Inside) : Type 0 where
   pub columns : AreColumns a.columns
   pub marks : AreMarks a.marks

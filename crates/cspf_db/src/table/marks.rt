@@ -67,8 +67,8 @@ pub(super) fn has_too_many_marks(marks: &[Addr], changes: &[Change]) -> bool
     after > MOST_MARKS
 }
 
-/// Marks the router as without transit, or removes its mark if `transit` is true. The vector has
-/// capacity for another mark, so the call allocates no memory.
+/// If `transit` is true, removes the router's mark, if there is one. Otherwise marks the router as
+/// without transit. The vector has capacity for another mark, so the call allocates no memory.
 fn set_mark(marks: &mut Vec<Addr>, router: Addr, transit: bool)
     requires rising { AreRising marks.old.items }
     requires room { vec_len marks.old < vec_capacity marks.old }

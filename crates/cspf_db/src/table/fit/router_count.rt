@@ -59,8 +59,9 @@ fn add_puts(routers: &mut Routers, changes: &[Change]) -> bool
 }
 
 /// Whether a quick count shows that there are at most 1,024 routers after the changes. The count is
-/// the number of routers before the changes plus the number of new routers. The count is at most
-/// 1,024, or it is 1,025 and some router has no links after the changes.
+/// the number of routers before the changes plus the number of new routers. The result is true if
+/// the count is at most 1,024, or if the count is 1,025 and some router has no links after the
+/// changes.
 fn fit_by_one(columns: &Columns, changes: &[Change]) -> bool
     requires columns { AreColumns columns.now }
     requires short { length changes.now ≤ MOST_CHANGES }

@@ -26,14 +26,14 @@ use cspf_model::{Change, Link, MOST_LINKS};
 pub struct Tally {
     /// The number of changes that put a link at a key at which there is no link.
     pub added: usize,
-    /// The number of new routers that the changes bring: routers of the links that the changes put
-    /// that aren't routers of the table. A new router of several links is counted for each of these
+    /// The number of new routers: routers that aren't in the table, and at which a link that the
+    /// changes put begins or ends. A new router of several links is counted for each of these
     /// links.
     pub brought: usize,
     /// Whether each change replaces a link by a link that joins the same two interfaces.
     pub alike: bool,
-    /// If true, each change affects a row (a link), and no two changes affect the same row. `apart`
-    /// may be false even so, because `tally_all` checks this only for more than `FEW` changes.
+    /// If true, each change affects a row (a link), and no two changes affect the same row. If
+    /// false, this may still be so: `tally_all` checks it only for more than `FEW` changes.
     pub apart: bool,
 }
 
@@ -233,9 +233,9 @@ fn count_first_ends(routers: &[Addr], others: &[Change], change: &Change) -> usi
     }
 }
 
-/// The number of routers of the links that the changes put that aren't in the list `routers`. Each
-/// router is counted for only one change. The call compares all pairs of changes, so its time is
-/// quadratic.
+/// The number of new routers: routers that aren't in the list `routers`, and at which a link that
+/// the changes put begins or ends. Each new router is counted once. The call compares all pairs of
+/// changes, so its time is quadratic.
 pub(super) fn count_brought(routers: &[Addr], changes: &[Change]) -> usize
     requires rising { AreRising routers.now }
     requires short { length changes.now ≤ MOST_CHANGES }
