@@ -331,8 +331,7 @@ part_refused text place has =
     ∙ hops_from-no_hop 1 bad.front bad.part bad.behind bad.hops bad.before bad.here
     ∙ ap (λ n. Err (BadHop n)) (sym bad.is_place)
 
--- A text is refused as `BadHop place` exactly if the text isn't empty, has at most seven parts, and
--- `place` is the number of its first part that isn't a hop.
+-- A text is refused as `BadHop place` exactly if `HasBadHop` holds of the text and `place`.
 pub bad_hops_named : AreBadHopsNamed
 bad_hops_named text place = (refused_part text place, part_refused text place)
 

@@ -71,8 +71,9 @@ prefix_of-whole address digits small passes =
     rw (before-front 47 (address_text address) digits (lacks_slash address small), after-front 47 (address_text address) digits (lacks_slash address small), address_of-address_text address small, passes)
     (with_length (leb (digits_value 10 digits) 32) (digits_value 10 digits) address)
 
--- A text of an address, a slash and decimal digits is read as the prefix whose length is the value
--- of the digits, with the first bits of the address. A value above 32 is refused as `TooLong`.
+-- A text of an address, a slash and decimal digits is read as a prefix. The prefix length is the
+-- value of the digits, and the prefix has the first bits of the address. A value above 32 is
+-- refused as `TooLong`.
 pub prefix_texts_read : ArePrefixTextsRead
 prefix_texts_read text address digits spelled =
     ap prefix_of spelled.whole ∙ prefix_of-whole address digits spelled.small spelled.decimal

@@ -58,8 +58,7 @@ abbrev pub AreHopListsRead : Type 0
 AreHopListsRead =
     (text : List ℕ) (hops : List Hop) → (hops_of text ≡ Ok hops) ↔ IsHopListText text hops
 
--- A text is refused as `BadHop place` exactly if `HasBadHop` holds: the text isn't empty, has at
--- most seven parts, and `place` is the number of its first part that isn't a hop.
+-- A text is refused as `BadHop place` exactly if `HasBadHop` holds of the text and `place`.
 abbrev pub AreBadHopsNamed : Type 0
 AreBadHopsNamed =
     (text : List ℕ) (place : ℕ) → (hops_of text ≡ Err (error.BadHop place)) ↔ HasBadHop text place

@@ -45,8 +45,9 @@ abbrev pub prefix_with : ℕ → ℕ → Result PrefixParts PrefixError
 prefix_with length address =
     if nat_le length 32 then Ok (with_first_bits length address) else Err error.TooLong
 
--- A text of an address, a slash and decimal digits is read as the prefix whose length is the value
--- of the digits, with the first bits of the address. A value above 32 is refused as `TooLong`.
+-- A text of an address, a slash and decimal digits is read as a prefix. The prefix length is the
+-- value of the digits, and the prefix has the first bits of the address. A value above 32 is
+-- refused as `TooLong`.
 abbrev pub ArePrefixTextsRead : Type 0
 ArePrefixTextsRead =
     (text : List ℕ) (address : ℕ) (digits : List ℕ) → IsPrefixText text address digits

@@ -152,9 +152,9 @@ fn read_length(text: &[u8]) -> Result<u8, PrefixError>
     Ok(bits as u8)
 }
 
-/// Law: a text of an address, a slash and a decimal number of at most 32 is read as the prefix of
-/// this length with the first bits of this address. Any other text is refused. A prefix is read
-/// back from its text.
+/// Law: a text of an address, a slash and a decimal number of at most 32 is read as a prefix. The
+/// number is the prefix length, and the prefix has the first bits of the address. Any other text is
+/// refused. A prefix is read back from its text.
 pub fn prefixes_are_spelled()
     ensures read { ArePrefixTextsRead }
     ensures refused { AreOthersRefused }

@@ -38,12 +38,12 @@ all_without P xs i all = All-append P (take i xs) (drop (suc i) xs) (All-take P 
 -- Lemmas on rows (links) and their column of ends. For each row, the column of ends has the index
 -- of the router at which the row ends.
 module _ (rows : List Link) (routers ends : List ℕ) (are : IsEndColumn rows routers ends) where
-  -- lemmas on replacing a row (a link) by the link `l`, and on inserting `l` as a new row; `end` is
-  -- the index of the router at which `l` ends
+  -- lemmas on replacing a row (a link) by the link `l`, and on inserting `l` as a row. `end` is the
+  -- index of the router at which `l` ends.
   module _ (l : Link) (end : ℕ) (from : Contains routers l.from) (within : end < length routers) (found : slice_index routers end ≡ l.to) where
-    -- If `l` replaces the row (a link) at `at`, and `end` replaces the item at `at` in the column
-    -- of ends, the result is the column of ends of the new rows. For each row, the column of ends
-    -- has the index of the router at which the row ends.
+    -- Suppose that `l` replaces the row (a link) at `at`, and that `end` replaces the item at `at`
+    -- in the column of ends. The result is the column of ends of the new rows. For each row, the
+    -- column of ends has the index of the router at which the row ends.
     pub put_over : (at : ℕ) → IsEndColumn (slice_set rows at l) routers (slice_set ends at end)
     put_over at = record {
       froms = All-set (λ (m : Link). Contains routers m.from) rows at l from are.froms;
@@ -54,9 +54,9 @@ module _ (rows : List Link) (routers ends : List ℕ) (are : IsEndColumn rows ro
       };
     }
 
-    -- If `l` is inserted into the rows (links) at `at`, and `end` is inserted into the column of
-    -- ends at `at`, the result is the column of ends of the new rows. For each row, the column of
-    -- ends has the index of the router at which the row ends.
+    -- Suppose that `l` is inserted into the rows (links) at `at`, and that `end` is inserted into
+    -- the column of ends at `at`. The result is the column of ends of the new rows. For each row,
+    -- the column of ends has the index of the router at which the row ends.
     pub put_between : (at : ℕ) → IsEndColumn (insert rows at l) routers (insert ends at end)
     put_between at = record {
       froms = all_insert (λ (m : Link). Contains routers m.from) rows at l from are.froms;
@@ -67,9 +67,9 @@ module _ (rows : List Link) (routers ends : List ℕ) (are : IsEndColumn rows ro
       };
     }
 
-  -- If the row (a link) at `at` is removed, and the item at `at` is removed from the column of
-  -- ends, the result is the column of ends of the new rows. For each row, the column of ends has
-  -- the index of the router at which the row ends.
+  -- Suppose that the row (a link) at `at` is removed, and that the item at `at` is removed from the
+  -- column of ends. The result is the column of ends of the new rows. For each row, the column of
+  -- ends has the index of the router at which the row ends.
   pub taken_out : (at : ℕ) → IsEndColumn (without rows at) routers (without ends at)
   taken_out at = record {
     froms = all_without (λ (m : Link). Contains routers m.from) rows at are.froms;
@@ -90,9 +90,9 @@ ends_joined rows more routers ends more_ends are also = record {
       map-append (λ e. slice_index routers e) ends more_ends ∙ (λ t. are.each t ++ also.each t) ∙ sym (map-append (λ (l : Link). l.to) rows more);
 }
 
--- If the first `at` rows (links) and the first `at` items of the column of ends are dropped, the
--- remaining items are the column of ends of the remaining rows. For each row, the column of ends
--- has the index of the router at which the row ends.
+-- Suppose that the first `at` rows (links) and the first `at` items of the column of ends are
+-- dropped. The remaining items are the column of ends of the remaining rows. For each row, the
+-- column of ends has the index of the router at which the row ends.
 pub ends_behind : (rows : List Link) (routers ends : List ℕ) (at : ℕ) → AreEndsOf rows routers ends → AreEndsOf (drop at rows) routers (drop at ends)
 ends_behind rows routers ends at are = record {
   within = All-drop (λ e. e < length routers) at ends are.within;
@@ -110,8 +110,9 @@ ends_between rows routers ends at next are =
           sym (take-map (λ e. slice_index routers e) (next - at) (drop at ends)) ∙ ap (take (next - at)) behind.each ∙ take-map (λ (l : Link). l.to) (next - at) (drop at rows);
     }
 
--- If the link `l` is appended to the rows (links), and the index of the router at which `l` ends is
--- appended to the column of ends, the result is the column of ends of all rows.
+-- Suppose that the link `l` is appended to the rows (links). Suppose also that the index of the
+-- router at which `l` ends is appended to the column of ends. The result is the column of ends of
+-- all rows.
 pub ends_pushed : (rows : List Link) (routers ends : List ℕ) (l : Link) (end : ℕ) → AreEndsOf rows routers ends → IsPlaceOf routers l.to end → AreEndsOf (rows ++ l ∷ []) routers (ends ++ end ∷ [])
 ends_pushed rows routers ends l end are place =
     ends_joined rows (l ∷ []) routers ends (end ∷ []) are (record {

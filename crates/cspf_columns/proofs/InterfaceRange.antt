@@ -48,8 +48,8 @@ locals_rise rows router by_key i j d le h =
           (from_router i (omega (arith, le, h)) ∙ sym (from_router j h))
     ]
 
--- lemmas on a range of rows (links) in order of their local addresses: the first row of the range
--- has the lowest address, and the last row has the highest address
+-- Lemmas on a range of rows (links) in order of their local addresses. The first row of the range
+-- has the lowest address, and the last row has the highest address.
 module _ (rows : List Link) (first end : ℕ) (some : first < end) (bound : end ≤ length rows) (rising : IsNonDecreasingBy (λ l. l.local) (between first end rows)) where
   long : length (between first end rows) ≡ end - first
   long = length-between rows first end bound
@@ -75,8 +75,8 @@ links_rise d rows marks part router e by_key is =
     (ap (filter (λ (l : Link). nat_eq l.from router)) (sym (links_of-database_of rows by_key) ∙ ap links_of e) ∙ sym is)
     (locals_rise rows router by_key)
 
--- if the prefix covers no address from the first row's local address to the last row's local
--- address, the prefix covers no row's local address; a row is a link
+-- Suppose that the prefix covers no address from the first row's local address to the last row's
+-- local address. Then the prefix covers no row's local address. A row is a link.
 pub none_between : (prefix : PrefixParts) (rows : List Link) (first last : Link) → 0 < length rows → IsNonDecreasingBy (λ l. l.local) rows
     → ((address : ℕ) → (get_or rows 0 first).local ≤ address → address ≤ (get_or rows (length rows - 1) last).local → ¬ Covers prefix address) → All (λ l. ¬ Covers prefix l.local) rows
 none_between prefix rows first last some rising none k d h =
@@ -101,8 +101,8 @@ known_at d rows marks at e h = (Contains-router_list d (subst AreAtTheirKeys e (
 pub links_marked : (rows : List Link) (marks : List ℕ) (links : List Link) → AreLinksOf (database_of rows) links → AreLinksOf (marked_database rows marks) links
 links_marked rows marks links are = record { each = are.each; whole = are.whole }
 
--- if a prefix doesn't cover a router's Router ID, the router owns the prefix (`Owns`) exactly if
--- the prefix covers the local address of a link that begins at the router
+-- Suppose that a prefix doesn't cover a router's Router ID. Then the router owns the prefix
+-- (`Owns`) exactly if the prefix covers the local address of a link that begins at the router.
 pub owned_by_links : (d : Database) (rows : List Link) (marks : List ℕ) (part : List Link) (prefix : PrefixParts) (router : ℕ) (b : Bool) → marked_database rows marks ≡ d → AreByKey rows → IsRouterOf d router → part ≡ links_from d router
     → ¬ Covers prefix router → (b ≡ true → (at : ℕ) × (at < length part) × HoldsAt (λ l. Covers prefix l.local) part at) → (b ≡ false → All (λ l. ¬ Covers prefix l.local) part)
     → IsTrue b ↔ Owns d prefix router

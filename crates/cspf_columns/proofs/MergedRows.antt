@@ -95,8 +95,8 @@ below_key out rest k by_key last i d lo h =
           subst (λ n. key_cmp (key_of (get_or (out ++ rest) n d)) k ≡ Less) (sym same) at_end
     ] refl
 
--- If the keys of the rows (links) from `next` on are above the key `k`, they are still above `k`
--- after the merged rows are put in front of them.
+-- Suppose that the keys of the rows (links) from `next` on are above the key `k`. They are still
+-- above `k` after the merged rows are put in front of these rows.
 above_copied : (out rows : List Link) (next : ℕ) (k : Key) → AllWithin (λ m. key_cmp (key_of m) k ≡ Greater) rows next (length rows)
     → AllWithin (λ m. key_cmp (key_of m) k ≡ Greater) (out ++ drop next rows) (length out) (length (out ++ drop next rows))
 above_copied out rows next k gap i d lo h =
@@ -104,9 +104,9 @@ above_copied out rows next k gap i d lo h =
     (sym (get_or-append_right out (drop next rows) (length out) i d refl lo ∙ get_or-drop next rows (i - length out) d))
     (gap (next + (i - length out)) d (omega arith) (omega (arith, h, lo, length-append out (drop next rows), length-drop next rows)))
 
--- Suppose that a change puts a link whose key is above the key of the last merged row (a link), and
--- below the keys of the rows from `next` on. The entries of the changed database are the entries of
--- the merged rows, the link, and the rows from `next` on.
+-- Suppose that a change puts a link. The key of this link is above the key of the last merged row
+-- (a link), and below the keys of the rows from `next` on. The entries of the changed database are
+-- the entries of the merged rows, the link, and the rows from `next` on.
 entries-between : (old rows : List Link) (at next : ℕ) (l : Link) → AreByKey (old ++ drop at rows) → at ≤ next
     → AllWithin (λ m. key_cmp (key_of m) (key_of l) ≡ Greater) rows next (length rows)
     → ((d : Link) → 0 < length (old ++ between at next rows) → key_cmp (key_of (get_or (old ++ between at next rows) (length (old ++ between at next rows) - 1) d)) (key_of l) ≡ Less)
@@ -120,8 +120,8 @@ entries-between old rows at next l by_key le gap last =
     ∙ entries-gap (out ++ drop next rows) (length out) l sorted upto (below_key out (drop next rows) (key_of l) sorted last, above_copied out rows next (key_of l) gap)
     ∙ ap (map entry_of) (insert-next out rows next l)
 
--- if the row (a link) at the index `next` has the key of a removal, the rows without this row make
--- the changed database, and are still in order of their keys
+-- Suppose that the row (a link) at the index `next` has the key of a removal. The rows without this
+-- row make the changed database, and are still in order of their keys.
 merged_removal : (old rows : List Link) (at next : ℕ) (k : Key) → AreByKey (old ++ drop at rows) → at ≤ next → next < length rows → HoldsAt (λ m. key_of m ≡ k) rows next
     → (database_of ((old ++ between at next rows) ++ drop (next + 1) rows) ≡ relinked (database_of (old ++ drop at rows)) (Remove k.0 k.1)) × AreByKey ((old ++ between at next rows) ++ drop (next + 1) rows)
 merged_removal old rows at next k by_key le h has =
@@ -137,8 +137,8 @@ merged_removal old rows at next k by_key le h has =
       subst AreByKey left (by_key-without (out ++ drop next rows) (length out) sorted),
     )
 
--- The next two lemmas: if a row's key is neither below the key `k` nor equal to `k`, the keys of
--- this row and of all later rows are above `k`. A row is a link.
+-- The next two lemmas: if a row's key isn't below the key `k` and isn't equal to `k`, it is above
+-- `k`, and so are the keys of all later rows. A row is a link.
 higher : (o : Ordering) → is_lt o ≡ false → is_eq o ≡ false → o ≡ Greater
 higher Less no_less no_tie = absurd (cc)
 higher Equal no_less no_tie = absurd (cc)
@@ -173,8 +173,8 @@ merged_over old rows at next (Remove from local) by_key le h has =
     (sym (append-nil (old ++ between at next rows))) (merged_removal old rows at next (from, local) by_key le h (λ d. link_keys_same _ (from, local) (has d)))
 merged_over old rows at next (Node router transit) by_key le h has = absurd (link_not_mark _ router (has (some_row rows next h)))
 
--- if the keys of the rows (links) from `next` on are above the key of a removal, and the key of the
--- last merged row is below this key, the removal changes nothing
+-- Suppose that the key of a removal is below the keys of the rows (links) from `next` on, and above
+-- the key of the last merged row. Then the removal changes nothing.
 removed_none : (old rows : List Link) (at next : ℕ) (k : Key) → AreByKey (old ++ drop at rows) → at ≤ next → AllWithin (λ m. key_cmp (key_of m) k ≡ Greater) rows next (length rows) → EndsBelow (old ++ between at next rows) (link_key k)
     → (database_of ((old ++ between at next rows) ++ drop next rows) ≡ relinked (database_of (old ++ drop at rows)) (Remove k.0 k.1)) × AreByKey ((old ++ between at next rows) ++ drop next rows)
 removed_none old rows at next k by_key le gap last =
@@ -212,9 +212,8 @@ merged_before old rows at next (Node router transit) by_key le gap last =
     let same : old ++ drop at rows ≡ ((old ++ between at next rows) ++ []) ++ drop next rows = sym (ap (λ out. out ++ drop next rows) (append-nil (old ++ between at next rows)) ∙ copied old rows at next le) in
     (ap database_of (sym same), subst AreByKey same by_key)
 
--- Suppose that the key of the last row (a link) of `old` is below `k`, and that the keys of the
--- rows from `at` up to `next` are below `k`. After these rows are appended to `old`, the key of the
--- last row is still below `k`.
+-- Suppose that the last key of `old` and the keys of the rows (links) from `at` up to `next` are
+-- below `k`. After these rows are appended to `old`, the key of the last row is still below `k`.
 pub copied_below : (old rows : List Link) (at next : ℕ) (k : ChangeKey) → at ≤ next → next ≤ length rows → EndsBelow old k → AllWithin (λ m. change_key_cmp (link_key (key_of m)) k ≡ Less) rows at next
     → EndsBelow (old ++ between at next rows) k
 copied_below old rows at next k le within last below d h =

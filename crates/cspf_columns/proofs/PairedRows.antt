@@ -102,8 +102,8 @@ module _ (rows : List Link) (by_key : AreByKey rows) (at : ℕ) (within : at < l
   pub here : (i : ℕ) (d : Link) → i < length rows → key_of (slice_index_or rows i d) ≡ k → i ≡ at
   here i d h same = one_index rows by_key i at d d h within (same ∙ sym (has d))
 
-  -- if the row (a link) at `at` is the reverse of the row at `i`, and the row at `n` is the reverse
-  -- of the row at `at`, then `i` is `n`
+  -- Suppose that the row (a link) at `at` is the reverse of the row at `i`, and that the row at `n`
+  -- is the reverse of the row at `at`. Then `i` is `n`.
   partner : (i n : ℕ) (d : Link) → i < length rows → n < length rows → IsReverse (slice_index_or rows at d) (slice_index_or rows n d) → IsReverse (slice_index_or rows i d) (slice_index_or rows at d) → i ≡ n
   partner i n d h inside is back = one_index rows by_key i n d d h inside (one_key (slice_index_or rows at d) _ _ (turned _ _ back) is)
 
@@ -176,8 +176,8 @@ module _ (rows : List Link) (by_key : AreByKey rows) (at : ℕ) (within : at < l
             none = λ z j inside back. absurd (neither (is.none z j inside back));
           })
 
-  -- lemmas on pairing the row (a link) at `at` with its reverse; before, the row counts as having
-  -- no reverse, and `other` is the index of the reverse, or `NO_LINK`
+  -- Lemmas on pairing the row (a link) at `at` with its reverse. `other` is the index of the
+  -- reverse, or `NO_LINK` if there is none. In `column`, the row still counts as having no reverse.
   module _ (column : List ℕ) (are : AreReversesBut (same_key k) rows column) (other : ℕ) (e : Link) (is : IsIndexOfReverse no_key rows (slice_index_or rows at e) other) where
     -- `IsPair` holds of the row (a link) at `at` and of `other`
     mine_now : (d : Link) → IsPair no_key rows d at other

@@ -114,9 +114,9 @@ module _ (rows : List Link) (routers ends : List ℕ) (are : IsEndColumn rows ro
       let moved = moved_ends (filter (is_end_of rows) routers) routers places ends are.ends.within among (rw is at placed) in
       rw is (record { froms = froms_kept; ends = record { within = moved.0; each = moved.1 ∙ are.ends.each } })
 
-  -- If `kept` has the routers at which rows (links) begin or end, and `moved` is the column of ends
-  -- for `kept`, then `kept` is the list of the database's routers. For each row, the column of ends
-  -- has the index of the router at which the row ends.
+  -- Suppose that `kept` has the routers at which rows (links) begin or end, and that `moved` is the
+  -- column of ends for `kept`. Then `kept` is the list of the database's routers. For each row, the
+  -- column of ends has the index of the router at which the row ends.
   pub router_list-kept : (kept moved : List ℕ) → AreByKey rows → AreRising routers → kept ≡ filter (is_end_of rows) routers → IsEndColumn rows kept moved → kept ≡ router_list (database_of rows)
   router_list-kept kept moved by_key rising is column =
       router_list-column rows kept moved column (subst (All (AnyEndsAt rows)) (sym is) (λ k d h. end_from rows _ (filter_passes (is_end_of rows) routers k d h))) by_key

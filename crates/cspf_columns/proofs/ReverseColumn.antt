@@ -38,8 +38,8 @@ index_told d rows marks makes by_key l n is =
           neither (is.none none at.0 at.1 (subst (IsReverse l) (sym here) has.2));
     }
 
--- if the column of reverses has an index for a link, the database has a reverse of the link; if the
--- column has `NO_LINK`, the database has no reverse of the link
+-- If the column of reverses has an index for a link, the database has a reverse of the link. If the
+-- column has `NO_LINK`, the database has no reverse of the link.
 pub tells_reverse : (d : Database) (rows : List Link) (marks : List ℕ) → marked_database rows marks ≡ d → AreByKey rows → (l : Link) (n : ℕ) → IsIndexOfReverse no_key rows l n
     → (n ≢ NO_LINK → HasReverse d l) × (n ≡ NO_LINK → ¬ HasReverse d l)
 tells_reverse d rows marks makes by_key l n is = (
@@ -90,8 +90,8 @@ reverses_at_span d c marks is makes at span h read =
     let order = span_within d rows marks c.routers.items c.spans.items at span makes all is.spans h read in
     (as_many_beside d rows c.reverses.items span.first span.end at column order.0 order.1 part, reverses_beside d rows marks c.reverses.items span.first span.end at makes by_key column order.0 order.1 part)
 
--- a reverse of the link `l` has the key (`l.to`, `l.remote`); if the row (a link) with this key
--- isn't a reverse of `l`, then `l` has no reverse
+-- A reverse of the link `l` has the key (`l.to`, `l.remote`). If the row (a link) with this key
+-- isn't a reverse of `l`, then `l` has no reverse.
 pub not_back : (rows : List Link) → AreByKey rows → (l : Link) (at : ℕ) (d : Link) → at < length rows → key_of (slice_index_or rows at d) ≡ (l.to, l.remote)
     → ¬ IsReverse l (slice_index_or rows at d) → IsIndexOfReverse no_key rows l NO_LINK
 not_back rows by_key l at d within key apart = record {
@@ -103,8 +103,8 @@ not_back rows by_key l at d within key apart = record {
       absurd (apart (subst (IsReverse l) (ap (λ i. slice_index_or rows i l) same ∙ get_or_default rows at l d within) is));
 }
 
--- if no row (a link) has the key (`l.to`, `l.remote`), which a reverse of the link `l` has, then
--- `l` has no reverse
+-- A reverse of the link `l` has the key (`l.to`, `l.remote`). If no row (a link) has this key, then
+-- `l` has no reverse.
 pub none_back : (rows : List Link) (l : Link) → All (λ r. key_of r ≢ (l.to, l.remote)) rows → IsIndexOfReverse no_key rows l NO_LINK
 none_back rows l none = record {
   within = λ some. absurd (some refl);

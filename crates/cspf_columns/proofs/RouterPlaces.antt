@@ -85,10 +85,10 @@ moved_ends others routers places (e ∷ ends) within among are =
 pub ends_kept : (others routers ends : List ℕ) → All (λ e. e < length routers) ends → All (Contains others) routers → All (Contains others) (map (λ e. slice_index routers e) ends)
 ends_kept others routers ends within kept = All-map (Contains others) (λ e. slice_index routers e) ends (λ k d h. kept (get_or ends k d) 0 (within k d h))
 
--- Suppose that `others` has all routers of `routers`. Suppose also that, for each row (a link), the
--- indexes in `ends` and in `moved` mean the same router: the index in `ends` belongs to `routers`,
--- and the index in `moved` to `others`. Then `moved` is the column of ends for `others`. For each
--- row, the column of ends has the index of the router at which the row ends.
+-- Suppose that `others` has all routers of `routers`. Suppose also that, for each row (a link),
+-- `ends` and `moved` have indexes of the same router. The index in `ends` belongs to `routers`, and
+-- the index in `moved` to `others`. Then `moved` is the column of ends for `others`. For each row,
+-- the column of ends has the index of the router at which the row ends.
 pub column_more : (rows : List Link) (routers ends others moved : List ℕ) → IsEndColumn rows routers ends → All (Contains others) routers → All (λ e. e < length others) moved
     → map (λ e. slice_index others e) moved ≡ map (λ e. slice_index routers e) ends → IsEndColumn rows others moved
 column_more rows routers ends others moved are kept within same = record {

@@ -77,9 +77,9 @@ upto m r h = grind (arith, nat_tests)
 not_upto : (m r : ℕ) → r < m → leb m r ≡ false
 not_upto m r h = grind (arith, nat_tests)
 
--- Lemmas on a range of rows (links) that all begin at one router. The range has all rows that begin
--- at this router if two conditions hold: the row that precedes the range begins at a lower router,
--- and the row that follows the range begins at a higher router.
+-- Lemmas on a range of rows (links) that all begin at one router. The row that precedes the range
+-- begins at a lower router, and the row that follows the range begins at a higher router. So the
+-- range has all rows that begin at this router.
 module _ (rows : List Link) (router first end : ℕ) (rises : IsNonDecreasingBy (λ l. l.from) rows) (order : first ≤ end) (bound : end ≤ length rows)
     (run : (k : ℕ) (d : Link) → first ≤ k → k < end → (get_or rows k d).from ≡ router) (low : 0 < first → (d : Link) → (get_or rows (first - 1) d).from < router)
     (high : end < length rows → (d : Link) → router < (get_or rows end d).from) where

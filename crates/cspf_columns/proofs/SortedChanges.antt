@@ -73,8 +73,8 @@ only_less o Less turned above apart = absurd (cc)
 only_less o Equal turned above apart = let tie = ap is_eq (sym turned) ∙ apart in absurd (cc)
 only_less o Greater turned above apart = turned
 
--- If changes are copied in the order of their sorted pairs, and no two changes have the same key,
--- the keys of the copied changes are in strictly increasing order.
+-- Suppose that changes with different keys are copied in the order of their sorted pairs. Then the
+-- keys of the copied changes are in strictly increasing order.
 pub in_order : (changes : List Change) (sorted : List (ChangeKey × ℕ)) (out : List Change) → All (IsPlaceOfChange changes) sorted → ((d : Change) → out ≡ map (change_of changes d) sorted)
     → IsSorted place_cmp sorted → AreOnceEach out → AreSortedChanges out
 in_order changes sorted out places copied rising once k d h =

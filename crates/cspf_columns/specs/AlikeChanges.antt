@@ -5,8 +5,8 @@ use Rattle.cspf_model.specs.declared.batch.Change.{Change}
 use Rattle.cspf_model.specs.declared.batch.Change.TheVariants.{Put, Remove, Node}
 use Rattle.cspf_model.specs.Database.{Key, key_of}
 
--- the two interfaces of a link, each as a pair of a router and an address: the interface at which
--- the link begins, and the interface at which it ends
+-- The interface at which a link begins, and the interface at which it ends. An interface is a pair
+-- of a router and an address.
 abbrev pub interfaces_of : Link → Key × Key
 interfaces_of l = (key_of l, (l.to, l.remote))
 

@@ -62,8 +62,8 @@ pub record AreKeptEnds (rows : List Link) (routers : List ℕ) (old old_places n
   pub capacity : vec_capacity old ≤ vec_capacity new
   pub capacity_of_places : vec_capacity old_places ≤ vec_capacity new_places
 
--- `span` is the span of the router: the range of the rows (links) that begin at the router, a lower
--- bound of their local addresses, and an upper bound of these addresses
+-- `span` is the span of the router. It has the range of the rows (links) that begin at the router,
+-- a lower bound of their local addresses, and an upper bound.
 pub record IsSpanOf (rows : List Link) (router : ℕ) (span : Span) : Type 0 where
   pub order : span.first ≤ span.end
   pub bound : span.end ≤ length rows

@@ -87,7 +87,7 @@ fn move_few(added: usize, changes: &[Change]) -> bool
 /// Makes changes with distinct keys to the rows (links) and to the column of ends. Returns whether
 /// the call has also adapted the column of reverses. The links that the changes put begin and end
 /// at routers in the list of routers. For each row, a column of ends has the index of the router at
-/// which the link ends, and a column of reverses has the index of the row's reverse or `NO_LINK`.
+/// which the link ends. A column of reverses has the index of the row's reverse, or `NO_LINK`.
 fn change_with_ends(
     columns: &mut Columns,
     scratch: &mut Scratch,

@@ -1,6 +1,6 @@
--- What a route may do in the leg to a hop follows from three things: the targets of this leg
--- (routers where the leg may end), the targets of the preceding leg, and what the route may do in
--- the leg after the last hop.
+-- How the roles of a leg to a hop are computed from the targets of this leg and of the preceding
+-- leg, and from the roles of the leg after the last hop. A role says what a route may do at a
+-- router in a leg. A leg's targets are the routers where the leg may end.
 use Rattle.std.proofs.Common.{◌≡◌, ◌≢◌, ◌⊎◌, ◌↔◌, inl, inr, ℕ, zero, suc, ◌+◌, ◌*◌, ◌/◌, ◌%◌, ◌<◌, ◌≤◌, ◌&&◌, ◌++◌, ◌∷◌, [], true, false, Bool, IsTrue, List, Contains, nat_eq, set, length-set, length, slice_get, slice_index_or, refl, sym, ap, subst, ◌∙◌, arith}
 use Rattle.std.proofs.lemmas.Bool.{false≢true, cases_lt, eqb-true, eq-eqb}
 use Rattle.std.proofs.lemmas.List.{get_or_default, get_or-set_same, get_or-set_other}
@@ -103,9 +103,9 @@ module _ (d : Database) (q : Request) (listed : AreListed d) (leg from : ℕ) (w
   inside_last : (r : ℕ) → IsInside d q (suc (length q.hops)) r
   inside_last r = inl (subst IsLoose (sym (slice_get_past q.hops (length q.hops) (omega arith))) tt)
 
-  -- The next two lemmas: a router is inside the leg exactly if the leg is loose, or the router is a
-  -- target of this leg or of the preceding leg. A leg's targets are the routers where the leg may
-  -- end.
+  -- The next two lemmas: a router is inside a loose leg, and inside a strict leg if it is a target
+  -- of this leg or of the preceding leg. Otherwise the router isn't inside the leg. A leg's targets
+  -- are the routers where the leg may end.
   inside_of : (r : ℕ) → IsLoose (slice_get q.hops leg) ⊎ (IsTarget d q leg r ⊎ IsTarget d q (leg + 1) r) → IsInside d q (leg + 1) r
   inside_of r so = subst (λ k. IsInside d q k r) next (elim so [ inl is ↦ inl is | inr (inl is) ↦ inr (inl is) | inr (inr is) ↦ inr (inr (subst (λ k. IsTarget d q k r) (sym next) is)) ])
 

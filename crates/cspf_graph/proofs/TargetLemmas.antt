@@ -8,8 +8,8 @@ use Rattle.cspf_model.specs.Database.{Database}
 use Rattle.cspf_model.specs.Targets.{IsTarget, IsTargetOf, Owns}
 
 module _ (d : Database) (q : Request) (leg router : ℕ) (later : leg ≢ 0) (b : Bool) where
-  -- From leg 1 on, the targets of a leg (routers where the leg may end) are given by the hop with
-  -- the index `leg - 1`, or by the tail-end if there is no such hop.
+  -- From leg 1 on, the hop with the index `leg - 1` gives the targets of the leg (routers where the
+  -- leg may end). If there is no such hop, the tail-end is the only target.
   targets_of_hop : (leg : ℕ) (o : Option Hop) → leg ≢ 0 → slice_get q.hops (leg - 1) ≡ o → IsTargetOf d q.to o router ≡ IsTarget d q leg router
   targets_of_hop zero o later e = absurd (later refl)
   targets_of_hop (suc i) o later e =

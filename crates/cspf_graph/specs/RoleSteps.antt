@@ -51,10 +51,9 @@ pub record IsSpread (rows : RoleRows) (loose : Bool) (old new : List Role) : Typ
   pub elsewhere : StayElsewhere rows old new
 
 -- The step that considers targets (routers where a leg may end). `places` are targets of this leg
--- if `own` is true, and otherwise targets of the preceding leg. In the leg, a link may now also
--- lead a route to each router in `places` that a link may lead it to in the leg after the last hop.
--- If `own` is true, a route may now go on to the next leg at these routers, and at the head-end
--- `from` if it is in `places`.
+-- if `own` is true, and otherwise targets of the preceding leg. `enter` becomes true for each
+-- router in `places` for which it is true in the leg after the last hop. If `own` is true, `target`
+-- becomes true for these routers, and for the head-end `from` if it is in `places`.
 pub record AreRolesMarked (rows : RoleRows) (places : List ℕ) (own : Bool) (from : ℕ) (old new : List Role) : Type 0 where
   pub enter : (p : ℕ) → p < rows.count → IsTrue (role_at new (rows.first + p)).enter
       ↔ (IsTrue (role_at old (rows.first + p)).enter

@@ -36,8 +36,8 @@ pub record IsStateIndex (d : Database) (q : Request) (i : ℕ) : Type 0 where
   pub low : i < (length q.hops + 1) * MOST_ROUTERS
   pub place : i % MOST_ROUTERS < length (router_list d)
 
--- The role is correct: it says whether a link may lead a route to the router in this leg, and
--- whether the route may go on to the next leg at this router.
+-- The role is correct. `enter` says whether a link may lead a route to the router in this leg.
+-- `target` says whether the route may go on to the next leg at this router.
 pub record IsRole (d : Database) (q : Request) (leg router : ℕ) (role : Role) : Type 0 where
   pub enter : IsTrue role.enter ↔ MayEnter d q leg router
   pub target : IsTrue role.target ↔ MayTurn d q leg router

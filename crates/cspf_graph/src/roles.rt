@@ -1,7 +1,7 @@
-//! What a route may do at each router in each leg: whether a link may lead the route to the router,
-//! and whether the route may go on to the next leg at the router. Both follow from what a route may
-//! do in the leg after the last hop, and from the targets of the legs. A leg's targets are the
-//! routers where the leg may end.
+//! What a route may do at each router in each leg. May a link lead the route to the router? May the
+//! route go on to the next leg at the router? Both answers follow from what a route may do in the
+//! leg after the last hop, and from the targets of the legs. A leg's targets are the routers where
+//! the leg may end.
 
 ghost use Rattle.std.specs.Prelude.{◌≡◌, ◌≢◌, true, ◌+◌, ◌*◌, ◌<◌, ◌↔◌, ◌⊎◌, All, IsTrue, IfOk, length, slice_get};
 ghost use Rattle.cspf_db.specs.Index.{router_list};

@@ -82,8 +82,9 @@ brings_beside routers others l m n from to s inside put =
     omega
     (arith, one_end s l.from m (λ e. there l.from (from e)), one_end (set.insert s l.from) l.to n (λ e. set.contains-insert nat_cmp_total s l.from l.to ∙ or_right (eq_by_cmp nat_cmp l.to l.from) _ (there l.to (to e))))
 
--- If the first `at` changes bring at most `m` new routers, and the next change brings at most `n`
--- further new routers, the first `at + 1` changes bring at most `m + n` new routers.
+-- Suppose that the first `at` changes bring at most `m` new routers, and that the next change
+-- brings at most `n` further new routers. Then the first `at + 1` changes bring at most `m + n` new
+-- routers.
 pub brings_once : (routers : List ℕ) (cs : List Change) (at : ℕ) (c : Change) (m n : ℕ) → at < length cs → c ≡ slice_index_or cs at c → BringsAtMost routers (take at cs) m → BringsBeside routers (take at cs) c n
     → BringsAtMost routers (take (at + 1) cs) (m + n)
 brings_once routers cs at c m n h read first second s inside =

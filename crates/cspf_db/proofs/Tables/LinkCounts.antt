@@ -78,8 +78,8 @@ one_count d (Remove from local) present =
 joined : (after between before less more also one two : ℕ) → after + less ≡ between + also → also ≡ more → between + one ≡ before + two → after + (one + less) ≡ before + (two + more)
 joined after between before less more also one two e same step = omega arith
 
--- After changes with distinct keys, the number of links is the old number, plus the number of
--- changes that add a link, minus the number of changes that remove a link.
+-- Changes with distinct keys increase the number of links by the number of changes that add a link,
+-- and decrease it by the number of changes that remove a link.
 count_after : (d : Database) (cs : List Change) → AreOnceEach cs → AllByRecursion (IsPresent d) cs
     → link_count (all_relinked d cs) + count_by removes_link cs ≡ link_count d + count_by (adds_link d) cs
 unfolding IsDistinct
@@ -91,8 +91,8 @@ count_after d (c ∷ cs) once present =
     (one_count d c present.0)
     ∙ ap (λ n. link_count d + n) (sym (sum_by-cons (λ x. cond (adds_link d x) 1 0) c cs))
 
--- After changes with distinct keys, the number of links is the number of rows (links), plus the
--- number of changes that add a link, minus the number of changes that remove a link.
+-- The same as `count_after` for a database made from rows (links). Before the changes, its number
+-- of links is the number of rows.
 pub sum_after : (rows : List Link) (cs : List Change) → AreByKey rows → AreOnceEach cs → AllByRecursion (IsPresent (database_of rows)) cs
     → link_count (all_relinked (database_of rows) cs) + count_by removes_link cs ≡ length rows + count_by (adds_link (database_of rows)) cs
 sum_after rows cs by_key once present =

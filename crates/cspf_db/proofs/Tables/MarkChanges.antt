@@ -77,8 +77,8 @@ not_among n (m ∷ ns) apart q tie =
     let same : q ≡ n = set.nat_cmp-IsAntisymmetric q n ((Equal-is (nat_cmp q n)).0 tie) in
     ap (λ b. b || list_any (eq_by_cmp nat_cmp q) ns) (ap (λ k. eq_by_cmp nat_cmp k m) same ∙ apart.0) ∙ not_among n ns apart.1 q tie
 
--- If the number `n` is removed from a list of distinct numbers, a number is in the new list exactly
--- if it is in the old list and isn't `n`.
+-- The number `n` is removed from a list of distinct numbers. A number is in the new list exactly if
+-- it is in the old list and isn't `n`.
 any-without : (ns : List ℕ) (at n d : ℕ) → IsDistinct (eq_by_cmp nat_cmp) ns → at < length ns → get_or ns at d ≡ n → (q : ℕ)
     → list_any (eq_by_cmp nat_cmp q) (without ns at) ≡ (not (eq_by_cmp nat_cmp q n) && list_any (eq_by_cmp nat_cmp q) ns)
 unfolding IsDistinct

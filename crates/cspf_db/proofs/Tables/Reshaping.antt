@@ -168,7 +168,8 @@ any_changes d e (c ∷ cs) left on is =
       | false ↦ λ _ rest. any_changes d e cs left.1 rest is
     ] refl on
 
--- If changes have distinct keys, and one of them changes more of a database than unreserved
--- bandwidths, the databases before and after the changes differ in more than unreserved bandwidths.
+-- Suppose that changes have distinct keys, and that one of them changes more of a database than
+-- unreserved bandwidths. Then the databases before and after the changes differ in more than
+-- unreserved bandwidths.
 pub shape_changed : (d : Database) (cs : List Change) → AreOnceEach cs → list_any (reshapes d) cs ≡ true → HaveOneShape d (after_changes d cs) → ⊥
 shape_changed d cs once on is = any_changes d (after_changes d cs) cs (each_left d cs once) on is

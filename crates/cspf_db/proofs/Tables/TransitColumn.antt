@@ -17,9 +17,9 @@ use Rattle.cspf_db.proofs.Tables.MarkChanges.{marked_at}
 use Rattle.cspf_columns.proofs.RouterPlaces.{lower}
 
 module _ (marks : List ℕ) (router at : ℕ) (rising : AreRising marks) (below : (k : ℕ) → k < at → slice_index marks k < router) where
-  -- If the marks before the index `at` are below the router, and the mark at `at` (if there is one)
-  -- is above the router, the list of marks doesn't have the router. A mark is the Router ID of a
-  -- router without transit.
+  -- Suppose that the marks before the index `at` are below the router, and that the mark at `at`
+  -- (if there is one) is above the router. Then the list of marks doesn't have the router. A mark
+  -- is the Router ID of a router without transit.
   none_there : (at < length marks → router < slice_index marks at) → Contains marks router → ⊥
   none_there above (k, h, is) =
       let here : slice_index marks k ≡ router = get_or_default marks k 0 router h ∙ is in
@@ -31,9 +31,9 @@ module _ (marks : List ℕ) (router at : ℕ) (rising : AreRising marks) (below 
         ]
       ]
 
-  -- If the marks before the index `at` are below the router, and the mark at `at` (if there is one)
-  -- is above the router, the set of marks doesn't have the router. A mark is the Router ID of a
-  -- router without transit.
+  -- Suppose that the marks before the index `at` are below the router, and that the mark at `at`
+  -- (if there is one) is above the router. Then the set of marks doesn't have the router. A mark is
+  -- the Router ID of a router without transit.
   pub unmarked_between : (at < length marks → router < slice_index marks at) → set.contains (marks_in marks) router ≡ false
   unmarked_between above =
       elim (set.contains (marks_in marks) router) as (λ b. set.contains (marks_in marks) router ≡ b → b ≡ false) [

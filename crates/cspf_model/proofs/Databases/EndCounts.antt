@@ -94,8 +94,8 @@ any-values p (l ∷ rows) apart =
 ends_set : List Link → set.FinSet nat_cmp
 ends_set links = set.from_list (ends_of links)
 
--- If the links in `rows` have different keys, the number of routers of the database made from them
--- is the size of the set of the routers at which these links begin or end.
+-- Suppose that the links in `rows` have different keys. Then the set of the routers at which these
+-- links begin or end has as many members as the database made from them has routers.
 pub router_count-database_of : (rows : List Link) → HaveOwnKeys rows
     → router_count (database_of rows) ≡ set.len (set.from_list {R = nat_cmp} (ends_of rows))
 router_count-database_of rows apart =
@@ -279,8 +279,9 @@ module _ (rows : List Link) (cs : List Change) (apart : HaveOwnKeys rows) (once 
       omega
       (arith, len-within (ends_of (rows_after rows cs)) (with_ends all (links_put cs)) in_grown, brings all inside, ap router_count (database-rows_after rows cs once), router_count-database_of (rows_after rows cs) (apart-rows_after rows cs apart once), router_count-database_of rows apart)
 
-  -- If the links that the changes put have at most `most` new routers, and some router of the
-  -- database has no links after the changes, the database gains at most `most - 1` routers.
+  -- Suppose that the links that the changes put have at most `most` new routers, and that some
+  -- router of the database has no links after the changes. Then the database gains at most `most -
+  -- 1` routers.
   pub router_count-gone : (routers : List ℕ) (most : ℕ) → All (λ r. set.contains (set.from_list {R = nat_cmp} (ends_of rows)) r ≡ true) routers → BringsAtMost routers cs most
       → HasGone rows routers cs → router_count (all_relinked (database_of rows) cs) + 1 ≤ router_count (database_of rows) + most
   router_count-gone routers most inside brings (g, known, gone) =

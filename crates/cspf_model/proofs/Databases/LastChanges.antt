@@ -83,9 +83,9 @@ find-push p [] c = refl
 find-push p (b ∷ cs) c =
     elim (p b) as (λ t. cond t (Some b) (find p (cs ++ c ∷ [])) ≡ later_or (cond t (Some b) (find p cs)) (cond (p c) (Some c) None)) [ true ↦ refl | false ↦ find-push p cs c ]
 
--- Putting the change `c` in front of a list of changes doesn't change which change with the key `k`
--- is the last, if the list has a change with this key. Otherwise `c` is the last change with the
--- key `k`, if `c` has this key.
+-- The change `c` is put in front of a list of changes. If the list has a change with the key `k`,
+-- the last such change stays the last. Otherwise `c` is the last change with the key `k`, if `c`
+-- has this key.
 last_on-cons : (k : ChangeKey) (c : Change) (cs : List Change)
     → last_on k (c ∷ cs) ≡ later_or (last_on k cs) (cond (eq_by_cmp change_key_cmp k (key_changed c)) (Some c) None)
 last_on-cons k c cs =
