@@ -137,8 +137,8 @@ merged_removal old rows at next k by_key le h has =
       subst AreByKey left (by_key-without (out ++ drop next rows) (length out) sorted),
     )
 
--- The next two lemmas: if a row's key isn't below the key `k` and isn't equal to `k`, it is above
--- `k`, and so are the keys of all later rows. A row is a link.
+-- The next two lemmas: suppose that the key of a row (a link) isn't below `k` and isn't equal to
+-- `k`. Then the keys of this row and of all later rows are above `k`.
 higher : (o : Ordering) → is_lt o ≡ false → is_eq o ≡ false → o ≡ Greater
 higher Less no_less no_tie = absurd (cc)
 higher Equal no_less no_tie = absurd (cc)
@@ -233,9 +233,8 @@ copied_below old rows at next k le within last below d h =
           (ap (λ (m : Link). change_key_cmp (link_key (key_of m)) k) (get_or_append_left old part d (length old - 1) end) ∙ last d (omega (arith, same, h)))
     ] refl
 
--- Suppose that the key of the last row (a link) is below the key of a change. After the link that
--- the change puts is appended, if it puts a link, the key of the last row is below each key above
--- the change's key.
+-- Suppose that the key of the last row (a link) is below the key of a change. If the change puts a
+-- link, append this link. The key of the last row is then below each key above the change's key.
 pub put_below : (out : List Link) (c : Change) (k : ChangeKey) → EndsBelow out (key_changed c) → change_key_cmp (key_changed c) k ≡ Less → EndsBelow (out ++ links_put (c ∷ [])) k
 put_below out (Put l) k last less =
     let behind : length out ≡ length (out ++ l ∷ []) - 1 = omega (arith, length_push out l) in

@@ -51,8 +51,8 @@ pub owned_itself : (d : Database) (prefix : PrefixParts) (router : ℕ) (b : Boo
 owned_itself d prefix router b on known covered =
     ((λ _. record { known = known; covered = inl covered }), λ _. on)
 
--- if the Router ID of a router isn't in the prefix, the router owns the prefix (`Owns`) exactly if
--- the prefix covers the address of one of its interfaces
+-- Suppose that the Router ID of a router isn't in the prefix. Then the router owns the prefix
+-- (`Owns`) exactly if the prefix covers the address of one of the router's interfaces.
 pub owned_by_link : (d : Database) (prefix : PrefixParts) (router : ℕ) (b : Bool)
     → IsRouterOf d router → ¬ Covers prefix router
     → IsTrue b ↔ ((l : Link) × IsLinkOf d l × BeginsWithin prefix router l)

@@ -83,10 +83,10 @@ fn put_behind(merged: &mut Vec<Link>, merged_ends: &mut Vec<u16>, routers: &[Add
     }
 }
 
-/// Merges one change. Copies the rows (links) from index `at` on whose keys are below the change's
-/// key, and then appends the link that the change puts, if it puts a link. For each appended link,
-/// appends to `merged_ends` the index of the router at which the link ends. Returns the index of
-/// the next row to be merged.
+/// Merges one change. From index `at` on, copies the rows (links) with keys below the change's key.
+/// Then appends the link that the change puts, if it puts a link. For each appended link, appends
+/// to `merged_ends` the index of the router at which the link ends. Returns the index of the next
+/// row to be merged.
 fn merge_one(
     merged: &mut Vec<Link>,
     merged_ends: &mut Vec<u16>,

@@ -60,8 +60,8 @@ pub fn is_alike(rows: &[Link], at: usize, link: &Link) -> bool
     rows[at].to == link.to && rows[at].remote == link.remote
 }
 
-/// The range of the rows (links) that begin at the router: the index of the first such row, and one
-/// more than the index of the last.
+/// The range of the rows (links) that begin at the router: the index of the first row, and one more
+/// than the index of the last row.
 pub fn span(rows: &[Link], router: Addr) -> (usize, usize)
     requires { AreByKey rows.now }
     ensures order { result.0 ≤ result.1 }

@@ -1,5 +1,5 @@
-//! The span of a router: the range of the rows (links) that begin at the router, and the lowest and
-//! the highest local address of these rows.
+//! Spans of routers. A router's span is the range of the rows (links) that begin at the router, and
+//! the lowest and the highest local address of these rows.
 ghost use Rattle.std.specs.Prelude.{◌≡◌, ℕ, All, ◌+◌, ◌-◌, ◌<◌, ◌≤◌, true, filter, length, nat_eq, slice_index_or, slice_range, vec_len};
 ghost use Rattle.std.specs.Vec.{vec_capacity};
 ghost use Rattle.std.specs.List.Sorted.{IsNonDecreasingBy};

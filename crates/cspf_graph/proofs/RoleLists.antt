@@ -1,6 +1,6 @@
--- How the roles of a leg to a hop are computed from the targets of this leg and of the preceding
--- leg, and from the roles of the leg after the last hop. A role says what a route may do at a
--- router in a leg. A leg's targets are the routers where the leg may end.
+-- How the roles of a leg to a hop are computed. They follow from the targets of this leg and of the
+-- preceding leg, and from the roles of the leg after the last hop. A role says what a route may do
+-- at a router in a leg. A leg's targets are the routers where the leg may end.
 use Rattle.std.proofs.Common.{◌≡◌, ◌≢◌, ◌⊎◌, ◌↔◌, inl, inr, ℕ, zero, suc, ◌+◌, ◌*◌, ◌/◌, ◌%◌, ◌<◌, ◌≤◌, ◌&&◌, ◌++◌, ◌∷◌, [], true, false, Bool, IsTrue, List, Contains, nat_eq, set, length-set, length, slice_get, slice_index_or, refl, sym, ap, subst, ◌∙◌, arith}
 use Rattle.std.proofs.lemmas.Bool.{false≢true, cases_lt, eqb-true, eq-eqb}
 use Rattle.std.proofs.lemmas.List.{get_or_default, get_or-set_same, get_or-set_other}

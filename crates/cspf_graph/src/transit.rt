@@ -7,8 +7,8 @@ use cspf_addr::Addr;
 use cspf_db::Table;
 use cspf_model::Request;
 
-/// Whether a walk that has come to the router by `links_so_far` links may leave the router: the
-/// router has transit, or the walk has no links yet (RFC 6987).
+/// Whether a walk may leave the router that it has reached by `links_so_far` links. It may if the
+/// router has transit, or if the walk has no links yet (RFC 6987).
 pub fn may_leave(table: &Table, router: Addr, links_so_far: u32) -> bool
     ensures { IsTrue result ↔ MayLeave table.now router links_so_far }
 {

@@ -28,7 +28,7 @@ pub record IsAdmissible (d : Database) (q : Request) (l : Link) : Type 0 where
   pub link : IsLinkOf d l
   pub usable : IsUsable d q l
 
--- A walk that has come to the router by `links` links may leave the router: the router has transit,
--- or the walk has no links yet.
+-- A walk may leave the router that it has reached by `links` links: the router has transit, or the
+-- walk has no links yet.
 abbrev pub MayLeave : Database → ℕ → ℕ → Type 0
 MayLeave d router links = HasTransit d router ⊎ (links ≡ 0)

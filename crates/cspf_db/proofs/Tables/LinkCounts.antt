@@ -78,8 +78,8 @@ one_count d (Remove from local) present =
 joined : (after between before less more also one two : ℕ) → after + less ≡ between + also → also ≡ more → between + one ≡ before + two → after + (one + less) ≡ before + (two + more)
 joined after between before less more also one two e same step = omega arith
 
--- Changes with distinct keys increase the number of links by the number of changes that add a link,
--- and decrease it by the number of changes that remove a link.
+-- Changes with distinct keys change the number of links: it grows by the number of changes that add
+-- a link, and falls by the number of changes that remove a link.
 count_after : (d : Database) (cs : List Change) → AreOnceEach cs → AllByRecursion (IsPresent d) cs
     → link_count (all_relinked d cs) + count_by removes_link cs ≡ link_count d + count_by (adds_link d) cs
 unfolding IsDistinct

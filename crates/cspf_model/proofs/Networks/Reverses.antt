@@ -41,8 +41,8 @@ pub other_from : IsUnusableAmong (from_1_to_2 ∷ back_from_other_router ∷ [])
 other_from q usable =
     let r = usable.reverse in none_some r.0 (found (from_1_to_2 ∷ back_from_other_router ∷ []) r.0 r.1 r.2)
 
--- The next two lemmas: suppose that the link with the key `reverse_key` doesn't end where the link
--- from 1.1.1.1 to 2.2.2.2 begins, but at another address or another router. Then the link from
+-- The next two lemmas: the link with the key `reverse_key` isn't the reverse of the link from
+-- 1.1.1.1 to 2.2.2.2, because it ends at another address or another router. So the link from
 -- 1.1.1.1 to 2.2.2.2 isn't usable for any request.
 pub other_remote : IsUnusableAmong (from_1_to_2 ∷ back_to_other_address ∷ [])
 other_remote q usable =
