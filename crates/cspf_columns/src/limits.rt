@@ -9,5 +9,5 @@ pub const ROOM_FOR_LINKS: usize = MOST_LINKS + MOST_CHANGES;
 /// two routers for each change of a batch.
 pub const ROOM_FOR_ROUTERS: usize = MOST_ROUTERS + 2 * MOST_CHANGES;
 
-/// The value that means "no link" in place of an index. It is above the index of each link.
+/// In place of the index of a link, this value means "no link". It is above the index of each link.
 pub const NO_LINK: u16 = u16::MAX;

@@ -46,8 +46,8 @@ cost_of links = sum_by (λ l. l.metric) links
 abbrev pub locals_of : List Link → List ℕ
 locals_of links = map (λ l. l.local) links
 
--- Walks are ordered by cost, and then by the number of links. If both are equal, the first local
--- addresses at which the walks differ decide, compared as numbers.
+-- Walks are ordered by cost, and then by the number of links. If both are equal, the first link at
+-- which the local addresses differ decides. Addresses compare as numbers.
 abbrev pub walk_cmp : List Link → List Link → Ordering
 walk_cmp a b =
     ordering_then (nat_cmp (cost_of a) (cost_of b))

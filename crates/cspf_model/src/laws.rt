@@ -49,8 +49,8 @@ pub fn lawful_batches()
 {}
 
 /// If each link of a database is stored at the link's own key, `router_count` counts the routers of
-/// the database. This is so for the database after any list of batches. The length of a list of
-/// different routers of any database is at most `router_count`.
+/// the database. In the database after any list of batches, each link is stored at its own key. The
+/// length of a list of different routers of any database is at most `router_count`.
 pub fn counted_routers()
     ensures counted { RoutersAreCounted }
     ensures distinct { NoRouterIsLeftOut }

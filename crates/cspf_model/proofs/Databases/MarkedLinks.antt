@@ -26,15 +26,13 @@ pub links-after_changes : (d e : Database) (cs : List Change) → d.links ≡ e.
 links-after_changes d e [] same = same
 links-after_changes d e (c ∷ cs) same = links-after_changes (after_change d c) (relinked e c) cs (one_relinked d e c same)
 
--- After a change, the routers that are marked as without transit are those that `marked` computes
--- from the change and the routers that were marked before.
+-- `marked` computes which routers are marked as without transit after a change.
 one_marked : (d : Database) (c : Change) → (after_change d c).marks ≡ marked d.marks c
 one_marked d (Put l) = refl
 one_marked d (Remove from local) = refl
 one_marked d (Node router transit) = refl
 
--- After changes, the routers that are marked as without transit are those that `all_marked`
--- computes from the changes and the routers that were marked before.
+-- `all_marked` computes which routers are marked as without transit after changes.
 pub marks-after_changes : (d : Database) (cs : List Change) → (after_changes d cs).marks ≡ all_marked d.marks cs
 marks-after_changes d [] = refl
 marks-after_changes d (c ∷ cs) = marks-after_changes (after_change d c) cs ∙ ap (λ m. all_marked m cs) (one_marked d c)
