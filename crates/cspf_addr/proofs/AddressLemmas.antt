@@ -118,7 +118,7 @@ octets_spelled text all found =
       whole = first.1;
     }
 
--- If four octets are below 256, so is the octet at each index of their list.
+-- If four octets are below 256, each item of their list is below 256.
 four_small : (a b c d : ℕ) → a < 256 → b < 256 → c < 256 → d < 256 → (i : ℕ)
     → get_or (a ∷ b ∷ c ∷ d ∷ []) i 0 < 256
 four_small a b c d ha hb hc hd zero = ha
@@ -127,7 +127,7 @@ four_small a b c d ha hb hc hd (suc (suc zero)) = hc
 four_small a b c d ha hb hc hd (suc (suc (suc zero))) = hd
 four_small a b c d ha hb hc hd (suc (suc (suc (suc i)))) = lit< tt
 
--- The number that four octets below 256 make is below 2^32, and its bytes are these octets.
+-- Four octets below 256 make a number below 2^32, whose bytes are these octets.
 four_number : (a b c d n : ℕ) → a < 256 → b < 256 → c < 256 → d < 256
     → from_be_bytes w32 (a ∷ b ∷ c ∷ d ∷ []) ≡ n
     → (n < 2 ^ 32) × (to_be_bytes w32 n ≡ a ∷ b ∷ c ∷ d ∷ [])
@@ -148,7 +148,7 @@ address_of-spelled text n found =
 lacks_point : (n : ℕ) → n < 256 → Lacks 46 (decimal n)
 lacks_point n small = Lacks-digits 46 (decimal n) (lit< tt) (digits_decimal own n (omega arith))
 
--- The text that is written for four octets is read as these octets.
+-- The text of four octets, separated by points, is read as these octets.
 octets_of-written : (a b c d : ℕ) → a < 256 → b < 256 → c < 256 → d < 256
     → octets_of (decimal a ++ 46 ∷ (decimal b ++ 46 ∷ (decimal c ++ 46 ∷ decimal d))) ≡ Some (a ∷ b ∷ c ∷ d ∷ [])
 unfolding octets_of
@@ -176,7 +176,7 @@ address_of-address_text n small =
     (octets_of-written (n / 256 ^ 3 % 256) (n / 256 ^ 2 % 256) (n / 256 ^ 1 % 256) (n % 256) (omega arith) (omega arith) (omega arith) (omega arith))
     ∙ ap Some (from_be_bytes-to_be_bytes_4 n small)
 
--- A text is read as an address exactly if it is the text of this address.
+-- A text is read as the address `n` exactly if it is the text of `n`.
 pub addresses_spelled_once : AreAddressesSpelledOnce
 addresses_spelled_once text n =
     (address_of-spelled text n, λ h. ap address_of h.1 ∙ address_of-address_text n h.0)

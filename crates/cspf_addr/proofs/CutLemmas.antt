@@ -21,27 +21,26 @@ place_none : (place whole : ℕ) (b : Bool) → ltb place whole ≡ b → place 
 place_none place whole true test most found = absurd (cc)
 place_none place whole false test most found = omega (arith, ltb-false _ _ test)
 
--- If a search for the byte `mark` finds an index, this is the index of the first byte `mark` of the
--- text.
+-- If a search for the byte `mark` finds the index `at`, then `at` is the index of the first byte
+-- `mark`.
 pub position_some : (mark : ℕ) (text : List ℕ) (at : ℕ)
     → position (λ byte. eqb byte mark) text ≡ Some at
     → (position_or_len (λ byte. eqb byte mark) text ≡ at) × (at < length text)
 position_some mark text at found = place_some _ _ at _ refl found
 
--- If a search for the byte `mark` finds no index, the whole text comes before the first byte
--- `mark`.
+-- If a search for the byte `mark` finds nothing, `position_or_len` gives the length of the text.
 pub position_none : (mark : ℕ) (text : List ℕ) → position (λ byte. eqb byte mark) text ≡ None
     → position_or_len (λ byte. eqb byte mark) text ≡ length text
 position_none mark text found = place_none _ _ _ refl (prefix_len-le-length _ text) found
 
--- If a search for the byte `mark` finds an index, the part of the text before this index is
+-- If a search for the byte `mark` finds the index `at`, the first `at` bytes of the text are
 -- `text_before mark text`.
 pub before_some : (mark : ℕ) (text : List ℕ) (at : ℕ)
     → position (λ byte. eqb byte mark) text ≡ Some at → take at text ≡ text_before mark text
 unfolding text_before
 before_some mark text at found = ap (λ n. take n text) (sym (position_some mark text at found).0)
 
--- If a search for the byte `mark` finds an index, the part of the text after this index is
+-- If a search for the byte `mark` finds the index `at`, the bytes of the text after this index are
 -- `text_after mark text`.
 pub after_some : (mark : ℕ) (text : List ℕ) (at : ℕ)
     → position (λ byte. eqb byte mark) text ≡ Some at
@@ -50,8 +49,8 @@ unfolding text_after
 after_some mark text at found =
     take_rest text (at + 1) ∙ ap (λ n. drop (n + 1) text) (sym (position_some mark text at found).0)
 
--- If no byte of a text is `mark`, the text before `mark` is the whole text, and the text after
--- `mark` is empty.
+-- The next two lemmas: if no byte of a text is `mark`, `text_before` gives the whole text, and
+-- `text_after` gives the empty text.
 pub before_none : (mark : ℕ) (text : List ℕ) → position (λ byte. eqb byte mark) text ≡ None
     → text ≡ text_before mark text
 unfolding text_before
@@ -67,15 +66,15 @@ after_none mark text found = sym (drop_all _ text (omega (arith, position_none m
 abbrev pub Lacks : ℕ → List ℕ → Type 0
 Lacks mark text = AllByRecursion (λ byte. byte ≢ mark) text
 
--- If a text has only decimal digits, and `mark` is a byte below the digit 0, no byte of the text is
--- `mark`.
+-- If a text has only decimal digits, and `mark` is below 48 (the byte of the digit 0), no byte of
+-- the text is `mark`.
 pub Lacks-digits : (mark : ℕ) (text : List ℕ) → mark < 48 → AllDigits 10 text → Lacks mark text
 Lacks-digits mark [] low digits = tt
 Lacks-digits mark (byte ∷ rest) low digits =
     (λ same. omega (arith, same, digit_from_value byte digits.0), Lacks-digits mark rest low digits.1)
 
--- If a text without `mark` is followed by `mark`, the index of the first `mark` is the length of
--- this text.
+-- If the text `front`, which lacks `mark`, is followed by `mark`, the index of the first `mark` is
+-- the length of `front`.
 position-front : (mark : ℕ) (front back : List ℕ) → Lacks mark front
     → position_or_len (λ byte. eqb byte mark) (front ++ mark ∷ back) ≡ length front
 position-front mark [] back lacks = rw (eq-eqb mark mark refl) refl
@@ -91,8 +90,8 @@ drop_behind mark front back = rw add-one (behind mark front back)
     behind mark [] back = refl
     behind mark (byte ∷ front) back = behind mark front back
 
--- If a text without `mark` is followed by `mark` and more bytes, the cut gives this text and these
--- bytes.
+-- The next two lemmas: if the text `front`, which lacks `mark`, is followed by `mark` and the bytes
+-- `back`, `text_before` gives `front`, and `text_after` gives `back`.
 pub before-front : (mark : ℕ) (front back : List ℕ) → Lacks mark front
     → text_before mark (front ++ mark ∷ back) ≡ front
 unfolding text_before
@@ -106,8 +105,8 @@ after-front mark front back lacks =
     ap (λ at. drop (at + 1) (front ++ mark ∷ back)) (position-front mark front back lacks)
     ∙ drop_behind mark front back
 
--- If bytes follow the first `mark` of a text, the text consists of the part before it, `mark`, and
--- the part after it.
+-- If bytes follow the first `mark` of a text, the text consists of the part before this `mark`, the
+-- `mark`, and the part after it.
 pub cut_whole : (mark : ℕ) (text : List ℕ) → 0 < length (text_after mark text)
     → text ≡ text_before mark text ++ mark ∷ text_after mark text
 unfolding text_before text_after
@@ -121,7 +120,7 @@ cut_whole mark text some =
         → position_or_len (λ byte. eqb byte mark) text < length text
     inside mark text some = omega (arith, simp length-drop at some)
 
--- If no byte of two texts is `mark`, no byte of the joined text is `mark`.
+-- If no byte of two texts is `mark`, no byte of their concatenation is `mark`.
 pub Lacks-append : (mark : ℕ) (front back : List ℕ) → Lacks mark front → Lacks mark back
     → Lacks mark (front ++ back)
 Lacks-append mark [] back lacks_front lacks_back = lacks_back

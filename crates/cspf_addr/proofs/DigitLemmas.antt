@@ -35,8 +35,7 @@ AllDigits-at base [] i h within = absurd (omega arith)
 AllDigits-at base (c ∷ cs) zero h within = h.0
 AllDigits-at base (c ∷ cs) (suc i) h within = AllDigits-at base cs i h.1 (omega arith)
 
--- The value of a whole text of digits is at least the value of the digits up to and including the
--- one at the index `at`.
+-- The value of a text of digits is at least the value of its first `at + 1` digits.
 digits_value_more_le : (base : ℕ) (text : List ℕ) (at value : ℕ) → 1 ≤ base → at < length text
     → value ≡ digits_value base (take at text)
     → value * base + digit_value (get_or text at 0) ≤ digits_value base text
@@ -44,8 +43,8 @@ digits_value_more_le base text at value least within same =
     rw same
     (rw (← digits_value_more base text at within) (digits_value-take-le base text (at + 1) least))
 
--- If the first digits of a text, with the next digit appended, have a value of 2^64 or more, the
--- whole text has a value of 2^64 or more.
+-- If the first `at + 1` digits of a text have a value of 2^64 or more, the whole text has a value
+-- of 2^64 or more.
 pub digits_more_none : (base : ℕ) (text : List ℕ) (at value : ℕ) → 1 ≤ base → at < length text
     → value ≡ digits_value base (take at text)
     → (digit_value (get_or text at 0) < base → 2 ^ 64 ≤ value * base + digit_value (get_or text at 0)) → are_digits base text ≡ true → 2 ^ 64 ≤ digits_value base text
@@ -53,8 +52,8 @@ digits_more_none base text at value least within same more all =
     let large = more (AllDigits-at base text at (AllDigits-are_digits base text all) within) in
     omega (arith, large, digits_value_more_le base text at value least within same)
 
--- `value` is the value of the first digits of a text. If the next byte is a digit, the value
--- including this digit is `value` times the base, plus this digit.
+-- `value` is the value of the first `at` digits of a text. If the next byte is a digit, the value
+-- of the first `at + 1` digits is `value` times the base, plus the value of this digit.
 pub digits_more_some : (base : ℕ) (text : List ℕ) (at value more : ℕ) → at < length text
     → AllDigits base (take at text) × (value ≡ digits_value base (take at text))
     → (digit_value (get_or text at 0) < base) × (more ≡ value * base + digit_value (get_or text at 0))
@@ -64,8 +63,7 @@ digits_more_some base text at value more within before next = (
   next.1 ∙ rw before.1 (sym (digits_value_more base text at within)),
 )
 
--- If all digits of a text have been read, the value of the digits that have been read is the value
--- of the whole text.
+-- If at least `length text` digits of a text are read, their value is the value of the whole text.
 pub digits_whole : (base : ℕ) (text : List ℕ) (at value : ℕ) → length text ≤ at
     → AllDigits base (take at text) × (value ≡ digits_value base (take at text))
     → (are_digits base text ≡ true) × (value ≡ digits_value base text)

@@ -21,7 +21,7 @@ unfolding hop_of loose_of
 hop_of-empty [] empty = sym (nothing_after _)
 hop_of-empty (byte ∷ rest) empty = absurd (omega arith)
 
--- The letter that is written for a strict or loose hop is read as strict or loose again.
+-- The letter of a strict hop is read as strict, and the letter of a loose hop as loose.
 loose_of-letter : (loose : Bool) → loose_of (hop_letter loose) ≡ Some loose
 unfolding loose_of
 loose_of-letter true = refl
@@ -41,8 +41,8 @@ hop_of-front front hop read =
     let at : length (front ++ (hop_letter hop.loose ∷ [])) - 1 ≡ length front = omega (arith, length_push front (hop_letter hop.loose)) in
     rw (at, take_at front (hop_letter hop.loose ∷ []) (length front) refl, read, last_byte front (hop_letter hop.loose), loose_of-letter hop.loose) refl
 
--- A hop is read in two steps: its prefix and its letter. If both together read a hop, the first
--- step read the hop's prefix, and the second the hop's letter.
+-- A hop is read in two steps: its prefix and its letter. If both steps together give a hop, the
+-- first step gives the hop's prefix, and the second step says whether the hop is loose.
 two_steps : (found : Result PrefixParts PrefixError) (letter : Option Bool) (hop : Hop)
     → option_and_then (λ prefix. option_and_then (λ loose. Some (record { prefix = prefix; loose = loose })) letter) (result_ok found) ≡ Some hop
     → (found ≡ Ok hop.prefix) × (letter ≡ Some hop.loose)
@@ -62,14 +62,14 @@ letter_cases letter false true true first second found = absurd (cc)
 letter_cases letter false true false first second found = eqb-true letter 115 second
 letter_cases letter false false loose first second found = absurd (cc)
 
--- If a letter is read as that of a strict or loose hop, it is the letter that is written for such a
--- hop.
+-- If a letter is read as strict, it is the letter of a strict hop. If a letter is read as loose, it
+-- is the letter of a loose hop.
 letter_of-loose : (letter : ℕ) (loose : Bool) → loose_of letter ≡ Some loose
     → letter ≡ hop_letter loose
 unfolding loose_of
 letter_of-loose letter loose found = letter_cases letter _ _ loose refl refl found
 
--- A text that isn't empty is the text without its last byte, followed by this byte.
+-- A text that isn't empty consists of the text without its last byte, and this byte.
 all_but_last : (text : List ℕ) → 0 < length text
     → text ≡ take (length text - 1) text ++ (get_or text (length text - 1) 0 ∷ [])
 all_but_last text some =
@@ -80,7 +80,8 @@ letter_some : (loose : Bool) → 0 < hop_letter loose
 letter_some true = lit< tt
 letter_some false = lit< tt
 
--- If the last byte isn't 0, the text isn't empty.
+-- If the last byte of a text isn't 0, the text isn't empty. (For the empty text, the last byte is
+-- read as 0.)
 some_text : (text : List ℕ) → 0 < get_or text (length text - 1) 0 → 0 < length text
 some_text [] letter = letter
 some_text (byte ∷ rest) letter = omega arith
@@ -98,7 +99,8 @@ hop_of-text text hop found =
       prefix = steps.0;
     }
 
--- A text is read as a hop exactly if it spells the hop's prefix and ends with the hop's letter.
+-- A text is read as a hop exactly if it consists of a text of the hop's prefix and the hop's
+-- letter.
 pub hop_texts_read : AreHopTextsRead
 hop_texts_read text hop =
     (hop_of-text text hop, λ h. ap hop_of h.whole ∙ hop_of-front h.front hop h.prefix)

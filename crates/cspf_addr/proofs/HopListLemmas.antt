@@ -1,4 +1,4 @@
--- How lists of hops are kept in an array of seven places, and how they are read.
+-- How lists of hops are stored in an array with seven items, and how they are read.
 use Rattle.std.proofs.Common.{◌≡◌, ℕ, ◌+◌, ◌-◌, ◌<◌, List, [], ◌∷◌, ◌++◌, length, get_or, set, drop, replicate, Some, None, Result, Ok, Err, append_assoc, append-nil, refl, sym, ap, ◌∙◌, arith}
 use Rattle.std.proofs.lemmas.List.{length-set, drop-set-lt, drop-drop, drop-replicate}
 use Rattle.std.proofs.lemmas.List.{drop_more, drop_all}
@@ -13,8 +13,8 @@ use Rattle.cspf_addr.specs.declared.hop.Hop.{Hop}
 one_less : (count : ℕ) → 7 - count - 1 ≡ 7 - (count + 1)
 one_less count = omega arith
 
--- If the first `count` places hold hops, `count` is below 7, and the next place is set to one more
--- hop, the first `count + 1` places hold hops.
+-- If an array stores `count` hops, and `count` is below 7, the array stores `count + 1` hops after
+-- a hop is written at the index `count`.
 pub kept_after_push : (places : List Hop) (count : ℕ) (hop : Hop) → AreKept places count → count < 7
     → AreKept (set places count hop) (count + 1)
 kept_after_push places count hop kept room = record {
@@ -44,9 +44,9 @@ part_here : (parts : List (List ℕ)) (n : ℕ) (part : List ℕ) → n < length
 part_here parts n part within at =
     drop_more parts n part within ∙ ap (λ first. first ∷ drop (n + 1) parts) (sym at)
 
--- A reader has read the first `n` parts as `hops`, and the next part is a hop. The result for the
--- whole text then consists of `hops`, this hop and the hops of the remaining parts, or is the error
--- of the remaining parts.
+-- A reader has read the first `n` parts as `hops`, and reads the next part as `hop`. The result for
+-- all parts is then `hops`, `hop` and the hops of the remaining parts, or the error of the
+-- remaining parts.
 pub read_more : (parts : List (List ℕ)) (n : ℕ) (part : List ℕ) (hops : List Hop) (hop : Hop)
     → n < length parts → part ≡ get_or parts n part → Some hop ≡ hop_of part
     → joined hops (hops_from (n + 1) (drop n parts)) ≡ hops_from 1 parts
@@ -64,7 +64,7 @@ pub read_refused : (parts : List (List ℕ)) (n : ℕ) (part : List ℕ) (hops :
 read_refused parts n part hops within at found before =
     rw (part_here parts n part within at, ← found) at before
 
--- If all parts were read as hops, these hops are the result for the whole text.
+-- If a reader has read all parts as `hops`, the result for all parts is `hops`.
 pub read_all : (parts : List (List ℕ)) (n : ℕ) (hops : List Hop) → n ≡ length parts
     → joined hops (hops_from (n + 1) (drop n parts)) ≡ hops_from 1 parts
     → Ok hops ≡ hops_from 1 parts

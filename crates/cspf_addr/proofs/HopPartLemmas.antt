@@ -17,7 +17,7 @@ use Rattle.cspf_addr.proofs.CutLemmas.{Lacks, Lacks-append}
 use Rattle.cspf_addr.proofs.PrefixLemmas.{lacks_in_prefix_text}
 use Rattle.cspf_addr.proofs.HopLemmas.{hop_texts_read, hop_of-hop_text}
 
--- If no byte of a text is `mark`, then at each index of the text the byte isn't `mark`.
+-- If a text lacks `mark`, the byte at each index of the text isn't `mark`.
 lacks_by_place : (mark : ℕ) (piece : List ℕ) → Lacks mark piece
     → All (λ byte. eqb byte mark ≡ false) piece
 lacks_by_place mark piece lacks =
@@ -27,8 +27,7 @@ lacks_by_place mark piece lacks =
     each [] lacks = tt
     each (byte ∷ rest) lacks = (ne_eqb byte mark lacks.0, each rest lacks.1)
 
--- If texts without spaces are joined by spaces, and the result is cut at its spaces, the parts are
--- these texts.
+-- If texts without spaces are joined by spaces, cutting the result at its spaces gives these texts.
 pub split_join : (pieces : List (List ℕ)) → 0 < length pieces → AllByRecursion (Lacks 32) pieces
     → slice_split (λ byte. eqb byte 32) (join_with_byte 32 pieces) ≡ pieces
 split_join [] some lacks = absurd (omega arith)
@@ -55,14 +54,14 @@ parts_lack (byte ∷ text) = by_first (parts_lack text) (eqb byte 32) refl
     by_first rest true test = (tt, rest)
     by_first rest false test = onto (slice_split (λ c. eqb c 32) text) (eqb-false byte 32 test) rest
 
--- The parts of a text have no spaces, and joined by spaces they are the text.
+-- The parts of a text have no spaces. Joining the parts by spaces gives the text.
 parts_are : (text : List ℕ) → AreParts text (parts_of text)
 unfolding parts_of
 parts_are text =
     record { whole = sym (join_with_byte-slice_split 32 text); without_space = parts_lack text }
 
--- If parts without spaces, joined by spaces, are a text, they are the parts into which this text is
--- cut.
+-- If joining parts without spaces by spaces gives a text, cutting this text at its spaces gives the
+-- parts.
 parts_only : (text : List ℕ) (parts : List (List ℕ)) → 0 < length parts → AreParts text parts
     → parts_of text ≡ parts
 unfolding parts_of
@@ -120,8 +119,8 @@ texts_of-hops_from at (text ∷ texts) hops read =
         subst (AreHopTexts (text ∷ texts)) all
         ((hop_texts_read text hop).0 first, behind more later)
 
--- The parts before the part with the number `place` are texts of hops, and the part with this
--- number isn't. The first of all these parts has the number `at`.
+-- `place` is the number of the first part that isn't the text of a hop. The parts are numbered from
+-- `at` on.
 record IsNoHopFrom (at : ℕ) (parts : List (List ℕ)) (place : ℕ) : Type 0 where
   pub front : List (List ℕ)
   pub part : List ℕ
@@ -143,7 +142,7 @@ refused_at : (r : Result (List Hop) HopsError) (k place : ℕ) → r ≡ Err (Ba
     → r ≡ Err (BadHop place)
 refused_at r k place is same = is ∙ ap (λ n. Err (BadHop n)) same
 
--- If one more part that is a hop comes before the parts, the first part that isn't a hop stays the
+-- If a part that is a hop is put in front of the parts, the first part that isn't a hop stays the
 -- same.
 one_more : (at : ℕ) (part : List ℕ) (parts : List (List ℕ)) (place : ℕ) (hop : Hop)
     → hop_of part ≡ Some hop → IsNoHopFrom (at + 1) parts place
@@ -178,7 +177,7 @@ no_hop-hops_from at (part ∷ parts) place read =
         let same : k ≡ place = cc (rw (first, later) at read) in
         one_more at part parts place hop first (more (refused_at _ k place later same))
 
--- If a part isn't a hop, and the parts before it are texts of hops, the reader refuses this part.
+-- If a part isn't a hop, and all preceding parts are texts of hops, the reader refuses this part.
 hops_from-no_hop : (at : ℕ) (front : List (List ℕ)) (part : List ℕ) (behind : List (List ℕ)) (hops : List Hop) → AreHopTexts front hops → ((hop : Hop) → ¬ IsHopText part hop)
     → hops_from at (front ++ part ∷ behind) ≡ Err (BadHop (length front + at))
 hops_from-no_hop at [] part behind hops before here = step (hop_of part) refl
@@ -241,7 +240,7 @@ hops_of-empty = refl
 not_empty : (byte : ℕ) (text : List ℕ) → byte ∷ text ≢ []
 not_empty byte text same = cc
 
--- The next two lemmas: the text of a hop isn't empty, and neither is the text of one or more hops.
+-- The next two lemmas: the text of a hop isn't empty, and the text of one or more hops isn't empty.
 hop_longer : (text : List ℕ) (hop : Hop) → IsHopText text hop → 0 < length text
 hop_longer text hop is =
     omega (arith, ap length is.whole, length_push is.front (hop_letter hop.loose))
@@ -267,8 +266,8 @@ hops_of-join (text ∷ texts) hops each most =
     (rw parts (omega (arith, length-AreHopTexts (text ∷ texts) hops each)))
     ∙ ap (hops_from 1) parts ∙ hops_from-texts 1 (text ∷ texts) hops each
 
--- The text has at most seven parts, and the result for the text is that of its parts, read one
--- after the other.
+-- The text has at most seven parts, and reading the text gives the same result as reading its parts
+-- one after the other.
 record IsReadByParts (text : List ℕ) : Type 0 where
   few : length (parts_of text) ≤ 7
   read : hops_of text ≡ hops_from 1 (parts_of text)
@@ -317,7 +316,7 @@ refused_part (byte ∷ text) place read =
           record { front = b.front; part = b.part; behind = b.behind; whole = b.whole; is_place = b.is_place; hops = b.hops; before = b.before; here = b.here };
     }
 
--- If a list of parts has some part, the list isn't empty.
+-- A list that has a part isn't empty.
 some_parts : (parts front : List (List ℕ)) (part : List ℕ) (behind : List (List ℕ))
     → parts ≡ front ++ part ∷ behind → 0 < length parts
 some_parts parts front part behind whole =
@@ -332,8 +331,7 @@ part_refused text place has =
     ∙ hops_from-no_hop 1 bad.front bad.part bad.behind bad.hops bad.before bad.here
     ∙ ap (λ n. Err (BadHop n)) (sym bad.is_place)
 
--- If a text isn't empty and has at most seven parts, one of which isn't a hop, the error has the
--- number of the first such part.
+-- A text is refused as `BadHop place` exactly if `HasBadHop` holds of the text and `place`.
 pub bad_hops_named : AreBadHopsNamed
 bad_hops_named text place = (refused_part text place, part_refused text place)
 
@@ -348,14 +346,14 @@ refused_many (byte ∷ text) read = step (few_or_many _)
     step (inl few) =
         absurd (not_many 1 _ (sym (hops_of-few (byte ∷ text) (not_empty byte text) few) ∙ read))
 
--- A text of more than seven parts is refused with `TooManyHops`.
+-- A text is refused with `TooManyHops` exactly if it has more than seven parts.
 pub too_many_refused : AreTooManyRefused
 too_many_refused text = (
   refused_many text,
   λ has. hops_of-many text (rw (parts_only text has.parts (omega (arith, has.many)) has.are_parts) has.many),
 )
 
--- The texts that are written for hops are texts of these hops.
+-- `hop_text` of a hop is a text of this hop.
 hop_texts : (hops : List Hop) → AllByRecursion (λ hop. IsPrefix hop.prefix) hops
     → AreHopTexts (map hop_text hops) hops
 hop_texts [] proper = tt

@@ -69,7 +69,7 @@ mask_of-spells text n spells =
     ap mask_of spells.whole
     ∙ (mask_of-digits spells.digits spells.some spells.most spells.hexadecimal ∙ ap Some (sym spells.value))
 
--- A text is read as a mask exactly if it spells the mask.
+-- A text is read as the mask `n` exactly if it spells `n`.
 pub masks_read : AreMasksRead
 masks_read text n = (mask_of-spelled text n, mask_of-spells text n)
 
@@ -98,7 +98,7 @@ spells_one_mask text m n spells_m spells_n =
 glyph_value : (d : ℕ) → d < 16 → digit_value (digit_glyph false d) ≡ d
 glyph_value d small = grind (arith, nat_tests)
 
--- the numbers of the two hexadecimal digits of a byte
+-- the values of the two hexadecimal digits of a byte
 abbrev halves : ℕ → List ℕ
 halves byte = byte / 16 ∷ byte % 16 ∷ []
 
@@ -116,7 +116,7 @@ glyph_digits (byte ∷ bytes) small = (
   (omega (arith, glyph_value (byte % 16) (omega arith)), glyph_digits bytes small.1),
 )
 
--- The hexadecimal digits of the bytes have the same value as the bytes.
+-- A list of bytes and the list of their hexadecimal digits make the same number.
 halves_number : (n : ℕ) (bytes : List ℕ)
     → number_from_digits_after 16 n (flat_map halves bytes) ≡ number_from_digits_after 256 n bytes
 halves_number n [] = refl

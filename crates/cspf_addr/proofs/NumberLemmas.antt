@@ -10,8 +10,8 @@ use Rattle.std.specs.Str.Parse.{AllDigits, digits_value}
 use Rattle.cspf_addr.specs.Numbers.{are_digits, has_plain_start, is_decimal, number_of, AreSpelledOnce}
 use Rattle.cspf_addr.proofs.DigitLemmas.{and_parts, AllDigits-are_digits, are_digits-AllDigits}
 
--- `AllDigits 10` and `digits_value 10` are a numeral model of the standard library. They say which
--- texts are decimal digits, and which value these digits have.
+-- `AllDigits 10` says which texts are decimal digits, and `digits_value 10` gives their value.
+-- Together they are a numeral model of the standard library.
 pub own : IsNumeralModel (AllDigits 10) (digits_value 10)
 own = numerals_by_value (AllDigits 10) tells_digits
 
@@ -21,8 +21,8 @@ pub chosen : (b : Bool) (v n : ℕ) → cond b (Some v) None ≡ Some n → (b �
 chosen true v n same = (refl, cc)
 chosen false v n same = absurd (cc)
 
--- If `has_plain_start` holds of a text, the text isn't empty, and its first byte is `0` only if
--- this is its only byte.
+-- If `has_plain_start` holds of a text, the text isn't empty. If its first byte is `0`, it has only
+-- one byte.
 plain_start : (text : List ℕ) → has_plain_start text ≡ true
     → (0 < length text) × (get_or text 0 0 ≡ 48 → length text ≡ 1)
 plain_start text plain = (
@@ -45,14 +45,15 @@ decimal_start n small first =
       | inr least ↦ ap length (decimal_digit n (omega arith))
     ]
 
--- The text that is written for a number has decimal digits without a leading zero.
+-- The text of a number has only decimal digits, and no leading zero.
 pub is_decimal-decimal : (n : ℕ) → n < 2 ^ 64 → is_decimal (decimal n) ≡ true
 unfolding is_decimal
 is_decimal-decimal n small =
     both_true (start_plain (decimal n) (decimal_nonempty n small) (decimal_start n small))
     (are_digits-AllDigits 10 (decimal n) (digits_decimal own n small))
 
--- A text of decimal digits without a leading zero is what is written for its value.
+-- If a text has only decimal digits, no leading zero, and a value below 2^64, it is the text of
+-- this value.
 pub decimal-is_decimal : (text : List ℕ) → is_decimal text ≡ true → digits_value 10 text < 2 ^ 64
     → decimal (digits_value 10 text) ≡ text
 unfolding is_decimal
@@ -80,30 +81,30 @@ number_of-spelled text n found =
     let small = ltb-true _ _ parts.1 in
     rw (← choice.1) (small, sym (decimal-is_decimal text parts.0 small))
 
--- The text that is written for a number is read as this number.
+-- The text of a number is read as this number.
 pub number_of-decimal : (n : ℕ) → n < 2 ^ 64 → number_of (decimal n) ≡ Some n
 unfolding number_of
 number_of-decimal n small =
     rw (is_decimal-decimal n small, digits_value-decimal own n small, lt-ltb n (2 ^ 64) small) refl
 
--- A text is read as a number exactly if it is what is written for this number.
+-- A text is read as the number `n` exactly if it is the decimal text of `n`.
 pub spelled_once : AreSpelledOnce
 spelled_once text n = (number_of-spelled text n, λ h. ap number_of h.1 ∙ number_of-decimal n h.0)
 
--- If the reader's result `r` is a number, the text is what is written for this number.
+-- If the reader's result `r` is a number, the text is the text of this number.
 pub number_some : (text : List ℕ) (r : Option ℕ) → r ≡ number_of text
     → IfSome r (λ n. text ≡ decimal n)
 number_some text None same = tt
 number_some text (Some n) same = (number_of-spelled text n (sym same)).1
 
--- If the reader's result `r` is `None`, the text isn't what is written for a number below 2^64.
+-- If the reader's result `r` is `None`, the text isn't the text of a number below 2^64.
 pub number_none : (text : List ℕ) (r : Option ℕ) → r ≡ number_of text
     → IfNone r ((n : ℕ) → n < 2 ^ 64 → text ≢ decimal n)
 number_none text None same =
     λ n small spelled. let found = ap number_of spelled ∙ number_of-decimal n small in cc
 number_none text (Some n) same = tt
 
--- If a text is what is written for a number, the reader's result `r` is this number.
+-- If a text is the text of a number, the reader's result `r` is this number.
 pub number_only : (text : List ℕ) (r : Option ℕ) → r ≡ number_of text → (n : ℕ) → n < 2 ^ 64
     → text ≡ decimal n → r ≡ Some n
 number_only text r same n small spelled = same ∙ (ap number_of spelled ∙ number_of-decimal n small)

@@ -27,7 +27,8 @@ length_none text passes found =
     let large = none_large _ _ refl (rw passes at found) in
     rw (passes, lt-leb (digits_value 10 text) 32 (omega arith)) refl
 
--- A decimal number below 2^64 is a prefix length if it is at most 32.
+-- A decimal number below 2^64 is read as a prefix length if it is at most 32, and otherwise
+-- refused.
 length_some : (text : List ℕ) (n : ℕ) → is_decimal text ≡ true → number_of text ≡ Some n
     → length_of text ≡ cond (leb n 32) (Ok n) (Err error.TooLong)
 unfolding length_of number_of
@@ -70,7 +71,9 @@ prefix_of-whole address digits small passes =
     rw (before-front 47 (address_text address) digits (lacks_slash address small), after-front 47 (address_text address) digits (lacks_slash address small), address_of-address_text address small, passes)
     (with_length (leb (digits_value 10 digits) 32) (digits_value 10 digits) address)
 
--- A text of an address, a slash and digits is read as this address and the value of these digits.
+-- A text of an address, a slash and decimal digits is read as a prefix. The prefix length is the
+-- value of the digits, and the prefix has the first bits of the address. A value above 32 is
+-- refused as `TooLong`.
 pub prefix_texts_read : ArePrefixTextsRead
 prefix_texts_read text address digits spelled =
     ap prefix_of spelled.whole ∙ prefix_of-whole address digits spelled.small spelled.decimal

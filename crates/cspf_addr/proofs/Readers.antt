@@ -1,4 +1,4 @@
--- The results of a reader of texts, and the values that the texts spell.
+-- How the result of a reader of texts is related to the value that a text spells.
 use Rattle.std.proofs.Common.{◌≡◌, Option, Some, None, Result, Ok, Err, IfOk, OnErr, refl, sym, ap, ◌∙◌}
 use Rattle.std.specs.Option.{ok_or}
 use Rattle.std.specs.Result.{result_ok}

@@ -1,4 +1,4 @@
--- How addresses are written: their four bytes in decimal, separated by points.
+-- How addresses are written: four bytes in decimal, separated by points.
 use Rattle.std.specs.Prelude.{◌≡◌, ℕ, ◌^◌, ◌<◌, ◌↔◌, ◌==◌, nat_lt, if◌then◌else◌, List, [], ◌∷◌, map, Option, Some, None}
 use Rattle.std.specs.Fmt.{decimal}
 use Rattle.std.specs.Int.{w32, to_be_bytes, from_be_bytes}
@@ -19,13 +19,13 @@ text_before mark text = before_first (λ byte. byte == mark) text
 unfoldable pub text_after : ℕ → List ℕ → List ℕ
 text_after mark text = after_first (λ byte. byte == mark) text
 
--- the number that a text spells, if it is at most 255
+-- the number that a text spells, or `None` if it spells no number of at most 255
 unfoldable pub octet_of : List ℕ → Option ℕ
 octet_of text = do
   n ← number_of text
   if nat_lt n 256 then Some n else None
 
--- the four numbers that a text spells, separated by points
+-- the four numbers of a text of four numbers that are separated by points
 unfoldable pub octets_of : List ℕ → Option (List ℕ)
 octets_of text = do
   first ← octet_of (text_before 46 text)
@@ -36,11 +36,11 @@ octets_of text = do
   fourth ← octet_of (text_after 46 behind_second)
   Some (first ∷ second ∷ third ∷ fourth ∷ [])
 
--- the number of the address that a text spells
+-- the address that a text spells, as a number
 unfoldable pub address_of : List ℕ → Option ℕ
 address_of text = option_map (from_be_bytes w32) (octets_of text)
 
--- A text is read as an address exactly if it is the text of this address.
+-- A text is read as the address `n` exactly if it is the text of `n`.
 abbrev pub AreAddressesSpelledOnce : Type 0
 AreAddressesSpelledOnce =
     (text : List ℕ) (n : ℕ)

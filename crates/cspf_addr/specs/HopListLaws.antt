@@ -7,14 +7,15 @@ use Rattle.cspf_addr.specs.declared.hop.Hop.{Hop}
 use Rattle.cspf_addr.specs.declared.hops.TheConstants.{MOST_HOPS}
 use Rattle.cspf_addr.specs.declared.hop_reader.HopsError.TheVariants as error
 
--- The texts and the hops are equally many, and each text spells the hop at the same index.
+-- There are as many texts as hops, and each text spells the hop at the same index.
 abbrev pub AreHopTexts : List (List ℕ) → List Hop → Type 0
 AreHopTexts [] [] = Unit {0}
 AreHopTexts (text ∷ texts) (hop ∷ hops) = IsHopText text hop × AreHopTexts texts hops
 AreHopTexts [] (hop ∷ hops) = ⊥
 AreHopTexts (text ∷ texts) [] = ⊥
 
--- The text consists of the texts of these hops, at most seven, separated by single spaces.
+-- The text consists of the texts of these hops, separated by single spaces. There are at most seven
+-- hops.
 pub record IsHopListText (text : List ℕ) (hops : List Hop) : Type 0 where
   pub parts : List (List ℕ)
   pub whole : text ≡ join_with_byte 32 parts
@@ -26,8 +27,7 @@ pub record AreParts (text : List ℕ) (parts : List (List ℕ)) : Type 0 where
   pub whole : text ≡ join_with_byte 32 parts
   pub without_space : AllByRecursion (λ part. AllByRecursion (λ byte. byte ≢ 32) part) parts
 
--- The parts before the part with this number are texts of hops, and the part with this number
--- isn't. Parts are numbered from 1.
+-- `place` is the number of the first part that isn't the text of a hop. Parts are numbered from 1.
 pub record IsFirstNoHop (parts : List (List ℕ)) (place : ℕ) : Type 0 where
   pub front : List (List ℕ)
   pub part : List ℕ
@@ -38,7 +38,8 @@ pub record IsFirstNoHop (parts : List (List ℕ)) (place : ℕ) : Type 0 where
   pub before : AreHopTexts front hops
   pub here : (hop : Hop) → ¬ IsHopText part hop
 
--- The text isn't empty, has at most seven parts, and the first part that isn't a hop has this number.
+-- The text isn't empty, and has at most seven parts. The first part that isn't a hop has the number
+-- `place`.
 pub record HasBadHop (text : List ℕ) (place : ℕ) : Type 0 where
   pub some : text ≢ []
   pub parts : List (List ℕ)
@@ -52,13 +53,12 @@ pub record HasTooManyParts (text : List ℕ) : Type 0 where
   pub are_parts : AreParts text parts
   pub many : MOST_HOPS < length parts
 
--- A text is read as a list of hops exactly if it is the text of this list.
+-- A text is read as the list `hops` exactly if it is a text of this list.
 abbrev pub AreHopListsRead : Type 0
 AreHopListsRead =
     (text : List ℕ) (hops : List Hop) → (hops_of text ≡ Ok hops) ↔ IsHopListText text hops
 
--- A text that isn't empty and has at most seven parts is refused with the number of its first part
--- that isn't a hop, if there is one. No other text is refused with the number of a part.
+-- A text is refused as `BadHop place` exactly if `HasBadHop` holds of the text and `place`.
 abbrev pub AreBadHopsNamed : Type 0
 AreBadHopsNamed =
     (text : List ℕ) (place : ℕ) → (hops_of text ≡ Err (error.BadHop place)) ↔ HasBadHop text place

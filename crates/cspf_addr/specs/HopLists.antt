@@ -10,12 +10,12 @@ use Rattle.cspf_addr.specs.declared.hops.TheConstants.{MOST_HOPS}
 use Rattle.cspf_addr.specs.declared.hop_reader.HopsError.{HopsError}
 use Rattle.cspf_addr.specs.declared.hop_reader.HopsError.TheVariants as error
 
--- the parts of a text before, between and after its spaces; a part may be empty
+-- the parts into which a text is cut at its spaces; a part may be empty
 unfoldable pub parts_of : List ℕ → List (List ℕ)
 parts_of text = slice_split (λ byte. byte == 32) text
 
--- The hops that these parts spell, or the error for the first part that isn't a hop. The first of
--- these parts has the number `at`.
+-- The hops that these parts spell, or the error for the first part that isn't a hop. The parts are
+-- numbered from `at` on.
 abbrev pub hops_from : ℕ → List (List ℕ) → Result (List Hop) HopsError
 hops_from at [] = Ok []
 hops_from at (part ∷ parts) = do

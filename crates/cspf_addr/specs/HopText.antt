@@ -1,4 +1,4 @@
--- How hops are written: a prefix, and then `s` for a strict hop or `l` for a loose hop.
+-- How hops are written: the hop's prefix, and then `s` for a strict hop or `l` for a loose hop.
 use Rattle.std.specs.Prelude.{◌≡◌, ℕ, ◌-◌, Bool, true, false, ◌==◌, if◌then◌else◌, List, [], ◌∷◌, ◌++◌, length, take, slice_index, Option, Some, None, ◌↔◌, Ok}
 use Rattle.std.specs.Result.{result_ok}
 use Rattle.cspf_addr.specs.OptionSteps.{◌>>=◌}
@@ -10,7 +10,7 @@ use Rattle.cspf_addr.specs.declared.hop.Hop.{Hop}
 abbrev pub hop_letter : Bool → ℕ
 hop_letter loose = if loose then 108 else 115
 
--- whether a letter is the letter of a loose hop, or `None` if it isn't the letter of a hop
+-- true for the letter of a loose hop, false for the letter of a strict hop, and otherwise `None`
 unfoldable pub loose_of : ℕ → Option Bool
 loose_of letter = if letter == 108 then Some true else (if letter == 115 then Some false else None)
 
@@ -25,13 +25,13 @@ hop_of text = do
 unfoldable pub hop_text : Hop → List ℕ
 hop_text hop = prefix_text hop.prefix ++ (hop_letter hop.loose ∷ [])
 
--- The text spells the prefix of the hop, and ends with the letter of the hop.
+-- The text consists of a text that spells the prefix of the hop, and the letter of the hop.
 pub record IsHopText (text : List ℕ) (hop : Hop) : Type 0 where
   pub front : List ℕ
   pub whole : text ≡ front ++ (hop_letter hop.loose ∷ [])
   pub prefix : prefix_of front ≡ Ok hop.prefix
 
--- A text is read as a hop exactly if it is a text of this hop.
+-- A text is read as the hop `hop` exactly if it is a text of this hop.
 abbrev pub AreHopTextsRead : Type 0
 AreHopTextsRead = (text : List ℕ) (hop : Hop) → (hop_of text ≡ Some hop) ↔ IsHopText text hop
 

@@ -6,7 +6,8 @@ use Rattle.std.specs.List.{starts_with, flat_map}
 use Rattle.std.specs.Str.Parse.{digits_value}
 use Rattle.cspf_addr.specs.Numbers.{are_digits}
 
--- The text is `0x` and one to eight hexadecimal digits, upper or lower case, and their value is n.
+-- The text is `0x` and one to eight hexadecimal digits, upper or lower case. `n` is the value of
+-- the digits.
 pub record SpellsMask (text : List ℕ) (n : ℕ) : Type 0 where
   pub digits : List ℕ
   pub whole : text ≡ codes "0x" ++ digits
@@ -27,7 +28,7 @@ mask_of text =
     then Some (digits_value 16 (drop 2 text))
     else None
 
--- A text is read as a mask exactly if it spells the mask.
+-- A text is read as the mask `n` exactly if it spells `n`.
 abbrev pub AreMasksRead : Type 0
 AreMasksRead = (text : List ℕ) (n : ℕ) → (mask_of text ≡ Some n) ↔ SpellsMask text n
 

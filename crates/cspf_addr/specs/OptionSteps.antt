@@ -1,8 +1,7 @@
 -- Defines `>>=` for an `Option`. It chains two steps of a parser, each of which may find nothing.
 use Rattle.std.specs.Prelude.{Option, option_and_then}
 
--- the result of the second step for the value of the first step, or `None` if the first step gave
--- no value
+-- the second step applied to the value of the first step, or `None` if the first step gives `None`
 infixl 10 ◌>>=◌
 abbrev pub ◌>>=◌ : {A B : Type 0} → Option A → (A → Option B) → Option B
 first >>= second = option_and_then second first

@@ -1,7 +1,7 @@
 -- The parts of an address prefix.
 use Rattle.std.specs.Prelude.{◌≡◌, ℕ, ◌-◌, ◌*◌, ◌/◌, ◌^◌, ◌<◌, ◌≤◌}
 
--- an address, and the prefix length, which says how many of the address's first bits belong to the
+-- an address, and the prefix length: the number of the address's first bits that belong to the
 -- prefix
 pub record PrefixParts : Type 0 where
   pub address : ℕ
@@ -15,8 +15,8 @@ first_bits length address = address / 2 ^ (32 - length) * 2 ^ (32 - length)
 abbrev pub with_first_bits : ℕ → ℕ → PrefixParts
 with_first_bits length address = record { address = first_bits length address; length = length }
 
--- The address is below 2^32, the length is at most 32, and no bit of the address after the first
--- `length` bits is set.
+-- The address is below 2^32, and the length is at most 32. All bits of the address after the first
+-- `length` bits are zero.
 pub record IsPrefix (prefix : PrefixParts) : Type 0 where
   pub most : prefix.length ≤ 32
   pub small : prefix.address < 2 ^ 32

@@ -15,7 +15,7 @@ abbrev pub Covers : PrefixParts → ℕ → Type 0
 Covers prefix address =
     prefix.address / 2 ^ (32 - prefix.length) ≡ address / 2 ^ (32 - prefix.length)
 
--- the prefix length that a text of digits spells, at most 32
+-- the prefix length, at most 32, that a text of digits spells
 unfoldable pub length_of : List ℕ → Result ℕ PrefixError
 length_of text =
     if is_decimal text
@@ -39,13 +39,15 @@ pub record IsPrefixText (text : List ℕ) (address : ℕ) (digits : List ℕ) : 
   pub decimal : IsTrue (is_decimal digits)
   pub whole : text ≡ address_text address ++ 47 ∷ digits
 
--- the prefix of this length with the first bits of the address, if the length is at most 32
+-- the prefix of this length with the first bits of the address, or the error `TooLong` if the
+-- length is above 32
 abbrev pub prefix_with : ℕ → ℕ → Result PrefixParts PrefixError
 prefix_with length address =
     if nat_le length 32 then Ok (with_first_bits length address) else Err error.TooLong
 
--- A text of an address, a slash and decimal digits is read as this address and the value of these
--- digits. There may be any number of digits.
+-- A text of an address, a slash and decimal digits is read as a prefix. The prefix length is the
+-- value of the digits, and the prefix has the first bits of the address. A value above 32 is
+-- refused as `TooLong`.
 abbrev pub ArePrefixTextsRead : Type 0
 ArePrefixTextsRead =
     (text : List ℕ) (address : ℕ) (digits : List ℕ) → IsPrefixText text address digits

@@ -1,4 +1,4 @@
-//! IPv4 addresses: the type, its text, and the reader of that text.
+//! IPv4 addresses: the type `Addr`, the text of an address, and the reader of this text.
 
 ghost use Rattle.std.specs.Prelude.{◌≡◌, ◌≢◌, ℕ, ◌^◌, ◌<◌, IfOk, OnErr};
 ghost use Rattle.std.specs.Result.{result_ok};
@@ -12,8 +12,8 @@ use std::fmt;
 use std::marker::Model;
 use thiserror::Error;
 
-/// An IPv4 address of a router or of one of its interfaces, ordered as a number (its four bytes in
-/// network order).
+/// An IPv4 address of a router or of an interface. Addresses are ordered as numbers, whose four
+/// bytes are in network order.
 #[derive(Clone, Copy, Debug, PartialEq, Eq, PartialOrd, Ord)]
 pub struct Addr(u32);
 
@@ -49,8 +49,8 @@ impl Addr {
         self.0
     }
 
-    /// The address that a text spells: four decimal numbers, separated by points. Each is at most
-    /// 255 and has no leading zeros.
+    /// The address that a text spells: four decimal numbers, separated by points. Each number is at
+    /// most 255, and has no leading zeros.
     pub fn parse(text: &[u8]) -> Result<Addr, AddrError>
         ensures value { result_ok result ≡ address_of text.now }
         ensures ok { IfOk result (λ address. text.now ≡ address_text address) }
@@ -90,7 +90,7 @@ fn read_address(text: &[u8]) -> Option<Addr>
     Some(Addr(u32::from_be_bytes(bytes)))
 }
 
-/// The number that a text spells, if it is at most 255.
+/// The number that a text spells, or `None` if it spells no number of at most 255.
 #[tactic(auto, unfolding(crate::specs::AddressText::octet_of))]
 fn octet(text: &[u8]) -> Option<u8>
     ensures { result ≡ octet_of text.now }
@@ -109,8 +109,8 @@ fn octets(text: &[u8]) -> Option<[u8; 4]>
     Some([octet(first)?, octet(second)?, octet(third)?, octet(fourth)?])
 }
 
-/// Law: a text is read as an address exactly if it is the text of this address. No two addresses
-/// have the same text.
+/// Law: a text is read as the address `n` exactly if it is the text of `n`. No two addresses have
+/// the same text.
 pub fn addresses_are_spelled_once()
     ensures read { AreAddressesSpelledOnce }
     ensures one { IsAddressTextInjective }

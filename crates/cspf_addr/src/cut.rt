@@ -13,7 +13,7 @@ pub(crate) fn cut(text: &[u8], mark: u8) -> (&[u8], &[u8])
     }
 }
 
-/// The index of the first byte `mark`, if there is one.
+/// The index of the first byte `mark`, or `None` if no byte is `mark`.
 fn place(text: &[u8], mark: u8) -> Option<usize>
     ensures { result ≡ position (λ byte. byte == mark) text.now }
 {

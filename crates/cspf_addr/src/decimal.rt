@@ -24,8 +24,8 @@ pub(crate) fn value(text: &[u8], base: u32) -> Option<u64>
     Some(value)
 }
 
-/// The value of a text of digits after the digit `byte` is appended, if `value` is the value
-/// before. `None` if `byte` isn't a digit of base `base`, or if the new value is 2^64 or more.
+/// The value of a text of digits after the digit `byte` is appended. Without this digit, the value
+/// is `value`. `None` if `byte` isn't a digit of base `base`, or if the new value is 2^64 or more.
 fn one_more(value: u64, byte: u8, base: u32) -> Option<u64>
     requires least { 2 ≤ base }
     requires most { base ≤ 36 }
@@ -41,7 +41,7 @@ fn one_more(value: u64, byte: u8, base: u32) -> Option<u64>
         .checked_add(u64::from(digit))
 }
 
-/// Whether a text is not empty and has no leading zero. The text `0` passes, too.
+/// Whether a text isn't empty and has no leading zero. The text `0` has no leading zero.
 fn has_plain_start(text: &[u8]) -> bool
     ensures { result ≡ has_plain_start text.now }
 {
@@ -78,7 +78,7 @@ fn are_digits(text: &[u8]) -> bool
     text.iter().all(|byte| char::from(*byte).is_digit(10))
 }
 
-/// Law: a text is read as a number exactly if it is the text that is written for this number.
+/// Law: a text is read as the number `n` exactly if it is the decimal text of `n`.
 pub fn numbers_are_spelled_once()
     ensures { AreSpelledOnce }
 {}

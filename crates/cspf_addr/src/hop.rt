@@ -7,14 +7,15 @@ ghost use Rattle.cspf_addr.specs.HopText.{hop_of, loose_of, AreHopTextsRead, Are
 use crate::prefix::Prefix;
 use std::alloc::{AllocError, Global};
 
-/// A hop of an explicit route. The hop stands for any router with an address that the prefix
-/// covers. A strict hop is adjacent to the hop before it. On the way to a loose hop the route may
-/// visit other routers (RFC 3209 4.3.3.1).
+/// A hop of an explicit route. A route reaches the hop at any router with an address that the hop's
+/// prefix covers. On the way to a strict hop, the route may visit only routers of this hop, and
+/// routers of the preceding hop or the head-end. On the way to a loose hop, the route may visit any
+/// router (RFC 3209 4.3.3.1).
 #[derive(Clone, Copy, Debug, PartialEq, Eq)]
 pub struct Hop {
-    /// The prefix. The hop stands for any router with an address that this prefix covers.
+    /// The route reaches the hop at any router with an address that this prefix covers.
     pub prefix: Prefix,
-    /// Whether the route may visit other routers on the way to this hop.
+    /// True for a loose hop, and false for a strict hop.
     pub loose: bool,
 }
 
@@ -56,7 +57,7 @@ fn read_loose(letter: u8) -> Option<bool>
     }
 }
 
-/// Law: a text is read as a hop exactly if it is the text of the hop's prefix followed by the hop's
+/// Law: a text is read as a hop exactly if it consists of a text of the hop's prefix and the hop's
 /// letter. A hop is read back from its text.
 pub fn hops_are_spelled()
     ensures read { AreHopTextsRead }

@@ -1,4 +1,4 @@
-//! The reader of a list of hops, and why a text isn't read as a list.
+//! The reader of lists of hops, and why a text isn't a list of hops.
 
 ghost use Rattle.std.specs.Prelude.{◌≡◌, ◌≤◌, length};
 ghost use Rattle.cspf_addr.specs.HopLists.{hops_of, hops_from, parts_of, AreHopListsReadBack};
@@ -14,14 +14,14 @@ pub enum HopsError {
     /// The text has more than seven parts.
     #[error("more than {most} hops", most = MOST_HOPS)]
     TooManyHops,
-    /// This part isn't a hop, and all parts before it are hops. Parts are numbered from 1.
+    /// The part with the number `at` is the first part that isn't a hop. Parts are numbered from 1.
     #[error("part {at} is not a hop")]
     BadHop { at: usize },
 }
 
 /// The hops that a text spells, separated by single spaces (0x20). The empty text spells no hops.
-/// Otherwise each part before, between and after the spaces has to spell a hop. If there are more
-/// than seven parts, the text is refused before a part is read.
+/// Otherwise the text is cut into parts at its spaces, and each part has to spell a hop. If there
+/// are more than seven parts, the text is refused before a part is read.
 #[tactic(auto, unfolding(crate::specs::HopLists::hops_of))]
 pub fn parse_hops(text: &[u8]) -> Result<Hops, HopsError>
     ensures { result ≡ hops_of text.now }
@@ -35,7 +35,7 @@ pub fn parse_hops(text: &[u8]) -> Result<Hops, HopsError>
     read_parts(text)
 }
 
-/// How many parts a text has before, between and after its spaces.
+/// The number of parts into which a text is cut at its spaces.
 #[tactic(auto, unfolding(crate::specs::HopLists::parts_of))]
 fn part_count(text: &[u8]) -> usize
     ensures { result ≡ length (parts_of text.now) }
@@ -58,9 +58,9 @@ fn read_parts(text: &[u8]) -> Result<Hops, HopsError>
     Ok(hops)
 }
 
-/// Law: a text is read as a list of hops exactly if it consists of the texts of these hops, at most
-/// seven, separated by single spaces. A text of more than seven parts is refused as `TooManyHops`.
-/// For any other text the error has the number of the first part that isn't a hop.
+/// Law: a text is read as a list of at most seven hops exactly if it consists of texts of these
+/// hops, separated by single spaces. A text of more than seven parts is refused as `TooManyHops`.
+/// If any other text is refused, the error has the number of the first part that isn't a hop.
 pub fn hop_lists_are_read()
     ensures read { AreHopListsRead }
     ensures bad { AreBadHopsNamed }

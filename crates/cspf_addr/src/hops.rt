@@ -1,4 +1,4 @@
-//! Lists of at most seven hops. A list is an array, so it takes no memory on the heap.
+//! Lists of at most seven hops. A list is stored in an array, without an allocation.
 
 ghost use Rattle.std.specs.Prelude.{◌≡◌, ◌<◌, ◌≤◌, ◌++◌, [], ◌∷◌, length, slice_get, ◌==◌};
 
@@ -6,10 +6,10 @@ use crate::hop::Hop;
 use crate::prefix::Prefix;
 use std::marker::Model;
 
-/// How many hops a list holds at most.
+/// The greatest number of hops in a list.
 pub const MOST_HOPS: usize = 7;
 
-/// The hops of an explicit route in their order, at most `MOST_HOPS`.
+/// The hops of an explicit route, in order. There are at most `MOST_HOPS`.
 #[derive(Clone, Copy, Debug, PartialEq, Eq)]
 pub struct Hops {
     places: [Hop; MOST_HOPS],
@@ -51,7 +51,7 @@ impl Hops {
         }
     }
 
-    /// How many hops the list has.
+    /// The number of hops in the list.
     pub fn len(&self) -> usize
         ensures value { result ≡ length self.now }
         ensures most { length self.now ≤ MOST_HOPS }
@@ -66,14 +66,14 @@ impl Hops {
         self.count == 0
     }
 
-    /// The hop at an index, if there is one. The first hop is at 0.
+    /// The hop at an index, or `None` if there is no such hop. The first hop has index 0.
     pub fn get(&self, place: usize) -> Option<Hop>
         ensures { result ≡ slice_get self.now place }
     {
         self.as_slice().get(place).copied()
     }
 
-    /// The hops in their order.
+    /// The hops, in order.
     pub fn as_slice(&self) -> &[Hop]
         ensures { result.now ≡ self.now }
     {

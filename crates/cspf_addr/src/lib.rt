@@ -1,12 +1,11 @@
 //! Addresses of routers and of their interfaces, prefixes of addresses, hops of explicit routes,
-//! administrative group masks, and decimal numbers. This crate has their values and which addresses
-//! a prefix covers. It also defines how each of these is written as text and read.
+//! administrative group masks, and decimal numbers. This crate defines their values, how each of
+//! them is written as text and read, and which addresses a prefix covers.
 //!
-//! `specs/Numbers.antt` defines how numbers are written. `specs/AddressText.antt` does this for
-//! addresses, `specs/MaskText.antt` for masks, `specs/PrefixParts.antt` and `specs/Prefixes.antt`
-//! for prefixes, and `specs/HopText.antt` and `specs/HopLists.antt` for hops.
-//! `specs/AddressOrder.antt` has the order of addresses. `specs/HopListLaws.antt` says which texts
-//! are lists of hops. Reading a text allocates no memory.
+//! The definitions are in `specs/`: numbers in `Numbers.antt`, addresses in `AddressText.antt`,
+//! masks in `MaskText.antt`, prefixes in `PrefixParts.antt` and `Prefixes.antt`, and hops in
+//! `HopText.antt` and `HopLists.antt`. `AddressOrder.antt` has the order of addresses, and
+//! `HopListLaws.antt` says which texts are lists of hops. Reading a text allocates no memory.
 #![tactic(auto)]
 
 mod addr;

@@ -1,4 +1,4 @@
-//! Masks: sets of the 32 administrative groups, their text, and the reader of that text.
+//! Masks (sets of the 32 administrative groups), the text of a mask, and the reader of this text.
 
 ghost use Rattle.std.specs.Prelude.{◌≡◌, ◌≤◌, ℕ, length, if◌then◌else◌, IfOk, OnErr};
 ghost use Rattle.std.specs.Result.{result_ok};
@@ -12,8 +12,8 @@ use std::alloc::{AllocError, Global};
 use std::marker::Model;
 use thiserror::Error;
 
-/// A set of administrative groups, with one bit for each group (RFC 3630 2.5.9). A mask holds the
-/// groups that a link belongs to, or the groups that an affinity of a request names (RFC 3209
+/// A set of administrative groups, with one bit for each group (RFC 3630 2.5.9). A mask has the
+/// groups to which a link belongs, or the groups that an affinity of a request names (RFC 3209
 /// 4.7.4).
 #[derive(Clone, Copy, Debug, PartialEq, Eq)]
 pub struct Mask(u32);
@@ -94,7 +94,7 @@ fn word(digits: &[u8]) -> Option<Mask>
     Some(Mask(bits as u32))
 }
 
-/// Law: a text is read as a mask exactly if it spells the mask. A text spells at most one mask. A
+/// Law: a text is read as the mask `n` exactly if it spells `n`. A text spells at most one mask. A
 /// mask is read back from its text.
 pub fn masks_are_spelled()
     ensures read { AreMasksRead }

@@ -1,5 +1,5 @@
-//! Prefixes of addresses: the type, which addresses a prefix covers, its text, and the reader of
-//! that text.
+//! Prefixes of addresses: the type `Prefix`, which addresses a prefix covers, the text of a prefix,
+//! and the reader of this text.
 
 ghost use Rattle.std.specs.Prelude.{◌≡◌, ◌<◌, ◌≤◌, ◌↔◌, IsTrue, IfOk, IfErr};
 ghost use Rattle.std.specs.String.{string_bytes};
@@ -152,8 +152,9 @@ fn read_length(text: &[u8]) -> Result<u8, PrefixError>
     Ok(bits as u8)
 }
 
-/// Law: a text of an address, a slash and a decimal number is read as this address and this number.
-/// Any other text is refused. A prefix is read back from its text.
+/// Law: a text of an address, a slash and a decimal number of at most 32 is read as a prefix. The
+/// number is the prefix length, and the prefix has the first bits of the address. Any other text is
+/// refused. A prefix is read back from its text.
 pub fn prefixes_are_spelled()
     ensures read { ArePrefixTextsRead }
     ensures refused { AreOthersRefused }

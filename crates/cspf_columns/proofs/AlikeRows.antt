@@ -1,8 +1,8 @@
--- Suppose that each row (a link) of one list joins the same two interfaces as the row of another
--- list at the same index. Then both lists have the same column of ends, column of reverses and
--- spans. A column of ends has for each row the index of the router that the row runs to. A column
--- of reverses has for each row the index of its reverse, or `NO_LINK`. A router's span is the range
--- of the rows from it, with the lowest and the highest of their local addresses.
+-- Suppose that two lists of rows (links) have the same length, and that the rows at the same index
+-- join the same two interfaces. Then both lists have the same column of ends, column of reverses
+-- and spans. For each row, the column of ends has the index of the router at which the row ends.
+-- For each row, the column of reverses has the index of the row's reverse, or `NO_LINK`. A router's
+-- span is the range of the rows that begin at it, with bounds of their local addresses.
 use Rattle.std.proofs.Common.{◌≡◌, ◌≢◌, ℕ, ◌+◌, ◌<◌, ◌≤◌, Bool, true, false, List, [], ◌∷◌, ◌++◌, All, Contains, cond, drop, length, map, nat_eq, slice_index, slice_index_or, slice_set, take, refl, sym, ap, subst, ◌∙◌, inl, inr, arith}
 use Rattle.std.specs.List.{HoldsAt, filter, between}
 use Rattle.std.specs.Ordering.{nat_cmp}
@@ -28,7 +28,7 @@ use Rattle.cspf_columns.proofs.RouterLists.{listed_end, rising-router_list}
 use Rattle.cspf_columns.proofs.RowOrder.{one_index}
 use Rattle.cspf_columns.proofs.RowSpans.{all_kept}
 
--- if a link is written over a row (a link) that joins the same two interfaces, each row joins the
+-- if a row (a link) is replaced by a link that joins the same two interfaces, each row joins the
 -- same two interfaces as before
 pub written_alike : (rows : List Link) (at : ℕ) → at < length rows → (l : Link) → HoldsAt (λ m. HasSameEnds m l) rows at → RunAlike rows (slice_set rows at l)
 written_alike rows at within l alike =
@@ -36,7 +36,8 @@ written_alike rows at within l alike =
     let mine : interfaces_of l ≡ slice_index_or (map interfaces_of rows) at (interfaces_of l) = sym same ∙ sym (get_or-map interfaces_of rows at l (interfaces_of l) within) in
     map-set interfaces_of rows at l ∙ ap (λ n. slice_set (map interfaces_of rows) at n) mine ∙ set-get_or (map interfaces_of rows) at (interfaces_of l)
 
--- if a row (a link) joins the link's two interfaces, there is an index at which such a row is
+-- if some row (a link) joins the two interfaces of the link `l`, this row has an index below
+-- `length rows`
 row_alike : (rows : List Link) (l : Link) → Contains (map interfaces_of rows) (interfaces_of l) → (d : Link) → (k : ℕ) × (k < length rows) × (interfaces_of (slice_index_or rows k d) ≡ interfaces_of l)
 row_alike rows l (k, within, is) d =
     let inside : k < length rows = omega (arith, within, length-map rows interfaces_of) in
@@ -46,11 +47,12 @@ pub contains_alike : (rows : List Link) (at : ℕ) → at < length rows → (l :
 contains_alike rows at within l alike =
     (at, omega (arith, within, length-map rows interfaces_of), get_or-map interfaces_of rows at l (interfaces_of l) within ∙ λ t. (((alike l).from t, (alike l).local t), ((alike l).to t, (alike l).remote t)))
 
--- if a row (a link) joins the link's two interfaces, some row has the link's key
+-- if some row (a link) joins the two interfaces of the link `l`, some row has the key of `l`
 pub key_alike : (rows : List Link) (l : Link) → Contains (map interfaces_of rows) (interfaces_of l) → All (λ m. key_of m ≢ key_of l) rows → ⊥
 key_alike rows l some none = let row = row_alike rows l some l in none row.0 l row.1 (ap (λ p. p.0) row.2)
 
--- if a row (a link) joins the link's two interfaces, the row with the link's key joins them
+-- if some row (a link) joins the two interfaces of the link `l`, then the row with the key of `l`
+-- joins them
 pub found_alike : (rows : List Link) → AreByKey rows → (l : Link) → Contains (map interfaces_of rows) (interfaces_of l) → (at : ℕ) → at < length rows → HoldsAt (λ m. key_of m ≡ key_of l) rows at → HoldsAt (λ m. HasSameEnds m l) rows at
 found_alike rows by_key l some at within key d =
     let row = row_alike rows l some d in
@@ -63,16 +65,16 @@ still_alike rows new same (Put l) alike = subst (λ ks. Contains ks (interfaces_
 still_alike rows new same (Remove from local) alike = alike
 still_alike rows new same (Node router transit) alike = alike
 
--- If changes only replace links by links that join the same two interfaces, they change no mark of
--- a router. A mark says that a router has no transit.
+-- Changes that only replace links by links between the same two interfaces don't change the marks.
+-- A mark says that a router has no transit.
 pub unmarked : (rows : List Link) (cs : List Change) (marks : set.FinSet nat_cmp) → All (IsAlike rows) cs → marks ≡ all_marked marks cs
 unmarked rows [] marks all = refl
 unmarked rows (Put l ∷ cs) marks all = unmarked rows cs marks (All-tail (IsAlike rows) (Put l) cs all)
 unmarked rows (Remove from local ∷ cs) marks all = absurd (All-head (IsAlike rows) (Remove from local) cs all)
 unmarked rows (Node router transit ∷ cs) marks all = absurd (All-head (IsAlike rows) (Node router transit) cs all)
 
--- if `l` and `m` join the same two interfaces, so do `r` and `s`, and `r` is the reverse of `l`,
--- then `s` is the reverse of `m`
+-- Suppose that `l` and `m` join the same two interfaces, and that `r` and `s` join the same two
+-- interfaces. If `r` is the reverse of `l`, then `s` is the reverse of `m`.
 reverse_alike : (l m r s : Link) → HasSameEnds l m → HasSameEnds r s → IsReverse l r → IsReverse m s
 reverse_alike l m r s same also is = record {
   from = sym also.from ∙ is.from ∙ same.to;
@@ -84,8 +86,8 @@ reverse_alike l m r s same also is = record {
 turned_about : (l m : Link) → HasSameEnds l m → HasSameEnds m l
 turned_about l m same = record { from = sym same.from; local = sym same.local; to = sym same.to; remote = sym same.remote }
 
--- if the rows (links) at each index of two lists run from the same router, both lists have equally
--- many rows from each router
+-- if the rows (links) at each index of two lists begin at the same router, both lists have the same
+-- number of rows that begin at a given router
 count_alike : (router : ℕ) (rows new : List Link) → map (λ (l : Link). l.from) new ≡ map (λ (l : Link). l.from) rows
     → length (filter (λ l. nat_eq l.from router) new) ≡ length (filter (λ l. nat_eq l.from router) rows)
 count_alike router [] [] same = refl
@@ -106,7 +108,7 @@ module _ (rows new : List Link) (same : RunAlike rows new) where
   pub as_many : length new ≡ length rows
   as_many = sym (length-map new interfaces_of) ∙ ap length same ∙ length-map rows interfaces_of
 
-  -- each new row (a link) joins the same two interfaces as the old row at its index
+  -- at each index, the new row (a link) joins the same two interfaces as the old row
   alike_each : (i : ℕ) (d : Link) → i < length rows → HasSameEnds (slice_index_or rows i d) (slice_index_or new i d)
   alike_each i d h =
       let k : Key × Key = interfaces_of d in
@@ -121,16 +123,18 @@ module _ (rows new : List Link) (same : RunAlike rows new) where
   column_alike : (f : Key × Key → ℕ) → map (λ l. f (interfaces_of l)) new ≡ map (λ l. f (interfaces_of l)) rows
   column_alike f = sym (read_map f new) ∙ ap (map f) same ∙ read_map f rows
 
-  -- If `ends` is the column of ends of the old rows (links), it is also that of the new rows. A
-  -- column of ends has for each row the index of the router that the row runs to.
+  -- If `ends` is the column of ends of the old rows (links), `ends` is also the column of ends of
+  -- the new rows. For each row, the column of ends has the index of the router at which the row
+  -- ends.
   pub ends_alike : (routers ends : List ℕ) → IsEndColumn rows routers ends → IsEndColumn new routers ends
   ends_alike routers ends are = record {
     froms = λ i d h. let within : i < length rows = omega (arith, h, as_many) in subst (Contains routers) (alike_each i d within).from (are.froms i d within);
     ends = record { within = are.ends.within; each = are.ends.each ∙ sym (column_alike (λ p. p.1.0)) };
   }
 
-  -- If `column` is the column of reverses of the old rows (links), it is also that of the new rows.
-  -- A column of reverses has for each row the index of its reverse, or `NO_LINK`.
+  -- If `column` is the column of reverses of the old rows (links), `column` is also the column of
+  -- reverses of the new rows. For each row, the column of reverses has the index of the row's
+  -- reverse, or `NO_LINK`.
   pub reverses_alike : (column : List ℕ) → AreReversesBut no_key rows column → AreReversesBut no_key new column
   reverses_alike column are = column_of no_key new column (are.many ∙ sym as_many) (λ i d h.
       let n = slice_index_or column i 0 in
@@ -145,7 +149,7 @@ module _ (rows new : List Link) (same : RunAlike rows new) where
             is.none z j there (reverse_alike _ _ _ _ (turned_about _ _ (alike_each i d here)) (turned_about _ _ (alike_each j d there)) back);
       })
 
-  -- if a router is an endpoint of an old row (a link), it is also an endpoint of a new row
+  -- if an old row (a link) begins or ends at a router, some new row begins or ends at this router
   still_ends : (q : ℕ) → AnyEndsAt rows q → AnyEndsAt new q
   still_ends q (at, within, holds) =
       (at, omega (arith, within, as_many), λ d. elim (holds d) [ inl from ↦ inl (sym (alike_each at d within).from ∙ from) | inr to ↦ inr (sym (alike_each at d within).to ∙ to) ])
@@ -155,8 +159,8 @@ module _ (rows new : List Link) (same : RunAlike rows new) where
       router_list-column new routers ends (ends_alike routers ends (column_table rows routers ends by_key all are))
       (λ i d h. still_ends _ (listed_end rows routers _ by_key all (Contains-get_or routers i d h))) still (subst AreRising (sym all) (rising-router_list (database_of rows)))
 
-  -- a fact that holds of all local addresses in a range of the old rows (links) also holds of those
-  -- in the same range of the new rows
+  -- if `P` holds of all local addresses in a range of the old rows (links), `P` holds of all local
+  -- addresses in the same range of the new rows
   locals_alike : (first end : ℕ) → first ≤ end → end ≤ length rows → (P : ℕ → Type 0) → All (λ l. P l.local) (between first end rows) → All (λ l. P l.local) (between first end new)
   locals_alike first end order bound P all k d h =
       let within : first + k < end = omega (arith, h, length-between new first end (omega (arith, order, bound, as_many)), order) in
@@ -164,9 +168,8 @@ module _ (rows new : List Link) (same : RunAlike rows new) where
       ap (λ (l : Link). l.local) (get_or-between rows first end k d within) ∙ (alike_each (first + k) d (omega (arith, within, bound))).local ∙ sym (ap (λ (l : Link). l.local) (get_or-between new first end k d within)) in
       subst P here (all k d (omega (arith, within, length-between rows first end bound, order)))
 
-  -- The span that a router has in the old rows (links) is also its span in the new rows. A router's
-  -- span is the range of the rows from it, with the lowest and the highest of their local
-  -- addresses.
+  -- A router's span in the old rows (links) is also its span in the new rows. A router's span is
+  -- the range of the rows that begin at it, with bounds of their local addresses.
   span_alike : (router : ℕ) (span : Span) → IsSpanOf rows router span → IsSpanOf new router span
   span_alike router span is =
       let p : Link → Bool = λ l. nat_eq l.from router in

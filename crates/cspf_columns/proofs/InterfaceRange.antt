@@ -1,5 +1,6 @@
--- The rows (links) from one router are in order of their local addresses. If a prefix covers no
--- address from the lowest to the highest of these, it covers none of the rows' local addresses.
+-- The rows (links) that begin at one router are in order of their local addresses. If a prefix
+-- covers no address from their lowest to their highest local address, the prefix covers no local
+-- address of these rows.
 use Rattle.std.proofs.Common.{◌≡◌, ℕ, ◌+◌, ◌-◌, ◌<◌, ◌≤◌, ◌↔◌, inl, inr, Bool, true, false, IsTrue, List, All, length, filter, get_or, nat_eq, slice_index, refl, sym, ap, subst, ◌∙◌, arith}
 use Rattle.std.specs.Ordering.{nat_cmp, ordering_then}
 use Rattle.std.specs.declared.cmp.Ordering.TheVariants.{Less, Equal, Greater}
@@ -25,7 +26,7 @@ use Rattle.cspf_columns.proofs.RowOrder.{own_keys, links_of-database_of}
 use Rattle.cspf_columns.proofs.OwnedPrefixes.{tells_link, owned_by_link}
 use Rattle.cspf_columns.proofs.RouterLists.{Contains-router_list, routers_marked}
 
--- of two keys with the same router, the lower key doesn't have the higher address
+-- of two keys with the same router, the lower key has the lower address or the same address
 local_le : (j k : Key) → key_cmp j k ≡ Less → j.0 ≡ k.0 → j.1 ≤ k.1
 local_le j k is tie =
     elim (nat_cmp j.0 k.0) as (λ r. r ≡ nat_cmp j.0 k.0 → ordering_then r (nat_cmp j.1 k.1) ≡ Less → j.1 ≤ k.1) [
@@ -34,7 +35,7 @@ local_le j k is tie =
       | Greater ↦ λ _ off. absurd (cc)
     ] refl is
 
--- the rows (links) from a router are in order of their local addresses
+-- the rows (links) that begin at a router are in order of their local addresses
 pub locals_rise : (rows : List Link) (router : ℕ) → AreByKey rows → IsNonDecreasingBy (λ l. l.local) (filter (λ l. nat_eq l.from router) rows)
 locals_rise rows router by_key i j d le h =
     let p : Link → Bool = λ l. nat_eq l.from router in
@@ -47,8 +48,8 @@ locals_rise rows router by_key i j d le h =
           (from_router i (omega (arith, le, h)) ∙ sym (from_router j h))
     ]
 
--- lemmas on a range of rows (links) in order of their local addresses: its first row has the lowest
--- address, and its last row the highest
+-- Lemmas on a range of rows (links) in order of their local addresses. The first row of the range
+-- has the lowest address, and the last row has the highest address.
 module _ (rows : List Link) (first end : ℕ) (some : first < end) (bound : end ≤ length rows) (rising : IsNonDecreasingBy (λ l. l.local) (between first end rows)) where
   long : length (between first end rows) ≡ end - first
   long = length-between rows first end bound
@@ -67,15 +68,15 @@ module _ (rows : List Link) (first end : ℕ) (some : first < end) (bound : end 
       ap (λ (l : Link). l.local) (get_or-between rows first end (end - first - 1) d (omega (arith, some)) ∙ ap (λ i. get_or rows i d) last ∙ get_or_default rows (end - 1) d e (omega (arith, some, bound))) in
       omega (arith, top, rising k (end - first - 1) d (omega (arith, h, long)) (omega (arith, some, long)))
 
--- those links of a database that run from one router are in order of their local addresses
+-- the links of a database that begin at one router are in order of their local addresses
 pub links_rise : (d : Database) (rows : List Link) (marks : List ℕ) (part : List Link) (router : ℕ) → marked_database rows marks ≡ d → AreByKey rows → part ≡ links_from d router → IsNonDecreasingBy (λ l. l.local) part
 links_rise d rows marks part router e by_key is =
     subst (IsNonDecreasingBy (λ l. l.local))
     (ap (filter (λ (l : Link). nat_eq l.from router)) (sym (links_of-database_of rows by_key) ∙ ap links_of e) ∙ sym is)
     (locals_rise rows router by_key)
 
--- if the prefix covers no address from that of the first row (a link) to that of the last row, it
--- covers the address of no row
+-- Suppose that the prefix covers no address from the first row's local address to the last row's
+-- local address. Then the prefix covers no row's local address. A row is a link.
 pub none_between : (prefix : PrefixParts) (rows : List Link) (first last : Link) → 0 < length rows → IsNonDecreasingBy (λ l. l.local) rows
     → ((address : ℕ) → (get_or rows 0 first).local ≤ address → address ≤ (get_or rows (length rows - 1) last).local → ¬ Covers prefix address) → All (λ l. ¬ Covers prefix l.local) rows
 none_between prefix rows first last some rising none k d h =
@@ -83,8 +84,8 @@ none_between prefix rows first last some rising none k d h =
     let top : (get_or rows (length rows - 1) last).local ≡ (get_or rows (length rows - 1) d).local = ap (λ (l : Link). l.local) (get_or_default rows (length rows - 1) last d (omega (arith, some))) in
     none (get_or rows k d).local (omega (arith, bottom, rising 0 k d (omega arith) h)) (omega (arith, top, rising k (length rows - 1) d (omega (arith, h)) (omega (arith, some))))
 
--- the router that is read at an index of a table's routers is the router at this index of the
--- database's list
+-- the router at an index of the table's column of routers is the router at the same index of the
+-- database's `router_list`
 pub router_at : (d : Database) (rows : List Link) (marks : List ℕ) (routers : List ℕ) (at router : ℕ) → marked_database rows marks ≡ d → routers ≡ router_list (database_of rows) → at < length (router_list d)
     → router ≡ get_or routers at router → router ≡ slice_index (router_list d) at
 router_at d rows marks routers at router e all h read =
@@ -92,17 +93,16 @@ router_at d rows marks routers at router e all h read =
     let within : at < length routers = subst (λ rs. at < length rs) (sym listed) h in
     get_or_read_under routers at (length routers) router 0 read within refl ∙ ap (λ rs. slice_index rs at) listed
 
--- each router in the list is a router of the database
+-- each router in `router_list` is a router of the database
 pub known_at : (d : Database) (rows : List Link) (marks : List ℕ) (at : ℕ) → marked_database rows marks ≡ d → at < length (router_list d) → IsRouterOf d (slice_index (router_list d) at)
 known_at d rows marks at e h = (Contains-router_list d (subst AreAtTheirKeys e (rows_keyed rows)) (slice_index (router_list d) at)).0 (Contains-get_or (router_list d) at 0 h)
 
--- The links of a database stay the same when the database also gets marks. A mark says that a
--- router has no transit.
+-- Marks don't change the links of a database. A mark says that a router has no transit.
 pub links_marked : (rows : List Link) (marks : List ℕ) (links : List Link) → AreLinksOf (database_of rows) links → AreLinksOf (marked_database rows marks) links
 links_marked rows marks links are = record { each = are.each; whole = are.whole }
 
--- if a prefix doesn't cover a router's ID, the router owns the prefix exactly if the prefix covers
--- one of the router's local addresses
+-- Suppose that a prefix doesn't cover a router's Router ID. Then the router owns the prefix
+-- (`Owns`) exactly if the prefix covers the local address of a link that begins at the router.
 pub owned_by_links : (d : Database) (rows : List Link) (marks : List ℕ) (part : List Link) (prefix : PrefixParts) (router : ℕ) (b : Bool) → marked_database rows marks ≡ d → AreByKey rows → IsRouterOf d router → part ≡ links_from d router
     → ¬ Covers prefix router → (b ≡ true → (at : ℕ) × (at < length part) × HoldsAt (λ l. Covers prefix l.local) part at) → (b ≡ false → All (λ l. ¬ Covers prefix l.local) part)
     → IsTrue b ↔ Owns d prefix router

@@ -1,4 +1,5 @@
--- One step of merging rows (links) and changes, both of which are in order of their keys.
+-- One step of merging changes into rows (links). The changes and the rows are in order of their
+-- keys.
 use Rattle.std.proofs.Common.{◌≡◌, ℕ, suc, ◌+◌, ◌-◌, ◌<◌, ◌≤◌, nat_lt, true, false, List, [], ◌∷◌, ◌++◌, length, map, drop, get_or, slice_set, refl, sym, ap, subst, ◌∙◌, append_assoc, add-one, append-nil, length-append, length-drop, ◌≢◌, All, arith}
 use Rattle.std.specs.Ordering.{is_lt, is_eq}
 use Rattle.std.specs.declared.cmp.Ordering.{Ordering}
@@ -23,8 +24,8 @@ use Rattle.cspf_columns.proofs.SortedEntries.{turned_greater, turned_less, test_
 use Rattle.cspf_model.proofs.Databases.OneChange.{database-without, relinked-absent}
 use Rattle.cspf_columns.proofs.RowOrder.{own_keys, entries-hit, entries-gap, by_key-entries, database_of-entries, by_key-without, untied}
 
--- copying rows (links) up to the index `next` doesn't change the list that joins the merged rows
--- and the rows that aren't copied yet
+-- the list of the merged rows followed by the rows that aren't copied yet doesn't change when rows
+-- up to the index `next` are copied to the merged rows
 copied : (old rows : List Link) (at next : ℕ) → at ≤ next → (old ++ between at next rows) ++ drop next rows ≡ old ++ drop at rows
 copied old rows at next le =
     let e : next ≡ at + (next - at) = omega arith in
@@ -32,26 +33,26 @@ copied old rows at next le =
     ∙ ap (λ xs. old ++ (between at next rows ++ xs)) (ap (λ n. drop n rows) e ∙ sym (drop-drop (next - at) at rows))
     ∙ ap (λ xs. old ++ xs) (take-append-drop (next - at) (drop at rows))
 
--- in the merged rows (links) followed by the rows from `next` on, the row after the merged rows is
--- the row at the index `next`
+-- in the list of the merged rows (links) followed by the rows from `next` on, the merged rows are
+-- followed by the row at the index `next`
 at_next : (out rows : List Link) (next : ℕ) (d : Link) → next < length rows → get_or (out ++ drop next rows) (length out) d ≡ get_or rows next d
 at_next out rows next d h = ap (λ xs. get_or (out ++ xs) (length out) d) (drop_more rows next d h) ∙ get_or_at out (get_or rows next d) (drop (next + 1) rows) d (length out) refl
 
--- if a link replaces the row (a link) after the merged rows, the result is the merged rows, the
--- link, and the rows from `next + 1` on
+-- if the link `l` replaces the row (a link) that follows the merged rows, the result is the merged
+-- rows, `l`, and the rows from `next + 1` on
 set-next : (out rows : List Link) (next : ℕ) (l : Link) → next < length rows → slice_set (out ++ drop next rows) (length out) l ≡ (out ++ l ∷ []) ++ drop (next + 1) rows
 set-next out rows next l h =
     ap (λ xs. slice_set (out ++ xs) (length out) l) (drop_more rows next l h) ∙ set_at out (get_or rows next l) (drop (next + 1) rows) l (length out) refl ∙ sym (append_assoc out (l ∷ []) (drop (next + 1) rows))
 
--- to insert a link at the index after the last merged row (a link) is to append it to the merged
--- rows: the rows from `next` on follow it
+-- if the link `l` is inserted right after the merged rows (links), the result is the merged rows,
+-- `l`, and the rows from `next` on
 insert-next : (out rows : List Link) (next : ℕ) (l : Link) → insert (out ++ drop next rows) (length out) l ≡ (out ++ l ∷ []) ++ drop next rows
 insert-next out rows next l =
     ap (λ xs. xs ++ l ∷ drop (length out) (out ++ drop next rows)) (take_at out (drop next rows) (length out) refl) ∙ ap (λ xs. out ++ l ∷ xs) (drop_at out (drop next rows) (length out) refl)
     ∙ sym (append_assoc out (l ∷ []) (drop next rows))
 
--- if the row (a link) after the merged rows is removed, what is left is the merged rows, followed
--- by the rows from `next + 1` on
+-- if the row (a link) that follows the merged rows is removed, the result is the merged rows
+-- followed by the rows from `next + 1` on
 without-next : (out rows : List Link) (next : ℕ) (d : Link) → next < length rows → without (out ++ drop next rows) (length out) ≡ out ++ drop (next + 1) rows
 without-next out rows next d h =
     ap (λ xs. without (out ++ xs) (length out)) (drop_more rows next d h)
@@ -65,8 +66,8 @@ some_row : (rows : List Link) (next : ℕ) → next < length rows → Link
 some_row [] next h = absurd (omega arith)
 some_row (l ∷ rows) next h = l
 
--- Suppose that a change puts a link with the key of the next row (a link). The changed database
--- then has the entries of the rows in which the link replaces this row.
+-- Suppose that a change puts a link with the key of the row (a link) at the index `next`. The
+-- entries of the changed database are the entries of the list in which the link replaces this row.
 entries-over : (old rows : List Link) (at next : ℕ) (l : Link) → AreByKey (old ++ drop at rows) → at ≤ next → next < length rows → HoldsAt (λ m. key_of m ≡ key_of l) rows next
     → entries (relinked (database_of (old ++ drop at rows)) (Put l)).links ≡ map entry_of (((old ++ between at next rows) ++ l ∷ []) ++ drop (next + 1) rows)
 entries-over old rows at next l by_key le h has =
@@ -77,7 +78,8 @@ entries-over old rows at next l by_key le h has =
     ∙ entries-hit (out ++ drop next rows) (length out) l (subst AreByKey (sym same) by_key) within (λ d. ap key_of (at_next out rows next d h) ∙ has d)
     ∙ ap (map entry_of) (set-next out rows next l h)
 
--- if the key of the last merged row (a link) is below a key, so are the keys of all merged rows
+-- if the key of the last merged row (a link) is below the key `k`, the keys of all merged rows are
+-- below `k`
 below_key : (out rest : List Link) (k : Key) → AreByKey (out ++ rest) → ((d : Link) → 0 < length out → key_cmp (key_of (get_or out (length out - 1) d)) k ≡ Less)
     → AllWithin (λ m. key_cmp (key_of m) k ≡ Less) (out ++ rest) 0 (length out)
 below_key out rest k by_key last i d lo h =
@@ -93,8 +95,8 @@ below_key out rest k by_key last i d lo h =
           subst (λ n. key_cmp (key_of (get_or (out ++ rest) n d)) k ≡ Less) (sym same) at_end
     ] refl
 
--- If the keys of the rows from `next` on are above a key, they are also above it in the list of the
--- merged rows followed by these rows. A row is a link of the table.
+-- Suppose that the keys of the rows (links) from `next` on are above the key `k`. They are still
+-- above `k` after the merged rows are put in front of these rows.
 above_copied : (out rows : List Link) (next : ℕ) (k : Key) → AllWithin (λ m. key_cmp (key_of m) k ≡ Greater) rows next (length rows)
     → AllWithin (λ m. key_cmp (key_of m) k ≡ Greater) (out ++ drop next rows) (length out) (length (out ++ drop next rows))
 above_copied out rows next k gap i d lo h =
@@ -102,9 +104,9 @@ above_copied out rows next k gap i d lo h =
     (sym (get_or-append_right out (drop next rows) (length out) i d refl lo ∙ get_or-drop next rows (i - length out) d))
     (gap (next + (i - length out)) d (omega arith) (omega (arith, h, lo, length-append out (drop next rows), length-drop next rows)))
 
--- Suppose that a change puts a link whose key is above the key of the last merged row, and below
--- the keys of the rows from `next` on. The changed database then has the entries of the merged
--- rows, the link, and the rows from `next` on. A row is a link of the table.
+-- Suppose that a change puts a link. The key of this link is above the key of the last merged row
+-- (a link), and below the keys of the rows from `next` on. The entries of the changed database are
+-- the entries of the merged rows, the link, and the rows from `next` on.
 entries-between : (old rows : List Link) (at next : ℕ) (l : Link) → AreByKey (old ++ drop at rows) → at ≤ next
     → AllWithin (λ m. key_cmp (key_of m) (key_of l) ≡ Greater) rows next (length rows)
     → ((d : Link) → 0 < length (old ++ between at next rows) → key_cmp (key_of (get_or (old ++ between at next rows) (length (old ++ between at next rows) - 1) d)) (key_of l) ≡ Less)
@@ -118,8 +120,8 @@ entries-between old rows at next l by_key le gap last =
     ∙ entries-gap (out ++ drop next rows) (length out) l sorted upto (below_key out (drop next rows) (key_of l) sorted last, above_copied out rows next (key_of l) gap)
     ∙ ap (map entry_of) (insert-next out rows next l)
 
--- if the next row (a link) has the key of a removal, the rows without this row make the changed
--- database, and are still in order of their keys
+-- Suppose that the row (a link) at the index `next` has the key of a removal. The rows without this
+-- row make the changed database, and are still in order of their keys.
 merged_removal : (old rows : List Link) (at next : ℕ) (k : Key) → AreByKey (old ++ drop at rows) → at ≤ next → next < length rows → HoldsAt (λ m. key_of m ≡ k) rows next
     → (database_of ((old ++ between at next rows) ++ drop (next + 1) rows) ≡ relinked (database_of (old ++ drop at rows)) (Remove k.0 k.1)) × AreByKey ((old ++ between at next rows) ++ drop (next + 1) rows)
 merged_removal old rows at next k by_key le h has =
@@ -135,8 +137,8 @@ merged_removal old rows at next k by_key le h has =
       subst AreByKey left (by_key-without (out ++ drop next rows) (length out) sorted),
     )
 
--- Lemmas on a row (a link) whose key is neither lower than a given key nor equal to it. The row's
--- key is higher, and so are the keys of all later rows.
+-- The next two lemmas: suppose that the key of a row (a link) isn't below `k` and isn't equal to
+-- `k`. Then the keys of this row and of all later rows are above `k`.
 higher : (o : Ordering) → is_lt o ≡ false → is_eq o ≡ false → o ≡ Greater
 higher Less no_less no_tie = absurd (cc)
 higher Equal no_less no_tie = absurd (cc)
@@ -157,9 +159,9 @@ above_next rows next k by_key no_less no_tie i d lo h =
           subst (λ n. key_cmp (key_of (get_or rows n d)) k ≡ Greater) (sym same) first
     ] refl
 
--- Suppose that the next row (a link) has the key of a change. Replace it by the link that the
--- change puts, or remove it if the change is a removal. The rows then make the changed database,
--- and are still in order of their keys.
+-- Suppose that the row (a link) at the index `next` has the key of a change. If the change puts a
+-- link, replace this row by the link; for a removal, remove this row. The rows then make the
+-- changed database, and are still in order of their keys.
 pub merged_over : (old rows : List Link) (at next : ℕ) (c : Change) → AreByKey (old ++ drop at rows) → at ≤ next → next < length rows → HoldsAt (λ m. link_key (key_of m) ≡ key_changed c) rows next
     → (database_of (((old ++ between at next rows) ++ links_put (c ∷ [])) ++ drop (next + 1) rows) ≡ relinked (database_of (old ++ drop at rows)) c)
     × AreByKey (((old ++ between at next rows) ++ links_put (c ∷ [])) ++ drop (next + 1) rows)
@@ -171,7 +173,8 @@ merged_over old rows at next (Remove from local) by_key le h has =
     (sym (append-nil (old ++ between at next rows))) (merged_removal old rows at next (from, local) by_key le h (λ d. link_keys_same _ (from, local) (has d)))
 merged_over old rows at next (Node router transit) by_key le h has = absurd (link_not_mark _ router (has (some_row rows next h)))
 
--- if the next row's key is higher than that of a removal, the removal changes nothing
+-- Suppose that the key of a removal is below the keys of the rows (links) from `next` on, and above
+-- the key of the last merged row. Then the removal changes nothing.
 removed_none : (old rows : List Link) (at next : ℕ) (k : Key) → AreByKey (old ++ drop at rows) → at ≤ next → AllWithin (λ m. key_cmp (key_of m) k ≡ Greater) rows next (length rows) → EndsBelow (old ++ between at next rows) (link_key k)
     → (database_of ((old ++ between at next rows) ++ drop next rows) ≡ relinked (database_of (old ++ drop at rows)) (Remove k.0 k.1)) × AreByKey ((old ++ between at next rows) ++ drop next rows)
 removed_none old rows at next k by_key le gap last =
@@ -192,9 +195,9 @@ removed_none old rows at next k by_key le gap last =
               untied _ k (ap is_eq (above_copied out rows next k gap i d behind h))
         ] refl
 
--- Suppose that the next row's key is higher than a change's key. Insert before this row (a link)
--- the link that the change puts, if it puts one. The rows then make the changed database, and are
--- still in order of their keys.
+-- Suppose that the keys of the rows (links) from `next` on are above the key of a change. If the
+-- change puts a link, insert this link in front of these rows; for a removal, insert nothing. The
+-- rows then make the changed database, and are still in order of their keys.
 pub merged_before : (old rows : List Link) (at next : ℕ) (c : Change) → AreByKey (old ++ drop at rows) → at ≤ next → AllWithin (λ m. change_key_cmp (link_key (key_of m)) (key_changed c) ≡ Greater) rows next (length rows)
     → EndsBelow (old ++ between at next rows) (key_changed c)
     → (database_of (((old ++ between at next rows) ++ links_put (c ∷ [])) ++ drop next rows) ≡ relinked (database_of (old ++ drop at rows)) c)
@@ -209,8 +212,8 @@ merged_before old rows at next (Node router transit) by_key le gap last =
     let same : old ++ drop at rows ≡ ((old ++ between at next rows) ++ []) ++ drop next rows = sym (ap (λ out. out ++ drop next rows) (append-nil (old ++ between at next rows)) ∙ copied old rows at next le) in
     (ap database_of (sym same), subst AreByKey same by_key)
 
--- Suppose that the last key of `old` is below `k`, and so are the keys of the rows (links) from
--- `at` up to `next`. The last key is still below `k` after these rows are appended to `old`.
+-- Suppose that the last key of `old` and the keys of the rows (links) from `at` up to `next` are
+-- below `k`. After these rows are appended to `old`, the key of the last row is still below `k`.
 pub copied_below : (old rows : List Link) (at next : ℕ) (k : ChangeKey) → at ≤ next → next ≤ length rows → EndsBelow old k → AllWithin (λ m. change_key_cmp (link_key (key_of m)) k ≡ Less) rows at next
     → EndsBelow (old ++ between at next rows) k
 copied_below old rows at next k le within last below d h =
@@ -230,9 +233,8 @@ copied_below old rows at next k le within last below d h =
           (ap (λ (m : Link). change_key_cmp (link_key (key_of m)) k) (get_or_append_left old part d (length old - 1) end) ∙ last d (omega (arith, same, h)))
     ] refl
 
--- Suppose that the last key of some rows (links) is below the key of a change. Append the link that
--- the change puts, if it puts one. The key of the last row is then below each key above the
--- change's key.
+-- Suppose that the key of the last row (a link) is below the key of a change. If the change puts a
+-- link, append this link. The key of the last row is then below each key above the change's key.
 pub put_below : (out : List Link) (c : Change) (k : ChangeKey) → EndsBelow out (key_changed c) → change_key_cmp (key_changed c) k ≡ Less → EndsBelow (out ++ links_put (c ∷ [])) k
 put_below out (Put l) k last less =
     let behind : length out ≡ length (out ++ l ∷ []) - 1 = omega (arith, length_push out l) in

@@ -1,6 +1,6 @@
--- How the column of reverses changes when one row (a link) is replaced, inserted or removed.
--- Meanwhile, a row with the key of this row counts as having no reverse. A column of reverses has
--- for each row the index of its reverse, or `NO_LINK`.
+-- How the column of reverses changes when one row (a link) is replaced, inserted or removed. During
+-- the change, rows with the key of this row count as having no reverse. For each row, the column of
+-- reverses has the index of the row's reverse, or `NO_LINK`.
 use Rattle.std.proofs.Common.{◌≡◌, ◌≢◌, ℕ, ◌+◌, ◌-◌, ◌<◌, ◌≤◌, ◌⊎◌, List, length, map, cond, eqb, leb, slice_index_or, slice_set, sym, ap, subst, ◌∙◌, inl, inr, arith}
 use Rattle.std.specs.List.{HoldsAt, insert, remove as without}
 use Rattle.std.proofs.lemmas.Bool.{cases_eq, cases_lt, eq-eqb, ne_eqb, le-leb, lt-leb}
@@ -13,13 +13,13 @@ use Rattle.cspf_model.specs.Lemmas.LinkRows.{AreByKey}
 use Rattle.cspf_columns.specs.Reverses.{AreReversesBut, no_key, same_key, index_behind, index_before}
 use Rattle.cspf_columns.proofs.PairedRows.{IsPair, here, paired, column_of, open_pair, taken_in_unmet}
 
--- the row (a link) at the index `j` of the list `new` is one of the rows of the list `rows`, or
--- `out` holds of its key
+-- the row (a link) at the index `j` of the list `new` is also in the list `rows`, or `out` holds of
+-- the row's key
 abbrev IsFrom : (out : Key → Type 0) (rows new : List Link) (d : Link) (j : ℕ) → Type 0
 IsFrom out rows new d j = out (key_of (slice_index_or new j d)) ⊎ ((k : ℕ) × (k < length rows) × (slice_index_or new j d ≡ slice_index_or rows k d))
 
--- lemmas on how an index changes: `NO_LINK` stays, an index of at least `at` is moved, and a lower
--- index stays
+-- lemmas on how an index changes: `NO_LINK` stays `NO_LINK`, an index of at least `at` changes to
+-- `m`, and a lower index stays the same
 still_none : (at n m : ℕ) → n ≡ NO_LINK → cond (eqb n NO_LINK) n (cond (leb at n) m n) ≡ NO_LINK
 still_none at n m z = ap (λ b. cond b n (cond (leb at n) m n)) (eq-eqb n NO_LINK z) ∙ z
 
@@ -29,12 +29,12 @@ moved_from at n m some h = ap (λ b. cond b n (cond (leb at n) m n)) (ne_eqb n N
 kept_below : (at n m : ℕ) → n ≢ NO_LINK → n < at → cond (eqb n NO_LINK) n (cond (leb at n) m n) ≡ n
 kept_below at n m some h = ap (λ b. cond b n (cond (leb at n) m n)) (ne_eqb n NO_LINK some) ∙ ap (λ b. cond b m n) (lt-leb at n h)
 
--- Lemmas on rows and their column of reverses, in which each row with the key `k` counts as having
--- no reverse, and as being the reverse of no row. A row is a link of the table. A column of
--- reverses has for each row the index of its reverse, or `NO_LINK`.
+-- Lemmas on rows (links) and their column of reverses. Rows with the key `k` count as having no
+-- reverse, and as being no row's reverse. For each row, the column of reverses has the index of the
+-- row's reverse, or `NO_LINK`.
 module _ (rows : List Link) (column : List ℕ) (k : Key) (few : length rows ≤ ROOM_FOR_LINKS) (are : AreReversesBut (same_key k) rows column) where
-  -- Suppose that the rows (links) move to the indexes that `move` gives, and all other new rows
-  -- have the key `k`. Then `IsPair` holds of a moved row and the moved index of its reverse.
+  -- Suppose that `move` gives the new index of each row (a link), and that all other new rows have
+  -- the key `k`. Then `IsPair` holds of each moved row and the new index of its reverse.
   pair_moved : (new : List Link) (move : ℕ → ℕ) (d : Link) (i j : ℕ) → i < length rows → slice_index_or new j d ≡ slice_index_or rows i d
       → ((n : ℕ) → n < length rows → n ≢ NO_LINK → (¬ same_key k (key_of (slice_index_or rows n d))) → (move n ≢ NO_LINK) × (move n < length new) × (slice_index_or new (move n) d ≡ slice_index_or rows n d))
       → ((n : ℕ) → n ≡ NO_LINK → move n ≡ NO_LINK) → ((x : ℕ) → x < length new → IsFrom (same_key k) rows new d x)
@@ -59,7 +59,7 @@ module _ (rows : List Link) (column : List ℕ) (k : Key) (few : length rows ≤
 
   -- lemmas on a link `l` with the key `k`
   module _ (l : Link) (has_key : key_of l ≡ k) (at : ℕ) where
-    -- lemmas for the case that the link replaces the row (a link) with the same key
+    -- lemmas for the case that `l` replaces the row (a link) with the same key
     module _ (within : at < length rows) (has : HoldsAt (λ m. key_of m ≡ k) rows at) where
       abbrev over : List Link
       over = slice_set rows at l
@@ -89,7 +89,7 @@ module _ (rows : List Link) (column : List ℕ) (k : Key) (few : length rows ≤
                 (λ n z. z) (over_from d)
           ])
 
-    -- lemmas for the case that the link is inserted between rows (links)
+    -- lemmas for the case that `l` is inserted as a new row (a link)
     module _ (upto : at ≤ length rows) where
       abbrev wider : List Link
       wider = insert rows at l
@@ -120,8 +120,8 @@ module _ (rows : List Link) (column : List ℕ) (k : Key) (few : length rows ≤
         ]
       ]
 
-      -- after the link is inserted, `IsPair` holds of each old row (a link) and the adapted index
-      -- of its reverse
+      -- after `l` is inserted, `IsPair` holds of each old row (a link) and the new index of its
+      -- reverse
       pair_behind : (d : Link) (i j : ℕ) → i < length rows → slice_index_or wider j d ≡ slice_index_or rows i d → IsPair (same_key k) wider d j (index_behind at (slice_index_or column i 0))
       pair_behind d i j old same =
           pair_moved wider (index_behind at) d i j old same (λ n inside some _. elim (cases_lt n at) [

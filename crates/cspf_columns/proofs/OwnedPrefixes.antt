@@ -1,4 +1,4 @@
--- Whether a router owns a prefix is decided by the rows (links) from the router.
+-- How the rows (links) that begin at a router decide whether the router owns a prefix (`Owns`).
 use Rattle.std.proofs.Common.{◌≡◌, ℕ, zero, suc, ◌<◌, ◌↔◌, Bool, true, false, cond, IsTrue, List, [], ◌∷◌, All, Contains, length, nat_eq, slice_index_or, refl, sym, ap, subst, ◌∙◌, inl, inr, arith}
 use Rattle.std.specs.List.{HoldsAt, filter}
 use Rattle.std.proofs.lemmas.Bool.Decides.{nat_tests}
@@ -23,8 +23,9 @@ same_number m n tie = grind (arith, nat_tests)
 ties : (m n : ℕ) → m ≡ n → nat_eq m n ≡ true
 ties m n is = grind (arith, nat_tests)
 
--- Some row from the router has its local address in the prefix exactly if some link of the database
--- from this router has its local address in it. A row is a link of the table.
+-- Suppose that `rows` has exactly the links of the database. The test `b` says whether some row
+-- that begins at the router has its local address in the prefix. Then `b` says the same of the
+-- database's links.
 pub tells_link : (prefix : PrefixParts) (router : ℕ) (d : Database) (rows : List Link) (b : Bool)
     → AreLinksOf d rows
     → (b ≡ true → (at : ℕ) × (at < length (filter (λ l. nat_eq l.from router) rows)) × HoldsAt (λ l. Covers prefix l.local) (filter (λ l. nat_eq l.from router) rows) at)
@@ -43,14 +44,15 @@ tells_link prefix router d rows false listed hit miss = (
   λ (l, is, begins). absurd (All-contains (λ m. ¬ Covers prefix m.local) (filter (λ m. nat_eq m.from router) rows) l (miss refl) (Contains-filter (λ m. nat_eq m.from router) rows l (listed.whole l is) (ties l.from router begins.from)) begins.local),
 )
 
--- if a router of the database has its ID in the prefix, it owns the prefix
+-- if the Router ID of a router of the database is in the prefix, the router owns the prefix
+-- (`Owns`)
 pub owned_itself : (d : Database) (prefix : PrefixParts) (router : ℕ) (b : Bool) → b ≡ true
     → IsRouterOf d router → Covers prefix router → IsTrue b ↔ Owns d prefix router
 owned_itself d prefix router b on known covered =
     ((λ _. record { known = known; covered = inl covered }), λ _. on)
 
--- if a router doesn't have its ID in the prefix, it owns the prefix exactly if the prefix covers
--- the address of one of its interfaces
+-- Suppose that the Router ID of a router isn't in the prefix. Then the router owns the prefix
+-- (`Owns`) exactly if the prefix covers the address of one of the router's interfaces.
 pub owned_by_link : (d : Database) (prefix : PrefixParts) (router : ℕ) (b : Bool)
     → IsRouterOf d router → ¬ Covers prefix router
     → IsTrue b ↔ ((l : Link) × IsLinkOf d l × BeginsWithin prefix router l)

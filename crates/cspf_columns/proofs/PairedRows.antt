@@ -1,6 +1,6 @@
--- The column of reverses while a row (a link) changes. The row is first separated from its reverse,
--- then changed, and then paired with its new reverse. A column of reverses has for each row the
--- index of its reverse, or `NO_LINK`.
+-- The column of reverses while one row (a link) changes. The row is first separated from its
+-- reverse, then changed, and then paired with its new reverse. For each row, the column of reverses
+-- has the index of the row's reverse, or `NO_LINK`.
 use Rattle.std.proofs.Common.{◌≡◌, ◌≢◌, ℕ, ◌<◌, ◌⊎◌, List, [], ◌∷◌, All, length, slice_index_or, slice_set, refl, sym, ap, subst, ◌∙◌, inl, inr, arith}
 use Rattle.std.specs.List.{HoldsAt}
 use Rattle.std.proofs.lemmas.Bool.{cases_eq}
@@ -21,8 +21,9 @@ turned l r is = record { from = sym is.to; local = sym is.remote; to = sym is.fr
 pub one_key : (l r s : Link) → IsReverse l r → IsReverse l s → key_of r ≡ key_of s
 one_key l r s is also = λ t. ((is.from ∙ sym also.from) t, (is.local ∙ sym also.local) t)
 
--- The number `n` is the index of the reverse of the row (a link) at the index `i`, or `NO_LINK`. A
--- row whose key satisfies `out` counts as having no reverse, and as being no row's reverse.
+-- `n` is the index of the reverse of the row (a link) at the index `i`, or `NO_LINK` if this row
+-- has no reverse. Rows whose keys satisfy `out` count as having no reverse, and as being no row's
+-- reverse.
 pub record IsPair (out : Key → Type 0) (rows : List Link) (d : Link) (i n : ℕ) : Type 0 where
   pub within : n ≢ NO_LINK → n < length rows
   pub found : n ≢ NO_LINK → IsReverse (slice_index_or rows i d) (slice_index_or rows n d)
@@ -54,7 +55,7 @@ index_of_pair out rows d i n is =
           subst (λ r. out (key_of l) ⊎ out (key_of r)) (sym same) (is.none z j inside (subst (IsReverse l) same back));
     }
 
--- `IsPair` holds of each row's index and of the item that the column has for this row (a link)
+-- `IsPair` holds of the index of each row (a link) and the item at this index of the column
 abbrev pub ArePaired : (out : Key → Type 0) (rows : List Link) (column : List ℕ) → Type 0
 ArePaired out rows column = (i : ℕ) (d : Link) → i < length rows → IsPair out rows d i (slice_index_or column i 0)
 
@@ -64,16 +65,16 @@ paired out rows column are i d h = pair_of out rows d i (slice_index_or column i
 pub column_of : (out : Key → Type 0) (rows : List Link) (column : List ℕ) → length column ≡ length rows → ArePaired out rows column → AreReversesBut out rows column
 column_of out rows column many are = record { many = many; each = λ i d h. index_of_pair out rows d i (slice_index_or column i 0) (are i d h) }
 
--- `IsPair` holds of the row (a link) at the index `i` and `NO_LINK`, if `out` holds of the row's
--- own key, or of the keys of all its reverses
+-- `IsPair` holds of the row (a link) at the index `i` and of `NO_LINK`, if `out` holds of the row's
+-- key, or of the keys of all its reverses
 pub open_pair : (out : Key → Type 0) (rows : List Link) (d : Link) (i : ℕ)
     → ((j : ℕ) → j < length rows → IsReverse (slice_index_or rows i d) (slice_index_or rows j d) → out (key_of (slice_index_or rows i d)) ⊎ out (key_of (slice_index_or rows j d)))
     → IsPair out rows d i NO_LINK
 open_pair out rows d i none = record { within = λ some. absurd (some refl); found = λ some. absurd (some refl); kept = λ some. absurd (some refl); none = λ _. none }
 
--- Suppose that no row (a link) has the key `k`. Then it makes no difference to a column of reverses
--- whether rows with this key count as having no reverse. A column of reverses has for each row the
--- index of its reverse, or `NO_LINK`.
+-- Suppose that no row (a link) has the key `k`. Then the column of reverses stays correct if rows
+-- with this key count as having no reverse. For each row, the column of reverses has the index of
+-- the row's reverse, or `NO_LINK`.
 pub left_out_unmet : (k : Key) (rows : List Link) (column : List ℕ) → All (λ l. key_of l ≢ k) rows → AreReversesBut no_key rows column → AreReversesBut (same_key k) rows column
 left_out_unmet k rows column unmet are = column_of (same_key k) rows column are.many (λ i d h. let is = paired no_key rows column are i d h in record {
   within = is.within;
@@ -101,13 +102,14 @@ module _ (rows : List Link) (by_key : AreByKey rows) (at : ℕ) (within : at < l
   pub here : (i : ℕ) (d : Link) → i < length rows → key_of (slice_index_or rows i d) ≡ k → i ≡ at
   here i d h same = one_index rows by_key i at d d h within (same ∙ sym (has d))
 
-  -- if a row (a link) has the same reverse as the row at `at`, it is the row at `at`
+  -- Suppose that the row (a link) at `at` is the reverse of the row at `i`, and that the row at `n`
+  -- is the reverse of the row at `at`. Then `i` is `n`.
   partner : (i n : ℕ) (d : Link) → i < length rows → n < length rows → IsReverse (slice_index_or rows at d) (slice_index_or rows n d) → IsReverse (slice_index_or rows i d) (slice_index_or rows at d) → i ≡ n
   partner i n d h inside is back = one_index rows by_key i n d d h inside (one_key (slice_index_or rows at d) _ _ (turned _ _ back) is)
 
-  -- Suppose that the column has no reverse for the row (a link) at `at`. Then it is still the
-  -- column of reverses if rows with the key `k` of this row count as having no reverse. A column of
-  -- reverses has for each row the index of its reverse, or `NO_LINK`.
+  -- Suppose that the column has `NO_LINK` for the row (a link) at `at`. Then the column of reverses
+  -- stays correct if rows with the key `k` of this row count as having no reverse. For each row,
+  -- the column of reverses has the index of the row's reverse, or `NO_LINK`.
   pub left_out_open : (column : List ℕ) → slice_index_or column at 0 ≡ NO_LINK → AreReversesBut no_key rows column → AreReversesBut (same_key k) rows column
   left_out_open column unpaired are = column_of (same_key k) rows column are.many (λ i d h.
       let is = paired no_key rows column are i d h in
@@ -124,9 +126,9 @@ module _ (rows : List Link) (by_key : AreByKey rows) (at : ℕ) (within : at < l
         none = λ z j inside back. absurd (neither (is.none z j inside back));
       })
 
-  -- In the column of reverses, set the items of the row (a link) at `at` and of its reverse to
-  -- `NO_LINK`. The result is the column of reverses if rows with the key `k` of the row at `at`
-  -- count as having no reverse.
+  -- Suppose that the row (a link) at `at` and its reverse both get `NO_LINK` in the column of
+  -- reverses. The new column is correct if rows with the key `k` of the row at `at` count as having
+  -- no reverse.
   pub left_out_parted : (column : List ℕ) (other : ℕ) → slice_index_or column at 0 ≡ other → other ≢ NO_LINK → AreReversesBut no_key rows column
       → AreReversesBut (same_key k) rows (slice_set (slice_set column other NO_LINK) at NO_LINK)
   left_out_parted column other is_other there are = column_of (same_key k) rows parted
@@ -174,16 +176,14 @@ module _ (rows : List Link) (by_key : AreByKey rows) (at : ℕ) (within : at < l
             none = λ z j inside back. absurd (neither (is.none z j inside back));
           })
 
-  -- lemmas on pairing the row (a link) at `at` with its reverse again, after it counted as having
-  -- no reverse; `other` is the index of this reverse, or `NO_LINK`
+  -- Lemmas on pairing the row (a link) at `at` with its reverse. `other` is the index of the
+  -- reverse, or `NO_LINK` if there is none. In `column`, the row still counts as having no reverse.
   module _ (column : List ℕ) (are : AreReversesBut (same_key k) rows column) (other : ℕ) (e : Link) (is : IsIndexOfReverse no_key rows (slice_index_or rows at e) other) where
-    -- `IsPair` holds of the row (a link) at `at` and the index `other`: it is the index of this
-    -- row's reverse, or `NO_LINK`
+    -- `IsPair` holds of the row (a link) at `at` and of `other`
     mine_now : (d : Link) → IsPair no_key rows d at other
     mine_now d = pair_of no_key rows d at other (subst (λ l. IsIndexOfReverse no_key rows l other) (get_or_default rows at e d within) is)
 
-    -- if the row (a link) at `at` has no reverse, the column has for each row the index of its
-    -- reverse, or `NO_LINK`
+    -- if the row (a link) at `at` has no reverse, the column is the column of reverses of all rows
     pub taken_in_open : other ≡ NO_LINK → AreReversesBut no_key rows column
     taken_in_open unpaired = column_of no_key rows column are.many (λ i d h.
         let is = paired (same_key k) rows column are i d h in
@@ -197,8 +197,8 @@ module _ (rows : List Link) (by_key : AreByKey rows) (at : ℕ) (within : at < l
           ];
         })
 
-    -- Suppose that the row (a link) at `at` has a reverse, and each of the two gets the other's
-    -- index. The column then has for each row the index of its reverse, or `NO_LINK`.
+    -- Suppose that the row (a link) at `at` has a reverse, and that each of these two rows gets the
+    -- index of the other row. Then the column is the column of reverses of all rows.
     pub taken_in_paired : other ≢ NO_LINK → at ≢ NO_LINK → AreReversesBut no_key rows (slice_set (slice_set column other at) at other)
     taken_in_paired there below = column_of no_key rows together (length-set (slice_set column other at) at other ∙ length-set column other at ∙ are.many)
         (λ i d h. elim (cases_eq i at) [ inl same ↦ at_it i d h same | inr apart ↦ elim (cases_eq i other) [ inl same ↦ at_other i d h apart same | inr also ↦ elsewhere i d h apart also ] ])

@@ -26,14 +26,14 @@ use Rattle.cspf_columns.proofs.RouterColumn.{to_router, router_list-column}
 use Rattle.cspf_columns.proofs.RouterPlaces.{moved_ends}
 use Rattle.cspf_columns.proofs.OwnedPrefixes.{Contains-filter}
 
--- a filter keeps at most as many numbers as the list has
+-- a filter keeps at most `length ns` numbers of the list `ns`
 length-filter-le : (p : ℕ → Bool) (ns : List ℕ) → length (filter p ns) ≤ length ns
 length-filter-le p [] = omega arith
 length-filter-le p (n ∷ ns) =
     let rest = length-filter-le p ns in
     elim (p n) as (λ b. length (cond b (n ∷ filter p ns) (filter p ns)) ≤ length (n ∷ ns)) [ true ↦ omega (arith, rest) | false ↦ omega (arith, rest) ]
 
--- if a filter keeps as many numbers as the list has, it keeps all of them
+-- if a filter keeps at least `length ns` numbers of the list `ns`, the filter keeps all of them
 pub filter_whole : (p : ℕ → Bool) (ns : List ℕ) → length ns ≤ length (filter p ns) → filter p ns ≡ ns
 filter_whole p [] h = refl
 filter_whole p (n ∷ ns) h =
@@ -42,7 +42,7 @@ filter_whole p (n ∷ ns) h =
       | false ↦ λ as_many. absurd (omega (arith, as_many, length-filter-le p ns))
     ] h
 
--- if a number is below all numbers of a list, it is below all numbers that a filter keeps
+-- if a number is below all numbers of a list, the number is below all numbers that a filter keeps
 below_filter : (p : ℕ → Bool) (q : ℕ) (ns : List ℕ) → T (below_all nat_cmp q (map with_nothing ns)) → T (below_all nat_cmp q (map with_nothing (filter p ns)))
 below_filter p q [] below = tt
 below_filter p q (n ∷ ns) below =
@@ -51,7 +51,8 @@ below_filter p q (n ∷ ns) below =
       | false ↦ below_filter p q ns (both_second _ _ below)
     ]
 
--- if a list of numbers is rising, so is the list of the numbers that a filter keeps
+-- if a list of numbers is in increasing order, the numbers that a filter keeps are in increasing
+-- order
 sorted_filter : (p : ℕ → Bool) (ns : List ℕ) → T (is_sorted nat_cmp (map with_nothing ns)) → T (is_sorted nat_cmp (map with_nothing (filter p ns)))
 sorted_filter p [] sorted = tt
 sorted_filter p (n ∷ ns) sorted =
@@ -73,7 +74,7 @@ itself n = grind (arith, nat_tests)
 same_number : (m n : ℕ) → nat_eq m n ≡ true → m ≡ n
 same_number m n tie = grind (arith, nat_tests)
 
--- the test `is_end_of` passes for the router that a row (a link) runs from
+-- the test `is_end_of` passes for the router at which a row (a link) begins
 from_passes : (rows : List Link) (k : ℕ) (d : Link) → k < length rows → is_end_of rows (get_or rows k d).from ≡ true
 from_passes rows k d h =
     let from : ℕ = (get_or rows k d).from in
@@ -96,16 +97,16 @@ end_from rows router passes =
 
 -- lemmas on keeping only the routers at which rows (links) begin or end
 module _ (rows : List Link) (routers ends : List ℕ) (are : IsEndColumn rows routers ends) where
-  -- the router that each row (a link) runs from is among the routers that the filter keeps
+  -- the filter keeps the router at which a row (a link) begins
   froms_kept : All (λ l. Contains (filter (is_end_of rows) routers) l.from) rows
   froms_kept k d h = Contains-filter (is_end_of rows) routers (get_or rows k d).from (are.froms k d h) (from_passes rows k d h)
 
   tos_kept : All (λ l. Contains (filter (is_end_of rows) routers) l.to) rows
   tos_kept k d h = Contains-filter (is_end_of rows) routers (get_or rows k d).to (to_router rows routers ends are.ends k d h) (to_passes rows k d h)
 
-  -- If each item of the column of ends is replaced by its router's index in the list `kept`, the
-  -- result is the column of ends for this list. A column of ends has for each row the index of the
-  -- router that the row runs to.
+  -- If each item of the column of ends is replaced by the router's index in the list `kept`, the
+  -- result is the column of ends for this list. For each row, the column of ends has the index of
+  -- the router at which the row ends.
   pub column_kept : (kept places : List ℕ) → kept ≡ filter (is_end_of rows) routers → ArePlacesIn kept routers places → IsEndColumn rows kept (map (λ e. get_or places e 0) ends)
   column_kept kept places is placed =
       let among : All (Contains (filter (is_end_of rows) routers)) (map (λ e. get_or routers e 0) ends) =
@@ -113,15 +114,15 @@ module _ (rows : List Link) (routers ends : List ℕ) (are : IsEndColumn rows ro
       let moved = moved_ends (filter (is_end_of rows) routers) routers places ends are.ends.within among (rw is at placed) in
       rw is (record { froms = froms_kept; ends = record { within = moved.0; each = moved.1 ∙ are.ends.each } })
 
-  -- If `kept` are the routers at which rows begin or end, and `moved` is the column of ends for
-  -- this list, `kept` is the list of the database's routers. A row is a link of the table. A column
-  -- of ends has for each row the index of the router that the row runs to.
+  -- Suppose that `kept` has the routers at which rows (links) begin or end, and that `moved` is the
+  -- column of ends for `kept`. Then `kept` is the list of the database's routers. For each row, the
+  -- column of ends has the index of the router at which the row ends.
   pub router_list-kept : (kept moved : List ℕ) → AreByKey rows → AreRising routers → kept ≡ filter (is_end_of rows) routers → IsEndColumn rows kept moved → kept ≡ router_list (database_of rows)
   router_list-kept kept moved by_key rising is column =
       router_list-column rows kept moved column (subst (All (AnyEndsAt rows)) (sym is) (λ k d h. end_from rows _ (filter_passes (is_end_of rows) routers k d h))) by_key
       (subst AreRising (sym is) (rising_filter (is_end_of rows) routers rising))
 
--- lemmas on changes that put links only between the routers of a list
+-- lemmas on changes that put links between routers of the list `routers`
 module _ (routers : List ℕ) where
   one_listed : (c : Change) → HasListedEnds routers c → (b : Bool) (o : Option Link) (l : Link) → (o ≡ Some l → HasListedEnds routers (Put l)) → cond b (link_left c) o ≡ Some l → HasListedEnds routers (Put l)
   one_listed (Put m) known true o l old is = let same : m ≡ l = cc in subst (λ n. HasListedEnds routers (Put n)) same known
@@ -136,9 +137,9 @@ module _ (routers : List ℕ) where
       listed_after (relinked d c) cs (λ j m at. one_listed c (All-head (HasListedEnds routers) c cs all) (eq_by_cmp change_key_cmp (link_key j) (key_changed c)) (link_at d j) m (old j m) (sym (link_at-relinked d c j) ∙ at))
       (All-tail (HasListedEnds routers) c cs all) k l is
 
-  -- Suppose that both ends of each row before the changes are in the list of routers, and so are
-  -- the ends of all links that the changes put. Then both ends of each row after the changes are in
-  -- the list too. A row is a link of the table.
+  -- Suppose that the list `routers` has the two routers of each row (a link) before the changes,
+  -- and the two routers of each link that the changes put. Then the list has the two routers of
+  -- each row after the changes.
   pub rows_listed_after : (rows new : List Link) (ends : List ℕ) (cs : List Change) → IsEndColumn rows routers ends → AreByKey new → database_of new ≡ all_relinked (database_of rows) cs
       → All (HasListedEnds routers) cs → All (λ l. HasListedEnds routers (Put l)) new
   rows_listed_after rows new ends cs are by_key made all k d h =

@@ -30,7 +30,7 @@ alike true t there back = sym (there refl)
 alike false true there back = back refl
 alike false false there back = refl
 
--- two options of `Unit` are equal if both have a value or neither has one
+-- two options of `Unit` are equal if both are `Some` or both are `None`
 same_nothing : (o p : Option (Unit {0})) → is_some o ≡ is_some p → o ≡ p
 same_nothing None None e = refl
 same_nothing None (Some v) e = absurd (cc)
@@ -43,15 +43,15 @@ numbers_alike ms ns same =
     finite.same_map nat_cmp_total nat_cmp-IsAntisymmetric (numbers_in ms) (numbers_in ns) (λ q. same_nothing _ _ (contains_key-numbers_in ms q ∙ set.contains-from_list nat_cmp_total ms q ∙ same q
     ∙ sym (contains_key-numbers_in ns q ∙ set.contains-from_list nat_cmp_total ns q)))
 
--- a router that a row (a link) runs to is in the list of routers
+-- the list of routers has the router at which a row (a link) ends
 pub to_router : (rows : List Link) (routers ends : List ℕ) → AreEndsOf rows routers ends → (k : ℕ) (l : Link) → k < length rows → Contains routers (get_or rows k l).to
 to_router rows routers ends are k l h =
     let within : k < length ends = subst (λ n. k < n) (sym (length-ends rows routers ends are)) h in
     let found : slice_index routers (get_or ends k 0) ≡ (get_or rows k l).to = sym (get_or-map (λ e. slice_index routers e) ends k 0 0 within) ∙ ap (λ ns. get_or ns k 0) are.each ∙ get_or-map (λ (m : Link). m.to) rows k l 0 h in
     subst (Contains routers) found (Contains-get_or routers (get_or ends k 0) 0 (are.within k 0 within))
 
--- lemmas for the case that all endpoints of rows (links) are in the list of routers, and the list
--- has no other routers
+-- lemmas for the case that the list of routers has exactly the routers at which rows (links) begin
+-- or end
 module _ (rows : List Link) (routers ends : List ℕ) (are : IsEndColumn rows routers ends) (stay : All (AnyEndsAt rows) routers) where
   -- a router at which a row (a link) begins or ends is in the list
   among : (q k : ℕ) (l : Link) → k < length rows → get_or rows k l ≡ l → EndsAt q l → Contains routers q
@@ -71,18 +71,18 @@ module _ (rows : List Link) (routers ends : List ℕ) (are : IsEndColumn rows ro
   router_list-column by_key rising =
       router_list-entries rows routers by_key (sym (entries-from_entries nat_cmp_total (map with_nothing routers) (test_from_true _ rising)) ∙ ap entries (numbers_alike routers (ends_of rows) same_members))
 
--- a router that a row (a link) runs from is in the list of the database's routers
+-- the list of the database's routers has the router at which a row (a link) begins
 pub from_among : (rows : List Link) (at : ℕ) (d : Link) → AreByKey rows → at < length rows → Contains (router_list (database_of rows)) (get_or rows at d).from
 from_among rows at d by_key h =
     (Contains-router_list (database_of rows) (rows_keyed rows) (get_or rows at d).from).1 (get_or rows at d, (rows_listed rows (own_keys rows by_key)).each at d h, inl refl)
 
--- a router that a row (a link) runs to is in the list of the database's routers
+-- the list of the database's routers has the router at which a row (a link) ends
 pub to_among : (rows : List Link) (at : ℕ) (d : Link) → AreByKey rows → at < length rows → Contains (router_list (database_of rows)) (get_or rows at d).to
 to_among rows at d by_key h =
     (Contains-router_list (database_of rows) (rows_keyed rows) (get_or rows at d).to).1 (get_or rows at d, (rows_listed rows (own_keys rows by_key)).each at d h, inr refl)
 
--- if the list of routers is that of the database, and `ends` has the index of the router that each
--- row (a link) runs to, `IsEndColumn` holds of them
+-- if `routers` is the list of the database's routers, and `AreEndsOf` holds of the rows (links),
+-- `routers` and `ends`, then `IsEndColumn` holds of them
 pub column_table : (rows : List Link) (routers ends : List ℕ) → AreByKey rows → routers ≡ router_list (database_of rows) → AreEndsOf rows routers ends → IsEndColumn rows routers ends
 column_table rows routers ends by_key all are = record {
   froms = λ k d h. subst (λ rs. Contains rs (get_or rows k d).from) (sym all) (from_among rows k d by_key h);

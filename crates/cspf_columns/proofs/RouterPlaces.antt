@@ -1,5 +1,5 @@
--- The indexes of routers in another list of routers, and the column of ends for this other list. A
--- column of ends has for each row the index of the router that the row runs to.
+-- The indexes of routers in another list of routers, and the column of ends for this other list.
+-- For each row, the column of ends has the index of the router at which the row ends.
 use Rattle.std.proofs.Common.{◌≡◌, ℕ, zero, suc, ◌+◌, ◌-◌, ◌<◌, ◌≤◌, ◌||◌, Bool, true, false, cond, List, [], ◌∷◌, ◌++◌, inl, inr, All, Contains, filter, length, map, take, drop, get_or, slice_index, slice_range, slice_set, append_assoc, nat_lt, nat_eq, refl, sym, ap, subst, ◌∙◌, arith}
 use Rattle.std.specs.List.{list_any, insert}
 use Rattle.std.specs.declared.cmp.Ordering.TheVariants.{Less}
@@ -16,7 +16,7 @@ use Rattle.cspf_columns.specs.Index.{with_nothing}
 use Rattle.cspf_columns.specs.Rows.{AreRising, AreEndsOf, IsEndColumn, IsPlaceOf, ArePlacesIn}
 use Rattle.cspf_columns.proofs.SortedEntries.{test_from_true, rises}
 
--- after an insertion the list still has each item that it had
+-- a list still has each of its items after an insertion
 Contains-insert : (xs : List ℕ) (i x y : ℕ) → Contains xs y → Contains (insert xs i x) y
 Contains-insert xs i x y has =
     elim (Contains-append_cases (take i xs) (drop i xs) y (subst (λ ys. Contains ys y) (sym (take-append-drop i xs)) has)) [
@@ -31,15 +31,15 @@ kept_insert xs i x k d h = Contains-insert xs i x (get_or xs k d) (Contains-get_
 pub kept_twice : (xs ys zs : List ℕ) → All (Contains ys) xs → All (Contains zs) ys → All (Contains zs) xs
 kept_twice xs ys zs first second = All-weaker (Contains ys) (Contains zs) (λ y. All-contains (Contains zs) ys y second) xs first
 
--- if a list has both routers of the link that a change puts, so does each list that has all routers
--- of the first list
+-- if the list `xs` has the two routers of the link that a change puts, and `ys` has all routers of
+-- `xs`, then `ys` has these two routers
 pub listed_still : (xs ys : List ℕ) → All (Contains ys) xs → (c : Change) → HasListedEnds xs c → HasListedEnds ys c
 listed_still xs ys kept (Put l) listed = (All-contains (Contains ys) xs l.from kept listed.0, All-contains (Contains ys) xs l.to kept listed.1)
 listed_still xs ys kept (Remove from local) listed = tt
 listed_still xs ys kept (Node router transit) listed = tt
 
--- the index of an item among those that a filter keeps is the number of earlier items that the
--- filter keeps
+-- if a filter keeps an item, the item's index among the kept items is the number of earlier items
+-- that the filter keeps
 filter_place : (p : ℕ → Bool) (rs : List ℕ) (k : ℕ) → k < length rs → p (slice_index rs k) ≡ true → IsPlaceOf (filter p rs) (slice_index rs k) (length (filter p (take k rs)))
 filter_place p [] k h on = absurd (omega arith)
 filter_place p (r ∷ rs) zero h on = subst (λ b. IsPlaceOf (cond b (r ∷ filter p rs) (filter p rs)) r 0) (sym on) (record { within = omega arith; found = refl })
@@ -50,15 +50,15 @@ filter_place p (r ∷ rs) (suc k) h on =
       | false ↦ rest
     ]
 
--- if `places` has for each index the number of earlier items that the filter keeps, it has for each
--- kept item its index among the kept items
+-- Suppose that, at each index, `places` has the number of earlier items that the filter keeps.
+-- Then, for each kept item, `places` has the item's index among the kept items.
 pub filter_places : (p : ℕ → Bool) (routers places : List ℕ) → ((k : ℕ) → k < length routers → slice_index places k ≡ length (filter p (take k routers))) → ArePlacesIn (filter p routers) routers places
 filter_places p routers places placed at h among =
     subst (IsPlaceOf (filter p routers) (slice_index routers at)) (sym (placed at h))
     (filter_place p routers at h (All-contains (λ r. p r ≡ true) (filter p routers) (slice_index routers at) (filter_passes p routers) among))
 
--- if `f` was applied to the first `i` items of a list, and is applied to the next item, it was
--- applied to the first `i + 1` items
+-- if `f` is already applied to the first `i` items of a list, and is now applied to the next item,
+-- it is applied to the first `i + 1` items
 pub moved_one : (f : ℕ → ℕ) (xs ns : List ℕ) (i : ℕ) → i < length xs → ns ≡ map f (take i xs) ++ drop i xs → slice_set ns i (f (slice_index ns i)) ≡ map f (take (i + 1) xs) ++ drop (i + 1) xs
 moved_one f xs ns i h is =
     let front : List ℕ = map f (take i xs) in
@@ -69,8 +69,8 @@ moved_one f xs ns i h is =
     let read : slice_index ns i ≡ x = ap (λ ys. slice_index ys i) split ∙ get_or_at front x rest 0 i at in
     (λ t. slice_set (split t) i (f (read t))) ∙ set_at front x rest (f x) i at ∙ sym (ap (λ ys. ys ++ rest) (map_more f xs i 0 h) ∙ append_assoc front (f x ∷ []) rest)
 
--- if each item of the column of ends is replaced by its router's index in `others`, the new items
--- are the indexes of the same routers in this list
+-- if each item of the column of ends is replaced by the router's index in `others`, the new items
+-- are the indexes of the same routers in `others`
 pub moved_ends : (others routers places ends : List ℕ) → All (λ e. e < length routers) ends → All (Contains others) (map (λ e. slice_index routers e) ends) → ArePlacesIn others routers places
     → All (λ e. e < length others) (map (λ e. slice_index places e) ends) × (map (λ e. slice_index others e) (map (λ e. slice_index places e) ends) ≡ map (λ e. slice_index routers e) ends)
 moved_ends others routers places [] within among are = (All-nil _, refl)
@@ -80,15 +80,15 @@ moved_ends others routers places (e ∷ ends) within among are =
     (All-cons (λ n. n < length others) (slice_index places e) (map (λ n. slice_index places n) ends) at.within rest.0, λ i. at.found i ∷ rest.1 i)
 
 -- If the list `others` has all routers of `routers`, it has each router whose index in `routers` is
--- an item of the column of ends. A column of ends has for each row the index of the router that the
--- row runs to.
+-- an item of the column of ends. For each row, the column of ends has the index of the router at
+-- which the row ends.
 pub ends_kept : (others routers ends : List ℕ) → All (λ e. e < length routers) ends → All (Contains others) routers → All (Contains others) (map (λ e. slice_index routers e) ends)
 ends_kept others routers ends within kept = All-map (Contains others) (λ e. slice_index routers e) ends (λ k d h. kept (get_or ends k d) 0 (within k d h))
 
--- Suppose that `others` has all routers of `routers`. For each row (a link), let the item of
--- `moved` be the index in `others` of the router whose index in `routers` is the item of `ends`.
--- Then `moved` is the column of ends for `others`. A column of ends has for each row the index of
--- the router that the row runs to.
+-- Suppose that `others` has all routers of `routers`. Suppose also that, for each row (a link),
+-- `ends` and `moved` have indexes of the same router. The index in `ends` belongs to `routers`, and
+-- the index in `moved` to `others`. Then `moved` is the column of ends for `others`. For each row,
+-- the column of ends has the index of the router at which the row ends.
 pub column_more : (rows : List Link) (routers ends others moved : List ℕ) → IsEndColumn rows routers ends → All (Contains others) routers → All (λ e. e < length others) moved
     → map (λ e. slice_index others e) moved ≡ map (λ e. slice_index routers e) ends → IsEndColumn rows others moved
 column_more rows routers ends others moved are kept within same = record {
@@ -105,8 +105,8 @@ any-filter p (l ∷ rows) =
 some_left : (m n : ℕ) → nat_lt m n ≡ nat_lt 0 (n - m)
 some_left m n = elim (nat_lt m n) as (λ b. nat_lt m n ≡ b → b ≡ nat_lt 0 (n - m)) [ true ↦ λ e. grind (arith, nat_tests) | false ↦ λ e. grind (arith, nat_tests) ] refl
 
--- if a filter keeps exactly a range of the rows (links), then some row passes the filter's test
--- exactly if the range isn't empty
+-- if a filter keeps exactly a range of the rows (links), some row passes the filter's test exactly
+-- if the range isn't empty
 pub any_span : (p : Link → Bool) (rows : List Link) (first end : ℕ) → end ≤ length rows → slice_range rows first end ≡ filter p rows → nat_lt first end ≡ list_any p rows
 any_span p rows first end bound is =
     some_left first end ∙ ap (nat_lt 0) (sym (length-between rows first end bound) ∙ ap length is) ∙ sym (any-filter p rows)
@@ -116,17 +116,18 @@ any-map : {A B : Type 0} (p : B → Bool) (f : A → B) (xs : List A) → list_a
 any-map p f [] = refl
 any-map p f (x ∷ xs) = ap (λ b. p (f x) || b) (any-map p f xs)
 
--- if two tests agree on each item of a list, they agree on whether some item of it passes
+-- if two tests agree on each item of a list, they agree on whether some item of the list passes
 any_agree : (p q : ℕ → Bool) (ns : List ℕ) → All (λ n. p n ≡ q n) ns → list_any p ns ≡ list_any q ns
 any_agree p q [] all = refl
 any_agree p q (n ∷ ns) all = λ i. All-head (λ m. p m ≡ q m) n ns all i || any_agree p q ns (All-tail (λ m. p m ≡ q m) n ns all) i
 
 module _ (routers : List ℕ) (rising : AreRising routers) where
-  -- in a rising list each router is above those before it
+  -- in a list in increasing order, the router at a lower index is lower than the router at a higher
+  -- index
   pub lower : (i j : ℕ) → i < j → j < length routers → slice_index routers i < slice_index routers j
   lower i j le h = ranked (get_or routers i 0) (get_or routers j 0) Less (sym (rises nat_cmp_total with_nothing routers (test_from_true _ rising) i j 0 le h))
 
-  -- the routers at two different indexes of a rising list differ
+  -- the routers at two indexes are equal exactly if the indexes are equal
   pub one_place : (i j : ℕ) → i < length routers → j < length routers → nat_eq (slice_index routers i) (slice_index routers j) ≡ nat_eq i j
   one_place i j hi hj =
       elim (nat_lt i j) as (λ b. nat_lt i j ≡ b → nat_eq (slice_index routers i) (slice_index routers j) ≡ nat_eq i j) [
@@ -140,8 +141,8 @@ module _ (routers : List ℕ) (rising : AreRising routers) where
       itself : (n : ℕ) → nat_eq n n ≡ true
       itself n = grind (arith, nat_tests)
 
-  -- An index is an item of the column of ends exactly if a row (a link) runs to the router at this
-  -- index. A column of ends has for each row the index of the router that the row runs to.
+  -- An index is an item of the column of ends exactly if a row (a link) ends at the router with
+  -- this index. For each row, the column of ends has the index of the router at which the row ends.
   pub any_to-ends : (rows : List Link) (ends : List ℕ) → AreEndsOf rows routers ends → (at : ℕ) → at < length routers → list_any (λ e. nat_eq e at) ends ≡ any_to rows (slice_index routers at)
   any_to-ends rows ends are at h =
       any_agree (λ e. nat_eq e at) (λ e. nat_eq (slice_index routers e) (slice_index routers at)) ends (λ k d w. sym (one_place (get_or ends k d) at (are.within k d w) h))

@@ -40,12 +40,12 @@ pub one_index : (rows : List Link) → AreByKey rows → (i j : ℕ) (d e : Link
 one_index rows by_key i j d e within also same =
     elim (cases_lt i j) [ inl less ↦ absurd (apart_below rows by_key i j d e less also same) | inr upto ↦ elim (cases_lt j i) [ inl less ↦ absurd (apart_below rows by_key j i e d less within (sym same)) | inr also ↦ omega (arith, upto, also) ] ]
 
--- if rows (links) are in order of their keys, the entries that are made of the rows are the entries
--- of the database that the rows make
+-- if rows (links) are in order of their keys, the rows with their keys are the entries of the
+-- database that the rows make
 pub entries-database_of : (rows : List Link) → AreByKey rows → entries (database_of rows).links ≡ map entry_of rows
 entries-database_of rows by_key = entries-from_entries keys_total (map entry_of rows) (test_from_true _ by_key)
 
--- the links of the entries that are made of rows (links) are these rows
+-- if rows (links) are turned into entries, the links of the entries are the rows again
 links_with_keys : (rows : List Link) → map (λ (e : Key × Link). e.1) (map entry_of rows) ≡ rows
 links_with_keys [] = refl
 links_with_keys (l ∷ rows) = ap (λ ls. l ∷ ls) (links_with_keys rows)
@@ -55,8 +55,7 @@ links_with_keys (l ∷ rows) = ap (λ ls. l ∷ ls) (links_with_keys rows)
 pub links_of-database_of : (rows : List Link) → AreByKey rows → links_of (database_of rows) ≡ rows
 links_of-database_of rows by_key = ap (map (λ (e : Key × Link). e.1)) (entries-database_of rows by_key) ∙ links_with_keys rows
 
--- if rows (links) have the same keys and links as the entries of a map, in the same order, the rows
--- are in order of their keys
+-- if the rows (links) with their keys are the entries of a map, the rows are in order of their keys
 pub by_key-entries : (links : FinMap key_cmp Link) (rows : List Link) → entries links ≡ map entry_of rows → AreByKey rows
 by_key-entries links rows e = true_from_test _ (subst (λ es. T (is_sorted key_cmp es)) e (entries_sorted links))
 
@@ -80,7 +79,7 @@ pub entries-gap : (rows : List Link) (at : ℕ) (l : Link) → AreByKey rows →
 entries-gap rows at l by_key h gap =
     entries-insert keys_total (database_of rows).links (key_of l) l ∙ ap (put key_cmp (key_of l) l) (entries-database_of rows by_key) ∙ put-gap keys_total entry_of rows at l h gap.0 gap.1
 
--- if rows (links) are in order of their keys, they are still in order after one is removed
+-- if rows (links) are in order of their keys, they are still in order after one row is removed
 pub by_key-without : (rows : List Link) (at : ℕ) → AreByKey rows → AreByKey (without rows at)
 by_key-without rows at by_key = true_from_test _ (sorted_without keys_total entry_of rows at (test_from_true _ by_key))
 
@@ -99,7 +98,7 @@ pub key_gap : (rows : List Link) (k : Key) (r : Result ℕ ℕ) → AreByKey row
     → IfErr r (IsPartitionPoint (λ l. key_cmp (key_of l) k ≡ Less) (λ l. key_cmp (key_of l) k ≡ Greater) rows)
 key_gap rows k r by_key found = gap_from (λ l. key_cmp (key_of l) k) rows r found (searchable keys_total entry_of rows k (test_from_true _ by_key))
 
--- if one key is lower than another, the router of the lower key isn't above the router of the other
+-- if the key `j` is lower than the key `k`, the router of `j` isn't above the router of `k`
 from_le : (j k : Key) → key_cmp j k ≡ Less → j.0 ≤ k.0
 from_le j k is =
     elim (nat_cmp j.0 k.0) as (λ r. r ≡ nat_cmp j.0 k.0 → ordering_then r (nat_cmp j.1 k.1) ≡ Less → j.0 ≤ k.0) [
@@ -108,8 +107,8 @@ from_le j k is =
       | Greater ↦ λ _ off. absurd (cc)
     ] refl is
 
--- if rows (links) are in order of their keys, the router of each row isn't below the router of any
--- row before it
+-- if rows (links) are in order of their keys, the routers at which they begin are in non-decreasing
+-- order
 pub from_rises : (rows : List Link) → AreByKey rows → IsNonDecreasingBy (λ l. l.from) rows
 from_rises rows by_key i j d le h =
     elim (i_or i j le) [

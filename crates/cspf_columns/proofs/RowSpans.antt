@@ -1,4 +1,4 @@
--- Lemmas on the range of the rows (links) from a router.
+-- Lemmas on the range of the rows (links) that begin at a router.
 use Rattle.std.proofs.Common.{◌≡◌, inl, inr, ℕ, ◌+◌, ◌-◌, ◌<◌, ◌≤◌, Bool, true, false, cond, List, [], ◌∷◌, ◌++◌, All, length, take, drop, get_or, ltb, leb, nat_eq, slice_range, refl, sym, ap, ◌∙◌, arith}
 use Rattle.std.specs.List.{filter, between}
 use Rattle.std.specs.List.Sorted.{IsPartitionPoint, IsNonDecreasingBy}
@@ -42,7 +42,7 @@ module _ (rows : List Link) (router first end : ℕ) (in_first : first ≤ lengt
       at_end [] e off = absurd (omega (arith, ap length e))
       at_end (l ∷ ls) e off = crossed (get_or rows end l).from router (low.0 end l (omega arith) off) (high.1 end l (omega arith) (omega arith))
 
-  -- the rows (links) from the router are those in the range
+  -- the range has exactly the rows (links) that begin at the router
   pub filter-span : slice_range rows first end ≡ filter (λ l. nat_eq l.from router) rows
   filter-span =
       let p : Link → Bool = λ l. nat_eq l.from router in
@@ -77,8 +77,9 @@ upto m r h = grind (arith, nat_tests)
 not_upto : (m r : ℕ) → r < m → leb m r ≡ false
 not_upto m r h = grind (arith, nat_tests)
 
--- Lemmas on a range of rows (links) that are all from one router. The range has all rows from this
--- router, if the row before it is from a lower router, and the row after it from a higher router.
+-- Lemmas on a range of rows (links) that all begin at one router. The row that precedes the range
+-- begins at a lower router, and the row that follows the range begins at a higher router. So the
+-- range has all rows that begin at this router.
 module _ (rows : List Link) (router first end : ℕ) (rises : IsNonDecreasingBy (λ l. l.from) rows) (order : first ≤ end) (bound : end ≤ length rows)
     (run : (k : ℕ) (d : Link) → first ≤ k → k < end → (get_or rows k d).from ≡ router) (low : 0 < first → (d : Link) → (get_or rows (first - 1) d).from < router)
     (high : end < length rows → (d : Link) → router < (get_or rows end d).from) where
@@ -106,8 +107,8 @@ module _ (rows : List Link) (router first end : ℕ) (rises : IsNonDecreasingBy 
         λ k d past h. not_upto (get_or rows k d).from router (behind k d past h),
       )
 
--- if the first and the last of a range of rows (links) are from one router, all rows of the range
--- are from this router
+-- if the first and the last row (a link) of a range begin at one router, all rows of the range
+-- begin at this router
 pub run_between : (rows : List Link) (router first end : ℕ) (l m : Link) → IsNonDecreasingBy (λ l. l.from) rows → first < end → end ≤ length rows → l ≡ get_or rows first l → m ≡ get_or rows (end - 1) m → l.from ≡ router → m.from ≡ router
     → (k : ℕ) (d : Link) → first ≤ k → k < end → (get_or rows k d).from ≡ router
 run_between rows router first end l m rises some bound reads also from to k d past h =

@@ -1,4 +1,5 @@
--- Changes that are put in order by sorting a list of their keys and indexes.
+-- How changes are sorted by key: a list of their keys and indexes is sorted, and then the changes
+-- are copied in this order.
 use Rattle.std.proofs.Common.{◌≡◌, ℕ, ◌+◌, ◌<◌, false, List, [], ◌∷◌, ◌++◌, All, length, map, take, None, get_or, refl, sym, ap, subst, ◌∙◌, arith}
 use Rattle.std.specs.Ordering.{is_lt, is_eq, eq_by_cmp, nat_cmp, ordering_then, ordering_reverse}
 use Rattle.std.specs.declared.cmp.Ordering.{Ordering}
@@ -16,14 +17,14 @@ use Rattle.cspf_model.specs.Refusals.{AreOnceEach}
 use Rattle.cspf_columns.specs.MergeSteps.{AreSortedChanges, IsPlaceOfChange}
 use Rattle.cspf_model.proofs.Databases.Keys.{change_keys_total}
 
--- lemmas on reading changes by a list of pairs: each pair has the key and the index of a change
+-- lemmas on a list of pairs; each pair has the key and the index of a change
 module _ (changes : List Change) where
-  -- the change at the index that a pair has
+  -- the change whose index a pair has
   abbrev pub change_of : Change → ChangeKey × ℕ → Change
   change_of d place = get_or changes place.1 d
 
-  -- if the key and the index of one more change are appended to the list, each pair still has the
-  -- key of the change at the pair's index
+  -- if the key and the index of another change are appended to the list of pairs, each pair still
+  -- has the key and the index of the same change
   pub places_more : (order : List (ChangeKey × ℕ)) (at : ℕ) (k : ChangeKey) → at < length changes → ((d : Change) → k ≡ key_changed (get_or changes at d))
       → All (IsPlaceOfChange changes) order → All (IsPlaceOfChange changes) (order ++ (k, at) ∷ [])
   places_more order at k within key all =
@@ -34,46 +35,46 @@ module _ (changes : List Change) where
   listed_more order at k d within e =
       map-append (change_of d) order ((k, at) ∷ []) ∙ ap (λ cs. cs ++ get_or changes at d ∷ []) e ∙ sym (take_more changes at d within)
 
-  -- if the first `i` listed changes were copied, and the change at the next listed index is
-  -- appended, then the first `i + 1` listed changes are copied
+  -- if the changes of the first `i` pairs are copied, and the change of the next pair is appended,
+  -- the changes of the first `i + 1` pairs are copied
   pub copied_more : (order : List (ChangeKey × ℕ)) (i : ℕ) (place : ChangeKey × ℕ) (c d : Change) (out : List Change) → i < length order → place ≡ get_or order i place → place.1 < length changes
       → c ≡ get_or changes place.1 c → out ≡ map (change_of d) (take i order) → out ++ c ∷ [] ≡ map (change_of d) (take (i + 1) order)
   copied_more order i place c d out h is within read e =
       (λ t. e t ++ (read ∙ get_or_default changes place.1 c d within) t ∷ []) ∙ ap (λ p. map (change_of d) (take i order) ++ change_of d p ∷ []) is ∙ sym (map-append (change_of d) (take i order) (get_or order i place ∷ []))
       ∙ ap (map (change_of d)) (sym (take_more order i place h))
 
-  -- if the list of the indexes of all changes is permuted, the changes at these indexes are a
-  -- permutation of the changes
+  -- if the pairs of all changes are permuted, the changes of these pairs are a permutation of the
+  -- changes
   pub permuted : (order sorted : List (ChangeKey × ℕ)) (out : List Change) → ((d : Change) → map (change_of d) order ≡ changes) → IsPermutation order sorted → ((d : Change) → out ≡ map (change_of d) sorted)
       → IsPermutation changes out
   permuted order sorted out listed moved copied =
       let d : Change = Remove 0 0 in
       subst (λ cs. IsPermutation cs out) (listed d) (subst (IsPermutation (map (change_of d) order)) (sym (copied d)) (IsPermutation-map (change_of d) order sorted moved))
 
-  -- the key of a copied change is the key that is listed with the change's index
+  -- the key of a copied change is the key in the change's pair
   key_at : (sorted : List (ChangeKey × ℕ)) (out : List Change) → All (IsPlaceOfChange changes) sorted → ((d : Change) → out ≡ map (change_of d) sorted) → (k : ℕ) (d : Change) → k < length sorted
       → key_changed (get_or out k d) ≡ (get_or sorted k ((0, None), 0)).0
   key_at sorted out places copied k d h =
       ap (λ cs. key_changed (get_or cs k d)) (copied d) ∙ ap key_changed (get_or-map (change_of d) sorted k ((0, None), 0) d h) ∙ sym ((places k ((0, None), 0) h).key d)
 
--- keys with indices are compared by the key first, and then by the index
+-- pairs are compared by key first, and then by index
 abbrev place_cmp : ChangeKey × ℕ → ChangeKey × ℕ → Ordering
 place_cmp p q = ordering_then (change_key_cmp p.0 q.0) (nat_cmp p.1 q.1)
 
--- compare by `o`, and by `p` only if `o` is equal; if the result isn't less, `o` isn't less
+-- if `ordering_then o p` isn't `Less`, then `o` isn't `Less`
 first_not_less : (o p : Ordering) → is_lt (ordering_then o p) ≡ false → is_lt o ≡ false
 first_not_less Less p above = above
 first_not_less Equal p above = refl
 first_not_less Greater p above = refl
 
--- an ordering that is neither equal nor greater is less
+-- an ordering that is neither `Equal` nor `Greater` is `Less`
 only_less : (o p : Ordering) → o ≡ ordering_reverse p → is_lt p ≡ false → is_eq o ≡ false → o ≡ Less
 only_less o Less turned above apart = absurd (cc)
 only_less o Equal turned above apart = let tie = ap is_eq (sym turned) ∙ apart in absurd (cc)
 only_less o Greater turned above apart = turned
 
--- Suppose that changes are copied in the order of their sorted keys and indexes, and no two have
--- the same key. Then each change's key is above that of the change before it.
+-- Suppose that changes with different keys are copied in the order of their sorted pairs. Then the
+-- keys of the copied changes are in strictly increasing order.
 pub in_order : (changes : List Change) (sorted : List (ChangeKey × ℕ)) (out : List Change) → All (IsPlaceOfChange changes) sorted → ((d : Change) → out ≡ map (change_of changes d) sorted)
     → IsSorted place_cmp sorted → AreOnceEach out → AreSortedChanges out
 in_order changes sorted out places copied rising once k d h =

@@ -1,5 +1,4 @@
--- If a database has no more links than a table may have, the rows (links) that make the database
--- aren't more than this either.
+-- The limit on a database's links also holds for the rows (links) that make the database.
 use Rattle.std.proofs.Common.{◌≡◌, ◌≤◌, List, length, ap, arith}
 use Rattle.cspf_model.specs.declared.link.Link.{Link}
 use Rattle.cspf_model.specs.Database.{Database, link_count}

@@ -1,4 +1,4 @@
--- The links and the routers of a database in order, and the links from each router.
+-- A database's links in order, its routers in order, and the links that begin at each router.
 use Rattle.std.specs.Prelude.{◌≡◌, ◌≢◌, ◌<◌, ℕ, List, map, filter, length, nat_eq, slice_index, slice_index_or}
 use Rattle.std.specs.Ordering.{nat_cmp}
 use Rattle.std.specs.FinMap as finite
@@ -10,23 +10,23 @@ use Rattle.cspf_model.specs.Database.{Database, HasReverse, IsReverse, ends_of}
 abbrev pub links_of : Database → List Link
 links_of d = finite.values d.links
 
--- an entry of a map with the number as its key, and without a value
+-- a map entry with the number as its key, and no value
 abbrev pub with_nothing : ℕ → ℕ × Unit {0}
 with_nothing n = (n, tt)
 
--- the set of the numbers of a list
+-- the set of the numbers in a list
 abbrev pub numbers_in : List ℕ → finite.FinMap nat_cmp (Unit {0})
 numbers_in ns = finite.from_entries {R = nat_cmp} (map with_nothing ns)
 
--- the routers of a database in rising order: each router at an end of a link, listed once
+-- the routers of a database in increasing order, each listed once
 unfoldable pub router_list : Database → List ℕ
 router_list d = finite.keys (numbers_in (ends_of (links_of d)))
 
--- the links from a router, in order of the local address
+-- the links that begin at a router, in order of their local addresses
 abbrev pub links_from : Database → ℕ → List Link
 links_from d router = filter (λ l. nat_eq l.from router) (links_of d)
 
--- the links from the router at the index `at` of the list of routers
+-- the links that begin at the router with the index `at` in `router_list`
 abbrev pub links_from_index : Database → ℕ → List Link
 links_from_index d at = links_from d (slice_index (router_list d) at)
 

@@ -1,5 +1,5 @@
--- Private: the rows of a table, each of which is a link. Also the routers, the columns beside the
--- rows, and the database that the rows make.
+-- Private: the rows of a table, which are links, and the table's other columns. `database_of` makes
+-- a database from the rows.
 use Rattle.std.specs.Prelude.{◌≡◌, ◌+◌, ◌<◌, ◌≤◌, ℕ, IsTrue, List, All, Contains, filter, length, map, nat_eq, slice_index, slice_index_or, slice_range, Vec}
 use Rattle.std.specs.Vec.{vec_capacity}
 use Rattle.std.specs.declared.alloc.Global.{Global}
@@ -25,11 +25,11 @@ pub record HasSameEnds (l m : Link) : Type 0 where
   pub to : l.to ≡ m.to
   pub remote : l.remote ≡ m.remote
 
--- each router in the list is above the routers before it
+-- the routers in the list are in strictly increasing order
 abbrev pub AreRising : List ℕ → Type 0
 AreRising routers = IsTrue (is_sorted nat_cmp (map with_nothing routers))
 
--- `ends` has for each row (a link) the index in `routers` of the router that the row runs to
+-- for each row (a link), `ends` has the index in `routers` of the router at which the link ends
 pub record AreEndsOf (rows : List Link) (routers : List ℕ) (ends : List ℕ) : Type 0 where
   pub within : All (λ end. end < length routers) ends
   pub each : map (λ end. slice_index routers end) ends ≡ map (λ l. l.to) rows
@@ -39,21 +39,22 @@ pub record IsPlaceOf (routers : List ℕ) (router place : ℕ) : Type 0 where
   pub within : place < length routers
   pub found : slice_index routers place ≡ router
 
--- for each router that the list `others` also has, `places` has its index in `others`
+-- `places` has an item for each router of the list `routers`. If the list `others` also has this
+-- router, the item is the router's index in `others`.
 abbrev pub ArePlacesIn : List ℕ → List ℕ → List ℕ → Type 0
 ArePlacesIn others routers places =
     (at : ℕ) → at < length routers → Contains others (slice_index routers at)
     → IsPlaceOf others (slice_index routers at) (slice_index places at)
 
--- `indices` is the column of ends of the rows (links): for each row, the index of the router that
--- it runs to. The list `routers` also has each router that a row runs from.
+-- For each row (a link), `indices` has the index in `routers` of the router at which the link ends.
+-- `routers` also has each router at which a link begins.
 pub record IsEndColumn (links : List Link) (routers : List ℕ) (indices : List ℕ) : Type 0 where
   pub froms : All (λ l. Contains routers l.from) links
   pub ends : AreEndsOf links routers indices
 
--- `new` has those routers of the list `routers` at which rows (links) begin or end, in the same
--- order. `new_places` has for each of these routers its index in `new`. Both vectors keep their
--- capacity.
+-- `new` has the routers of the list `routers` at which some row (a link) begins or ends, in the
+-- same order. If a router of `routers` is in `new`, `new_places` has its index in `new`. The
+-- vectors `new` and `new_places` have at least the capacity of `old` and `old_places`.
 pub record AreKeptEnds (rows : List Link) (routers : List ℕ) (old old_places new new_places : Vec ℕ Global) : Type 0 where
   pub kept : new.items ≡ filter (is_end_of rows) routers
   pub placed : ArePlacesIn new.items routers new_places.items
@@ -61,8 +62,8 @@ pub record AreKeptEnds (rows : List Link) (routers : List ℕ) (old old_places n
   pub capacity : vec_capacity old ≤ vec_capacity new
   pub capacity_of_places : vec_capacity old_places ≤ vec_capacity new_places
 
--- the span of the router: where the rows (links) from the router begin and end, and the lowest and
--- the highest address of their interfaces
+-- `span` is the span of the router. It has the range of the rows (links) that begin at the router,
+-- a lower bound of their local addresses, and an upper bound.
 pub record IsSpanOf (rows : List Link) (router : ℕ) (span : Span) : Type 0 where
   pub order : span.first ≤ span.end
   pub bound : span.end ≤ length rows
@@ -70,23 +71,21 @@ pub record IsSpanOf (rows : List Link) (router : ℕ) (span : Span) : Type 0 whe
   pub lowest : All (λ l. span.lowest ≤ l.local) (slice_range rows span.first span.end)
   pub highest : All (λ l. l.local ≤ span.highest) (slice_range rows span.first span.end)
 
--- `spans` has, for each router of the list, the range of the rows (links) from it, and the lowest
--- and the highest address of their interfaces
+-- for each router of the list, `spans` has the router's span (`IsSpanOf`)
 pub record AreSpansOf (rows : List Link) (routers : List ℕ) (spans : List Span) : Type 0 where
   pub many : length spans ≡ length routers
   pub each : (at : ℕ) (d : Span) → at < length routers
       → IsSpanOf rows (slice_index routers at) (slice_index_or spans at d)
 
--- For each row (a link), `spans` has the span of the router that the row runs to, at the index that
--- `ends` has for this row. A router's span is the range of the rows from it, with the lowest and
--- the highest of their local addresses.
+-- For each row (a link), `ends` has an index, and at this index `spans` has the span of the router
+-- at which the link ends (`IsSpanOf`).
 abbrev pub AreSpansAtEnds : List Link → List ℕ → List Span → Type 0
 AreSpansAtEnds rows ends spans =
     (at : ℕ) (d : Link) → at < length rows
     → (slice_index_or ends at 0 < length spans)
     × ((e : Span) → IsSpanOf rows (slice_index_or rows at d).to (slice_index_or spans (slice_index_or ends at 0) e))
 
--- each column has capacity for a full table, and for what one batch adds to it
+-- each column has enough capacity for a full table and the additions of one batch
 pub record HaveRoom (c : Columns) : Type 0 where
   pub rows : ROOM_FOR_LINKS ≤ vec_capacity c.rows
   pub routers : ROOM_FOR_ROUTERS ≤ vec_capacity c.routers
@@ -94,9 +93,9 @@ pub record HaveRoom (c : Columns) : Type 0 where
   pub reverses : ROOM_FOR_LINKS ≤ vec_capacity c.reverses
   pub spans : MOST_ROUTERS ≤ vec_capacity c.spans
 
--- Columns while changes are made to them. The rows (links) are in order of their keys, and the list
--- of routers has both ends of each row. The list may also have routers at which no row begins or
--- ends.
+-- The state of columns while changes are made. The rows (links) are in order of their keys. The
+-- list of routers has the two routers of each link. The list may also have routers at which no link
+-- begins or ends.
 pub record AreTiedColumns (c : Columns) : Type 0 where
   pub room : HaveRoom c
   pub by_key : AreByKey c.rows.items
@@ -104,25 +103,24 @@ pub record AreTiedColumns (c : Columns) : Type 0 where
   pub few : length c.routers.items ≤ ROOM_FOR_ROUTERS
   pub column : IsEndColumn c.rows.items c.routers.items c.ends.items
 
--- the columns are as in `AreTiedColumns`, and the column of reverses has for each row (a link) the
--- index of its reverse, or `NO_LINK`
+-- `AreTiedColumns` holds, and for each row (a link) the column of reverses has the index of the
+-- row's reverse, or `NO_LINK`
 pub record ArePaired (c : Columns) : Type 0 where
   pub tied : AreTiedColumns c
   pub reverses : AreReversesBut no_key c.rows.items c.reverses.items
 
--- One change turns the columns `old` into the columns `new`. It changes the rows (links), adding at
--- most one row, and leaves the list of routers as it is. The column of reverses is that of the new
--- rows. A column of reverses has for each row the index of its reverse, or `NO_LINK`.
+-- One change turns the columns `old` into the columns `new`. It adds at most one row (a link), and
+-- leaves the list of routers as it is. In `new`, the column of reverses fits the new rows
+-- (`ArePaired`).
 pub record IsOneChange (old new : Columns) (change : Change) : Type 0 where
   pub changed : database_of new.rows.items ≡ relinked (database_of old.rows.items) change
   pub paired : ArePaired new
   pub longer : length new.rows.items ≤ length old.rows.items + 1
   pub routers : new.routers.items ≡ old.routers.items
 
--- The rows (links) are in order of their keys. The list of routers has exactly the routers at the
--- ends of the rows, and the column of ends is that of the rows. There are at most as many rows and
--- routers as a table may have. A column of ends has for each row the index of the router that the
--- row runs to.
+-- The rows (links) are in order of their keys. The list of routers has exactly the routers of the
+-- links. For each row, the column of ends has the index of the router at which the link ends. The
+-- number of rows and the number of routers are within a table's limits.
 pub record AreRowParts (c : Columns) : Type 0 where
   pub room : HaveRoom c
   pub by_key : AreByKey c.rows.items
@@ -131,11 +129,9 @@ pub record AreRowParts (c : Columns) : Type 0 where
   pub all : c.routers.items ≡ router_list (database_of c.rows.items)
   pub ends : AreEndsOf c.rows.items c.routers.items c.ends.items
 
--- All columns belong to the rows (links): the routers and the column of ends as in `AreRowParts`,
--- the column of reverses, and the span of each router. A column of ends has for each row the index
--- of the router that the row runs to. A column of reverses has for each row the index of its
--- reverse, or `NO_LINK`. A router's span is the range of the rows from it, with the lowest and the
--- highest of their local addresses.
+-- The invariant of a table's columns. `AreRowParts` holds. For each row (a link), the column of
+-- reverses has the index of the row's reverse, or `NO_LINK`. For each router, the column of spans
+-- has the router's span (`IsSpanOf`).
 pub record AreColumns (c : Columns) : Type 0 where
   pub parts : AreRowParts c
   pub reverses : AreReversesBut no_key c.rows.items c.reverses.items

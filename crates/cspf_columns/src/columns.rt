@@ -1,5 +1,5 @@
-//! The rows (links) of a table, and its columns: lists that have one item for each row or for each
-//! router.
+//! The rows (links) of a table, and the table's columns. A column is a list with one item for each
+//! row, or one item for each router.
 ghost use Rattle.std.specs.Prelude.{◌≡◌, [], IfOk};
 ghost use Rattle.cspf_columns.specs.Rows.{AreColumns};
 
@@ -9,19 +9,19 @@ use cspf_addr::Addr;
 use cspf_model::{Link, MOST_ROUTERS};
 use std::alloc::{AllocError, Global};
 
-/// The links of a database in order of their keys, the routers at their ends in rising order, and
-/// columns with an item for each link or each router.
+/// The links and the routers of a database, both in order, and columns with one item for each link
+/// or one item for each router.
 #[derive(Debug, Drop)]
 pub struct Columns {
     /// The links, in order of their keys.
     pub rows: Vec<Link>,
-    /// The routers, in rising order.
+    /// The routers, in increasing order.
     pub routers: Vec<Addr>,
-    /// For each link, the index of the router that it runs to.
+    /// For each link, the index of the router at which the link ends.
     pub ends: Vec<u16>,
-    /// For each link, the index of its reverse, or `NO_LINK`.
+    /// For each link, the index of its reverse, or `NO_LINK` if it has no reverse.
     pub reverses: Vec<u16>,
-    /// For each router, the range of the links from it.
+    /// For each router, the range of the links that begin at it.
     pub spans: Vec<Span>,
 }
 

@@ -1,10 +1,10 @@
-//! Inserts into vectors, and appends to them, without taking memory.
+//! Inserts items into vectors, and appends items, without an allocation.
 ghost use Rattle.std.specs.Prelude.{◌≡◌, ◌+◌, ◌++◌, ◌<◌, ◌≤◌, length, vec_len};
 ghost use Rattle.std.specs.Vec.{vec_capacity};
 ghost use Rattle.std.specs.List.{insert};
 
-/// Inserts the item at the index `at`. The vector has capacity for one more item, so this takes no
-/// memory and can't fail.
+/// Inserts the item at the index `at`. The vector has capacity for another item, so the call
+/// allocates no memory and can't fail.
 pub fn insert_within<T: Copy>(items: &mut Vec<T>, at: usize, item: T)
     requires bound { at ≤ vec_len items.old }
     requires capacity { vec_len items.old < vec_capacity items.old }
@@ -15,8 +15,8 @@ pub fn insert_within<T: Copy>(items: &mut Vec<T>, at: usize, item: T)
     let _ = items.insert(at, item);
 }
 
-/// Appends the items. The vector has capacity for all of them, so this takes no memory and can't
-/// fail.
+/// Appends the items. The vector has capacity for all of them, so the call allocates no memory and
+/// can't fail.
 pub(crate) fn extend_within<T: Copy>(items: &mut Vec<T>, more: &[T])
     requires { vec_len items.old + length more.now ≤ vec_capacity items.old }
     ensures items { items.new.items ≡ items.old.items ++ more.now }

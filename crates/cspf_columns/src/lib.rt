@@ -1,7 +1,7 @@
-//! The links of a database in order of their keys, with columns for the links and for the routers,
-//! and how changes are made to all of these. `Table` of `cspf_db` keeps its database in such
-//! columns. The definitions that the contracts of this crate cite are private to `cspf_columns` and
-//! `cspf_db`. The table's own contracts speak only of its database.
+//! Stores the links and the routers of a database as columns, and makes changes to these columns.
+//! `Table` of `cspf_db` keeps its database in such columns. Most definitions that the contracts of
+//! this crate cite are private to `cspf_columns` and `cspf_db`, because the contracts of `Table`
+//! speak only of the database.
 #![tactic(auto)]
 
 mod columns;

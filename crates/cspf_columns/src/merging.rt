@@ -1,5 +1,5 @@
-//! Merges rows (links) and changes into other vectors. The rows and the changes are both in order
-//! of their keys.
+//! Merges changes into the rows (links). Rows and changes are in order of their keys, and the
+//! merged rows are written to other vectors.
 ghost use Rattle.std.specs.Prelude.{◌≡◌, ◌+◌, ◌-◌, ◌<◌, ◌≤◌, List, true, false, [], ◌∷◌, ◌++◌, All, length, map, slice_index_or, vec_len};
 ghost use Rattle.std.specs.Vec.{vec_capacity};
 ghost use Rattle.std.specs.List.Sorted.{IsPermutation};
@@ -27,8 +27,8 @@ use cspf_addr::Addr;
 use cspf_model::{Change, Link, MOST_CHANGES};
 use std::cmp::Ordering;
 
-/// The index of the first row (a link), from the index `at` on, whose key isn't below the key
-/// (`from`, `local`). If there is none, the result is the number of rows.
+/// From index `at` on, the index of the first row (a link) with a key equal to or above the key
+/// (`from`, `local`). If there is no such row, the result is the number of rows.
 fn step(rows: &[Link], at: usize, from: Addr, local: Addr) -> usize
     requires { at ≤ length rows.now }
     ensures order { at ≤ result }
@@ -45,8 +45,8 @@ fn step(rows: &[Link], at: usize, from: Addr, local: Addr) -> usize
     next
 }
 
-/// Whether the row (a link) at the index `next` has the key (`from`, `local`). It is known before
-/// the call that this row's key isn't lower.
+/// Whether the row (a link) at the index `next` has the key (`from`, `local`). This row's key isn't
+/// below (`from`, `local`).
 fn is_at(rows: &[Link], next: usize, from: Addr, local: Addr) -> bool
     requires by_key { AreByKey rows.now }
     requires stop { next < length rows.now → (d : Linked)
@@ -62,7 +62,8 @@ fn is_at(rows: &[Link], next: usize, from: Addr, local: Addr) -> bool
     false
 }
 
-/// If the change puts a link, appends the link, and the index of the router that it runs to.
+/// If the change puts a link, appends the link to `merged`, and the index of the router at which it
+/// ends to `merged_ends`.
 fn put_behind(merged: &mut Vec<Link>, merged_ends: &mut Vec<u16>, routers: &[Addr], change: &Change)
     requires room { vec_len merged.old < vec_capacity merged.old }
     requires room_for_ends { vec_len merged_ends.old < vec_capacity merged_ends.old }
@@ -82,9 +83,10 @@ fn put_behind(merged: &mut Vec<Link>, merged_ends: &mut Vec<u16>, routers: &[Add
     }
 }
 
-/// Merges one change: copies the rows (links) with keys below the change's key, and then adds the
-/// link that the change puts, if it puts one. For each row that is added, the index of the router
-/// that it runs to is added to the column of ends.
+/// Merges one change. From index `at` on, copies the rows (links) with keys below the change's key.
+/// Then appends the link that the change puts, if it puts a link. For each appended link, appends
+/// to `merged_ends` the index of the router at which the link ends. Returns the index of the next
+/// row to be merged.
 fn merge_one(
     merged: &mut Vec<Link>,
     merged_ends: &mut Vec<u16>,
@@ -116,8 +118,8 @@ fn merge_one(
     next + usize::from(is_at(&columns.rows, next, from, local))
 }
 
-/// Merges changes into the rows (links) and into the column of ends. The changes are in order of
-/// their keys. A column of ends has for each row the index of the router that the row runs to.
+/// Merges changes, which are in order of their keys, into the rows (links) and the column of ends.
+/// For each row, a column of ends has the index of the router at which the link ends.
 pub(crate) fn merge(
     merged: &mut Vec<Link>,
     merged_ends: &mut Vec<u16>,
@@ -149,7 +151,7 @@ pub(crate) fn merge(
 }
 
 /// Lists the key of each change together with the change's index. The vector `order` has capacity
-/// for all these pairs, so this takes no memory.
+/// for all these pairs, so the call allocates no memory.
 fn list_order(order: &mut Vec<((Addr, Option<Addr>), u16)>, changes: &[Change])
     requires short { length changes.now ≤ MOST_CHANGES }
     requires room { length changes.now ≤ vec_capacity order.old }
@@ -179,8 +181,8 @@ fn copy_changes(sorted: &mut Vec<Change>, order: &[((Addr, Option<Addr>), u16)],
     }
 }
 
-/// Copies changes with distinct keys, in order of their keys. Only the keys and indexes are sorted,
-/// so each change is copied once. The call takes no memory.
+/// Copies changes with distinct keys to `sorted`, in order of their keys. Only keys and indexes are
+/// sorted, so each change is copied once. The call allocates no memory.
 pub(crate) fn sort_changes(
     order: &mut Vec<((Addr, Option<Addr>), u16)>,
     sorted: &mut Vec<Change>,

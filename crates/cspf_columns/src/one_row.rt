@@ -1,5 +1,5 @@
-//! Replaces, inserts or removes one row (a link), along with the columns of ends and reverses. A
-//! column of ends has for each row the index of the router that the row runs to.
+//! Replaces, inserts or removes one row (a link), and adapts the columns of ends and reverses. For
+//! each row, a column of ends has the index of the router at which the link ends.
 ghost use Rattle.std.specs.Prelude.{◌≡◌, ℕ, ◌<◌, ◌≤◌, length};
 ghost use Rattle.std.specs.List.{HoldsAt};
 ghost use Rattle.std.specs.List.Sorted.{IsPartitionPoint};
@@ -16,7 +16,7 @@ use crate::rows::is_alike;
 use cspf_model::{Change, Link};
 use std::cmp::Ordering;
 
-/// Puts the link in place of the row (a link) at the index `at`, which has the same key.
+/// Replaces the row (a link) at the index `at` by a link with the same key.
 pub(crate) fn replace_at(columns: &mut Columns, at: usize, link: &Link)
     requires paired { ArePaired columns.old }
     requires room { length columns.old.rows.items ≤ ROOM_FOR_LINKS }

@@ -1,4 +1,5 @@
-//! Puts links in place of rows (links) that join the same two interfaces. No column changes then.
+//! Replaces rows (links) by links that join the same two interfaces. The columns beside the rows
+//! don't change.
 ghost use Rattle.std.specs.Prelude.{◌≡◌, ◌≤◌, All};
 ghost use Rattle.std.specs.Vec.{vec_capacity};
 ghost use Rattle.cspf_columns.specs.Rows.{AreColumns};
@@ -10,7 +11,7 @@ use crate::columns::Columns;
 use crate::rows::index_of;
 use cspf_model::{Change, Link};
 
-/// Puts the change's link in place of the row (a link) that joins the same two interfaces.
+/// Replaces a row (a link) by the change's link, which joins the same two interfaces.
 fn write_one(rows: &mut Vec<Link>, change: &Change)
     requires by_key { AreByKey rows.old.items }
     requires alike { IsAlike rows.old.items change.now }
@@ -27,8 +28,7 @@ fn write_one(rows: &mut Vec<Link>, change: &Change)
     }
 }
 
-/// Makes changes each of which puts a link in place of a row (a link) that joins the same two
-/// interfaces.
+/// Makes changes. Each change replaces a row (a link) by a link that joins the same two interfaces.
 fn write_all(rows: &mut Vec<Link>, changes: &[Change])
     requires by_key { AreByKey rows.old.items }
     requires alike { All (IsAlike rows.old.items) changes.now }
@@ -42,8 +42,8 @@ fn write_all(rows: &mut Vec<Link>, changes: &[Change])
     }
 }
 
-/// Makes changes each of which puts a link in place of a row (a link) that joins the same two
-/// interfaces. The columns beside the rows stay as they are.
+/// Makes changes. Each change replaces a row (a link) by a link that joins the same two interfaces.
+/// The columns beside the rows don't change.
 pub fn write_over(columns: &mut Columns, changes: &[Change])
     requires columns { AreColumns columns.old }
     requires alike { All (IsAlike columns.old.rows.items) changes.now }

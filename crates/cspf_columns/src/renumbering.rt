@@ -1,4 +1,5 @@
-//! How the indexes of routers change after routers were added to their list or dropped from it.
+//! How the indexes of routers change when routers are added to the list of routers or removed from
+//! it.
 ghost use Rattle.std.specs.Prelude.{◌≡◌, ℕ, ◌+◌, ◌<◌, ◌≤◌, true, false, [], ◌∷◌, ◌++◌, cond, All, Contains, length, slice_index, slice_index_or, vec_len, nat_eq};
 ghost use Rattle.std.specs.Vec.{vec_capacity};
 ghost use Rattle.std.specs.List.{list_any};
@@ -12,8 +13,8 @@ use crate::rows::begins;
 use cspf_addr::Addr;
 use cspf_model::Link;
 
-/// Lists for each router of `routers` its index in the list `others`, which has all of these
-/// routers. If both lists are sorted, few routers need a binary search.
+/// For each router of `routers`, appends to `places` the router's index in `others`. `others` has
+/// all of these routers. If both lists are sorted, most indexes are found without a binary search.
 pub(crate) fn list_places(places: &mut Vec<u16>, routers: &[Addr], others: &[Addr])
     requires rising { AreRising others.now }
     requires few { length others.now ≤ ROOM_FOR_ROUTERS }
@@ -32,8 +33,8 @@ pub(crate) fn list_places(places: &mut Vec<u16>, routers: &[Addr], others: &[Add
     }
 }
 
-/// Marks each router that a row (a link) runs to. The column of ends `ends` has the indexes of
-/// these routers.
+/// Marks each router at which some row (a link) ends. The column `ends` has the indexes of these
+/// routers.
 fn mark_ends(marked: &mut [bool], ends: &[u16])
     requires within { All (λ end. end < length marked.old) ends.now }
     requires none { All (λ mark. mark ≡ false) marked.old }
@@ -45,7 +46,7 @@ fn mark_ends(marked: &mut [bool], ends: &[u16])
     }
 }
 
-/// Whether a row (a link) begins or ends at the router. `arrives` says whether a row runs to the
+/// Whether a row (a link) begins or ends at the router. `arrives` says whether a row ends at the
 /// router.
 fn is_end(rows: &[Link], router: Addr, arrives: bool) -> bool
     requires by_key { AreByKey rows.now }
@@ -55,8 +56,8 @@ fn is_end(rows: &[Link], router: Addr, arrives: bool) -> bool
     arrives || begins(rows, router)
 }
 
-/// Appends to `places` the number of routers that `kept` has. If `stays` is true, then appends the
-/// router to `kept`: this number is the router's index in `kept`.
+/// Appends the length of `kept` to `places`. If `stays` is true, then appends the router to `kept`.
+/// The appended length is the router's index there.
 fn keep_one(kept: &mut Vec<Addr>, places: &mut Vec<u16>, router: Addr, stays: bool)
     requires few { vec_len kept.old < ROOM_FOR_ROUTERS }
     requires room { vec_len kept.old < vec_capacity kept.old }
@@ -74,8 +75,8 @@ fn keep_one(kept: &mut Vec<Addr>, places: &mut Vec<u16>, router: Addr, stays: bo
     }
 }
 
-/// Keeps the routers at which rows (links) begin or end, and lists for each router its index among
-/// the kept routers.
+/// Copies to `kept` the routers at which rows (links) begin or end. Lists in `places` an index for
+/// each router of `routers`: for each kept router, its index in `kept`.
 pub(crate) fn keep_ends(
     kept: &mut Vec<Addr>,
     places: &mut Vec<u16>,

@@ -17,8 +17,8 @@ use crate::rows::index_of;
 use crate::spans::Span;
 use cspf_model::Link;
 
-/// The index `at` if the row (a link) at this index is the reverse of the link, and `NO_LINK`
-/// otherwise. The row at this index has the key of the link's reverse.
+/// Returns `at` if the row (a link) at this index is the reverse of the link, and otherwise
+/// `NO_LINK`. The row at `at` has the key that a reverse of the link has.
 fn index_back(rows: &[Link], at: usize, link: &Link) -> u16
     requires by_key { AreByKey rows.now }
     requires most { length rows.now ≤ ROOM_FOR_LINKS }
@@ -45,8 +45,8 @@ pub fn reverse_index(rows: &[Link], link: &Link) -> u16
     index_back(rows, at, link)
 }
 
-/// The index of the link's reverse, or `NO_LINK`. `span` gives the range of the rows (links) from
-/// the router that the link runs to.
+/// The index of the link's reverse, or `NO_LINK`. `span` is the range of the rows (links) that
+/// begin at the router where the link ends.
 fn reverse_within(rows: &[Link], span: &Span, link: &Link) -> u16
     requires by_key { AreByKey rows.now }
     requires most { length rows.now ≤ ROOM_FOR_LINKS }
@@ -77,8 +77,8 @@ pub(crate) fn list_reverses(reverses: &mut Vec<u16>, rows: &[Link], ends: &[u16]
     }
 }
 
-/// Separates the row (a link) at the index `at` from its reverse, if it has one: for both rows, the
-/// column of reverses then has `NO_LINK`.
+/// Separates the row (a link) at the index `at` from its reverse, if it has a reverse. In the
+/// column of reverses, both rows then have `NO_LINK`.
 pub(crate) fn unpair(columns: &mut Columns, at: usize)
     requires paired { ArePaired columns.old }
     requires within { at < length columns.old.rows.items }
@@ -96,9 +96,9 @@ pub(crate) fn unpair(columns: &mut Columns, at: usize)
     columns.reverses[at] = NO_LINK;
 }
 
-/// Pairs the row at the index `at` with its reverse, if there is one: in the column of reverses,
-/// each of the two rows gets the other's index. Before the call, this column has no reverse for the
-/// row. A row is a link of the table.
+/// Pairs the row (a link) at the index `at` with its reverse, if it has a reverse. In the column of
+/// reverses, each of the two rows gets the index of the other row. Before the call, the row is
+/// unpaired in this column.
 pub(crate) fn pair(columns: &mut Columns, at: usize)
     requires tied { AreTiedColumns columns.old }
     requires most { length columns.old.rows.items ≤ ROOM_FOR_LINKS }
@@ -118,8 +118,8 @@ pub(crate) fn pair(columns: &mut Columns, at: usize)
     columns.reverses[at] = other;
 }
 
-/// What the index `reverse` of a row (a link) becomes when another row is inserted at the index
-/// `at`. An index of at least `at` grows by 1, and `NO_LINK` stays as it is.
+/// The new index of the row (a link) at the index `reverse`, after another row is inserted at `at`.
+/// If `reverse` is at least `at`, the index grows by 1. `NO_LINK` stays `NO_LINK`.
 fn behind(reverse: u16, at: usize) -> u16
     ensures { result ≡ index_behind at reverse }
 {
@@ -130,8 +130,8 @@ fn behind(reverse: u16, at: usize) -> u16
     }
 }
 
-/// What the index `reverse` of a row (a link) becomes when the row at the index `at` is removed. An
-/// index of at least `at` falls by 1, and `NO_LINK` stays as it is.
+/// The new index of the row (a link) at the index `reverse`, after another row is removed at `at`.
+/// If `reverse` is at least `at`, the index falls by 1. `NO_LINK` stays `NO_LINK`.
 fn before(reverse: u16, at: usize) -> u16
     ensures { result ≡ index_before at reverse }
 {
@@ -142,8 +142,8 @@ fn before(reverse: u16, at: usize) -> u16
     }
 }
 
-/// Adds 1 to each item that is at least `at`, because a row (a link) is inserted at the index `at`.
-/// `NO_LINK` stays as it is.
+/// Adds 1 to each item that is at least `at`, because a row (a link) is inserted at `at`. `NO_LINK`
+/// stays `NO_LINK`.
 fn move_behind(reverses: &mut [u16], at: usize)
     ensures { reverses.new ≡ map (index_behind at) reverses.old }
 {
@@ -152,8 +152,8 @@ fn move_behind(reverses: &mut [u16], at: usize)
     }
 }
 
-/// Subtracts 1 from each item that is at least `at`, because the row (a link) at the index `at` was
-/// removed. `NO_LINK` stays as it is.
+/// Subtracts 1 from each item that is at least `at`, because the row (a link) at `at` is removed.
+/// `NO_LINK` stays `NO_LINK`.
 fn move_before(reverses: &mut [u16], at: usize)
     ensures { reverses.new ≡ map (index_before at) reverses.old }
 {
@@ -162,9 +162,9 @@ fn move_before(reverses: &mut [u16], at: usize)
     }
 }
 
-/// Inserts `NO_LINK` at the index `at`, for a row (a link) that is inserted there, and adapts the
-/// other items to the rows' new indexes. The vector has capacity for one more item, so this takes
-/// no memory and can't fail.
+/// Inserts `NO_LINK` at the index `at`, for a row (a link) that is inserted at this index, and
+/// adapts the other items to the rows' new indexes. The vector has capacity for another item, so
+/// the call allocates no memory and can't fail.
 pub(crate) fn open_gap(reverses: &mut Vec<u16>, at: usize)
     requires few { vec_len reverses.old ≤ ROOM_FOR_LINKS }
     requires upto { at ≤ vec_len reverses.old }
@@ -176,8 +176,8 @@ pub(crate) fn open_gap(reverses: &mut Vec<u16>, at: usize)
     insert_within(reverses, at, NO_LINK);
 }
 
-/// Removes the item of the row (a link) that is removed at `at`, and adapts the other items to the
-/// rows' new indexes.
+/// Removes the item at the index `at`, because the row (a link) at this index is removed, and
+/// adapts the other items to the rows' new indexes.
 pub(crate) fn close_gap(reverses: &mut Vec<u16>, at: usize)
     requires { at < vec_len reverses.old }
     ensures closed { reverses.new.items ≡ map (index_before at) (without reverses.old.items at) }

@@ -1,4 +1,4 @@
-//! Rising lists of routers, and the index of a router in such a list.
+//! Sorted lists of routers, and the index of a router in such a list.
 ghost use Rattle.std.specs.Prelude.{◌≡◌, ◌+◌, ◌*◌, ◌<◌, ◌≤◌, true, All, Contains, length, vec_len, IfOk, IfErr};
 ghost use Rattle.std.specs.Vec.{vec_capacity};
 ghost use Rattle.std.specs.List.{HoldsAt};
@@ -13,8 +13,8 @@ use cspf_addr::Addr;
 use cspf_model::Change;
 use std::cmp::Ordering;
 
-/// The index of the router in the list. If the list doesn't have it, the result is the index at
-/// which it would be inserted.
+/// The index of the router in the list. If the list doesn't have the router, the error is the index
+/// at which the router would be inserted.
 pub fn search(routers: &[Addr], router: Addr) -> Result<usize, usize>
     requires { AreRising routers.now }
     ensures within { IfOk result (λ at. at < length routers.now) }
@@ -51,7 +51,7 @@ fn add(routers: &mut Vec<Addr>, router: Addr)
     }
 }
 
-/// If the change puts a link, adds both ends of this link to the list.
+/// If the change puts a link, adds the two routers of this link to the list.
 fn add_ends_of(routers: &mut Vec<Addr>, change: &Change)
     requires rising { AreRising routers.old.items }
     requires room { vec_len routers.old + 1 < vec_capacity routers.old }
@@ -67,7 +67,7 @@ fn add_ends_of(routers: &mut Vec<Addr>, change: &Change)
     }
 }
 
-/// Adds to the list of routers both ends of each link that the changes put.
+/// Adds to the list the two routers of each link that the changes put.
 pub(crate) fn add_ends(routers: &mut Vec<Addr>, changes: &[Change])
     requires rising { AreRising routers.old.items }
     requires room { vec_len routers.old + 2 * length changes.now ≤ vec_capacity routers.old }
@@ -95,8 +95,8 @@ pub(crate) fn index_among(routers: &[Addr], router: Addr) -> u16
     }
 }
 
-/// The index in `routers` of a router that is in this list. Before a search, the index `near` is
-/// tried.
+/// The index in `routers` of a router that is in this list. If the router isn't at the index
+/// `near`, the list is searched.
 pub(crate) fn index_near(routers: &[Addr], near: usize, router: Addr) -> u16
     requires rising { AreRising routers.now }
     requires few { length routers.now ≤ ROOM_FOR_ROUTERS }

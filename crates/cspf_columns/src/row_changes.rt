@@ -19,8 +19,8 @@ use crate::scratch::Scratch;
 use crate::spans::list_spans;
 use cspf_model::Change;
 
-/// Makes one change to the rows (links), and to the columns of ends and reverses. A column of ends
-/// has for each row the index of the router that the row runs to.
+/// Makes one change to the rows (links), and adapts the columns of ends and reverses. For each row,
+/// a column of ends has the index of the router at which the link ends.
 fn change_one(columns: &mut Columns, change: &Change)
     requires paired { ArePaired columns.old }
     requires room { length columns.old.rows.items < ROOM_FOR_LINKS }
@@ -41,8 +41,8 @@ fn change_one(columns: &mut Columns, change: &Change)
     }
 }
 
-/// Makes the changes one after the other. They put links only between routers that the list of
-/// routers has.
+/// Makes the changes one after the other. The links that the changes put begin and end at routers
+/// in the list of routers.
 fn change_rows(columns: &mut Columns, changes: &[Change])
     requires paired { ArePaired columns.old }
     requires room { length columns.old.rows.items + length changes.now ≤ ROOM_FOR_LINKS }
@@ -70,11 +70,11 @@ pub fn count_removed(changes: &[Change]) -> usize
     changes.iter().filter(|change| is_removal(change)).count()
 }
 
-/// At most this many rows (links) are inserted one by one, and at most this many removed. Each such
-/// row moves all rows after it.
+/// If changes insert and remove at most this many rows (links) in total, the rows are inserted and
+/// removed one by one. Each insertion or removal moves all following rows.
 const FEW: usize = 16;
 
-/// Whether few rows (links) are inserted and few are removed by the changes. `added` is the number
+/// Whether the changes insert and remove at most `FEW` rows (links) in total. `added` is the number
 /// of changes that add a link.
 fn move_few(added: usize, changes: &[Change]) -> bool
     requires few { added ≤ MOST_CHANGES }
@@ -85,9 +85,9 @@ fn move_few(added: usize, changes: &[Change]) -> bool
 }
 
 /// Makes changes with distinct keys to the rows (links) and to the column of ends. Returns whether
-/// the column of reverses is changed too. The changes put links only between routers that the list
-/// of routers has. A column of ends has for each row the index of the router that the row runs to.
-/// A column of reverses has for each row the index of its reverse, or `NO_LINK`.
+/// the call has also adapted the column of reverses. The links that the changes put begin and end
+/// at routers in the list of routers. For each row, a column of ends has the index of the router at
+/// which the link ends. A column of reverses has the index of the row's reverse, or `NO_LINK`.
 fn change_with_ends(
     columns: &mut Columns,
     scratch: &mut Scratch,
@@ -114,10 +114,9 @@ fn change_with_ends(
     false
 }
 
-/// Lists the span of each router: the range of its rows (links), and the lowest and the highest
-/// local address in them. `follows` says whether the column of reverses was already changed along
-/// with the rows. If it wasn't, the call also lists the reverses of all rows. A column of reverses
-/// has for each row the index of its reverse, or `NO_LINK`.
+/// Lists the span of each router: the range of the rows (links) that begin at it, and their lowest
+/// and highest local address. `follows` says whether the column of reverses already fits the rows.
+/// If it doesn't, the call also lists the index of each row's reverse.
 fn list_beside(columns: &mut Columns, follows: bool)
     requires parts { AreRowParts columns.old }
     requires reverses { follows ≡ true
@@ -136,8 +135,9 @@ fn list_beside(columns: &mut Columns, follows: bool)
     }
 }
 
-/// Makes the changes of a batch that fits. `added` is the number of changes that add a link. If
-/// `brought` is 0, the changes put links only between routers that the list of routers already has.
+/// Makes the changes of a batch that fits the database. `added` is the number of changes that add a
+/// link. If `brought` is 0, the links that the changes put begin and end at routers that are
+/// already in the list of routers.
 pub fn change_columns(
     columns: &mut Columns,
     scratch: &mut Scratch,

@@ -14,15 +14,15 @@ use cspf_addr::{Addr, Prefix};
 use cspf_model::Link;
 use std::cmp::Ordering;
 
-/// How the key of the row (a link) compares with the key (`from`, `local`).
+/// Compares the key of the row (a link) with the key (`from`, `local`).
 pub(crate) fn compare(row: &Link, from: Addr, local: Addr) -> Ordering
     ensures { result ≡ key_cmp (key_of row.now) (from, local) }
 {
     row.from.cmp(&from).then(row.local.cmp(&local))
 }
 
-/// The index of the row (a link) with the key (`from`, `local`). If no row has it, the result is
-/// the index at which such a row would be inserted.
+/// The index of the row (a link) with the key (`from`, `local`). If no row has this key, the error
+/// is the index at which such a row would be inserted.
 pub(crate) fn search(rows: &[Link], from: Addr, local: Addr) -> Result<usize, usize>
     requires { AreByKey rows.now }
     ensures within { IfOk result (λ at. at < length rows.now) }
@@ -40,7 +40,7 @@ pub(crate) fn search(rows: &[Link], from: Addr, local: Addr) -> Result<usize, us
     )
 }
 
-/// The index of the row (a link) with the key (`from`, `local`), if there is one.
+/// The index of the row (a link) with the key (`from`, `local`), or `None` if no row has this key.
 pub fn index_of(rows: &[Link], from: Addr, local: Addr) -> Option<usize>
     requires { AreByKey rows.now }
     ensures bound { IfSome result (λ at. at < length rows.now) }
@@ -50,8 +50,8 @@ pub fn index_of(rows: &[Link], from: Addr, local: Addr) -> Option<usize>
     search(rows, from, local).ok()
 }
 
-/// Whether the row (a link) at the index `at` joins the same two interfaces as the link. Both have
-/// the same key.
+/// Whether the row (a link) at the index `at` joins the same two interfaces as the link. The row
+/// and the link have the same key.
 pub fn is_alike(rows: &[Link], at: usize, link: &Link) -> bool
     requires within { at < length rows.now }
     requires key { HoldsAt (λ l. key_of l ≡ key_of link.now) rows.now at }
@@ -60,8 +60,8 @@ pub fn is_alike(rows: &[Link], at: usize, link: &Link) -> bool
     rows[at].to == link.to && rows[at].remote == link.remote
 }
 
-/// The range of the rows (links) from the router: the index of the first one, and the index after
-/// the last one.
+/// The range of the rows (links) that begin at the router: the index of the first row, and one more
+/// than the index of the last row.
 pub fn span(rows: &[Link], router: Addr) -> (usize, usize)
     requires { AreByKey rows.now }
     ensures order { result.0 ≤ result.1 }
@@ -74,7 +74,7 @@ pub fn span(rows: &[Link], router: Addr) -> (usize, usize)
     (first, end)
 }
 
-/// The rows (links) from the router, in order.
+/// The rows (links) that begin at the router, in order of their keys.
 pub fn rows_from(rows: &[Link], router: Addr) -> &[Link]
     requires { AreByKey rows.now }
     ensures { result.now ≡ links_from (database_of rows.now) router }
@@ -83,7 +83,7 @@ pub fn rows_from(rows: &[Link], router: Addr) -> &[Link]
     &rows[first..end]
 }
 
-/// Whether a row (a link) runs from the router.
+/// Whether a row (a link) begins at the router.
 pub(crate) fn begins(rows: &[Link], router: Addr) -> bool
     requires { AreByKey rows.now }
     ensures { result ≡ any_from rows.now router }

@@ -1,5 +1,5 @@
-//! The memory in which the changes of a batch are made. A table takes this memory once, when the
-//! table is made.
+//! The memory in which the changes of a batch are made. The memory is allocated once, when a table
+//! is made.
 
 ghost use Rattle.std.specs.Prelude.{◌≡◌, ◌≤◌, All, length};
 ghost use Rattle.std.specs.Vec.{vec_capacity};
@@ -17,9 +17,9 @@ use cspf_model::{Change, Link, MOST_CHANGES};
 use std::alloc::{AllocError, Global};
 use std::mem::swap;
 
-/// Memory for the rows (links), the column of ends and the routers after the changes. It also has
-/// room for the changes sorted by their keys, and for the new indexes of routers. A column of ends
-/// has for each row the index of the router that the row runs to.
+/// Memory for the rows (links), the column of ends and the list of routers that the changes
+/// produce. It also has capacity for the changes sorted by key, and for the new indexes of routers.
+/// For each row, a column of ends has the index of the router at which the link ends.
 #[derive(Debug, Drop)]
 pub struct Scratch {
     merged: Vec<Link>,
@@ -36,8 +36,8 @@ pub struct Scratch {
     ghost room_for_places: { ROOM_FOR_ROUTERS ≤ vec_capacity places },
 }
 
-/// Copies the routers to `listed`. This vector has capacity for all of them, so this takes no
-/// memory and can't fail.
+/// Copies the routers to `listed`. This vector has capacity for all of them, so the call allocates
+/// no memory and can't fail.
 fn copy_routers(listed: &mut Vec<Addr>, routers: &[Addr])
     requires { length routers.now ≤ vec_capacity listed.old }
     ensures items { listed.new.items ≡ routers.now }
@@ -69,10 +69,9 @@ impl Scratch {
     ghost use Rattle.cspf_columns.specs.Index.{router_list};
     ghost use Rattle.cspf_model.specs.Refusals.{AreOnceEach};
 
-    /// Makes changes with distinct keys to the rows (links) and to the column of ends, however many
-    /// rows move. The changes put links only between routers that the list of routers has. The call
-    /// takes no memory. A column of ends has for each row the index of the router that the row runs
-    /// to.
+    /// Makes changes with distinct keys to the rows (links) and to the column of ends. The links
+    /// that the changes put begin and end at routers in the list of routers. The call allocates no
+    /// memory. For each row, a column of ends has the index of the router at which the link ends.
     pub(crate) fn change(&mut self, columns: &mut Columns, changes: &[Change])
         requires tied { AreTiedColumns columns.old }
         requires most { length columns.old.rows.items ≤ MOST_LINKS }
@@ -91,8 +90,9 @@ impl Scratch {
         swap(&mut columns.ends, &mut self.ends);
     }
 
-    /// Unless `brought` is 0, adds to the list of routers both ends of each link that the changes
-    /// put. The column of ends then has the indexes of the routers in the new list.
+    /// Adds to the list of routers the two routers of each link that the changes put, and adapts
+    /// the column of ends to the new list. If `brought` is 0, the list already has these routers,
+    /// and the call does nothing.
     pub(crate) fn add_routers(&mut self, columns: &mut Columns, changes: &[Change], brought: usize)
         requires listed { brought ≡ 0
             → All (HasListedEnds columns.old.routers.items) changes.now }
@@ -114,8 +114,8 @@ impl Scratch {
         swap(&mut columns.routers, &mut self.listed);
     }
 
-    /// Drops from the list of routers those at which no row (a link) begins or ends. The column of
-    /// ends then has the indexes of the routers in the new list.
+    /// Removes from the list of routers each router at which no row (a link) begins or ends, and
+    /// adapts the column of ends to the new list.
     pub(crate) fn drop_routers(&mut self, columns: &mut Columns)
         requires tied { AreTiedColumns columns.old }
         ensures room { HaveRoom columns.new }

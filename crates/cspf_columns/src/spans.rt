@@ -1,5 +1,5 @@
-//! Spans: for each router, the range of the rows (links) from it, and the lowest and the highest
-//! address of its interfaces in these rows.
+//! Spans of routers. A router's span is the range of the rows (links) that begin at the router, and
+//! the lowest and the highest local address of these rows.
 ghost use Rattle.std.specs.Prelude.{◌≡◌, ℕ, All, ◌+◌, ◌-◌, ◌<◌, ◌≤◌, true, filter, length, nat_eq, slice_index_or, slice_range, vec_len};
 ghost use Rattle.std.specs.Vec.{vec_capacity};
 ghost use Rattle.std.specs.List.Sorted.{IsNonDecreasingBy};
@@ -12,9 +12,8 @@ use crate::rows::span;
 use cspf_addr::Addr;
 use cspf_model::Link;
 
-/// The range of the rows (links) from a router, and the lowest and the highest address of the
-/// router's interfaces in these rows. If there are no rows, the lowest address is above the
-/// highest.
+/// The range of the rows (links) that begin at a router, and the lowest and the highest local
+/// address of these rows. If there are no such rows, `lowest` is above `highest`.
 #[derive(Clone, Copy, Debug)]
 pub struct Span {
     pub first: u16,
@@ -23,8 +22,8 @@ pub struct Span {
     pub highest: Addr,
 }
 
-/// The span of a router without rows (links): an empty range, and a lowest address above the
-/// highest.
+/// The span of a router at which no row (a link) begins. The range is empty, and `lowest` is above
+/// `highest`.
 fn no_span() -> Span {
     Span {
         first: 0,
@@ -34,8 +33,8 @@ fn no_span() -> Span {
     }
 }
 
-/// The index after the last of the rows (links) from the router. The first of these rows is at the
-/// index `first`.
+/// The index of the first row (a link), from index `first` on, that doesn't begin at the router. If
+/// all of these rows begin at the router, the result is the number of rows.
 fn skip(rows: &[Link], first: usize, router: Addr) -> usize
     requires { first ≤ length rows.now }
     ensures order { first ≤ result }
@@ -50,8 +49,8 @@ fn skip(rows: &[Link], first: usize, router: Addr) -> usize
     at
 }
 
-/// Whether the row (a link) before the index `at` is from a router with a lower address than
-/// `router`. If there is no row before `at`, the result is true.
+/// Whether the row (a link) at the index `at - 1` begins at a lower router than `router`. If `at`
+/// is 0, the result is true.
 fn is_behind(rows: &[Link], at: usize, router: Addr) -> bool
     requires { at ≤ length rows.now }
     ensures { result ≡ true → 0 < at → (d : Linked)
@@ -60,8 +59,8 @@ fn is_behind(rows: &[Link], at: usize, router: Addr) -> bool
     at == 0 || rows[at - 1].from < router
 }
 
-/// Whether the row (a link) at the index `at` is from a router with a higher address than `router`.
-/// If there is no row at `at`, the result is true.
+/// Whether the row (a link) at the index `at` begins at a higher router than `router`. If there is
+/// no row at `at`, the result is true.
 fn is_before(rows: &[Link], at: usize, router: Addr) -> bool
     requires { at ≤ length rows.now }
     ensures { result ≡ true → at < length rows.now → (d : Linked)
@@ -70,8 +69,8 @@ fn is_before(rows: &[Link], at: usize, router: Addr) -> bool
     at == rows.len() || router < rows[at].from
 }
 
-/// Whether all rows (links) of a range are from the router. Only the first and the last row of the
-/// range are read.
+/// Whether all rows (links) of a range begin at the router. The call reads only the first and the
+/// last row of the range, because the rows are sorted.
 fn is_run(rows: &[Link], first: usize, end: usize, router: Addr) -> bool
     requires by_key { AreByKey rows.now }
     requires order { first ≤ end }
@@ -82,7 +81,8 @@ fn is_run(rows: &[Link], first: usize, end: usize, router: Addr) -> bool
     first == end || (rows[first].from == router && rows[end - 1].from == router)
 }
 
-/// Whether the range from `first` to `end` has exactly the rows (links) from the router.
+/// Whether the range from `first` to `end` (exclusive) has exactly the rows (links) that begin at
+/// the router.
 fn is_span(rows: &[Link], first: usize, end: usize, router: Addr) -> bool
     requires by_key { AreByKey rows.now }
     requires order { first ≤ end }
@@ -96,8 +96,8 @@ fn is_span(rows: &[Link], first: usize, end: usize, router: Addr) -> bool
     is_behind(rows, first, router) && is_before(rows, end, router)
 }
 
-/// The range of the rows (links) from the router. Before a search, it is checked whether the range
-/// begins at the index `at`.
+/// The range of the rows (links) that begin at the router. If the range doesn't begin at the index
+/// `at`, the call searches for it.
 fn span_from(rows: &[Link], at: usize, router: Addr) -> (usize, usize)
     requires by_key { AreByKey rows.now }
     requires bound { at ≤ length rows.now }
@@ -114,8 +114,8 @@ fn span_from(rows: &[Link], at: usize, router: Addr) -> (usize, usize)
     }
 }
 
-/// The range of the rows (links) from the router. The index `at` and the number `count` are a guess
-/// of where the range begins and how long it is. If the guess is right, only a few rows are read.
+/// The range of the rows (links) that begin at the router. The caller guesses that the range begins
+/// at the index `at` and has `count` rows. If the guess is right, the call reads only a few rows.
 fn span_near(rows: &[Link], at: usize, count: u16, router: Addr) -> (usize, usize)
     requires by_key { AreByKey rows.now }
     requires most { length rows.now ≤ MOST_LINKS }
@@ -133,8 +133,8 @@ fn span_near(rows: &[Link], at: usize, count: u16, router: Addr) -> (usize, usiz
     }
 }
 
-/// The span of a range of rows (links): the range, and the lowest and the highest local address in
-/// it. The rows are in order of these addresses.
+/// The span of a range of rows (links): the range, and the lowest and the highest local address of
+/// its rows. The rows of the range are in order of their local addresses.
 fn rising_between(rows: &[Link], first: usize, end: usize) -> Span
     requires most { length rows.now ≤ MOST_LINKS }
     requires order { first ≤ end }
@@ -155,9 +155,8 @@ fn rising_between(rows: &[Link], first: usize, end: usize) -> Span
     span
 }
 
-/// The span of the router: the range of its rows (links), and the lowest and the highest local
-/// address in them. `at` is the index at which its rows may begin, and `count` is a guess of their
-/// number.
+/// The span of the router. The caller guesses that the range of the router's rows (links) begins at
+/// the index `at` and has `count` rows.
 fn locate(rows: &[Link], at: usize, count: u16, router: Addr) -> Span
     requires by_key { AreByKey rows.now }
     requires most { length rows.now ≤ MOST_LINKS }
@@ -181,10 +180,9 @@ fn resize(spans: &mut Vec<Span>, count: usize)
     }
 }
 
-/// Lists the span of each router: the range of its rows (links), and the lowest and the highest
-/// local address in them. If a router has as many rows as the old span at its index covers, only a
-/// few of its rows are read. If the routers are in rising order, all rows of the other routers are
-/// read once.
+/// Lists the span of each router. If a router has as many rows (links) as the old span at the same
+/// index, the call reads only a few of these rows. If the routers are in increasing order, the call
+/// reads the rows of the other routers once.
 pub(crate) fn list_spans(spans: &mut Vec<Span>, routers: &[Addr], rows: &[Link])
     requires by_key { AreByKey rows.now }
     requires most { length rows.now ≤ MOST_LINKS }

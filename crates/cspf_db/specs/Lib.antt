@@ -1,4 +1,4 @@
--- The definitions that the contracts of the table use besides those of `cspf_model`.
+-- The definitions that the contracts of `Table` cite, besides those of `cspf_model`.
 pub use Rattle.cspf_columns.specs.Index
 pub mod Owners
 pub mod Plans

@@ -1,4 +1,4 @@
--- What the plan of a batch says, if the batch fits a database.
+-- What a plan says about a batch that fits a database.
 use Rattle.std.specs.Prelude.{◌≡◌, true, All, count_by}
 use Rattle.cspf_model.specs.Numbered.{NumberedChanges}
 use Rattle.cspf_model.specs.Database.{Database}
@@ -9,8 +9,8 @@ use Rattle.cspf_db.specs.declared.table.plan.Plan.{Plan}
 use Rattle.cspf_columns.specs.Index.{links_of, router_list}
 use Rattle.cspf_columns.specs.AlikeChanges.{IsAlike}
 
--- The plan is for the batch `b` and the database `d`: the batch fits, and the plan says what its
--- changes do to the links and the routers.
+-- The batch `b` fits the database `d`, and `plan` says what the changes of `b` do to the links and
+-- the routers of `d`.
 pub record IsPlanOf (d : Database) (b : NumberedChanges) (plan : Plan) : Type 0 where
   pub fits : Fits d b
   pub added : plan.tally.added ≡ count_by (adds_link d) b.changes

@@ -4,7 +4,8 @@ use Rattle.cspf_model.specs.Numbered.{NumberedChanges}
 use Rattle.cspf_model.specs.Database.{Database}
 use Rattle.cspf_model.specs.Changes.{AreLawful, Fits, database_after}
 
--- `d` is the database that is made by the batches before the first batch that doesn't fit.
+-- Some batch of the list doesn't fit. `d` is the database that the batches before the first such
+-- batch make.
 pub record IsStoppedReplay (batches : List NumberedChanges) (d : Database) : Type 0 where
   pub before : List NumberedChanges
   pub batch : NumberedChanges

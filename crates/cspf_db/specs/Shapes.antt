@@ -1,4 +1,4 @@
--- Databases that differ only in unreserved bandwidths.
+-- Databases that differ at most in unreserved bandwidths.
 use Rattle.std.specs.Prelude.{◌≡◌, ℕ}
 use Rattle.std.specs.Option.{option_map}
 use Rattle.cspf_model.specs.declared.link.Link.{Link}
@@ -25,13 +25,12 @@ shape_of l = record {
   group = l.group;
 }
 
--- The databases have the same marks. At each key either both have no link, or their links differ
--- only in their unreserved bandwidths. A mark says that a router has no transit.
+-- The databases have the same marks, and links at the same keys. The two links at a key differ at
+-- most in their unreserved bandwidths. A mark says that a router has no transit.
 pub record HaveOneShape (d e : Database) : Type 0 where
   pub marks : e.marks ≡ d.marks
   pub links : (k : Key) → option_map shape_of (link_at e k) ≡ option_map shape_of (link_at d k)
 
--- If two databases have the same marks, and their links differ only in unreserved bandwidths, their
--- lists of routers are equal. A mark says that a router has no transit.
+-- If two databases differ at most in unreserved bandwidths, their lists of routers are equal.
 abbrev pub ShapesTellRouters : Type 0
 ShapesTellRouters = (d e : Database) → HaveOneShape d e → router_list e ≡ router_list d

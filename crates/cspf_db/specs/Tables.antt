@@ -1,4 +1,4 @@
--- Private: how a table keeps its database.
+-- Private: how a table stores its database.
 pub mod Parts
 pub mod RouterSets
 pub mod AddressRanges

@@ -1,5 +1,5 @@
-//! The table that keeps a traffic engineering database. Its contracts use the definitions of
-//! `cspf_model`. This crate also exports the types of `cspf_model`.
+//! The table that stores a traffic engineering database. The contracts of `Table` cite the
+//! definitions of `cspf_model`. This crate also exports the types of `cspf_model`.
 #![tactic(auto)]
 
 mod limits;

@@ -7,7 +7,7 @@ ghost use Rattle.cspf_db.specs.Replays.{IsStoppedReplay};
 use crate::Table;
 use cspf_model::{Batch, Refusal, absorbing, lawful_batches};
 
-/// The first batch that doesn't fit the database that the batches before it make.
+/// The first batch that doesn't fit the database that the preceding batches make.
 #[derive(Clone, Copy, Debug, PartialEq, Eq)]
 pub struct UnfitBatch {
     /// The number of the batch.
@@ -16,9 +16,10 @@ pub struct UnfitBatch {
     pub refusal: Refusal,
 }
 
-/// Absorbs the batches, in order, into an empty table. If a batch doesn't fit the database that the
-/// batches before it make, it is refused, and the batches before it stay absorbed. The numbers of
-/// the batches aren't checked. The call takes no memory.
+/// Absorbs the batches, in order, into an empty table. The call stops at the first batch that
+/// doesn't fit the database that the preceding batches make. This batch is refused, and the
+/// preceding batches stay absorbed. The call doesn't check the numbers of the batches, and
+/// allocates no memory.
 pub fn replay_into(table: &mut Table, batches: &[Batch]) -> Result<(), UnfitBatch>
     requires empty { table.old ≡ no_links }
     ensures lawful { OnOk result (AreLawful batches.now) }
@@ -26,9 +27,9 @@ pub fn replay_into(table: &mut Table, batches: &[Batch]) -> Result<(), UnfitBatc
     ensures err { IfErr result (λ unfit. IsFirstUnfit batches.now unfit.number unfit.refusal) }
     ensures stopped { OnErr result (IsStoppedReplay batches.now table.new) }
 {
-    // Laws: the database after one more batch is what this batch's changes make of the database
-    // before. If each batch of a list fits the database before it, and the next batch does so too,
-    // the same holds of the list with this batch.
+    // Laws: if a batch is appended to a list of batches, the batch's changes act on the database
+    // that the list makes. The longer list is lawful if the list is lawful and the batch fits this
+    // database.
     absorbing();
     lawful_batches();
     for batch in batches {

@@ -1,5 +1,5 @@
-//! The table that keeps a traffic engineering database, with the lists that the search reads. Each
-//! module of `table/` contains one of these lists, or one step of absorbing a batch.
+//! The table that stores a traffic engineering database, with the lists that the search for routes
+//! reads. Each module of `table/` contains one of these lists, or one step of absorbing a batch.
 
 ghost use Rattle.std.specs.Prelude.{◌≡◌, ◌<◌, ◌≤◌, ◌↔◌, ℕ, All, Contains, length, map, slice_index, slice_index_or, IfOk, OnOk, IfErr, OnErr, IfSome, IfNone, IsTrue};
 ghost use Rattle.std.specs.Vec.{vec_capacity};
@@ -42,7 +42,7 @@ use std::marker::Model;
 use transits::list_transits;
 
 /// A traffic engineering database of at most 16,384 links, 1,024 routers, and 1,024 marks. A mark
-/// says of a router that it is without transit. Only `new` takes memory.
+/// says that a router has no transit. Only `new` allocates memory.
 #[derive(Debug, Drop)]
 pub struct Table {
     columns: Columns,
@@ -68,8 +68,8 @@ impl Model for Table {
 }
 
 impl Table {
-    /// An empty table with room for 16,384 links, 1,024 routers and 1,024 marks. A mark says that a
-    /// router has no transit.
+    /// An empty table with capacity for 16,384 links, 1,024 routers and 1,024 marks. A mark says
+    /// that a router has no transit.
     pub fn new(alloc: Global) -> Result<Table, AllocError>
         ensures { IfOk result (λ table. table ≡ no_links) }
     {
@@ -81,9 +81,9 @@ impl Table {
         })
     }
 
-    /// The links, each of them once. They are in order of the router from which they run, and then
-    /// of their interface address at this router. At most 1,024 routers are endpoints of these
-    /// links.
+    /// The links, each once, in order of the router at which they begin. Links that begin at the
+    /// same router are in order of their interface address at this router. The links begin and end
+    /// at no more than 1,024 routers.
     pub fn links(&self) -> &[Link]
         ensures listed { AreLinksOf self.now result.now }
         ensures most { length result.now ≤ MOST_LINKS }
@@ -95,7 +95,7 @@ impl Table {
         self.columns.rows.as_slice()
     }
 
-    /// The routers, each of them once, in rising order.
+    /// The routers, each once, in increasing order.
     pub fn routers(&self) -> &[Addr]
         ensures all { result.now ≡ router_list self.now }
         ensures known { (router : ℕ) → Contains result.now router ↔ IsRouterOf self.now router }
@@ -105,7 +105,7 @@ impl Table {
         self.columns.routers.as_slice()
     }
 
-    /// For each link of `links`, the index in `routers` of the router to which it runs.
+    /// For each link of `links`, the index in `routers` of the router at which the link ends.
     pub fn ends(&self) -> &[u16]
         ensures within { All (λ end. end < length (router_list self.now)) result.now }
         ensures each { map (λ end. slice_index (router_list self.now) end) result.now
@@ -114,7 +114,7 @@ impl Table {
         self.columns.ends.as_slice()
     }
 
-    /// The index of the router in `routers`, if `routers` has it.
+    /// The index of the router in `routers`, or `None` if `routers` doesn't have the router.
     pub fn place_of(&self, router: Addr) -> Option<usize>
         ensures bound { IfSome result (λ at. at < length (router_list self.now)) }
         ensures some { IfSome result (λ at. slice_index (router_list self.now) at ≡ router) }
@@ -123,14 +123,14 @@ impl Table {
         search(&self.columns.routers, router).ok()
     }
 
-    /// The links from the router, in order of their interface address at this router.
+    /// The links that begin at the router, in order of their interface address at this router.
     pub fn out(&self, router: Addr) -> &[Link]
         ensures { result.now ≡ links_from self.now router }
     {
         rows_from(&self.columns.rows, router)
     }
 
-    /// The links from the router at the index `at` of `routers`.
+    /// The links that begin at the router with the index `at` in `routers`.
     pub fn out_at(&self, at: usize) -> &[Link]
         requires { at < length (router_list self.now) }
         ensures { result.now ≡ links_from_index self.now at }
@@ -139,7 +139,7 @@ impl Table {
         &self.columns.rows[usize::from(span.first)..usize::from(span.end)]
     }
 
-    /// For each link of `out_at`, the index in `routers` of the router to which it runs.
+    /// For each link of `out_at`, the index in `routers` of the router at which the link ends.
     pub fn ends_at(&self, at: usize) -> &[u16]
         requires { at < length (router_list self.now) }
         ensures within { All (λ end. end < length (router_list self.now)) result.now }
@@ -150,8 +150,8 @@ impl Table {
         &self.columns.ends[usize::from(span.first)..usize::from(span.end)]
     }
 
-    /// For each link of `out_at`, the index of its reverse in `links`, or `NO_LINK` if it has no
-    /// reverse. `has_reverse` says what a reverse is.
+    /// For each link of `out_at`, the index of its reverse in `links`, or `NO_LINK` if the link has
+    /// no reverse. The comment of `has_reverse` explains reverses.
     pub fn reverses_at(&self, at: usize) -> &[u16]
         requires { at < length (router_list self.now) }
         ensures many { length result.now ≡ length (links_from_index self.now at) }
@@ -163,7 +163,7 @@ impl Table {
         &self.columns.reverses[usize::from(span.first)..usize::from(span.end)]
     }
 
-    /// The link with the key (`from`, `local`), if there is one.
+    /// The link with the key (`from`, `local`), or `None` if no link has this key.
     pub fn find(&self, from: Addr, local: Addr) -> Option<Link>
         ensures { result ≡ link_at self.now (from, local) }
     {
@@ -171,24 +171,24 @@ impl Table {
         Some(self.columns.rows[at])
     }
 
-    /// Whether the table has the reverse of the link, with any attributes. The reverse joins the
-    /// same two interfaces in the other direction. RFC 2328 16.1, step 2b, requires less: only some
-    /// link back to the router.
+    /// Whether the table has the reverse of the link. The reverse joins the same two interfaces in
+    /// the other direction, and may have any metric, groups and bandwidths. RFC 2328 16.1, step 2b,
+    /// requires less: any link back to the router is enough.
     pub fn has_reverse(&self, link: &Link) -> bool
         ensures { IsTrue result ↔ HasReverse self.now link.now }
     {
         reverse_index(&self.columns.rows, link) != NO_LINK
     }
 
-    /// Whether the router is an endpoint of a link.
+    /// Whether a link begins or ends at the router.
     pub fn has_router(&self, router: Addr) -> bool
         ensures { IsTrue result ↔ IsRouterOf self.now router }
     {
         search(&self.columns.routers, router).is_ok()
     }
 
-    /// The Router IDs that are marked as without transit (RFC 6987), each of them once, in rising
-    /// order. A marked Router ID need not be that of a router in the table.
+    /// The Router IDs that are marked as without transit (RFC 6987), each once, in increasing
+    /// order. A marked Router ID needn't be a router of the table.
     pub fn marks(&self) -> &[Addr]
         ensures all { self.now.marks ≡ set.from_list result.now }
         ensures rising { IsStrictlyIncreasing result.now }
@@ -197,15 +197,15 @@ impl Table {
         self.marks.as_slice()
     }
 
-    /// Whether the router has transit: whether routes may pass through it (RFC 6987). Without
-    /// transit, routes may only begin and end at the router. The router need not be in the table.
+    /// Whether the router has transit, that is, whether routes may pass through it (RFC 6987).
+    /// Routes may begin and end at a router without transit. The router needn't be in the table.
     pub fn transit(&self, router: Addr) -> bool
         ensures { IsTrue result ↔ HasTransit self.now router }
     {
         !is_marked(&self.marks, router)
     }
 
-    /// Whether the router at the index `at` of `routers` has transit, in the sense of `transit`.
+    /// Whether the router with the index `at` in `routers` has transit, as `transit` explains it.
     pub fn transit_at(&self, at: usize) -> bool
         requires { at < length (router_list self.now) }
         ensures { IsTrue result ↔ HasTransit self.now (slice_index (router_list self.now) at) }
@@ -213,10 +213,10 @@ impl Table {
         self.transits[at]
     }
 
-    /// Whether the router owns an address of the prefix. It does so if it is an endpoint of a link,
-    /// and the prefix covers its Router ID or the address of one of its interfaces. The interfaces
-    /// are those of the links from the router. The links' attributes don't matter (RFC 3209
-    /// 4.3.3.2).
+    /// Whether the router owns the prefix: the router is in `routers`, and the prefix covers its
+    /// Router ID or the address of one of its interfaces (RFC 3209 4.3.3.2). The interfaces are the
+    /// local interfaces of the links that begin at the router. Metrics, groups and bandwidths don't
+    /// matter.
     pub fn owns(&self, router: Addr, prefix: Prefix) -> bool
         ensures { IsTrue result ↔ Owns self.now prefix router }
     {
@@ -226,8 +226,8 @@ impl Table {
         }
     }
 
-    /// Whether the router at the index `at` of `routers` owns an address of the prefix, in the
-    /// sense of `owns`. `range` is the range of the addresses that the prefix covers.
+    /// Whether the router with the index `at` in `routers` owns the prefix, as `owns` explains it.
+    /// `range` is the range of the addresses that the prefix covers.
     fn owns_within(&self, at: usize, prefix: Prefix, range: &AddressRange) -> bool
         requires bound { at < length (router_list self.now) }
         requires range { IsRangeOf prefix range.now }
@@ -244,10 +244,10 @@ impl Table {
         any_within(self.out_at(at), prefix)
     }
 
-    /// Lists the indexes in `routers` of all routers that own an address of the prefix, in the
-    /// sense of `owns`. The indexes are in rising order. The links of a router are read only if the
-    /// prefix covers some address from the router's lowest to its highest interface address.
-    /// `owners` has room for all routers, so this takes no memory.
+    /// Lists the indexes in `routers` of all routers that own the prefix, as `owns` explains it.
+    /// The indexes are in increasing order. The call reads a router's links only if the prefix
+    /// covers some address from the router's lowest to its highest interface address. `owners` has
+    /// capacity for all routers, so the call allocates no memory.
     pub fn list_owners(&self, owners: &mut Vec<u16>, prefix: Prefix)
         requires { MOST_ROUTERS ≤ vec_capacity owners.old }
         ensures owners { AreOwners self.now prefix owners.new.items }
@@ -262,8 +262,8 @@ impl Table {
         }
     }
 
-    /// Checks whether the batch fits. If it doesn't fit, returns the first reason. The batch's
-    /// number isn't checked.
+    /// Checks whether the batch fits. If the batch doesn't fit, returns the first reason. The call
+    /// doesn't check the batch's number.
     pub fn check(&self, batch: &Batch) -> Result<(), Refusal>
         ensures ok { OnOk result (Fits self.now batch.now) }
         ensures err { IfErr result (λ refusal. IsRefusal self.now batch.now refusal) }
@@ -275,9 +275,9 @@ impl Table {
         }
     }
 
-    /// Checks whether the batch fits. If it fits, returns what it does to the table, for
-    /// `absorb_planned`. Otherwise returns the first reason why it doesn't fit. The batch's number
-    /// isn't checked.
+    /// Checks whether the batch fits. If the batch fits, returns a plan, which `absorb_planned`
+    /// takes. Otherwise returns the first reason why the batch doesn't fit. The call doesn't check
+    /// the batch's number.
     pub fn plan(&self, batch: &Batch) -> Result<Plan, Refusal>
         ensures ok { IfOk result (IsPlanOf self.now batch.now) }
         ensures err { IfErr result (λ refusal. IsRefusal self.now batch.now refusal) }
@@ -299,7 +299,7 @@ impl Table {
     }
 
     /// Makes all changes of the batch if it fits. Otherwise changes nothing, and returns the first
-    /// reason why the batch doesn't fit. The batch's number isn't checked.
+    /// reason why the batch doesn't fit. The call doesn't check the batch's number.
     pub fn try_absorb(&mut self, batch: &Batch) -> Result<(), Refusal>
         ensures ok { OnOk result (Fits self.old batch.now) }
         ensures changed { OnOk result (self.new ≡ after_changes self.old batch.now.changes) }
@@ -316,9 +316,8 @@ impl Table {
         }
     }
 
-    /// Makes all changes of a batch that fits. `plan` is what the call `plan` returned for this
-    /// batch and this database. The call doesn't check again whether the batch fits, and takes no
-    /// memory.
+    /// Makes all changes of a batch that fits. The method `plan` returned `plan` for this batch and
+    /// this database. The call doesn't check again whether the batch fits, and allocates no memory.
     pub fn absorb_planned(&mut self, batch: &Batch, plan: Plan)
         requires { IsPlanOf self.old batch.now plan }
         ensures { self.new ≡ after_changes self.old batch.now.changes }

@@ -1,6 +1,6 @@
--- What a route may do in the leg to a hop follows from the targets of this leg (routers where it
--- may end) and of the leg before it. It also follows from what the route may do in the leg after
--- the last hop.
+-- How the roles of a leg to a hop are computed. They follow from the targets of this leg and of the
+-- preceding leg, and from the roles of the leg after the last hop. A role says what a route may do
+-- at a router in a leg. A leg's targets are the routers where the leg may end.
 use Rattle.std.proofs.Common.{◌≡◌, ◌≢◌, ◌⊎◌, ◌↔◌, inl, inr, ℕ, zero, suc, ◌+◌, ◌*◌, ◌/◌, ◌%◌, ◌<◌, ◌≤◌, ◌&&◌, ◌++◌, ◌∷◌, [], true, false, Bool, IsTrue, List, Contains, nat_eq, set, length-set, length, slice_get, slice_index_or, refl, sym, ap, subst, ◌∙◌, arith}
 use Rattle.std.proofs.lemmas.Bool.{false≢true, cases_lt, eqb-true, eq-eqb}
 use Rattle.std.proofs.lemmas.List.{get_or_default, get_or-set_same, get_or-set_other}
@@ -17,9 +17,10 @@ use Rattle.cspf_graph.specs.RoleSteps.{nothing, AreRolesUpTo, AreRoleRows, AreRo
 use Rattle.std.proofs.lemmas.Option.{slice_get_past}
 use Rattle.cspf_graph.proofs.RouterIndexes.{one_place, same_or_not}
 
--- Suppose that `Now` holds exactly where `Old` holds, and at each index of `front` at which `More`
--- holds. Suppose that `Next` adds to `Now` the index `place` if `More` holds there. Then `Next`
--- holds exactly where `Old` holds, and at each index of `front` and `place` at which `More` holds.
+-- `Old`, `Now` and `Next` are three states of a property of indexes. `Now` holds of the indexes of
+-- which `Old` holds, and of the indexes in `front` of which `More` holds. `Next` adds the index
+-- `place` to `Now` if `More` holds of `place`. Then `Next` holds of the indexes of which `Old`
+-- holds, and of the indexes in `front` with `place` appended of which `More` holds.
 pub with_index : (Old More Now Next : ℕ → Type 0) (n : ℕ) (front : List ℕ) (place : ℕ)
     → ((p : ℕ) → p < n → Now p ↔ (Old p ⊎ (Contains front p × More p)))
     → (Next place ↔ (Now place ⊎ More place)) → ((p : ℕ) → p ≢ place → Next p ↔ Now p)
@@ -45,8 +46,8 @@ with_index Old More Now Next n front place before here there p low =
           )
     ]
 
--- If a role in the leg is set, the roles of all other legs stay the same. A role says what a route
--- may do at a router in a leg.
+-- Setting a role of the leg doesn't change the roles of other legs. A role says what a route may do
+-- at a router in a leg.
 stays_set : (rows : RoleRows) (old now : List Role) (place : ℕ) (role : Role) → place < rows.count → StayElsewhere rows old now → StayElsewhere rows old (set now (rows.first + place) role)
 stays_set rows old now place role within stays = record {
   many = length-set now (rows.first + place) role ∙ stays.many;
@@ -54,8 +55,8 @@ stays_set rows old now place role within stays = record {
   behind = λ i high. get_or-set_other now (rows.first + place) i role nothing (λ e. omega (arith, e, high, within)) ∙ stays.behind i high;
 }
 
--- Suppose that `AreRolesMarked` holds of the first routers, and that the role of one more router is
--- set by the same rule. Then `AreRolesMarked` holds of these routers with that one after them. A
+-- Suppose that `AreRolesMarked` holds of the routers in `front`, and that the role of the router
+-- `place` is set by the same rule. Then `AreRolesMarked` holds of `front` with `place` appended. A
 -- role says what a route may do at a router in a leg.
 pub one_marked : (rows : RoleRows) (front : List ℕ) (place : ℕ) (own : Bool) (from : ℕ) (old now : List Role) (role : Role) → AreRoleRows rows old → place < rows.count
     → AreRolesMarked rows front own from old now
@@ -89,8 +90,8 @@ and_is : (a b : Bool) → IsTrue (a && b) ↔ (IsTrue a × IsTrue b)
 and_is true b = (λ on. (refl, on), λ both. both.1)
 and_is false b = (λ on. absurd (false≢true on), λ both. absurd (false≢true both.0))
 
--- Lemmas on the roles of a leg to a hop, if the roles in the leg after the last hop are already
--- right. A role says what a route may do at a router in a leg.
+-- Lemmas on the roles of a leg to a hop. The roles of the leg after the last hop are already
+-- correct. A role says what a route may do at a router in a leg.
 module _ (d : Database) (q : Request) (listed : AreListed d) (leg from : ℕ) (within : leg < length q.hops) (start : IsIndexOf d q.from from) (rows : RoleRows) (first : rows.first ≡ leg * 1024)
     (last : rows.last ≡ length q.hops * 1024) (count : rows.count ≡ length (router_list d)) (before own : List ℕ) (are_before : AreTargetsOf d q leg before) (are_own : AreTargetsOf d q (leg + 1) own)
     (loose : Bool) (is_loose : IsTrue loose ↔ IsLoose (slice_get q.hops leg)) (old spread some new : List Role) (known : AreRolesUpTo d q leg old) (spreads : IsSpread rows loose old spread)
@@ -102,8 +103,9 @@ module _ (d : Database) (q : Request) (listed : AreListed d) (leg from : ℕ) (w
   inside_last : (r : ℕ) → IsInside d q (suc (length q.hops)) r
   inside_last r = inl (subst IsLoose (sym (slice_get_past q.hops (length q.hops) (omega arith))) tt)
 
-  -- A router is inside the leg exactly if the leg is loose, or the router is a target of this leg
-  -- or of the leg before it. A leg's targets are the routers where it may end.
+  -- The next two lemmas: a router is inside a loose leg, and inside a strict leg if it is a target
+  -- of this leg or of the preceding leg. Otherwise the router isn't inside the leg. A leg's targets
+  -- are the routers where the leg may end.
   inside_of : (r : ℕ) → IsLoose (slice_get q.hops leg) ⊎ (IsTarget d q leg r ⊎ IsTarget d q (leg + 1) r) → IsInside d q (leg + 1) r
   inside_of r so = subst (λ k. IsInside d q k r) next (elim so [ inl is ↦ inl is | inr (inl is) ↦ inr (inl is) | inr (inr is) ↦ inr (inr (subst (λ k. IsTarget d q k r) (sym next) is)) ])
 
@@ -112,7 +114,7 @@ module _ (d : Database) (q : Request) (listed : AreListed d) (leg from : ℕ) (w
       let so : IsInside d q (suc leg) r = subst (λ k. IsInside d q k r) (sym next) inside in
       elim so [ inl is ↦ inl is | inr (inl is) ↦ inr (inl is) | inr (inr is) ↦ inr (inr (subst (λ k. IsTarget d q k r) next is)) ]
 
-  -- Lemmas on the router at the index `p`, and on its role in the leg after the last hop. A role
+  -- Lemmas on the router with the index `p`, and on its role in the leg after the last hop. A role
   -- says what a route may do at a router in a leg.
   module _ (p : ℕ) (low : p < length (router_list d)) where
     at_last : IsRole d q (length q.hops + 1) (router_at d p) (role_at old (rows.last + p))
@@ -136,7 +138,7 @@ module _ (d : Database) (q : Request) (listed : AreListed d) (leg from : ℕ) (w
     within_rows : p < rows.count
     within_rows = omega (arith, low, count)
 
-    -- No step by which the roles of this leg are set changes the router's role in the leg after the
+    -- The steps that set the roles of this leg don't change the router's role in the leg after the
     -- last hop. A role says what a route may do at a router in a leg.
     last_spread : role_at spread (rows.last + p) ≡ role_at old (rows.last + p)
     last_spread = spreads.elsewhere.behind (rows.last + p) (omega (arith, first, last, within, count, listed.few))
@@ -236,7 +238,7 @@ one_item x (suc k) d low = absurd (omega (arith, low))
 none_there : (p : ℕ) → Contains [] p → ⊥
 none_there p (k, low, is) = omega (arith, low)
 
--- The only target of leg 0, which is before the first hop, is the head-end.
+-- The only target of leg 0 is the head-end, where the first leg begins.
 pub head_alone : (d : Database) (q : Request) (listed : AreListed d) (from : ℕ) → IsIndexOf d q.from from → AreTargetsOf d q 0 (from ∷ [])
 head_alone d q listed from start = record {
   within = λ k x low. rw (one_item from k x low) start.within;

@@ -29,6 +29,6 @@ same_index xs up i j low high e =
       | inr ge ↦ elim (cases_lt j i) [ inl lt ↦ absurd (omega (arith, rises xs up j i lt low)) | inr le ↦ omega arith ]
     ]
 
--- If two indexes of the list of routers are those of the same router, the indexes are equal.
+-- If `i` and `j` are indexes of the same router in the list of routers, `i` and `j` are equal.
 pub one_place : (d : Database) → AreListed d → (router i j : ℕ) → IsIndexOf d router i → IsIndexOf d router j → i ≡ j
 one_place d listed router i j at there = same_index (router_list d) listed.rising i j at.within there.within (at.is ∙ sym there.is)

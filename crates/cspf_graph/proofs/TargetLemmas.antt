@@ -1,4 +1,5 @@
--- The targets of a leg are the routers that own the prefix of its hop.
+-- The targets of the leg to a hop are the routers that own the hop's prefix. The target of the leg
+-- after the last hop is the tail-end.
 use Rattle.std.proofs.Common.{◌≡◌, ◌≢◌, ℕ, zero, suc, ◌-◌, ◌↔◌, Bool, Option, Some, None, IsTrue, nat_eq, slice_get, refl, sym, ap, subst, ◌∙◌, arith}
 use Rattle.std.proofs.lemmas.Bool.{eqb-true, eq-eqb}
 use Rattle.cspf_addr.specs.declared.hop.Hop.{Hop}
@@ -7,7 +8,8 @@ use Rattle.cspf_model.specs.Database.{Database}
 use Rattle.cspf_model.specs.Targets.{IsTarget, IsTargetOf, Owns}
 
 module _ (d : Database) (q : Request) (leg router : ℕ) (later : leg ≢ 0) (b : Bool) where
-  -- From leg 1 on, the targets of a leg (the routers where it may end) are those of its hop.
+  -- From leg 1 on, the hop with the index `leg - 1` gives the targets of the leg (routers where the
+  -- leg may end). If there is no such hop, the tail-end is the only target.
   targets_of_hop : (leg : ℕ) (o : Option Hop) → leg ≢ 0 → slice_get q.hops (leg - 1) ≡ o → IsTargetOf d q.to o router ≡ IsTarget d q leg router
   targets_of_hop zero o later e = absurd (later refl)
   targets_of_hop (suc i) o later e =

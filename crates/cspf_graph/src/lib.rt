@@ -1,9 +1,9 @@
-//! Which links a request may use, and which routers its walks may leave. Also: at which routers the
-//! legs of a route may end, which routers a leg may visit, and what a route may do at each router
-//! in each leg. The functions `accepts`, `admissible`, `may_leave`, `may_leave_at`, `member` and
-//! `inside` decide exactly `IsAdmitted`, `IsUsable`, `MayLeave`, `IsTarget` and `IsInside` of
-//! `cspf_model`. The functions `may_be_left` and `find_roles` decide exactly `MayBeLeft`,
-//! `MayEnter` and `MayTurn`, which this crate defines. Only `find_roles` allocates memory.
+//! Which links a request may use, and which routers a walk may leave. At which routers a leg may
+//! end, which routers a leg may visit, and what a route may do at each router in each leg. The
+//! functions `accepts`, `admissible`, `may_leave`, `may_leave_at`, `member` and `inside` decide
+//! exactly `IsAdmitted`, `IsUsable`, `MayLeave`, `IsTarget` and `IsInside` of `cspf_model`. The
+//! functions `may_be_left` and `find_roles` decide exactly `MayBeLeft`, `MayEnter` and `MayTurn`,
+//! which this crate defines. Only `find_roles` allocates memory.
 #![tactic(auto)]
 
 mod admission;

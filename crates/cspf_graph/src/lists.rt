@@ -7,8 +7,8 @@ ghost use Rattle.cspf_graph.specs.Lists.{AreListed, IsIndexOf};
 use cspf_db::Table;
 use cspf_model::{MOST_ROUTERS, counted_routers};
 
-/// Says that the table's lists of routers and links are those of its database. The function does
-/// nothing: its contract holds of each table.
+/// Law: for each table, `router_list` lists exactly the routers of the table's database, and
+/// `links_of` lists exactly its links. The call changes nothing.
 pub fn listed(table: &Table)
     ensures listed { AreListed table.now }
     ensures links { AreLinksOf table.now (links_of table.now) }

@@ -1,7 +1,7 @@
-//! What a route may do at each router in each leg. A link may lead the route there or not, and the
-//! route may go on to the next leg there or not. This follows from what a route may do in the leg
-//! after the last hop, and from the targets of the legs. A leg's targets are the routers where it
-//! may end.
+//! What a route may do at each router in each leg. May a link lead the route to the router? May the
+//! route go on to the next leg at the router? Both answers follow from what a route may do in the
+//! leg after the last hop, and from the targets of the legs. A leg's targets are the routers where
+//! the leg may end.
 
 ghost use Rattle.std.specs.Prelude.{◌≡◌, ◌≢◌, true, ◌+◌, ◌*◌, ◌<◌, ◌↔◌, ◌⊎◌, All, IsTrue, IfOk, length, slice_get};
 ghost use Rattle.cspf_db.specs.Index.{router_list};
@@ -20,8 +20,8 @@ use std::alloc::{AllocError, Global};
 pub struct Role {
     /// Whether a link may lead the route to the router.
     pub enter: bool,
-    /// Whether the router is a target of the leg (a router where it may end), and a route may visit
-    /// it.
+    /// Whether the route may go on to the next leg at the router. The router is then a target of
+    /// the leg (a router where the leg may end), and a route may visit the router.
     pub target: bool,
 }
 
@@ -32,7 +32,7 @@ const NOTHING: Role = Role {
     target: false,
 };
 
-/// What a route may do at the router at the index `place` in the leg after the last hop. That leg
+/// What a route may do at the router with the index `place` in the leg after the last hop. This leg
 /// is loose, and its only target is the tail-end.
 fn last_role(table: &Table, request: &Request, place: usize) -> Role
     requires { place < length (router_list table.now) }
@@ -46,8 +46,8 @@ fn last_role(table: &Table, request: &Request, place: usize) -> Role
     }
 }
 
-/// The role that `last_role` gives a router in the leg after the last hop, if the router isn't the
-/// tail-end. A role says what a route may do at a router in a leg.
+/// The same as `last_role` for a router that isn't the tail-end. A role says what a route may do at
+/// a router in a leg.
 fn passed_role(table: &Table, request: &Request, place: usize) -> Role
     requires { place < length (router_list table.now) }
     ensures { router_at table.now place ≢ request.now.to
@@ -60,8 +60,7 @@ fn passed_role(table: &Table, request: &Request, place: usize) -> Role
     }
 }
 
-/// Sets what a route may do at each router in the leg after the last hop. `to` is the index of the
-/// tail-end.
+/// Sets the role of each router in the leg after the last hop. `to` is the index of the tail-end.
 fn set_last_roles(table: &Table, request: &Request, to: usize, roles: &mut [Role])
     requires listed { AreListed table.now }
     requires to { IsIndexOf table.now request.now.to to }
@@ -75,9 +74,9 @@ fn set_last_roles(table: &Table, request: &Request, to: usize, roles: &mut [Role
     roles[first + to] = last_role(table, request, to);
 }
 
-/// The indexes in a list of roles at which the roles of two legs begin. `first` is that of a leg to
-/// a hop, and `last` that of the leg after the last hop. Each leg has one role for each of the
-/// `count` routers. A role says what a route may do at a router in a leg.
+/// Where a list of roles has the roles of two legs. The roles of a leg to a hop begin at the index
+/// `first`, and the roles of the leg after the last hop at the index `last`. Each leg has one role
+/// for each of the `count` routers. A role says what a route may do at a router in a leg.
 #[derive(Clone, Copy)]
 struct RoleRows {
     first: usize,
@@ -85,10 +84,9 @@ struct RoleRows {
     count: usize,
 }
 
-/// Sets the roles that the routers get first in a leg to a hop, before any targets (routers where a
-/// leg may end) are looked at. In a loose leg, a link may lead a route to each router that the
-/// route may leave or end at. In a strict leg, no link may lead a route to a router yet. No router
-/// is a target yet.
+/// Does the first step for a leg to a hop, before targets (routers where a leg may end) are
+/// considered. In a loose leg, sets `enter` for each router that has it in the leg after the last
+/// hop. In a strict leg, clears `enter` for all routers. Clears `target` for all routers.
 fn spread(roles: &mut [Role], rows: RoleRows, loose: bool)
     requires rows { AreRoleRows rows roles.old }
     ensures { IsSpread rows loose roles.old roles.new }
@@ -102,11 +100,10 @@ fn spread(roles: &mut [Role], rows: RoleRows, loose: bool)
     }
 }
 
-/// The role of a router after it was found among the targets of this leg (routers where it may end)
-/// or of the leg before. `stands` says whether a route may enter the router in the leg after the
-/// last hop, and `begins` whether it is the head-end. The route may go on to the next leg at the
-/// router only if `own` says that it is a target of this leg. A role says what a route may do at a
-/// router in a leg.
+/// The new role of a router that is a target of this leg (a router where the leg may end) or of the
+/// preceding leg. `own` says whether the router is a target of this leg. `stands` says whether a
+/// link may lead a route to the router in the leg after the last hop. `begins` says whether the
+/// router is the head-end. A role says what a route may do at a router in a leg.
 fn with_more(old: Role, stands: bool, own: bool, begins: bool) -> Role
     ensures enter { IsTrue result.enter ↔ (IsTrue old.enter ⊎ IsTrue stands) }
     ensures target { IsTrue result.target
@@ -118,11 +115,11 @@ fn with_more(old: Role, stands: bool, own: bool, begins: bool) -> Role
     }
 }
 
-/// Lets a route do more at the routers at the indexes `places`. These are the targets of this leg
-/// (routers where it may end) if `own` holds, and otherwise the targets of the leg before. A link
-/// may then lead the route to each of these routers that the route may leave or end at. If `own`
-/// holds, the route may also go on to the next leg at each of these routers that it may visit.
-/// `from` is the index of the head-end.
+/// Does the step that considers targets (routers where a leg may end). `places` has the indexes of
+/// the targets of this leg if `own` is true, and otherwise of the preceding leg. Sets `enter` for
+/// each of these routers that has it in the leg after the last hop. If `own` is true, also sets
+/// `target` for these routers, and for the head-end if it is in `places`. `from` is the index of
+/// the head-end.
 fn mark(roles: &mut [Role], rows: RoleRows, places: &[u16], own: bool, from: usize)
     requires rows { AreRoleRows rows roles.old }
     requires places { All (λ place. place < rows.count) places.now }
@@ -135,7 +132,7 @@ fn mark(roles: &mut [Role], rows: RoleRows, places: &[u16], own: bool, from: usi
     }
 }
 
-/// For the leg to a hop, the indexes of its targets (routers where the leg may end) in the list of
+/// The targets of the leg to a hop (routers where the leg may end), as indexes in the list of
 /// routers. `leg_index` is the index of the hop.
 fn targets_of(
     alloc: Global,
@@ -167,21 +164,20 @@ pub fn is_loose(request: &Request, leg_index: usize) -> bool
     }
 }
 
-/// A leg to a hop, with the routers at which it begins, and its targets (routers where the leg may
-/// end). Both are given by indexes in the list of routers.
+/// A leg to a hop, the routers at which the leg may begin, and its targets (routers where the leg
+/// may end). The routers are given by their indexes in the list of routers.
 #[derive(Clone, Copy)]
 struct Leg<'a> {
     /// The index of the hop.
     index: usize,
-    /// The routers at which the leg begins. In the first leg this is the head-end, and in each
-    /// other leg the targets of the leg before it (routers where that leg may end).
+    /// The routers at which the leg may begin: for the first leg, the head-end, and for each other
+    /// leg, the targets of the preceding leg.
     starts: &'a [u16],
-    /// The targets of the leg (routers where it may end).
+    /// The targets of the leg (routers where the leg may end).
     targets: &'a [u16],
 }
 
-/// Sets what a route may do at each router in the leg to a hop. `from` is the index of the
-/// head-end.
+/// Sets the role of each router in the leg to a hop. `from` is the index of the head-end.
 fn set_roles(table: &Table, request: &Request, leg: Leg<'_>, from: usize, roles: &mut [Role])
     requires within { leg.index < length request.now.hops }
     requires listed { AreListed table.now }
@@ -206,17 +202,17 @@ fn set_roles(table: &Table, request: &Request, leg: Leg<'_>, from: usize, roles:
 /// where these legs may end).
 #[derive(Drop)]
 pub struct Roles {
-    /// The role of each router in each leg: what a route may do there. Each leg has 1,024 roles.
-    /// Among these, a router's role is at the router's index in `Table::routers`.
+    /// The role of each router in each leg, leg by leg. Each leg has 1,024 roles. Among the roles
+    /// of a leg, a router's role is at the router's index in `Table::routers`.
     pub states: Vec<Role>,
-    /// For each hop, the targets of the leg to that hop (routers where this leg may end), by their
+    /// For each hop, the targets of the leg to this hop (routers where this leg may end), as
     /// indexes in `Table::routers`.
     pub targets: Vec<Vec<u16>>,
 }
 
-/// What a route may do at each router in each leg, and the targets of the legs to hops (routers
-/// where these legs may end). `from` and `to` are the indexes of the head-end and the tail-end in
-/// `Table::routers`.
+/// Computes what a route may do at each router in each leg, and the targets of the legs to hops
+/// (routers where these legs may end). `from` and `to` are the indexes of the head-end and the
+/// tail-end in `Table::routers`.
 pub fn find_roles(
     alloc: Global,
     table: &Table,

@@ -22,8 +22,9 @@ pub fn member(table: &Table, router: Addr, leg: usize, request: &Request) -> boo
 }
 
 /// Whether a route may visit the router in the leg. The first leg is leg 1. In a loose leg a route
-/// may visit any router. In a strict leg it may visit only the targets of this leg (routers where
-/// it may end) and of the leg before it (RFC 3209 4.3.3.1). The leg after the last hop is loose.
+/// may visit any router. In a strict leg a route may visit only the targets of this leg and of the
+/// preceding leg (RFC 3209 4.3.3.1). A leg's targets are the routers where the leg may end. The leg
+/// after the last hop is loose.
 pub fn inside(table: &Table, router: Addr, leg: usize, request: &Request) -> bool
     requires from_one { 1 ≤ leg }
     requires most { leg ≤ length request.now.hops + 1 }

@@ -7,16 +7,15 @@ use cspf_addr::Addr;
 use cspf_db::Table;
 use cspf_model::Request;
 
-/// Whether a walk that has reached the router over `links_so_far` links may leave it: the router
-/// has transit, or the walk begins there (RFC 6987).
+/// Whether a walk may leave the router that it has reached by `links_so_far` links. It may if the
+/// router has transit, or if the walk has no links yet (RFC 6987).
 pub fn may_leave(table: &Table, router: Addr, links_so_far: u32) -> bool
     ensures { IsTrue result ↔ MayLeave table.now router links_so_far }
 {
     links_so_far == 0 || table.transit(router)
 }
 
-/// Whether a walk that has reached the router at the index `place` of `Table::routers` over
-/// `links_so_far` links may leave this router. The rule is that of `may_leave`.
+/// The same as `may_leave`, for the router with the index `place` in `Table::routers`.
 pub fn may_leave_at(table: &Table, place: usize, links_so_far: u32) -> bool
     requires { place < length (router_list table.now) }
     ensures { IsTrue result
@@ -25,8 +24,8 @@ pub fn may_leave_at(table: &Table, place: usize, links_so_far: u32) -> bool
     links_so_far == 0 || table.transit_at(place)
 }
 
-/// Whether some walk of the request may leave the router at the index `place` of `Table::routers`:
-/// the router has transit, or it is the head-end.
+/// Whether a walk of the request may leave the router with the index `place` in `Table::routers`:
+/// the router has transit, or is the head-end.
 pub fn may_be_left(table: &Table, place: usize, request: &Request) -> bool
     requires { place < length (router_list table.now) }
     ensures { IsTrue result

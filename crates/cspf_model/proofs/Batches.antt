@@ -1,4 +1,4 @@
--- Lemmas on batches: which batches fit a database, and why others don't.
+-- Lemmas on batches: which batches fit a database, and why other batches don't fit.
 pub mod RouterSets
 pub mod LeastReasons
 pub mod LawfulBatches

@@ -7,12 +7,12 @@ use Rattle.cspf_model.specs.Database.{Database, IsRouterOf}
 use Rattle.cspf_model.specs.Walks.{walk_cmp}
 use Rattle.cspf_model.specs.Routes.{IsRoute}
 
--- The walk is a route, and no other route comes before it.
+-- The walk is a route, and no other route precedes it in the order of walks.
 pub record IsBestRoute (d : Database) (q : Request) (walk : List Link) : Type 0 where
   pub is_route : IsRoute d q walk
   pub least : (other : List Link) → IsRoute d q other → walk_cmp other walk ≢ Less
 
--- An answer to a request: an end that is unknown, no route, or a route.
+-- An answer to a request: an unknown head-end, an unknown tail-end, no route, or a route.
 pub data Answer : Type 0 where
   unknown_from : Answer
   unknown_to : Answer

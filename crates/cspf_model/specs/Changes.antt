@@ -1,4 +1,5 @@
--- How changes act on a database, which batches fit it, and which lists of batches are lawful.
+-- How changes act on a database, which batches fit a database, and which lists of batches are
+-- lawful.
 use Rattle.std.specs.Prelude.{◌≡◌, ◌≤◌, ℕ, Bool, false, not, cond, Option, Some, None, IsSome, List, [], ◌∷◌, All, length, map, reverse, find}
 use Rattle.std.specs.declared.cmp.Ordering.{Ordering}
 use Rattle.std.specs.Ordering.{nat_cmp, eq_by_cmp, ordering_then}
@@ -13,9 +14,9 @@ use Rattle.cspf_model.specs.Numbered.{NumberedChanges}
 use Rattle.cspf_model.specs.Database.{Database, Key, key_of, link_at, link_count, router_count, mark_count}
 use Rattle.cspf_model.specs.declared.limits.TheConstants.{MOST_CHANGES, MOST_LINKS, MOST_ROUTERS, MOST_MARKS}
 
--- The key of a change. The key of a change to a link is the router at which the link begins, and
--- the link's interface address there. The key of a change of a router's transit is the router
--- alone.
+-- The key of a change. A change to a link has the link's key: the router at which the link begins,
+-- and the address of the link's interface at this router. A change of a router's transit has the
+-- router as its key, and `None` in place of an address.
 abbrev pub ChangeKey : Type 0
 ChangeKey = ℕ × Option ℕ
 
@@ -23,13 +24,12 @@ ChangeKey = ℕ × Option ℕ
 abbrev pub link_key : Key → ChangeKey
 link_key k = (k.0, Some k.1)
 
--- The key of a change of this router's transit, that is, of whether routes may pass through the
--- router.
+-- The key of a change of this router's transit. A router has transit if routes may pass through it.
 abbrev pub mark_key : ℕ → ChangeKey
 mark_key router = (router, None)
 
--- The order of the keys of changes: by the router, and then by the interface. A key without an
--- interface comes before those with one.
+-- Keys of changes are ordered by router, and then by interface. A key without an interface precedes
+-- keys of the same router with an interface.
 abbrev pub change_key_cmp : ChangeKey → ChangeKey → Ordering
 change_key_cmp a b = ordering_then (nat_cmp a.0 b.0) (option_cmp nat_cmp a.1 b.1)
 
@@ -45,24 +45,25 @@ link_left (Put l) = Some l
 link_left (Remove from local) = None
 link_left (Node router transit) = None
 
--- Whether a change takes a router's transit away, and so marks this router as without transit.
+-- Whether a change marks a router as without transit, because it takes the router's transit away.
 abbrev pub mark_left : Change → Bool
 mark_left (Put l) = false
 mark_left (Remove from local) = false
 mark_left (Node router transit) = not transit
 
--- The last change in a list that has this key, if there is one.
+-- The last change with this key in a list, or `None` if no change has this key.
 abbrev pub last_on : ChangeKey → List Change → Option Change
 last_on k changes = find (λ c. eq_by_cmp change_key_cmp k (key_changed c)) (reverse changes)
 
--- The link at a key after the last change with this key. `before` is the link that was there before
--- all changes.
+-- The link at a key after a list of changes. The first parameter is the last change with this key,
+-- and `before` is the link at this key before the changes.
 abbrev pub link_after : Option Change → Option Link → Option Link
 link_after None before = before
 link_after (Some c) before = link_left c
 
--- Whether a router is marked as without transit after the last change of its transit. `before` says
--- whether it was marked before all changes.
+-- Whether a router is marked as without transit after a list of changes. The first parameter is the
+-- last change of the router's transit, and `before` says whether the router was marked before the
+-- changes.
 abbrev pub mark_after : Option Change → Bool → Bool
 mark_after None before = before
 mark_after (Some c) before = mark_left c
@@ -84,7 +85,8 @@ abbrev pub no_links : Database
 no_links = record { links = empty; marks = set.empty }
 
 -- The routers that are marked as without transit after a change of the transit of `router`. `marks`
--- are the routers that are marked before the change, and `transit` says whether it gives transit.
+-- are the routers that are marked before the change. `transit` says whether `router` has transit
+-- after the change.
 abbrev pub marks_after : set.FinSet nat_cmp → ℕ → Bool → set.FinSet nat_cmp
 marks_after marks router transit = cond transit (set.remove marks router) (set.insert marks router)
 
@@ -110,10 +112,10 @@ IsPresent d (Put l) = Unit {0}
 IsPresent d (Remove from local) = IsSome (link_at d (from, local))
 IsPresent d (Node router transit) = Unit {0}
 
--- A batch fits a database if five rules hold. The batch has at most 4,096 changes. No two changes
+-- A batch fits a database if six rules hold. The batch has at most 4,096 changes. No two changes
 -- have the same key. For each removal, the database has a link with its key. After the batch, the
--- database has at most 16,384 links and 1,024 routers. After the batch, it has at most 1,024
--- addresses marked as those of routers without transit.
+-- database has at most 16,384 links, has at most 1,024 routers, and marks at most 1,024 routers as
+-- without transit.
 pub record Fits (d : Database) (batch : NumberedChanges) : Type 0 where
   pub short : length batch.changes ≤ MOST_CHANGES
   pub once : IsDistinct (eq_by_cmp change_key_cmp) (map key_changed batch.changes)
@@ -122,12 +124,12 @@ pub record Fits (d : Database) (batch : NumberedChanges) : Type 0 where
   pub routers : router_count (after_changes d batch.changes) ≤ MOST_ROUTERS
   pub marks : mark_count (after_changes d batch.changes) ≤ MOST_MARKS
 
--- Each batch fits the database that `d` and the batches before it make.
+-- Each batch fits the database that the preceding batches make from `d`.
 abbrev pub AreLawfulAfter : Database → List NumberedChanges → Type 0
 AreLawfulAfter d [] = Unit {0}
 AreLawfulAfter d (b ∷ bs) = Fits d b × AreLawfulAfter (after_changes d b.changes) bs
 
--- The list of batches is lawful: each batch fits the database that the batches before it make. The
--- first batch changes the database without links, in which no router is marked as without transit.
+-- The list of batches is lawful: each batch fits the database that the preceding batches make. The
+-- first batch has to fit the database without links and marks.
 abbrev pub AreLawful : List NumberedChanges → Type 0
 AreLawful batches = AreLawfulAfter no_links batches

@@ -1,5 +1,4 @@
--- How a database is encoded as a pair: its links, and the addresses that are marked as those of
--- routers without transit. A type whose view is a database needs this encoding in its `Model`.
+-- The encoding of a database. A type whose view is a database needs this encoding in its `Model`.
 use Rattle.std.specs.Prelude.{refl}
 use Rattle.std.specs.Coded.{Coded, code_by, coded×, coded_ℕ}
 use Rattle.std.specs.Ordering.{nat_cmp}
@@ -9,8 +8,7 @@ use Rattle.cspf_model.specs.declared.link.Link.{Link}
 use Rattle.cspf_model.specs.contracts.link.Link.{the_row}
 use Rattle.cspf_model.specs.Database.{Database, key_cmp}
 
--- The encoding of a database as a pair: its links, and the addresses that are marked as those of
--- routers without transit.
+-- A database is encoded as the pair of its links and its marks.
 abbrev pub database_code : Coded Database
 database_code =
     code_by (map.FinMap key_cmp Link × set.FinSet nat_cmp)

@@ -17,11 +17,11 @@ use Rattle.cspf_model.specs.Fields.{RequestFields, HasRequestFields}
 abbrev pub address : ℕ → ℕ → ℕ → ℕ → ℕ
 address a b c d = ((a * 256 + b) * 256 + c) * 256 + d
 
--- The routers 1.1.1.1, 2.2.2.2 and so on.
+-- The Router ID n.n.n.n, such as 1.1.1.1.
 abbrev pub router : ℕ → ℕ
 router n = address n n n n
 
--- The routers 10.9.0.1 and 10.9.0.2.
+-- The Router ID 10.9.0.n, such as 10.9.0.1.
 abbrev pub inner : ℕ → ℕ
 inner n = address 10 9 0 n
 
@@ -53,7 +53,7 @@ asked_fields to hops = record {
   hops = hops;
 }
 
--- A hop to the routers with an address in this prefix.
+-- The hop to the prefix with the address `first` and the length `length`.
 abbrev pub hop : ℕ → ℕ → Bool → Hop
 hop first length loose =
     record { prefix = record { address = first; length = length }; loose = loose }
@@ -63,7 +63,8 @@ abbrev pub link_by : (from to metric n x y : ℕ) → eqb from to ≡ false → 
 link_by from to metric n x y apart =
     link from (address 10 0 n x) to (address 10 0 n y) metric 1000 (eqb-false from to apart)
 
--- The reverse of a link, without unreserved bandwidth. A reverse needn't be admitted.
+-- The reverse of a link, without unreserved bandwidth. A link is usable even if its reverse isn't
+-- admitted.
 abbrev pub back : Link → Link
 back l = link l.to l.remote l.from l.local l.metric 0 (λ same. l.two_ends (sym same))
 
@@ -71,8 +72,9 @@ back l = link l.to l.remote l.from l.local l.metric 0 (λ same. l.two_ends (sym 
 abbrev pub both_ways : List Link → List Link
 both_ways links = links ++ map back links
 
--- The first network has three ways from 1.1.1.1 to 4.4.4.4. Each leads to 10.9.0.1 first: by one
--- link, by 3.3.3.3, or by 10.9.0.2. This link leads from 1.1.1.1 to 10.9.0.1, and its metric is 10.
+-- The first network has three ways from 1.1.1.1 to 10.9.0.1: one directly, one over 3.3.3.3, and
+-- one over 10.9.0.2. From 10.9.0.1 a link leads on to 4.4.4.4. This link leads directly from
+-- 1.1.1.1 to 10.9.0.1, and its metric is 10.
 abbrev pub from_1_to_inner_1 : Link
 from_1_to_inner_1 = link_by (router 1) (inner 1) 10 2 1 2 refl
 
@@ -88,7 +90,7 @@ from_1_to_3 = link_by (router 1) (router 3) 1 1 1 3 refl
 abbrev pub from_3_to_inner_1 : Link
 from_3_to_inner_1 = link_by (router 3) (inner 1) 1 4 3 1 refl
 
--- The way over 3.3.3.3, which is outside of 10.9.0.0/16.
+-- The way from 1.1.1.1 to 4.4.4.4 over 3.3.3.3, a router outside of 10.9.0.0/16.
 abbrev pub way_outside : List Link
 way_outside = from_1_to_3 ∷ from_3_to_inner_1 ∷ from_inner_1_to_4 ∷ []
 
@@ -106,7 +108,7 @@ six_links =
     from_1_to_3 ∷ from_1_to_inner_1 ∷ from_1_to_inner_2 ∷ from_3_to_inner_1
     ∷ from_inner_1_to_4 ∷ from_inner_2_to_inner_1 ∷ []
 
--- The way over 10.9.0.2, which is inside 10.9.0.0/16.
+-- The way from 1.1.1.1 to 4.4.4.4 over 10.9.0.2, a router inside 10.9.0.0/16.
 abbrev pub way_inside : List Link
 way_inside = from_1_to_inner_2 ∷ from_inner_2_to_inner_1 ∷ from_inner_1_to_4 ∷ []
 
@@ -122,8 +124,8 @@ loose_inner_hop = hop (address 10 9 0 0) 16 true
 abbrev pub first_router_hop : Hop
 first_router_hop = hop (router 1) 32 false
 
--- The second network has one way from 1.1.1.1 over 2.2.2.2 to 3.3.3.3. Another link from 2.2.2.2
--- has no unreserved bandwidth. This link leads from 1.1.1.1 to 2.2.2.2.
+-- The second network has one way from 1.1.1.1 over 2.2.2.2 to 3.3.3.3, and a link from 2.2.2.2 to
+-- 4.4.4.4 without unreserved bandwidth. This link leads from 1.1.1.1 to 2.2.2.2.
 abbrev pub from_1_to_2 : Link
 from_1_to_2 = link_by (router 1) (router 2) 10 12 1 2 refl
 
@@ -142,27 +144,26 @@ from_2_to_4 =
 abbrev pub three_links : List Link
 three_links = from_1_to_2 ∷ from_2_to_3 ∷ from_2_to_4 ∷ []
 
--- The strict hop to 172.16.0.0/12. This prefix covers an interface of 2.2.2.2: that of the link
--- without unreserved bandwidth.
+-- The strict hop to 172.16.0.0/12. This prefix covers 172.16.0.2, the interface of 2.2.2.2 on the
+-- link without unreserved bandwidth.
 abbrev pub interface_hop : Hop
 interface_hop = hop (address 172 16 0 0) 12 false
 
--- The database has exactly these links, and no router is marked as without transit.
+-- The database has exactly these links, and marks no router as without transit.
 pub record IsNetwork (d : Database) (links : List Link) : Type 0 where
   pub listed : AreLinksOf d links
   pub unmarked : d.marks ≡ set.empty
 
--- `P` holds of each database and request of the following kind. The database has exactly these
--- links, and no router is marked as without transit. The request leads from 1.1.1.1 to this
--- tail-end and has these hops.
+-- `P` holds of each database and request that meet two conditions. The database has exactly these
+-- links, and marks no router as without transit. The request asks for a route from 1.1.1.1 to this
+-- tail-end by these hops.
 abbrev pub Holds : List Link → ℕ → List Hop → (Database → Request → Type 0) → Type 0
 Holds links to hops P =
     (d : Database) (q : Request)
     → IsNetwork d links → HasRequestFields q (asked_fields to hops) → P d q
 
--- There is a database with exactly these links, in which no router is marked as without transit.
--- For any hops there is a request from 1.1.1.1 to this tail-end with these hops. So a law of the
--- form `Holds` isn't true merely because it speaks of no database or request.
+-- Some database has exactly these links and marks no router as without transit. For any hops, some
+-- request from 1.1.1.1 to this tail-end has these hops. So a law of the form `Holds` isn't vacuous.
 pub record AreFound (links : List Link) (to : ℕ) : Type 0 where
   pub database : (d : Database) × IsNetwork d links
   pub request : (hops : List Hop) → (q : Request) × HasRequestFields q (asked_fields to hops)
@@ -181,7 +182,7 @@ abbrev pub MayStandAnywhere : Type 0
 MayStandAnywhere =
     Holds (both_ways six_links) (router 4) (loose_inner_hop ∷ []) (λ d q. IsRoute d q way_outside)
 
--- The way over 3.3.3.3 comes before the way over 10.9.0.2.
+-- The way over 3.3.3.3 precedes the way over 10.9.0.2 in the order of walks.
 abbrev pub IsOutsideBeforeInside : Type 0
 IsOutsideBeforeInside = walk_cmp way_outside way_inside ≡ Less
 
@@ -190,8 +191,8 @@ abbrev pub MayBeEmpty : Type 0
 MayBeEmpty =
     Holds (both_ways six_links) (router 4) (first_router_hop ∷ inner_hop ∷ []) (λ d q. IsRoute d q way_inside)
 
--- A route reaches a hop if it comes to a router with an interface address in the hop's prefix, even
--- if the link of this interface isn't admissible.
+-- A route reaches a hop at any router with an interface address in the hop's prefix. The link of
+-- this interface needn't be admissible.
 abbrev pub MayBeMetByAnyLink : Type 0
 MayBeMetByAnyLink =
     Holds (both_ways three_links) (router 3) (interface_hop ∷ [])

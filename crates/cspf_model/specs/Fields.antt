@@ -6,8 +6,8 @@ use Rattle.cspf_model.specs.declared.request.Request.{Request}
 use Rattle.cspf_model.specs.declared.request.RequestError.{RequestError}
 use Rattle.cspf_model.specs.declared.request.RequestError.TheVariants.{Priority, SameEnds}
 
--- The attributes of a link, without the proofs that it has eight bandwidths and its ends are
--- different routers.
+-- The attributes of a link. The type `Link` contains, besides them, proofs that a link has eight
+-- bandwidths and joins two different routers.
 pub record LinkFields : Type 0 where
   pub from : ℕ
   pub local : ℕ
@@ -44,8 +44,8 @@ abbrev pub AreFieldsOfLinks : Type 0
 AreFieldsOfLinks =
     (l : Link) (fields : LinkFields) → HasLinkFields l fields ↔ (fields_of_link l ≡ fields)
 
--- The fields of a request, without the proofs that its setup priority is at most 7 and its ends are
--- different routers.
+-- The fields of a request. The type `Request` contains, besides them, proofs that the setup
+-- priority is at most 7, and that head-end and tail-end are different routers.
 pub record RequestFields : Type 0 where
   pub id : ℕ
   pub from : ℕ
@@ -93,8 +93,8 @@ abbrev pub AreFieldsOfRequests : Type 0
 AreFieldsOfRequests =
     (q : Request) (fields : RequestFields) → HasRequestFields q fields ↔ (fields_of_request q ≡ fields)
 
--- Why no request can have these fields. Either the setup priority is above 7, or it is at most 7
--- and the head-end is the tail-end.
+-- The reason why no request can have these fields. Either the setup priority is above 7, or it is
+-- at most 7 and the head-end is also the tail-end.
 abbrev pub IsRequestFault : RequestFields → RequestError → Type 0
 IsRequestFault fields Priority = 7 < fields.setup
 IsRequestFault fields SameEnds = (fields.setup ≤ 7) × (fields.from ≡ fields.to)

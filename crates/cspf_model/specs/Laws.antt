@@ -35,9 +35,9 @@ abbrev pub OneBestAnswer : Type 0
 OneBestAnswer =
     (d : Database) (q : Request) (a b : Answer) → IsBestAnswer d q a → IsBestAnswer d q b → a ≡ b
 
--- The database after a list of batches has at each key the link that the last change with this key
--- put, if any. A router is marked as without transit exactly if the last change of its transit took
--- its transit away.
+-- After a list of batches, the last change with a key decides which link the database has at this
+-- key, or that it has none. The last change of a router's transit decides whether the router is
+-- marked as without transit.
 abbrev pub LastChangeDecides : Type 0
 LastChangeDecides = (batches : List NumberedChanges) → IsDatabaseOf (database_after batches) batches
 
@@ -47,40 +47,39 @@ OneDatabase =
     (batches : List NumberedChanges) (d e : Database)
     → IsDatabaseOf d batches → IsDatabaseOf e batches → d ≡ e
 
--- The database after one more batch is the database after the batches before it, with the changes
--- of this batch made in order.
+-- If a batch is appended to a list of batches, the batch's changes act in order on the database
+-- that the list makes.
 abbrev pub OneMoreBatch : Type 0
 OneMoreBatch =
     (batches : List NumberedChanges) (b : NumberedChanges)
     → database_after (batches ++ b ∷ []) ≡ after_changes (database_after batches) b.changes
 
--- A list of batches is lawful if each batch fits the database that the batches before it make. A
--- list with one batch appended is lawful exactly if two facts hold. The list is lawful, and the
--- appended batch fits the database that the list makes.
+-- A list of batches is lawful if each batch fits the database that the preceding batches make. If a
+-- batch is appended to a list, the longer list is lawful exactly if the list is lawful and the
+-- batch fits the database that the list makes.
 abbrev pub LawfulByOneMore : Type 0
 LawfulByOneMore =
     (batches : List NumberedChanges) (b : NumberedChanges)
     → AreLawful (batches ++ b ∷ []) ↔ (AreLawful batches × Fits (database_after batches) b)
 
--- A list of batches is lawful if each batch fits the database that the batches before it make. If a
--- list is lawful, each beginning of the list is lawful, too.
+-- Each prefix of a lawful list of batches is lawful.
 abbrev pub FirstBatchesAreLawful : Type 0
 FirstBatchesAreLawful =
     (batches more : List NumberedChanges) → AreLawful (batches ++ more) → AreLawful batches
 
--- If a database has each link at the link's own key, `all_routers` has exactly the routers of the
--- database.
+-- If each link of a database is stored at the link's own key, `all_routers` is the set of the
+-- database's routers.
 abbrev pub RoutersAreCounted : Type 0
 RoutersAreCounted =
     (d : Database) → AreAtTheirKeys d → (router : ℕ)
     → IsTrue (set.contains (all_routers d) router) ↔ IsRouterOf d router
 
--- The database after any list of batches has each link at the link's own key.
+-- In the database after any list of batches, each link is stored at the link's own key.
 abbrev pub LinksAreAtTheirKeys : Type 0
 LinksAreAtTheirKeys =
     (batches : List NumberedChanges) → AreAtTheirKeys (database_after batches)
 
--- A list of different routers of a database has at most `router_count` items.
+-- The length of a list of different routers of a database is at most `router_count`.
 abbrev pub NoRouterIsLeftOut : Type 0
 NoRouterIsLeftOut =
     (d : Database) (routers : List ℕ) → IsDistinct nat_eq routers
@@ -95,27 +94,28 @@ OneRefusal =
 abbrev pub RefusedIsUnfit : Type 0
 RefusedIsUnfit = (d : Database) (b : NumberedChanges) (e : Refusal) → IsRefusal d b e → ¬ Fits d b
 
--- Of two walks of one link each and the same cost, the one with the local address 10.0.0.9 comes
--- before the one with 10.0.0.10.
+-- Two walks have one link each, and the same cost. The walk with the local address 10.0.0.9
+-- precedes the walk with 10.0.0.10.
 abbrev pub AddressesCompareAsNumbers : Type 0
 AddressesCompareAsNumbers =
     (l m : Link) → l.metric ≡ m.metric → l.local ≡ 167772169 → m.local ≡ 167772170
     → walk_cmp (l ∷ []) (m ∷ []) ≡ Less
 
--- A walk of one link comes before a walk of two links with the same cost, whatever their addresses.
+-- A walk of one link precedes a walk of two links with the same cost, whatever their addresses.
 abbrev pub FewerLinksComeFirst : Type 0
 FewerLinksComeFirst =
     (l m n : Link) → l.metric ≡ 20 → m.metric ≡ 10 → n.metric ≡ 10
     → walk_cmp (l ∷ []) (m ∷ n ∷ []) ≡ Less
 
--- A walk of two links comes before a walk of one link that costs more.
+-- A walk of two links precedes a walk of one link that costs more.
 abbrev pub CheaperLinksComeFirst : Type 0
 CheaperLinksComeFirst =
     (l m n : Link) → l.metric ≡ 1 → m.metric ≡ 1 → n.metric ≡ 3
     → walk_cmp (l ∷ m ∷ []) (n ∷ []) ≡ Less
 
 -- Two walks of the same cost and number of links are ordered by their first local addresses that
--- differ, whatever the later addresses are. So 10.0.0.1, 10.0.0.9 comes before 10.0.0.2, 10.0.0.3.
+-- differ, whatever the later addresses are. So the addresses 10.0.0.1, 10.0.0.9 precede the
+-- addresses 10.0.0.2, 10.0.0.3.
 abbrev pub FirstAddressDecides : Type 0
 FirstAddressDecides =
     (l m n o : Link) → cost_of (l ∷ m ∷ []) ≡ cost_of (n ∷ o ∷ [])
@@ -131,8 +131,8 @@ NextAddressDecides =
     → l.local ≡ n.local → m.local ≡ address 10 0 0 2 → o.local ≡ address 10 0 0 3
     → walk_cmp (l ∷ m ∷ []) (n ∷ o ∷ []) ≡ Less
 
--- A link is put, removed, and put once more with other attributes. The database then has the link
--- of the last change.
+-- A link is put, removed, and put again with other attributes. The database then has the link that
+-- was put last.
 abbrev pub LastPutStands : Type 0
 LastPutStands =
     (l m : Link) → key_of l ≡ key_of m
@@ -169,15 +169,13 @@ pub record AsksForGroups (q : Request) (excluded any all : ℕ) : Type 0 where
   pub include_all : q.include_all ≡ all
   pub bandwidth : q.bandwidth ≡ 0
 
--- A link of these groups is admitted for every request that has these affinities and asks for no
--- bandwidth.
+-- Every request that has these affinities and asks for no bandwidth admits a link of these groups.
 abbrev pub AreAdmittedWith : (group exclude_any include_any include_all : ℕ) → Type 0
 AreAdmittedWith group exclude_any include_any include_all =
     (q : Request) (l : Link)
     → l.group ≡ group → AsksForGroups q exclude_any include_any include_all → IsAdmitted q l
 
--- A link of these groups isn't admitted for any request that has these affinities and asks for no
--- bandwidth.
+-- No request that has these affinities and asks for no bandwidth admits a link of these groups.
 abbrev pub AreRefusedWith : (group exclude_any include_any include_all : ℕ) → Type 0
 AreRefusedWith group exclude_any include_any include_all =
     (q : Request) (l : Link)

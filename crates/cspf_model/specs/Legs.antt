@@ -7,14 +7,14 @@ use Rattle.cspf_model.specs.Database.{Database}
 use Rattle.cspf_model.specs.Walks.{end_of, routers_of}
 use Rattle.cspf_model.specs.Targets.{IsTarget, IsInside}
 
--- The links are a leg that begins at the router; a leg may be empty. The links end at a target of
--- the leg, and visit only routers inside the leg.
+-- The links, which begin at `router`, are the leg with the number `leg`. They end at a target of
+-- the leg, and visit only routers inside the leg. A leg may have no links.
 pub record IsLeg (d : Database) (q : Request) (leg router : ℕ) (links : List Link) : Type 0 where
   pub arrives : IsTarget d q leg (end_of router links)
   pub within : AllByRecursion (IsInside d q leg) (routers_of router links)
 
--- The lists of links are legs that follow each other, and `leg` is the number of the first. The
--- first leg begins at the router, and each other leg begins where the leg before it ends.
+-- The lists of links are consecutive legs, and `leg` is the number of the first leg. The first leg
+-- begins at `router`, and each other leg begins where the leg before it ends.
 abbrev pub AreLegs : Database → Request → ℕ → ℕ → List (List Link) → Type 0
 AreLegs d q leg router [] = Unit {0}
 AreLegs d q leg router (links ∷ rest) =

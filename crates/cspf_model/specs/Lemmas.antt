@@ -1,5 +1,5 @@
--- Private: definitions for lemmas on databases that are made from a list of links, called rows, and
--- on how changes act on these rows.
+-- Private: definitions for lemmas on databases that are made from lists of links. The links are
+-- called rows. The lemmas say how changes act on these rows.
 pub mod LinkRows
 pub mod LinkChanges
 pub mod MarkChanges

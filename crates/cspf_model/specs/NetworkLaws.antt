@@ -105,8 +105,8 @@ IsMarkedByChange = (d : Database) (r : ℕ) → IsMarked (after_change d (Node r
 abbrev pub IsUnmarkedByChange : Type 0
 IsUnmarkedByChange = (d : Database) (r : ℕ) → HasTransit (after_change d (Node r true)) r
 
--- The walk may be continued by the link. The link is admissible and begins where the walk ends, and
--- the walk may leave the router at which it ends.
+-- The link may continue the walk. The link is admissible, and begins at the router where the walk
+-- ends. The walk may leave this router.
 pub record MayComeNext (d : Database) (q : Request) (walk : List Link) (l : Link) : Type 0 where
   pub admissible : IsAdmissible d q l
   pub joined : l.from ≡ end_of q.from walk
@@ -119,8 +119,8 @@ WalksGrowByOneLink =
     (d : Database) (q : Request) (walk : List Link) (l : Link)
     → IsWalk d q walk → IsWalk d q (walk ++ l ∷ []) ↔ MayComeNext d q walk l
 
--- In the network of the link from 1.1.1.1 to 2.2.2.2 and its reverse, each request from `from` to
--- `to` has the best answer `answer` and no other.
+-- The network has the link from 1.1.1.1 to 2.2.2.2 and its reverse, and no other links. In this
+-- network, `answer` is the only best answer to each request from `from` to `to`.
 abbrev pub IsAnswerBetween : ℕ → ℕ → Answer → Type 0
 IsAnswerBetween from to answer =
     (q : Request) → q.from ≡ from → q.to ≡ to → (other : Answer)

@@ -2,7 +2,7 @@
 use Rattle.std.specs.Prelude.{◌≡◌, ℕ, ◌+◌, List, [], ◌∷◌}
 use Rattle.cspf_model.specs.declared.batch.Change.{Change}
 
--- A batch as plain data, without its address in memory: its number and its changes, in order.
+-- A batch as plain data, without pointers: its number, and its changes in order.
 pub record NumberedChanges : Type 0 where
   pub number : ℕ
   pub changes : List Change

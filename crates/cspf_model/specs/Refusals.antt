@@ -11,12 +11,12 @@ use Rattle.cspf_model.specs.Database.{Database, link_at, link_count, router_coun
 use Rattle.cspf_model.specs.Changes.{change_key_cmp, key_changed, after_changes, database_after, IsPresent, AreLawful}
 use Rattle.cspf_model.specs.declared.limits.TheConstants.{MOST_CHANGES, MOST_LINKS, MOST_ROUTERS, MOST_MARKS}
 
--- The change at a place. The first change has place 1.
+-- The change at a position of the list. The first change has position 1.
 abbrev pub change_at : List Change → ℕ → Option Change
 change_at changes zero = None
 change_at changes (suc before) = slice_get changes before
 
--- The change at this place, counted from 1, has the key of an earlier change.
+-- The change at position `place`, counted from 1, has the key of an earlier change.
 pub record RepeatsAt (changes : List Change) (place : ℕ) : Type 0 where
   pub earlier : ℕ
   pub is_earlier : earlier < place
@@ -32,13 +32,13 @@ RemovesNothing d (Put l) = ⊥
 RemovesNothing d (Remove from local) = link_at d (from, local) ≡ None
 RemovesNothing d (Node router transit) = ⊥
 
--- The change at this place, counted from 1, removes a link that the database doesn't have.
+-- The change at position `place`, counted from 1, removes a link that the database doesn't have.
 pub record RemovesNothingAt (d : Database) (changes : List Change) (place : ℕ) : Type 0 where
   pub change : Change
   pub is_change : change_at changes place ≡ Some change
   pub removes_nothing : RemovesNothing d change
 
--- `P` holds at this place, and at no earlier place.
+-- `place` is the first position at which `P` holds.
 pub record IsLeastPlace (P : ℕ → Type 0) (place : ℕ) : Type 0 where
   pub here : P place
   pub none_before : (before : ℕ) → before < place → ¬ P before
@@ -62,8 +62,8 @@ pub record AreInOrder (d : Database) (changes : List Change) : Type 0 where
   pub once : AreOnceEach changes
   pub present : ArePresent d changes
 
--- The reason why a batch doesn't fit a database. If several reasons apply, only the first in the
--- order below is the refusal.
+-- The reason why a batch doesn't fit a database. If several reasons apply, the batch is refused for
+-- the first of them, in the order of the cases below.
 abbrev pub IsRefusal : Database → NumberedChanges → Refusal → Type 0
 IsRefusal d batch TooLong = MOST_CHANGES < length batch.changes
 IsRefusal d batch (Duplicate at) =
@@ -81,8 +81,8 @@ IsRefusal d batch TooManyMarks =
     × (router_count (after_changes d batch.changes) ≤ MOST_ROUTERS)
     × (MOST_MARKS < mark_count (after_changes d batch.changes))
 
--- Of the batches in the list, the one with the number `number` is the first that doesn't fit the
--- database that the batches before it make. This batch is refused for the reason `why`.
+-- The batch with the number `number` is the first batch in the list that is refused: it doesn't fit
+-- the database that the preceding batches make. `why` is the reason.
 pub record IsFirstUnfit (batches : List NumberedChanges) (number : ℕ) (why : Refusal) : Type 0 where
   pub before : List NumberedChanges
   pub batch : NumberedChanges

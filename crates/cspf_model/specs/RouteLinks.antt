@@ -10,12 +10,12 @@ abbrev pub AreLinked : List Link → Type 0
 AreLinked [] = Unit {0}
 AreLinked (l ∷ ls) = AreJoined l.from (l ∷ ls)
 
--- The router at which the first link begins, and the routers at which the links end.
+-- The router at which the first link begins, followed by the router at which each link ends.
 abbrev pub routers_on : List Link → List ℕ
 routers_on [] = []
 routers_on (l ∷ ls) = routers_of l.from (l ∷ ls)
 
--- Some router is twice among the routers that `routers_on` lists for the links.
+-- The list `routers_on links` has some router twice.
 abbrev pub VisitsTwice : List Link → Type 0
 VisitsTwice links = ¬ IsDistinct nat_eq (routers_on links)
 

@@ -6,8 +6,8 @@ use Rattle.cspf_model.specs.Database.{Database}
 use Rattle.cspf_model.specs.Walks.{IsWalk}
 use Rattle.cspf_model.specs.Legs.{IsCutInto}
 
--- The links are a walk that can be cut into legs: one to each hop of the request, and one to its
--- tail-end.
+-- The links are a walk that can be cut into legs: one leg to each hop of the request, and one to
+-- the tail-end.
 pub record IsRoute (d : Database) (q : Request) (walk : List Link) : Type 0 where
   pub is_walk : IsWalk d q walk
   pub cut : (legs : List (List Link)) × IsCutInto d q walk legs

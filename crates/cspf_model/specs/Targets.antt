@@ -1,4 +1,4 @@
--- At which routers the legs of a route end, and which routers they may visit (RFC 3209 4.3.3).
+-- At which routers a leg of a route may end, and which routers a leg may visit (RFC 3209 4.3.3).
 use Rattle.std.specs.Prelude.{◌≡◌, ℕ, zero, suc, ◌⊎◌, Option, Some, None, IsTrue, slice_get}
 use Rattle.cspf_addr.specs.PrefixParts.{PrefixParts}
 use Rattle.cspf_addr.specs.Prefixes.{Covers}
@@ -13,8 +13,9 @@ pub record BeginsWithin (prefix : PrefixParts) (router : ℕ) (l : Link) : Type 
   pub from : l.from ≡ router
   pub local : Covers prefix l.local
 
--- The prefix covers an address of the router. This is the Router ID, or the address of the router's
--- interface on a link of the database that begins at the router. The link needn't be admissible.
+-- The prefix covers an address of the router. This address is the Router ID, or the address of the
+-- router's interface on a link of the database that begins at the router. The link needn't be
+-- admissible.
 abbrev pub CoversAddressOf : Database → PrefixParts → ℕ → Type 0
 CoversAddressOf d prefix router =
     Covers prefix router ⊎ ((l : Link) × IsLinkOf d l × BeginsWithin prefix router l)

@@ -20,9 +20,9 @@ abbrev pub routers_passed : List Link → List ℕ
 routers_passed [] = []
 routers_passed (l ∷ ls) = map (λ m. m.from) ls
 
--- A walk of the request: admissible links that follow each other from the head-end on. The walk
--- passes through no router that is marked as without transit, but it may begin or end at such a
--- router.
+-- A walk of the request: admissible links that are joined, the first of which begins at the
+-- head-end. The walk passes through no router that is marked as without transit, but it may begin
+-- or end at such a router.
 pub record IsWalk (d : Database) (q : Request) (walk : List Link) : Type 0 where
   pub links : AllByRecursion (IsAdmissible d q) walk
   pub joined : AreJoined q.from walk
@@ -46,8 +46,8 @@ cost_of links = sum_by (λ l. l.metric) links
 abbrev pub locals_of : List Link → List ℕ
 locals_of links = map (λ l. l.local) links
 
--- The order of walks: by cost, then by the number of links, then by the local addresses as numbers,
--- from the first link on.
+-- Walks are ordered by cost, and then by the number of links. If both are equal, the first link at
+-- which the local addresses differ decides. Addresses compare as numbers.
 abbrev pub walk_cmp : List Link → List Link → Ordering
 walk_cmp a b =
     ordering_then (nat_cmp (cost_of a) (cost_of b))

@@ -7,7 +7,7 @@ use cspf_addr::Addr;
 use std::alloc::{AllocError, Global};
 use std::marker::Model;
 
-/// A change to the link at one key, or to whether one router has transit.
+/// A change to one link, or to whether one router has transit.
 #[derive(Clone, Copy, Debug, PartialEq, Eq)]
 pub enum Change {
     /// Puts the link at its key. A link that already has this key is replaced.
@@ -31,8 +31,9 @@ pub enum Change {
 impl Change {
     ghost use Rattle.cspf_model.specs.Changes.{key_changed};
 
-    /// The key of the link that is put or removed: its router and the address of its interface
-    /// there. For a change of a router's transit, the key is the router without an address.
+    /// The key of the change. For a link that is put or removed, the key is the router at which the
+    /// link begins, and the address of the link's interface at this router. For a change of a
+    /// router's transit, the key is the router and `None`.
     pub fn key(&self) -> (Addr, Option<Addr>)
         ensures { result ≡ key_changed self.now }
     {
@@ -47,7 +48,7 @@ impl Change {
 /// A numbered list of changes that take effect together.
 #[derive(Debug, Drop)]
 pub struct Batch {
-    /// The version that the batch makes, as a number from 1.
+    /// The number of the version that the batch makes. The first batch makes version 1.
     pub number: u32,
     /// The changes, in order.
     pub changes: Vec<Change>,

@@ -1,5 +1,5 @@
-//! Laws that follow from the definitions of `specs/` alone. Each function here has an empty body.
-//! Its contract states the law.
+//! Laws that follow from the definitions in `specs/`. Each function here has an empty body, and its
+//! contract states the law.
 ghost use Rattle.std.specs.Prelude.{◌≡◌};
 ghost use Rattle.std.specs.Cmp.{IsTotalOrder};
 ghost use Rattle.cspf_model.specs.declared.limits.TheConstants.{MOST_LINKS, MOST_ROUTERS, MOST_MARKS, MOST_CHANGES, MOST_VERSIONS, MOST_ROUTE_LINKS};
@@ -26,52 +26,51 @@ pub fn one_best_answer()
     ensures { OneBestAnswer }
 {}
 
-/// The database after a list of batches has at each key the link that the last change with this key
-/// put, if any. A router is marked as without transit exactly if the last change of its transit
-/// took its transit away. A list of batches makes only one database.
+/// After a list of batches, the last change with a key decides which link the database has at this
+/// key, or that it has none. The last change of a router's transit decides whether the router is
+/// marked as without transit. A list of batches makes only one database.
 pub fn last_change_decides()
     ensures decides { LastChangeDecides }
     ensures one { OneDatabase }
 {}
 
-/// The database after one more batch is the database after the batches before it, with the changes
-/// of this batch made in order.
+/// If a batch is appended to a list of batches, the batch's changes act in order on the database
+/// that the list makes.
 pub fn absorbing()
     ensures { OneMoreBatch }
 {}
 
-/// A list of batches is lawful if each batch fits the database that the batches before it make. A
-/// list with one batch appended is lawful exactly if two facts hold. The list is lawful, and the
-/// appended batch fits the database that the list makes. A beginning of a lawful list is lawful.
+/// A list of batches is lawful if each batch fits the database that the preceding batches make. If
+/// a batch is appended to a list, the longer list is lawful exactly if the list is lawful and the
+/// batch fits the database that the list makes. Each prefix of a lawful list is lawful.
 pub fn lawful_batches()
     ensures more { LawfulByOneMore }
     ensures first { FirstBatchesAreLawful }
 {}
 
-/// If a database has each link at the link's own key, `router_count` is how many routers it has.
-/// The database after any list of batches has each link at the link's own key. So a list of
-/// different routers of a database has at most as many items as the database has routers.
+/// If each link of a database is stored at the link's own key, `router_count` counts the routers of
+/// the database. In the database after any list of batches, each link is stored at its own key. The
+/// length of a list of different routers of any database is at most `router_count`.
 pub fn counted_routers()
     ensures counted { RoutersAreCounted }
     ensures distinct { NoRouterIsLeftOut }
     ensures at_their_keys { LinksAreAtTheirKeys }
 {}
 
-/// A link consists of its attributes and has nothing else. A request consists of its fields and has
-/// nothing else.
+/// A link consists of its attributes alone, and a request of its fields alone.
 pub fn fields_of_links_and_requests()
     ensures links { AreFieldsOfLinks }
     ensures requests { AreFieldsOfRequests }
 {}
 
-/// A batch is refused for at most one reason, and only if it doesn't fit the database.
+/// A batch is refused for at most one reason. A batch that is refused doesn't fit the database.
 pub fn one_refusal()
     ensures one { OneRefusal }
     ensures unfit { RefusedIsUnfit }
 {}
 
-/// Three rules of the order of routes. Addresses compare as numbers, fewer links come before
-/// smaller addresses, and a smaller cost comes before fewer links.
+/// Three examples of the order of walks. Addresses compare as numbers. The number of links takes
+/// precedence over addresses, and the cost over the number of links.
 pub fn worked_orders()
     ensures numbers { AddressesCompareAsNumbers }
     ensures fewer { FewerLinksComeFirst }
@@ -93,15 +92,16 @@ pub fn worked_admission()
 {}
 
 /// Two walks of the same cost and number of links are ordered by their first local addresses that
-/// differ. This holds even if the last local addresses are in the opposite order.
+/// differ. The later addresses don't matter.
 pub fn worked_ties()
     ensures first { FirstAddressDecides }
     ensures next { NextAddressDecides }
 {}
 
-/// A link of the groups 1 and 2 (mask 6) is admitted or refused by one bit of each affinity:
-/// exclude-any, include-any and include-all. An affinity of 0 asks for nothing, so a link without
-/// groups is admitted.
+/// Examples of affinities. A link of the groups 1 and 2 (mask 6) is admitted with one mask and
+/// refused with another mask, which differs in one bit. There is such a pair for exclude-any, for
+/// include-any and for include-all. A link without groups is admitted if all three affinities are
+/// 0.
 pub fn worked_affinities()
     ensures exclude_any { AreAdmittedWith 6 9 0 0 }
     ensures excluded { AreRefusedWith 6 13 0 0 }
@@ -112,7 +112,7 @@ pub fn worked_affinities()
     ensures no_groups { AreAdmittedWith 0 0 0 0 }
 {}
 
-/// The limits of this crate are the numbers that the description of the text formats states.
+/// The limits of this crate, as numbers. `docs/run/FORMATS.md` states the same numbers.
 pub fn limits_of_formats()
     ensures links { MOST_LINKS ≡ 16384 }
     ensures routers { MOST_ROUTERS ≡ 1024 }

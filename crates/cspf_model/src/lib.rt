@@ -1,6 +1,6 @@
 //! The types and definitions that the other crates cite: databases, batches, admissible links,
-//! walks, routes, their order and the best answer. `specs/` has the definitions, and `laws` what
-//! follows from them.
+//! walks, routes, the order of walks, and the best answer. `specs/` has the definitions, and `laws`
+//! has laws that follow from them.
 #![tactic(auto)]
 
 mod batch;

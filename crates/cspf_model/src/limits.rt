@@ -8,7 +8,7 @@ pub const MOST_LINKS: usize = 16384;
 /// which its links begin or end.
 pub const MOST_ROUTERS: usize = 1024;
 
-/// The greatest number of addresses that may be marked as those of routers without transit.
+/// The greatest number of routers that a database may mark as without transit.
 pub const MOST_MARKS: usize = 1024;
 
 /// The greatest number of changes that a batch may have.
@@ -21,6 +21,5 @@ pub const MOST_VERSIONS: u32 = 1_000_000;
 /// The greatest number of legs that a route may have: one to each hop, and one to the tail-end.
 pub const MOST_LEGS: usize = MOST_HOPS + 1;
 
-/// The greatest number of links that a route may have. Each leg has fewer links than a database has
-/// routers.
+/// The greatest number of links that a `Route` may have: `MOST_ROUTERS - 1` links for each leg.
 pub const MOST_ROUTE_LINKS: usize = MOST_LEGS * (MOST_ROUTERS - 1);

@@ -22,7 +22,7 @@ pub struct Link {
     /// The administrative groups that the link belongs to (RFC 3630 2.5.9).
     pub group: Mask,
     /// The unreserved bandwidth at each of the eight priorities, in bytes per second (RFC 3630
-    /// 2.5.8). The bandwidth at priority 0, the highest, comes first.
+    /// 2.5.8). Index 0 has the bandwidth at priority 0, the highest.
     pub free: [u64; 8],
     ghost eight: { length free ≡ 8 },
     ghost two_ends: { from ≢ to },

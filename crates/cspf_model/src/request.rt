@@ -21,8 +21,8 @@ pub struct Request {
     pub bandwidth: u64,
     /// A link of any of these groups isn't admitted (RFC 3209 4.7.4).
     pub exclude_any: Mask,
-    /// Unless this mask is 0, only links of at least one of these groups are admitted (RFC 3209
-    /// 4.7.4).
+    /// Only links of at least one of these groups are admitted (RFC 3209 4.7.4). The mask 0 admits
+    /// all links.
     pub include_any: Mask,
     /// Only links of all these groups are admitted (RFC 3209 4.7.4).
     pub include_all: Mask,

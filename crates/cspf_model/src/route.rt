@@ -1,4 +1,4 @@
-//! An explicit route: links of which each begins where the previous link ends, and their cost.
+//! An explicit route: its links and its cost.
 
 ghost use Rattle.cspf_model.specs.declared.limits.TheConstants.{MOST_ROUTE_LINKS};
 ghost use Rattle.std.specs.Prelude.{◌≡◌, ◌<◌, ◌≤◌, ◌^◌, ◌↔◌, IsTrue, length, map, nat_eq};
@@ -60,8 +60,7 @@ impl Route {
         self.cost
     }
 
-    /// Whether the route visits some router twice. The head-end counts as visited once at the
-    /// start.
+    /// Whether the route visits some router twice. The start at the head-end counts as one visit.
     pub fn again(&self) -> bool
         ensures { IsTrue result ↔ VisitsTwice self.now }
     {

@@ -1,4 +1,4 @@
--- Lemmas on the routers that are no endpoint of a link after the changes.
+-- Lemmas on routers that have no links after the changes, and on routers that the changes bring.
 use Rattle.std.proofs.Common.{◌≡◌, ℕ, zero, suc, ◌+◌, ◌<◌, ◌⊎◌, inl, inr, Contains, take, ◌++◌, Bool, true, false, ◌&&◌, ◌||◌, cond, List, [], ◌∷◌, filter, length, nat_eq, slice_index, slice_index_or, refl, sym, ap, ◌∙◌, arith}
 use Rattle.std.specs.List.{list_any}
 use Rattle.std.specs.Cmp.{nat_cmp_total}
@@ -19,16 +19,16 @@ use Rattle.cspf_model.proofs.Databases.EndCounts.{any-ends_of, contains-with_end
 use Rattle.cspf_columns.proofs.EndColumn.{length-ends}
 use Rattle.cspf_columns.proofs.RouterPlaces.{one_place}
 
--- A router is an endpoint of one of the links that changes put exactly if one of the changes puts a
--- link at this router.
+-- Testing the changes (`puts_at`) gives the same result as testing the links that the changes put
+-- (`is_at`).
 pub puts_there : (router : ℕ) (cs : List Change) → list_any (puts_at router) cs ≡ list_any (is_at router) (links_put cs)
 puts_there router [] = refl
 puts_there router (Put l ∷ cs) = ap (λ b. is_at router l || b) (puts_there router cs)
 puts_there router (Remove from local ∷ cs) = puts_there router cs
 puts_there router (Node r transit ∷ cs) = puts_there router cs
 
--- One of the rows (links) that a filter keeps passes a test exactly if one of all rows passes both
--- the filter's test and this test.
+-- One of the rows (links) that the filter `q` keeps passes the test `p` exactly if one of all rows
+-- passes both `q` and `p`.
 any_both : (p q : Link → Bool) (rows : List Link) → list_any p (filter q rows) ≡ list_any (λ l. q l && p l) rows
 any_both p q [] = refl
 any_both p q (l ∷ rows) =
@@ -54,8 +54,8 @@ all_three true false true from to = absurd (cc)
 all_three true false false from to = refl
 all_three false f t from to = refl
 
--- Suppose that the changes affect each row (a link) from the router at the index `place`, and each
--- row to this router. Then this router is no endpoint of a row that no change affects.
+-- If the changes affect each row (a link) that begins or ends at the router with the index `place`,
+-- no untouched row begins or ends at this router.
 pub nothing_left : (rows : List Link) (routers ends : List ℕ) (cs : List Change) (place : ℕ) → AreRising routers → AreEndsOf rows routers ends → place < length routers
     → list_any (is_untouched cs) (filter (λ l. nat_eq l.from (slice_index routers place)) rows) ≡ false
     → ((at : ℕ) (d : Link) → at < length rows → (nat_eq (slice_index ends at) place && is_untouched cs (slice_index_or rows at d)) ≡ false)
@@ -72,9 +72,9 @@ nothing_left rows routers ends cs place rising are within no_from no_to =
     all_three (u l) (nat_eq l.from router) (nat_eq l.to router) (none_at (λ m. nat_eq m.from router && u m) rows (sym (any_both u (λ m. nat_eq m.from router) rows) ∙ no_from) k d h)
     (ap (λ b. b && u l) (sym same) ∙ no_to k d h))
 
--- Suppose that `m` is 0 only if `routers` has `l.from`, or one of `others` puts a link at `l.from`.
--- Suppose the same of `n` and `l.to`. Then a change that puts `l` brings at most `m + n` new
--- routers.
+-- A change that puts the link `l` brings at most `m + n` new routers. `m` may be 0 if `l.from`
+-- isn't new: `routers` has it, or one of the changes `others` puts a link at it. `n` may be 0 if
+-- `l.to` isn't new.
 pub brings_beside : (routers : List ℕ) (others : List Change) (l : Link) (m n : ℕ) → (m ≡ 0 → Contains routers l.from ⊎ (list_any (puts_at l.from) others ≡ true))
     → (n ≡ 0 → Contains routers l.to ⊎ (list_any (puts_at l.to) others ≡ true)) → BringsBeside routers others (Put l) (m + n)
 brings_beside routers others l m n from to s inside put =
@@ -82,9 +82,9 @@ brings_beside routers others l m n from to s inside put =
     omega
     (arith, one_end s l.from m (λ e. there l.from (from e)), one_end (set.insert s l.from) l.to n (λ e. set.contains-insert nat_cmp_total s l.from l.to ∙ or_right (eq_by_cmp nat_cmp l.to l.from) _ (there l.to (to e))))
 
--- Suppose that the first `at` changes put links at not more than `m` new routers, and the next
--- change at not more than `n` further new routers. Then the first `at + 1` changes put links at not
--- more than `m + n` new routers.
+-- Suppose that the first `at` changes bring at most `m` new routers, and that the next change
+-- brings at most `n` further new routers. Then the first `at + 1` changes bring at most `m + n` new
+-- routers.
 pub brings_once : (routers : List ℕ) (cs : List Change) (at : ℕ) (c : Change) (m n : ℕ) → at < length cs → c ≡ slice_index_or cs at c → BringsAtMost routers (take at cs) m → BringsBeside routers (take at cs) c n
     → BringsAtMost routers (take (at + 1) cs) (m + n)
 brings_once routers cs at c m n h read first second s inside =

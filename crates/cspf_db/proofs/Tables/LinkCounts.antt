@@ -1,5 +1,5 @@
--- Lemmas on the number of links after changes. It follows from how many changes add a link, and how
--- many remove one.
+-- Lemmas on the number of links after changes. This number follows from the number of changes that
+-- add a link and the number of changes that remove a link.
 use mathlib.Core.Bool.{true≢false}
 use Rattle.std.proofs.Common.{◌≡◌, ℕ, ◌+◌, ◌-◌, ◌<◌, get_or, take, Bool, true, false, cond, not, is_some, IsSome, List, [], ◌∷◌, length, map, refl, sym, ap, subst, ◌∙◌, arith}
 use Rattle.std.specs.Ordering.{eq_by_cmp}
@@ -22,19 +22,19 @@ use Rattle.cspf_model.proofs.Databases.ChangedRows.{link_at-relinked}
 use Rattle.cspf_model.proofs.Databases.EndCounts.{link_count-database_of}
 use Rattle.cspf_columns.proofs.RowOrder.{own_keys}
 
--- A change doesn't affect the link at another key than its own.
+-- A change affects only the link at the change's own key.
 same_there : (d : Database) (c : Change) (k : Key) → eq_by_cmp change_key_cmp (key_changed c) (link_key k) ≡ false → link_at (relinked d c) k ≡ link_at d k
 same_there d c k apart =
     link_at-relinked d c k ∙ ap (λ t. cond t (link_left c) (link_at d k)) (change_keys_apart (key_changed c) (link_key k) apart)
 
--- If two changes have different keys, the one doesn't affect whether the other adds a link.
+-- If the changes `c` and `b` have different keys, `c` doesn't affect whether `b` adds a link.
 adds_same : (d : Database) (c b : Change) → eq_by_cmp change_key_cmp (key_changed c) (key_changed b) ≡ false → adds_link (relinked d c) b ≡ adds_link d b
 adds_same d c (Put l) apart = ap (λ o. not (is_some o)) (same_there d c (key_of l) apart)
 adds_same d c (Remove from local) apart = refl
 adds_same d c (Node router transit) apart = refl
 
--- If two changes have different keys, the one doesn't affect whether the database has the link that
--- the other removes.
+-- If the changes `c` and `b` have different keys, `c` doesn't affect whether the database has the
+-- link that `b` removes.
 present_same : (d : Database) (c b : Change) → eq_by_cmp change_key_cmp (key_changed c) (key_changed b) ≡ false → IsPresent d b → IsPresent (relinked d c) b
 present_same d c (Put l) apart present = tt
 present_same d c (Node router transit) apart present = tt
@@ -55,8 +55,8 @@ all_present : (d : Database) (c : Change) (cs : List Change) → AllByRecursion 
 all_present d c [] apart present = tt
 all_present d c (b ∷ cs) apart present = (present_same d c b apart.0 present.0, all_present d c cs apart.1 present.1)
 
--- After one change there are as many links as before, plus 1 if it adds a link, minus 1 if it
--- removes a link.
+-- One change increases the number of links by 1 if it adds a link, and decreases the number by 1 if
+-- it removes a link.
 one_count : (d : Database) (c : Change) → IsPresent d c → link_count (relinked d c) + cond (removes_link c) 1 0 ≡ link_count d + cond (adds_link d c) 1 0
 one_count d (Put l) present =
     ap (λ m. m + 0) (finite.len-insert keys_total d.links (key_of l) l) ∙ one_more (is_some (link_at d (key_of l))) (link_count d)
@@ -73,13 +73,13 @@ one_count d (Remove from local) present =
     one_less : (n m : ℕ) → m ≡ n - 1 → (n ≡ 0 → ⊥) → m + 1 ≡ n + 0
     one_less n m shorter some = omega (arith, shorter, some)
 
--- If the equation of `count_after` holds for one change, and for the changes after it, it holds for
--- all of these changes together.
+-- If the equation of `count_after` holds for one change and for the later changes, it holds for all
+-- of these changes together.
 joined : (after between before less more also one two : ℕ) → after + less ≡ between + also → also ≡ more → between + one ≡ before + two → after + (one + less) ≡ before + (two + more)
 joined after between before less more also one two e same step = omega arith
 
--- After changes with distinct keys there are as many links as before, plus the changes that add a
--- link, minus the changes that remove one.
+-- Changes with distinct keys change the number of links: it grows by the number of changes that add
+-- a link, and falls by the number of changes that remove a link.
 count_after : (d : Database) (cs : List Change) → AreOnceEach cs → AllByRecursion (IsPresent d) cs
     → link_count (all_relinked d cs) + count_by removes_link cs ≡ link_count d + count_by (adds_link d) cs
 unfolding IsDistinct
@@ -91,8 +91,8 @@ count_after d (c ∷ cs) once present =
     (one_count d c present.0)
     ∙ ap (λ n. link_count d + n) (sym (sum_by-cons (λ x. cond (adds_link d x) 1 0) c cs))
 
--- After changes with distinct keys there are as many links as there were rows (links), plus the
--- changes that add a link, minus the changes that remove one.
+-- The same as `count_after` for a database made from rows (links). Before the changes, its number
+-- of links is the number of rows.
 pub sum_after : (rows : List Link) (cs : List Change) → AreByKey rows → AreOnceEach cs → AllByRecursion (IsPresent (database_of rows)) cs
     → link_count (all_relinked (database_of rows) cs) + count_by removes_link cs ≡ length rows + count_by (adds_link (database_of rows)) cs
 sum_after rows cs by_key once present =
@@ -105,13 +105,12 @@ difference_after rows cs by_key once present = less _ _ _ (sum_after rows cs by_
     less : (n r s : ℕ) → n + r ≡ s → n ≡ s - r
     less n r s e = omega arith
 
--- If P holds of the items before an index and of the item at this index, P holds of all items
--- before the next index.
+-- If `P` holds of the first `at` items and of the next item, `P` holds of the first `at + 1` items.
 pub within_more : {A : Type 0} (P : A → Type 0) (xs : List A) (at : ℕ) (x : A) → at < length xs → x ≡ get_or xs at x → P x → AllWithin P xs 0 at → AllWithin P xs 0 (at + 1)
 within_more P xs at x h is here before = AllWithin-more P xs 0 at before (λ d. subst P (is ∙ get_or_default xs at x d h) here)
 
--- Suppose that `m` of the first `at` items pass a test. Let `n` be 1 if the next item passes it,
--- and 0 otherwise. Then `m + n` of the first `at + 1` items pass it.
+-- Suppose that `m` of the first `at` items pass the test `p`. Let `n` be 1 if the next item passes
+-- `p`, and 0 otherwise. Then `m + n` of the first `at + 1` items pass `p`.
 pub count_more : {A : Type 0} (p : A → Bool) (xs : List A) (at : ℕ) (x : A) (m n : ℕ) → at < length xs → x ≡ get_or xs at x → m ≡ count_by p (take at xs) → n ≡ cond (p x) 1 0 → m + n ≡ count_by p (take (at + 1) xs)
 count_more p xs at x m n h is before here =
     elim (p x) as (λ b. p x ≡ b → n ≡ cond b 1 0 → m + n ≡ count_by p (take (at + 1) xs)) [

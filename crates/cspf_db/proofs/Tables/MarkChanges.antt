@@ -1,5 +1,5 @@
--- Lemmas on how changes affect the marks, and on how many marks there are after the changes. A mark
--- says that a router has no transit.
+-- Lemmas on how changes affect the marks, and on the number of marks after the changes. A mark says
+-- that a router has no transit.
 use mathlib.Core.Bool.{true≢false}
 use Rattle.std.proofs.Common.{◌≡◌, ℕ, zero, suc, ◌+◌, ◌-◌, ◌<◌, ◌≤◌, ◌&&◌, ◌||◌, Bool, true, false, not, cond, List, [], ◌∷◌, length, map, get_or, refl, sym, ap, subst, ◌∙◌, arith, Result, Ok, Err, IfOk, IfErr, is_ok, Vec}
 use Rattle.std.specs.Ordering.{nat_cmp, eq_by_cmp}
@@ -36,18 +36,19 @@ numbers_of : (ns : List ℕ) → map (λ n. (with_nothing n).0) ns ≡ ns
 numbers_of [] = refl
 numbers_of (n ∷ ns) = ap (λ ms. n ∷ ms) (numbers_of ns)
 
--- If marks are in rising order, no two of them are equal. A mark says that a router has no transit.
+-- If marks are in increasing order, no two of them are equal. A mark says that a router has no
+-- transit.
 pub apart_marks : (marks : List ℕ) → AreRising marks → IsDistinct (eq_by_cmp nat_cmp) marks
 apart_marks marks rising =
     subst (IsDistinct (eq_by_cmp nat_cmp)) (numbers_of marks) (distinct nat_cmp_total with_nothing marks (test_from_true _ rising))
 
--- If marks are in rising order, their set has as many members as their list. A mark says that a
--- router has no transit.
+-- If marks are in increasing order, the set of the marks has as many members as the list. A mark
+-- says that a router has no transit.
 pub len-marks_in : (marks : List ℕ) → AreRising marks → set.len (marks_in marks) ≡ length marks
 len-marks_in marks rising = len-from_distinct marks (apart_marks marks rising)
 
--- After one more number is inserted in a list, some number of the list passes a test exactly if the
--- inserted number or one of the others passes it.
+-- After the number `n` is inserted in a list, some number of the list passes the test `p` exactly
+-- if `n` or one of the old numbers passes `p`.
 any-insert : (p : ℕ → Bool) (ns : List ℕ) (at n : ℕ) → at ≤ length ns → list_any p (insert ns at n) ≡ (p n || list_any p ns)
 any-insert p ns zero n h = refl
 any-insert p [] (suc at) n h = absurd (omega arith)
@@ -59,8 +60,8 @@ any-insert p (m ∷ ns) (suc at) n h =
     swapped true false c = refl
     swapped false b c = refl
 
--- If one more mark is inserted in the list of marks, it is added to the set of marks. A mark says
--- that a router has no transit.
+-- Inserting a mark in the list of marks inserts it in the set of marks. A mark says that a router
+-- has no transit.
 pub marks-insert : (marks : List ℕ) (at router : ℕ) → at ≤ length marks → marks_in (insert marks at router) ≡ set.insert (marks_in marks) router
 marks-insert marks at router h =
     set.same_set nat_cmp_total set.nat_cmp-IsAntisymmetric _ _ (λ q.
@@ -69,16 +70,15 @@ marks-insert marks at router h =
     ∙ ap (λ b. eq_by_cmp nat_cmp q router || b) (sym (set.contains-from_list nat_cmp_total marks q))
     ∙ sym (set.contains-insert nat_cmp_total (marks_in marks) router q))
 
--- If no number of a list is equal to `n`, but `q` is equal to `n`, no number of the list is equal
--- to `q`.
+-- If `n` isn't in a list and `q` equals `n`, then `q` isn't in the list.
 not_among : (n : ℕ) (ns : List ℕ) → AllByRecursion (λ y. eq_by_cmp nat_cmp n y ≡ false) ns → (q : ℕ) → eq_by_cmp nat_cmp q n ≡ true → list_any (eq_by_cmp nat_cmp q) ns ≡ false
 not_among n [] apart q tie = refl
 not_among n (m ∷ ns) apart q tie =
     let same : q ≡ n = set.nat_cmp-IsAntisymmetric q n ((Equal-is (nat_cmp q n)).0 tie) in
     ap (λ b. b || list_any (eq_by_cmp nat_cmp q) ns) (ap (λ k. eq_by_cmp nat_cmp k m) same ∙ apart.0) ∙ not_among n ns apart.1 q tie
 
--- Remove the number `n` from a list of distinct numbers. A number is in the new list exactly if it
--- is in the old list and isn't `n`.
+-- The number `n` is removed from a list of distinct numbers. A number is in the new list exactly if
+-- it is in the old list and isn't `n`.
 any-without : (ns : List ℕ) (at n d : ℕ) → IsDistinct (eq_by_cmp nat_cmp) ns → at < length ns → get_or ns at d ≡ n → (q : ℕ)
     → list_any (eq_by_cmp nat_cmp q) (without ns at) ≡ (not (eq_by_cmp nat_cmp q n) && list_any (eq_by_cmp nat_cmp q) ns)
 unfolding IsDistinct
@@ -95,8 +95,7 @@ any-without (m ∷ ns) (suc at) n d apart h is q =
       | false ↦ λ off kept. ap (λ b. eq_by_cmp nat_cmp q m || b) kept
     ] refl rest
   where
-    -- If all numbers of a list differ from `m`, a number that is equal to one of them differs from
-    -- `m`.
+    -- If all numbers in a list differ from `m`, a number that equals one of them differs from `m`.
     first_apart : (m n : ℕ) (ns : List ℕ) (at d : ℕ) → AllByRecursion (λ y. eq_by_cmp nat_cmp m y ≡ false) ns → at < length ns → get_or ns at d ≡ n → (q : ℕ) → eq_by_cmp nat_cmp q n ≡ true → eq_by_cmp nat_cmp q m ≡ false
     first_apart m n [] at d apart h is q tie = absurd (omega arith)
     first_apart m n (y ∷ ns) zero d apart h is q tie =
@@ -104,8 +103,8 @@ any-without (m ∷ ns) (suc at) n d apart h is q =
         ap (λ k. eq_by_cmp nat_cmp k m) (same ∙ sym is) ∙ (eq_by_cmp_equiv nat_cmp_total).symm y m ∙ apart.0
     first_apart m n (y ∷ ns) (suc at) d apart h is q tie = first_apart m n ns at d apart.1 (omega (arith, h)) is q tie
 
--- If a mark is removed from the list of marks, it is removed from the set of marks. A mark says
--- that a router has no transit.
+-- Removing a mark from the list of marks removes it from the set of marks. A mark says that a
+-- router has no transit.
 pub marks-without : (marks : List ℕ) (at router : ℕ) → AreRising marks → at < length marks → get_or marks at router ≡ router → marks_in (without marks at) ≡ set.remove (marks_in marks) router
 marks-without marks at router rising h is =
     set.same_set nat_cmp_total set.nat_cmp-IsAntisymmetric _ _ (λ q.
@@ -114,13 +113,13 @@ marks-without marks at router rising h is =
     ∙ ap (λ b. not (eq_by_cmp nat_cmp q router) && b) (sym (set.contains-from_list nat_cmp_total marks q))
     ∙ sym (set.contains-remove nat_cmp_total (marks_in marks) router q))
 
--- If the addresses that are marked as without transit are in rising order, they still are after one
--- of them is removed.
+-- If marks are in increasing order, the marks that are left after a removal are in increasing
+-- order. A mark says that a router has no transit.
 pub rising-without : (marks : List ℕ) (at : ℕ) → AreRising marks → AreRising (without marks at)
 rising-without marks at rising = true_from_test _ (sorted_without nat_cmp_total with_nothing marks at (test_from_true _ rising))
 
--- To mark a router that is already marked changes nothing. Neither does removing the mark of a
--- router that isn't marked. A mark says that a router has no transit.
+-- Marking a router that is already marked changes nothing. Removing the mark of an unmarked router
+-- changes nothing either. A mark says that a router has no transit.
 pub marks-same : (marks : set.FinSet nat_cmp) (router : ℕ) (transit : Bool) → set.contains marks router ≡ not transit → marks ≡ marks_after marks router transit
 marks-same marks router transit is =
     set.same_set nat_cmp_total set.nat_cmp-IsAntisymmetric _ _ (λ q. kept q transit is)
@@ -142,15 +141,14 @@ marks-same marks router transit is =
     kept q false on =
         both_ways (eq_by_cmp nat_cmp q router) (set.contains marks q) (λ tie. tied q tie ∙ on) ∙ sym (set.contains-insert nat_cmp_total marks router q)
 
--- If a router is at an index of the list of addresses marked as without transit, it is in the set
--- of these addresses.
+-- A router in the list of marks is in the set of marks. A mark says that a router has no transit.
 pub marked_at : (marks : List ℕ) (at router : ℕ) → at < length marks → get_or marks at router ≡ router → set.contains (marks_in marks) router ≡ true
 marked_at marks at router h is =
     set.contains-from_list nat_cmp_total marks router
     ∙ list_any_at (eq_by_cmp nat_cmp router) marks at router h (ap (eq_by_cmp nat_cmp router) is ∙ (eq_by_cmp_equiv nat_cmp_total).refl router)
 
--- If a search for a router ends between two marks, the router isn't marked. A mark says that a
--- router has no transit.
+-- If all marks before an index are below a router, and all marks from this index on are above the
+-- router, the router isn't marked. A mark says that a router has no transit.
 pub unmarked_gap : (marks : List ℕ) (router at : ℕ) → IsPartitionPoint (λ y. nat_cmp y router ≡ Less) (λ y. nat_cmp y router ≡ Greater) marks at → set.contains (marks_in marks) router ≡ false
 unmarked_gap marks router at gap =
     elim (set.contains (marks_in marks) router) as (λ b. set.contains (marks_in marks) router ≡ b → b ≡ false) [
@@ -158,15 +156,15 @@ unmarked_gap marks router at gap =
       | false ↦ λ _. refl
     ] refl
 
--- A search for a router in the marks finds it exactly if the router is marked. A mark says that a
--- router has no transit.
+-- A search of the marks finds a router exactly if the router is marked. A mark says that a router
+-- has no transit.
 pub tells_mark : (marks : List ℕ) (router : ℕ) (r : Result ℕ ℕ) (b : Bool) → b ≡ is_ok r → IfOk r (λ at. at < length marks) → IfOk r (HoldsAt (λ y. y ≡ router) marks)
     → IfErr r (IsPartitionPoint (λ y. nat_cmp y router ≡ Less) (λ y. nat_cmp y router ≡ Greater) marks) → b ≡ set.contains (marks_in marks) router
 tells_mark marks router (Ok at) b e within found gap = e ∙ sym (marked_at marks at router within (found router))
 tells_mark marks router (Err at) b e within found gap = e ∙ sym (unmarked_gap marks router at gap)
 
--- A change doesn't affect whether a router is marked, unless the change has the key of this
--- router's mark. A mark says that a router has no transit.
+-- A change that isn't a change of a router's transit doesn't affect whether this router is marked.
+-- A mark says that a router has no transit.
 marked_there : (marks : set.FinSet nat_cmp) (c : Change) (q : ℕ) → eq_by_cmp change_key_cmp (key_changed c) (mark_key q) ≡ false → set.contains (marked marks c) q ≡ set.contains marks q
 marked_there marks (Put l) q apart = refl
 marked_there marks (Remove from local) q apart = refl
@@ -174,7 +172,7 @@ marked_there marks (Node router transit) q apart =
     after_mark marks router q transit
     ∙ ap (λ b. cond b (not transit) (set.contains marks q)) (tied_alone (nat_cmp q router) ∙ change_keys_apart (mark_key router) (mark_key q) apart)
 
--- If two changes have different keys, the one doesn't affect whether the other adds or removes a
+-- If the changes `c` and `b` have different keys, `c` doesn't affect whether `b` adds or removes a
 -- mark. A mark says that a router has no transit.
 adds_same : (marks : set.FinSet nat_cmp) (c b : Change) → eq_by_cmp change_key_cmp (key_changed c) (key_changed b) ≡ false → adds_mark (marked marks c) b ≡ adds_mark marks b
 adds_same marks c (Put l) apart = refl
@@ -186,8 +184,8 @@ removes_same marks c (Put l) apart = refl
 removes_same marks c (Remove from local) apart = refl
 removes_same marks c (Node router transit) apart = ap (λ b. transit && b) (marked_there marks c router apart)
 
--- Suppose that two tests agree on all changes except those with the key of `c`. If no change of
--- `cs` has this key, equally many changes of `cs` pass each test.
+-- Suppose that the tests `p` and `q` agree on all changes except changes with the key of `c`. If no
+-- change in `cs` has this key, the number of changes in `cs` that pass is the same for both tests.
 count_same : (p q : Change → Bool) (c : Change) (cs : List Change) → ((b : Change) → eq_by_cmp change_key_cmp (key_changed c) (key_changed b) ≡ false → p b ≡ q b)
     → AllByRecursion (λ y. eq_by_cmp change_key_cmp (key_changed c) y ≡ false) (map key_changed cs) → count_by p cs ≡ count_by q cs
 count_same p q c [] alike apart = refl
@@ -196,8 +194,8 @@ count_same p q c (b ∷ cs) alike apart =
     ∙ ap (λ t. cond t 1 0 + count_by p cs) (alike b apart.0) ∙ ap (λ n. cond (q b) 1 0 + n) (count_same p q c cs alike apart.1)
     ∙ sym (sum_by-cons (λ x. cond (q x) 1 0) b cs)
 
--- After one change there are as many marks as before, plus 1 if it adds a mark, minus 1 if it
--- removes a mark. A mark says that a router has no transit.
+-- One change increases the number of marks by 1 if it adds a mark, and decreases the number by 1 if
+-- it removes a mark. A mark says that a router has no transit.
 one_mark : (marks : set.FinSet nat_cmp) (c : Change) → set.len (marked marks c) + cond (removes_mark marks c) 1 0 ≡ set.len marks + cond (adds_mark marks c) 1 0
 one_mark marks (Put l) = refl
 one_mark marks (Remove from local) = refl
@@ -217,12 +215,12 @@ one_mark marks (Node router true) =
     one_less true n some = let h = some refl in omega (arith, h)
     one_less false n some = refl
 
--- If the equation of `marks_count` holds for one change, and for the changes after it, it holds for
--- all of these changes together.
+-- If the equation of `marks_count` holds for one change and for the later changes, it holds for all
+-- of these changes together.
 joined : (after between before less more also one two gone : ℕ) → after + less ≡ between + also → also ≡ more → less ≡ gone → between + one ≡ before + two → after + (one + gone) ≡ before + (two + more)
 joined after between before less more also one two gone e same alike step = omega arith
 
--- After changes with distinct keys there are as many marks as before, plus the number of added
+-- After changes with distinct keys, the number of marks is the old number, plus the number of added
 -- marks, minus the number of removed marks. A mark says that a router has no transit.
 pub marks_count : (marks : set.FinSet nat_cmp) (cs : List Change) → AreOnceEach cs → set.len (all_marked marks cs) + count_by (removes_mark marks) cs ≡ set.len marks + count_by (adds_mark marks) cs
 unfolding IsDistinct
@@ -245,7 +243,7 @@ marks_difference marks cs rising once = less _ _ _ _ _ (marks_count (marks_in ma
     less : (after removed before added long : ℕ) → after + removed ≡ before + added → before ≡ long → after ≡ long + added - removed
     less after removed before added long e same = omega (arith, e, same)
 
--- Suppose that `new` lists the marks after a batch in rising order, and has the capacity that
+-- Suppose that `new` lists the marks after a batch in increasing order, and has the capacity that
 -- `AreMarks` requires. If there are at most 1,024 marks, `AreMarks` holds of `new`. A mark says
 -- that a router has no transit.
 pub still_marks : (rows : List Link) (marks : List ℕ) (new : Vec ℕ Global) (cs : List Change) → mark_count (after_changes (marked_database rows marks) cs) ≤ 1024

@@ -1,5 +1,5 @@
--- Lemmas on the indexes of the routers that own an address of a prefix. The routers are looked at
--- one after the other.
+-- Lemmas on the indexes of the routers that own a prefix (`Owns`). The code tests one router after
+-- the other.
 use Rattle.std.proofs.Common.{◌≡◌, ℕ, ◌+◌, ◌<◌, ◌↔◌, inl, inr, List, [], ◌∷◌, ◌++◌, All, Contains, length, slice_index, slice_index_or, refl, ap, subst, ◌∙◌, arith}
 use Rattle.std.specs.List.Sorted.{IsStrictlyIncreasing}
 use Rattle.std.proofs.lemmas.Bool.{cases_lt}
@@ -11,13 +11,13 @@ use Rattle.cspf_columns.specs.Index.{router_list}
 use Rattle.cspf_db.specs.Owners.{AreOwners}
 use Rattle.cspf_model.specs.Targets.{Owns}
 
--- of the first `n` routers, `places` has the indexes of those that own an address of the prefix
+-- `places` has the indexes of exactly those of the first `n` routers that own the prefix
 pub record AreOwnersBelow (d : Database) (prefix : PrefixParts) (n : ℕ) (places : List ℕ) : Type 0 where
   pub within : All (λ at. at < n) places
   pub each : (at : ℕ) → at < n → Contains places at ↔ Owns d prefix (slice_index (router_list d) at)
   pub rising : IsStrictlyIncreasing places
 
--- A list whose only index is `n` contains no other index.
+-- A list whose only item is `n` contains no other item.
 only_itself : (n k : ℕ) → Contains (n ∷ []) k → n ≡ k
 only_itself n k (i, h, is) = let first : 0 ≡ i = omega (arith, h) in ap (λ j. slice_index_or (n ∷ []) j k) first ∙ is
 
@@ -25,7 +25,8 @@ pub none_yet : (d : Database) (prefix : PrefixParts) → AreOwnersBelow d prefix
 none_yet d prefix = record { within = All-nil _; each = λ at h. absurd (omega (arith, h)); rising = λ k h. absurd (omega (arith, h)) }
 
 -- Suppose that `places` has the indexes of the owners of the prefix among the first `n` routers. If
--- the next router is an owner, `places` with `n` appended has those among the first `n + 1`.
+-- the next router is an owner, `places` with `n` appended has the indexes of the owners among the
+-- first `n + 1` routers.
 pub one_more : (d : Database) (prefix : PrefixParts) (n : ℕ) (places : List ℕ) → AreOwnersBelow d prefix n places → Owns d prefix (slice_index (router_list d) n) → AreOwnersBelow d prefix (n + 1) (places ++ n ∷ [])
 one_more d prefix n places are owns = record {
   within = All-append (λ at. at < n + 1) places (n ∷ []) (λ k e h. omega (arith, are.within k e h)) (λ k e h. let first : k ≡ 0 = omega (arith, h) in rw first (omega arith));
@@ -53,7 +54,8 @@ one_more d prefix n places are owns = record {
 }
 
 -- Suppose that `places` has the indexes of the owners of the prefix among the first `n` routers. If
--- the next router is no owner, `places` also has those of all owners among the first `n + 1`.
+-- the next router isn't an owner, `places` also has the indexes of the owners among the first `n +
+-- 1` routers.
 pub passed_by : (d : Database) (prefix : PrefixParts) (n : ℕ) (places : List ℕ) → AreOwnersBelow d prefix n places → ¬ Owns d prefix (slice_index (router_list d) n) → AreOwnersBelow d prefix (n + 1) places
 passed_by d prefix n places are other = record {
   within = λ k e h. omega (arith, are.within k e h);
@@ -69,7 +71,7 @@ passed_by d prefix n places are other = record {
 }
 
 -- If `places` has the indexes of the owners of the prefix among the first `n` routers, and there
--- are only `n` routers, it has the indexes of all owners.
+-- are only `n` routers, `places` has the indexes of all owners.
 pub owners_of_all : (d : Database) (prefix : PrefixParts) (n : ℕ) (places : List ℕ) → length (router_list d) ≡ n → AreOwnersBelow d prefix n places → AreOwners d prefix places
 owners_of_all d prefix n places all are = record {
   within = λ k e h. omega (arith, all, are.within k e h);

@@ -1,5 +1,5 @@
--- The plan of a batch for a table follows from checking the batch against the table's rows (links).
--- The plan of a batch says what its changes do to the table.
+-- The check of a batch against a table's rows (links) gives the plan of the batch. A plan says what
+-- the changes of a batch do to the table.
 use Rattle.std.proofs.Common.{◌≡◌, ℕ, true, List, All, refl, sym, subst, ◌∙◌}
 use Rattle.std.specs.List.{count_by}
 use Rattle.cspf_model.specs.declared.link.Link.{Link}
@@ -25,8 +25,8 @@ module _ (rows : List Link) (marks : List ℕ) where
   adds_marked (Remove from local) = refl
   adds_marked (Node router transit) = refl
 
-  -- How many links the changes add doesn't depend on the marks of the database. A mark says that a
-  -- router has no transit.
+  -- The number of links that the changes add doesn't depend on the marks of the database. A mark
+  -- says that a router has no transit.
   added_marked : (cs : List Change) → count_by (adds_link (database_of rows)) cs ≡ count_by (adds_link (marked_database rows marks)) cs
   added_marked cs = λ i. count_by (λ c. adds_marked c i) cs
 

@@ -1,5 +1,5 @@
--- Lemmas on changes that keep the shape of a database, and on changes that change it. The shape of
--- a database is everything in it except the links' unreserved bandwidths.
+-- Lemmas on changes that keep the shape of a database, and on changes that change its shape. The
+-- shape is everything in the database except unreserved bandwidths.
 use Rattle.std.proofs.Common.{◌≡◌, Bool, true, false, not, ◌||◌, cond, Option, Some, None, is_some, List, [], ◌∷◌, map, refl, sym, ap, ◌∙◌}
 use Rattle.std.specs.Ordering.{nat_cmp, eq_by_cmp}
 use Rattle.std.specs.Option.{option_map, option_map_or}
@@ -42,21 +42,21 @@ shape_itself s =
     and_from _ _ (and_from _ _ (and_from _ _ (and_from _ _ (and_from _ _ (eq-eqb s.from s.from refl) (eq-eqb s.local s.local refl)) (eq-eqb s.to s.to refl)) (eq-eqb s.remote s.remote refl)) (eq-eqb s.metric s.metric refl))
     (eq-eqb s.group s.group refl)
 
--- If putting a link changes at most unreserved bandwidths, the database has a link with this link's
--- key that differs from it at most in unreserved bandwidths.
+-- If putting the link `l` changes at most unreserved bandwidths, the database already has a link
+-- with the key of `l` that equals `l` except for unreserved bandwidths.
 put_kept : (o : Option Link) (l : Link) → not (option_map_or (λ m. is_shape (shape_of m) (shape_of l)) o false) ≡ false → option_map shape_of o ≡ Some (shape_of l)
 put_kept None l on = absurd (cc)
 put_kept (Some m) l on = ap Some (one_shape (shape_of m) (shape_of l) (not-false _ on))
 
--- If putting a link changes more than unreserved bandwidths, no link of the database has this
--- link's key and differs from this link at most in unreserved bandwidths.
+-- If putting the link `l` changes more than unreserved bandwidths, the database has no link with
+-- the key of `l` that equals `l` except for unreserved bandwidths.
 put_changed : (o : Option Link) (l : Link) → not (option_map_or (λ m. is_shape (shape_of m) (shape_of l)) o false) ≡ true → option_map shape_of o ≡ Some (shape_of l) → ⊥
 put_changed None l on is = cc
 put_changed (Some m) l on is =
     let same : shape_of m ≡ shape_of l = cc in
     both_ways _ (not-true _ on) (ap (λ s. is_shape s (shape_of l)) same ∙ shape_itself (shape_of l))
 
--- If the option `o` has no link, the option of the link's shape has no shape.
+-- If the option `o` is `None`, mapping it to a shape gives `None`.
 none_there : (o : Option Link) → is_some o ≡ false → option_map shape_of o ≡ None
 none_there None off = refl
 none_there (Some l) off = absurd (cc)
@@ -79,8 +79,9 @@ mark_changed true false on is = cc
 mark_changed false true on is = cc
 mark_changed false false on is = cc
 
--- Suppose that a change changes at most unreserved bandwidths of `d`, and the database `e` differs
--- from `d` only in these. Then `e` after the change also differs from `d` only in these.
+-- Suppose that a change changes at most unreserved bandwidths of `d`, and that the database `e`
+-- differs from `d` at most in unreserved bandwidths. After the change, `e` still differs from `d`
+-- at most in unreserved bandwidths.
 one_keeps : (d e : Database) (c : Change) → reshapes d c ≡ false → HaveOneShape d e → HaveOneShape d (after_change e c)
 one_keeps d e (Put l) off is = record {
   marks = is.marks;
@@ -111,28 +112,28 @@ all_keep d e (c ∷ cs) off is =
       | false ↦ λ no rest. all_keep d (after_change e c) cs rest (one_keeps d e c no is)
     ] refl off
 
--- If none of the changes changes more of a database than unreserved bandwidths, the databases
--- before and after the changes differ only in these.
+-- If each of the changes changes at most unreserved bandwidths, the databases before and after the
+-- changes differ at most in unreserved bandwidths.
 pub shape_kept : (d : Database) (cs : List Change) → list_any (reshapes d) cs ≡ false → HaveOneShape d (after_changes d cs)
 shape_kept d cs off = all_keep d d cs off (record { marks = refl; links = λ k. refl })
 
--- At the key of the change, the database `e` is as the change makes it. After a change that puts a
--- link, it has this link there, and after a removal no link. After a change of a router's transit,
--- the router is marked as without transit in `e` exactly if the change says so.
+-- The database `e` has the effect of the change. If the change puts a link, `e` has this link. If
+-- the change removes a link, `e` has no link at this key. If the change is a change of a router's
+-- transit, `e` marks the router exactly if the change takes its transit away.
 abbrev HasLeft : Database → Change → Type 0
 HasLeft e (Put l) = link_at e (key_of l) ≡ Some l
 HasLeft e (Remove from local) = link_at e (from, local) ≡ None
 HasLeft e (Node router transit) = set.contains e.marks router ≡ not transit
 
--- Right after a change, `HasLeft` holds of the database and this change.
+-- After a change, `HasLeft` holds of the database and this change.
 left_first : (d : Database) (c : Change) → HasLeft (after_change d c) c
 left_first d (Put l) = get-insert keys_total d.links (key_of l) l (key_of l) ∙ ap (λ b. cond b (Some l) (link_at d (key_of l))) (key_itself (key_of l))
 left_first d (Remove from local) = get-remove keys_total d.links (from, local) (from, local) ∙ ap (λ b. cond b None (link_at d (from, local))) (key_itself (from, local))
 left_first d (Node router transit) =
     after_mark d.marks router router transit ∙ ap (λ b. cond b (not transit) (set.contains d.marks router)) ((eq_by_cmp_equiv nat_cmp_total).refl router)
 
--- Suppose that `HasLeft` holds of a database and a change. After another change with another key,
--- it still holds of the new database and the first change.
+-- Suppose that `HasLeft` holds of a database and the change `c`. After a change with another key,
+-- `HasLeft` still holds of the new database and `c`.
 left_then : (e : Database) (c b : Change) → eq_by_cmp change_key_cmp (key_changed c) (key_changed b) ≡ false → HasLeft e c → HasLeft (after_change e b) c
 left_then e (Put l) b apart is = link_at-after_change e b (key_of l) ∙ ap (λ t. cond t (link_left b) (link_at e (key_of l))) apart ∙ is
 left_then e (Remove from local) b apart is = link_at-after_change e b (from, local) ∙ ap (λ t. cond t (link_left b) (link_at e (from, local))) apart ∙ is
@@ -152,7 +153,7 @@ each_left d [] once = tt
 each_left d (c ∷ cs) once = (left_at_last (after_change d c) c cs once.0 (left_first d c), each_left (after_change d c) cs once.1)
 
 -- If a change changes more of `d` than unreserved bandwidths, and `HasLeft` holds of `e` and this
--- change, `d` and `e` differ in more than these.
+-- change, then `d` and `e` differ in more than unreserved bandwidths.
 one_changes : (d e : Database) (c : Change) → HasLeft e c → reshapes d c ≡ true → HaveOneShape d e → ⊥
 one_changes d e (Put l) left on is = put_changed (link_at d (key_of l)) l on (sym (is.links (key_of l)) ∙ ap (option_map shape_of) left)
 one_changes d e (Remove from local) left on is = some_there (link_at d (from, local)) on (sym (is.links (from, local)) ∙ ap (option_map shape_of) left)
@@ -167,7 +168,8 @@ any_changes d e (c ∷ cs) left on is =
       | false ↦ λ _ rest. any_changes d e cs left.1 rest is
     ] refl on
 
--- If changes have distinct keys, and one of them changes more of a database than unreserved
--- bandwidths, the databases before and after them differ in more than these.
+-- Suppose that changes have distinct keys, and that one of them changes more of a database than
+-- unreserved bandwidths. Then the databases before and after the changes differ in more than
+-- unreserved bandwidths.
 pub shape_changed : (d : Database) (cs : List Change) → AreOnceEach cs → list_any (reshapes d) cs ≡ true → HaveOneShape d (after_changes d cs) → ⊥
 shape_changed d cs once on is = any_changes d (after_changes d cs) cs (each_left d cs once) on is

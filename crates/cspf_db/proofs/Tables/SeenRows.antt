@@ -1,5 +1,5 @@
--- Lemmas on the row (a link) that each change affects, and on changes no two of which affect the
--- same row.
+-- Lemmas on which row (a link) each change affects. If no two changes affect the same row, they
+-- have different keys.
 use mathlib.Core.Bool.{true≢false}
 use Rattle.std.proofs.Common.{◌≡◌, ◌≢◌, ℕ, ◌+◌, ◌<◌, ◌||◌, Bool, true, false, not, Option, Some, None, IfSome, IfNone, List, All, [], ◌∷◌, take, length, get_or, slice_index_or, Result, Ok, Err, IfOk, IsOkAnd, IsSomeAnd, inl, inr, refl, sym, ap, subst, ◌∙◌, arith}
 use Rattle.std.specs.Ordering.{eq_by_cmp}
@@ -26,7 +26,7 @@ pub record IsRowWith (rows : List Link) (k : Key) (row : Option ℕ) : Type 0 wh
   pub some : IfSome row (HoldsAt (λ l. key_of l ≡ k) rows)
   pub none : IfNone row (All (λ l. key_of l ≢ k) rows)
 
--- If a change has the key of a link, the row (a link) that it affects is the row with this key.
+-- If a change has the key of a link, the change affects the row (a link) with this key.
 pub row_of_key : (rows : List Link) (change : Change) (k : Key) (row : Option ℕ) → link_key k ≡ key_changed change → IsRowWith rows k row → IsRowOf rows change row
 row_of_key rows change k None is found = record { bound = tt; some = tt; none = λ i d h e. found.none i d h (link_keys_same (key_of (get_or rows i d)) k (e ∙ sym is)) }
 row_of_key rows change k (Some at) is found = record { bound = found.bound; some = λ d. ap link_key (found.some d) ∙ is; none = tt }
@@ -49,7 +49,7 @@ new_here (l ∷ rows) changes at change row seen h is inside on unseen before d 
     subst (λ k. is_changed (take at changes) k ≡ false) (on l ∙ ap key_changed (is ∙ get_or_default changes at change d h)) (off (is_changed (take at changes) (link_key (key_of (get_or (l ∷ rows) row l)))) (before.untouched row l inside unseen))
 
 -- Suppose that `AreOnSeenRows` holds for the index `at`, and that the change at this index affects
--- a row (a link) whose flag is false. Once this flag is set, `AreOnSeenRows` holds for the next
+-- a row (a link) whose flag is false. After this flag is set, `AreOnSeenRows` holds for the next
 -- index.
 pub seen_more : (rows : List Link) → AreByKey rows → (changes : List Change) (at : ℕ) (change : Change) → at < length changes → change ≡ get_or changes at change → (row : Option ℕ) → IsRowOf rows change row
     → (old new : List Bool) → IsSomeAnd row (IsSeenAt old new) → AreOnSeenRows rows changes old at → AreOnSeenRows rows changes new (at + 1)
@@ -71,7 +71,7 @@ seen_more rows by_key changes at change h is (Some row) found old new one before
 }
 
 -- If the tally says that no two changes affect the same row (a link), no two changes have the same
--- key. The tally counts what the changes do to the links and the routers.
+-- key. A tally is a summary of what changes do to the links and the routers.
 pub told_apart : (c : Columns) (changes : List Change) (r : Result Tally ℕ) → IfOk r (IsTallyOf c changes) → IsOkAnd r (λ t. t.apart ≡ true) → AreOnceEach changes
 told_apart c changes (Ok t) is on = is.apart on
 told_apart c changes (Err at) is on = absurd on

@@ -1,5 +1,4 @@
--- If two databases have the same marks, and their links differ only in unreserved bandwidths, their
--- lists of routers are equal. A mark says that a router has no transit.
+-- If two databases differ at most in unreserved bandwidths, their lists of routers are equal.
 use Rattle.std.proofs.Common.{◌≡◌, ℕ, true, false, cond, T, ◌&&◌, Some, List, [], ◌∷◌, map, refl, sym, ap, subst, ◌∙◌}
 use Rattle.std.specs.Ordering.{eq_by_cmp, is_lt}
 use Rattle.std.specs.Option.{option_map}
@@ -13,7 +12,7 @@ use Rattle.cspf_columns.specs.Index.{numbers_in, router_list}
 use Rattle.cspf_db.specs.Shapes.{Shape, shape_of, HaveOneShape, ShapesTellRouters}
 use Rattle.cspf_model.proofs.Databases.Keys.{keys_total, keys_antisymmetric}
 
--- the entries `es`, in which each link is replaced by its shape: all its attributes except its
+-- the entries `es` with each link replaced by its shape: all attributes of the link except its
 -- unreserved bandwidths
 abbrev shapes_in : List (Key × Link) → List (Key × Shape)
 shapes_in [] = []
@@ -41,13 +40,13 @@ shapes_rise d = subst T (sym (sorted-shapes_in (entries d.links))) (entries_sort
 shape_at : (d : Database) (q : Key) → find key_cmp q (shapes_in (entries d.links)) ≡ option_map shape_of (finite.get d.links q)
 shape_at d q = find-shapes_in q (entries d.links) ∙ ap (option_map shape_of) (sym (get-entries d.links q))
 
--- If two databases differ only in unreserved bandwidths, their entries are equal after each link is
--- replaced by its shape.
+-- If two databases differ at most in unreserved bandwidths, their entries are equal after each link
+-- is replaced by its shape.
 one_list : (d e : Database) → HaveOneShape d e → shapes_in (entries e.links) ≡ shapes_in (entries d.links)
 one_list d e is =
     same_entries key_cmp keys_total keys_antisymmetric (shapes_in (entries e.links)) (shapes_in (entries d.links)) (shapes_rise e) (shapes_rise d) (λ q. shape_at e q ∙ is.links q ∙ sym (shape_at d q))
 
--- for each shape of the list, the routers at the two ends of the link with this shape
+-- for each shape in the list, the two routers of the link with this shape
 abbrev ends_in : List (Key × Shape) → List ℕ
 ends_in es = flat_map (λ e. e.1.from ∷ e.1.to ∷ []) es
 
@@ -55,8 +54,8 @@ ends-shapes_in : (es : List (Key × Link)) → ends_of (map (λ e. e.1) es) ≡ 
 ends-shapes_in [] = refl
 ends-shapes_in (e ∷ es) = ap (λ ns. e.1.from ∷ e.1.to ∷ ns) (ends-shapes_in es)
 
--- If two databases have the same marks, and their links differ only in unreserved bandwidths, they
--- have the same routers in the same order. A mark says that a router has no transit.
+-- If two databases differ at most in unreserved bandwidths, they have the same routers in the same
+-- order.
 pub shapes_tell : ShapesTellRouters
 unfolding router_list
 shapes_tell d e is =

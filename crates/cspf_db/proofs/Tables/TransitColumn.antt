@@ -1,4 +1,4 @@
--- Lemmas on the column that has, for each router, whether it has transit.
+-- Lemmas on the column that says, for each router, whether the router has transit.
 use Rattle.std.proofs.Common.{◌≡◌, inl, inr, ℕ, ◌+◌, ◌<◌, ◌≤◌, ◌↔◌, Bool, true, false, not, IsTrue, List, Contains, length, get_or, slice_index, nat_eq, refl, sym, ap, subst, ◌∙◌, arith}
 use Rattle.std.specs.Ordering.{nat_cmp}
 use Rattle.std.specs.Cmp.{nat_cmp_total, Equal-is}
@@ -17,8 +17,9 @@ use Rattle.cspf_db.proofs.Tables.MarkChanges.{marked_at}
 use Rattle.cspf_columns.proofs.RouterPlaces.{lower}
 
 module _ (marks : List ℕ) (router at : ℕ) (rising : AreRising marks) (below : (k : ℕ) → k < at → slice_index marks k < router) where
-  -- If the marked addresses before the index `at` are below the router, and the next one, if there
-  -- is one, is above it, the router isn't marked. A router is marked if it has no transit.
+  -- Suppose that the marks before the index `at` are below the router, and that the mark at `at`
+  -- (if there is one) is above the router. Then the list of marks doesn't have the router. A mark
+  -- is the Router ID of a router without transit.
   none_there : (at < length marks → router < slice_index marks at) → Contains marks router → ⊥
   none_there above (k, h, is) =
       let here : slice_index marks k ≡ router = get_or_default marks k 0 router h ∙ is in
@@ -30,9 +31,9 @@ module _ (marks : List ℕ) (router at : ℕ) (rising : AreRising marks) (below 
         ]
       ]
 
-  -- Suppose that the marked addresses (those without transit) before the index `at` are below the
-  -- router, and the one at `at`, if there is one, is above it. Then the set of marked addresses
-  -- doesn't have the router.
+  -- Suppose that the marks before the index `at` are below the router, and that the mark at `at`
+  -- (if there is one) is above the router. Then the set of marks doesn't have the router. A mark is
+  -- the Router ID of a router without transit.
   pub unmarked_between : (at < length marks → router < slice_index marks at) → set.contains (marks_in marks) router ≡ false
   unmarked_between above =
       elim (set.contains (marks_in marks) router) as (λ b. set.contains (marks_in marks) router ≡ b → b ≡ false) [
@@ -40,8 +41,8 @@ module _ (marks : List ℕ) (router at : ℕ) (rising : AreRising marks) (below 
         | false ↦ λ _. refl
       ] refl
 
-  -- The first marked address (one without transit) that isn't below the router differs from the
-  -- router exactly if the router isn't marked.
+  -- The first mark that isn't below the router differs from the router exactly if the router isn't
+  -- marked. A mark is the Router ID of a router without transit.
   pub other_mark : (n : ℕ) → at < length marks → router ≤ slice_index marks at → n ≡ get_or marks at n → not (nat_eq n router) ≡ not (set.contains (marks_in marks) router)
   other_mark n h behind read =
       let is : n ≡ slice_index marks at = get_or_read marks at n h read 0 in
@@ -50,8 +51,8 @@ module _ (marks : List ℕ) (router at : ℕ) (rising : AreRising marks) (below 
         | false ↦ λ e. let off : router < n = grind (arith, nat_tests) in sym (unmarked_between (λ _. omega (arith, is, off)))
       ] refl)
 
--- If the first `end` marked addresses (those without transit) are below a router of a rising list,
--- they are below each router after it in the list.
+-- If the first `end` marks are below a router of a list in increasing order, they are below each
+-- later router of the list. A mark is the Router ID of a router without transit.
 pub still_below : (marks routers : List ℕ) (first end index router : ℕ) → AreRising routers → index < length routers → router ≡ get_or routers index router
     → ((k j : ℕ) → k < first → index ≤ j → j < length routers → slice_index marks k < slice_index routers j) → ((k : ℕ) → first ≤ k → k < end → slice_index marks k < router)
     → (k j : ℕ) → k < end → index + 1 ≤ j → j < length routers → slice_index marks k < slice_index routers j
@@ -61,7 +62,7 @@ still_below marks routers first end index router rising within read low more k j
       | inr past ↦ omega (arith, more k past h, get_or_read routers index router within read 0, lower routers rising index j (omega (arith, from)) bound)
     ]
 
--- The item of the column at a router's index says whether this router has transit.
+-- At a router's index, the column says whether this router has transit.
 pub transit_at : (d : Database) (rows : List Link) (marks routers : List ℕ) (transits : List Bool) (at : ℕ) (b : Bool) → marked_database rows marks ≡ d → routers ≡ router_list (marked_database rows marks)
     → AreTransitsOf routers marks transits → at < length (router_list d) → b ≡ get_or transits at b → IsTrue b ↔ HasTransit d (slice_index (router_list d) at)
 transit_at d rows marks routers transits at b e listed are h read =

@@ -1,4 +1,4 @@
--- Private: the range of the addresses that a prefix covers. These addresses have no gaps.
+-- Private: the addresses that a prefix covers are a range without gaps.
 use Rattle.std.specs.Prelude.{◌<◌, ◌≤◌, ◌↔◌, ℕ}
 use Rattle.cspf_addr.specs.PrefixParts.{PrefixParts}
 use Rattle.cspf_addr.specs.Prefixes.{Covers}

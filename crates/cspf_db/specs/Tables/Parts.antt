@@ -10,22 +10,24 @@ use Rattle.cspf_db.specs.declared.limits.TheConstants.{ROOM_FOR_MARKS}
 use Rattle.cspf_model.specs.Lemmas.LinkRows.{marks_in, marked_database}
 use Rattle.cspf_model.specs.declared.limits.TheConstants.{MOST_MARKS, MOST_ROUTERS}
 
--- `transits` has for each router whether it has transit. A router has transit if it isn't marked.
+-- For each router, `transits` says whether the router has transit. A router has transit if it isn't
+-- marked.
 pub record AreTransitsOf (routers marks : List ℕ) (transits : List Bool) : Type 0 where
   pub many : length transits ≡ length routers
   pub each : (at : ℕ) → at < length routers
       → slice_index_or transits at false ≡ not (set.contains (marks_in marks) (slice_index routers at))
 
--- The marked routers are in rising order, and there are at most as many as a table may have. The
--- vector has capacity for one more mark for each change of a batch. A mark says that a router has
+-- The marks are in increasing order, and there are at most `MOST_MARKS`. The vector has capacity
+-- for these marks, and for another mark for each change of a batch. A mark says that a router has
 -- no transit.
 pub record AreMarks (marks : Vec ℕ Global) : Type 0 where
   pub rising : AreRising marks.items
   pub most : length marks.items ≤ MOST_MARKS
   pub room : ROOM_FOR_MARKS ≤ vec_capacity marks
 
--- A table has columns, marks, and for each router whether it has transit. A marked router needn't
--- be a router of the database.
+-- The invariant of a table. It concerns the table's columns, its marks, and the column that says of
+-- each router whether the router has transit. A marked Router ID needn't be a router of the
+-- database.
 pub record IsTable (a : Inside) : Type 0 where
   pub columns : AreColumns a.columns
   pub marks : AreMarks a.marks

@@ -1,5 +1,5 @@
--- Private: the changes that change the shape of a database, which is everything in it except the
--- links' unreserved bandwidths.
+-- Private: which changes change the shape of a database. The shape is everything in the database
+-- except unreserved bandwidths.
 use Rattle.std.specs.Prelude.{Bool, false, not, ◌&&◌, cond, nat_eq, is_some}
 use Rattle.std.specs.Option.{option_map_or}
 use Rattle.std.specs.FinSet as set
@@ -15,9 +15,9 @@ is_shape s t =
     && nat_eq s.metric t.metric && nat_eq s.group t.group
 
 -- Whether a change changes more of a database than unreserved bandwidths. A change that puts a link
--- does so unless the database has a link at its key with the same other attributes. A removal does
--- so if the database has a link at its key. A change of a router's transit does so unless the
--- router already has this transit.
+-- changes only bandwidths if the database already has a link that equals it except for bandwidths.
+-- A removal changes nothing if the database has no link at its key. A change of a router's transit
+-- changes nothing if the router already has this transit.
 abbrev pub reshapes : Database → Change → Bool
 reshapes d (Put l) = not (option_map_or (λ m. is_shape (shape_of m) (shape_of l)) (link_at d (key_of l)) false)
 reshapes d (Remove from local) = is_some (link_at d (from, local))

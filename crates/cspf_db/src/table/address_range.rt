@@ -1,5 +1,4 @@
-//! The addresses that a prefix covers. They are a range: all addresses from the lowest to the
-//! highest one.
+//! The range of the addresses that a prefix covers.
 ghost use Rattle.std.specs.Prelude.{◌≡◌, ◌<◌, ◌≤◌, ◌↔◌, ℕ, true, IsTrue};
 ghost use Rattle.cspf_db.specs.Tables.AddressRanges.{IsInRange, IsRangeOf};
 

@@ -1,4 +1,5 @@
-//! Tests of changes that need no table: which keys they have, and at which routers they put links.
+//! Tests of changes: which keys changes have, and at which routers changes put links. The tests
+//! read no table.
 ghost use Rattle.std.specs.Prelude.{◌≡◌, ◌<◌};
 ghost use Rattle.std.specs.Ordering.{eq_by_cmp};
 ghost use Rattle.cspf_model.specs.Changes.{change_key_cmp, key_changed};
@@ -10,8 +11,8 @@ ghost use Rattle.cspf_model.specs.Lemmas.GoneRouters.{puts_at};
 use cspf_addr::Addr;
 use cspf_model::{Change, Link};
 
-/// Whether the change has the key `key`. The key of a change of a link is the link's key. The key
-/// of a change of a router's transit is the router and `None`.
+/// Whether the change has the key `key`. A change to a link has the link's key. A change of a
+/// router's transit has the router and `None` as its key.
 fn is_on(change: &Change, key: (Addr, Option<Addr>)) -> bool
     ensures { result ≡ eq_by_cmp change_key_cmp key (key_changed change.now) }
 {
@@ -33,7 +34,7 @@ pub(super) fn is_untouched(row: &Link, changes: &[Change]) -> bool
     !any_on(changes, (row.from, Some(row.local)))
 }
 
-/// Whether the router is an endpoint of the link that the change puts.
+/// Whether the change puts a link that begins or ends at the router.
 fn puts_at(change: &Change, router: Addr) -> bool
     ensures { result ≡ puts_at router change.now }
 {
@@ -43,7 +44,7 @@ fn puts_at(change: &Change, router: Addr) -> bool
     }
 }
 
-/// Whether the router is an endpoint of a link that one of the changes puts.
+/// Whether one of the changes puts a link that begins or ends at the router.
 pub(super) fn any_puts_at(changes: &[Change], router: Addr) -> bool
     ensures { result ≡ list_any (puts_at router) changes.now }
 {

@@ -1,4 +1,4 @@
-//! Whether a batch fits the table, and if it doesn't fit, the first reason.
+//! Whether a batch fits the table, and the first reason if it doesn't fit.
 
 ghost use Rattle.std.specs.Prelude.{count_by, ◌≡◌, ◌+◌, ◌<◌, ◌≤◌, ◌↔◌, true, length, IfOk, IfErr, IsOkAnd, IsTrue};
 ghost use Rattle.cspf_model.specs.Database.{link_count};
@@ -26,8 +26,8 @@ use repeats::repeat;
 use router_count::has_too_many_routers;
 use tally::{Tally, tally_all};
 
-/// Whether there are more than 16,384 links after the changes. `added` is how many of the changes
-/// add a link.
+/// Whether there are more than 16,384 links after the changes. `added` is the number of changes
+/// that add a link.
 fn has_too_many_links(columns: &Columns, changes: &[Change], added: usize) -> bool
     requires columns { AreColumns columns.now }
     requires short { length changes.now ≤ MOST_CHANGES }
@@ -41,8 +41,8 @@ fn has_too_many_links(columns: &Columns, changes: &[Change], added: usize) -> bo
     after > MOST_LINKS
 }
 
-/// Whether the changes have a tally, and it says that no two changes have the same key. The tally
-/// counts what the changes do to the links and the routers.
+/// Whether there is a tally, and the tally says that no two changes have the same key. A tally is a
+/// summary of what changes do to the links and the routers.
 fn tells_apart(tally: &Result<Tally, usize>) -> bool
     ensures { result ≡ true → IsOkAnd tally.now (λ tally. tally.apart ≡ true) }
 {
@@ -52,9 +52,9 @@ fn tells_apart(tally: &Result<Tally, usize>) -> bool
     }
 }
 
-/// Whether the batch fits the rows (links) and the marks. If it fits, returns what it does to the
-/// rows, and otherwise the first reason why it doesn't fit. A mark says that a router has no
-/// transit.
+/// Checks whether the batch fits the rows (links) and the marks. If the batch fits, returns a
+/// tally: a summary of what the changes do to the rows and the routers. Otherwise returns the first
+/// reason why the batch doesn't fit. A mark says that a router has no transit.
 pub(super) fn fits(columns: &Columns, marks: &[Addr], batch: &Batch) -> Result<Tally, Refusal>
     requires columns { AreColumns columns.now }
     requires rising { AreRising marks.now }

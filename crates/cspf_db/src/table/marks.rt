@@ -1,5 +1,5 @@
-//! The marks of a table, in rising order, and how changes affect them. A mark says of a router that
-//! it is without transit.
+//! The marks of a table, in increasing order, and how changes affect the marks. A mark says that a
+//! router has no transit.
 ghost use Rattle.std.specs.Prelude.{◌≡◌, ◌+◌, ◌<◌, ◌≤◌, ◌↔◌, IsTrue, length, vec_len};
 ghost use Rattle.std.specs.Vec.{vec_capacity};
 ghost use Rattle.std.specs.FinSet as set;
@@ -47,8 +47,7 @@ fn removes_mark(marks: &[Addr], change: &Change) -> bool
     }
 }
 
-/// Whether there are more than 1,024 marks after the changes. A mark says that a router has no
-/// transit.
+/// Whether the changes would leave more than 1,024 marks. A mark says that a router has no transit.
 pub(super) fn has_too_many_marks(marks: &[Addr], changes: &[Change]) -> bool
     requires rising { AreRising marks.now }
     requires most { length marks.now ≤ MOST_MARKS }
@@ -68,8 +67,8 @@ pub(super) fn has_too_many_marks(marks: &[Addr], changes: &[Change]) -> bool
     after > MOST_MARKS
 }
 
-/// Marks the router as without transit, or removes its mark if `transit` is true. The vector has
-/// room for one more mark, so this takes no memory.
+/// If `transit` is true, removes the router's mark, if there is one. Otherwise marks the router as
+/// without transit. The vector has capacity for another mark, so the call allocates no memory.
 fn set_mark(marks: &mut Vec<Addr>, router: Addr, transit: bool)
     requires rising { AreRising marks.old.items }
     requires room { vec_len marks.old < vec_capacity marks.old }
@@ -92,8 +91,8 @@ fn set_mark(marks: &mut Vec<Addr>, router: Addr, transit: bool)
     }
 }
 
-/// Makes those changes that change a router's transit, and ignores all others. The vector has room
-/// for all new marks, so this takes no memory. A mark says that a router has no transit.
+/// Makes the changes of routers' transit, and ignores all other changes. The vector has capacity
+/// for all new marks, so the call allocates no memory. A mark says that a router has no transit.
 pub(super) fn change_marks(marks: &mut Vec<Addr>, changes: &[Change])
     requires rising { AreRising marks.old.items }
     requires room { vec_len marks.old + length changes.now ≤ vec_capacity marks.old }

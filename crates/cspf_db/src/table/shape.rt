@@ -8,13 +8,12 @@ ghost use Rattle.cspf_db.specs.Tables.Reshaping.{is_shape, reshapes};
 use crate::Table;
 use cspf_model::{Batch, Change, Link};
 
-/// Law: two databases have the same list of routers if they have the same marks and their links
-/// differ only in their unreserved bandwidths. A mark says that a router has no transit.
+/// Law: if two databases differ at most in unreserved bandwidths, their lists of routers are equal.
 pub fn shapes_tell_routers()
     ensures { ShapesTellRouters }
 {}
 
-/// Whether the two links differ at most in their unreserved bandwidths.
+/// Whether the two links are equal except for their unreserved bandwidths.
 fn is_shaped_as(link: &Link, other: &Link) -> bool
     ensures { result ≡ is_shape (shape_of link.now) (shape_of other.now) }
 {
@@ -48,11 +47,12 @@ impl Table {
         changes.iter().any(|change| self.reshapes(change))
     }
 
-    /// Whether the batch changes anything of the database except unreserved bandwidths. Other
-    /// things are which links and marks there are, where a link ends, its metric and its groups. It
-    /// isn't checked whether the batch fits. For a batch that doesn't fit, `true` says nothing. The
-    /// call takes no memory. It takes at most one binary search for each change, and stops at the
-    /// first change for which the answer is yes. A mark says that a router has no transit.
+    /// Whether the batch changes anything of the database except unreserved bandwidths: which links
+    /// and marks exist, or where a link ends, its metric or its groups. A mark says that a router
+    /// has no transit. The call doesn't check whether the batch fits. If the batch doesn't fit, the
+    /// result `true` has no meaning. The call allocates no memory. It makes at most one binary
+    /// search for each change, and stops at the first change that changes more than unreserved
+    /// bandwidths.
     pub fn changes_shape(&self, batch: &Batch) -> bool
         ensures kept { result ≡ false
             → HaveOneShape self.now (after_changes self.now batch.now.changes) }

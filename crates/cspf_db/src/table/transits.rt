@@ -1,4 +1,4 @@
-//! The column that has, for each router, whether it has transit.
+//! The column that says, for each router, whether the router has transit.
 ghost use Rattle.std.specs.Prelude.{◌≡◌, ℕ, ◌<◌, ◌≤◌, length, not, slice_index};
 ghost use Rattle.std.specs.Vec.{vec_capacity};
 ghost use Rattle.std.specs.FinSet as set;
@@ -9,8 +9,9 @@ ghost use Rattle.cspf_model.specs.declared.limits.TheConstants.{MOST_ROUTERS};
 
 use cspf_addr::Addr;
 
-/// The index of the first marked address (one without transit), from the index `first` on, that
-/// isn't below the router. If there is none, the result is the number of marked addresses.
+/// From the index `first` on, the index of the first mark that isn't below the router. If there is
+/// no such mark, the result is the number of marks. A mark is the Router ID of a router without
+/// transit.
 fn skip_below(marks: &[Addr], first: usize, router: Addr) -> usize
     requires { first ≤ length marks.now }
     ensures bound { result ≤ length marks.now }
@@ -24,8 +25,8 @@ fn skip_below(marks: &[Addr], first: usize, router: Addr) -> usize
     at
 }
 
-/// Whether the router isn't marked as without transit. `at` is the index of the first marked
-/// address that isn't below the router.
+/// Whether the router has transit, because it isn't marked. `at` is the index of the first mark
+/// that isn't below the router. A mark is the Router ID of a router without transit.
 fn is_unmarked_at(marks: &[Addr], at: usize, router: Addr) -> bool
     requires rising { AreRising marks.now }
     requires below { (k : ℕ) → k < at → slice_index marks.now k < router }
@@ -35,7 +36,7 @@ fn is_unmarked_at(marks: &[Addr], at: usize, router: Addr) -> bool
     at >= marks.len() || marks[at] != router
 }
 
-/// Lists for each router whether it has transit. The call goes through the routers and the marks
+/// For each router, lists whether the router has transit. The call reads the routers and the marks
 /// once.
 pub(crate) fn list_transits(transits: &mut Vec<bool>, routers: &[Addr], marks: &[Addr])
     requires routers { AreRising routers.now }

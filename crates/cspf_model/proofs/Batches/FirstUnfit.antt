@@ -1,4 +1,4 @@
--- Which batch of a list is the first that doesn't fit the database that the batches before it make.
+-- Which batch of a list is the first that doesn't fit the database that the preceding batches make.
 use Rattle.std.proofs.Common.{◌≡◌, ℕ, ◌+◌, ◌<◌, List, ◌∷◌, ◌++◌, length, take, drop, get_or, sym, ap, ◌∙◌}
 use Rattle.std.proofs.lemmas.List.{take-append-drop, drop_more}
 use Rattle.cspf_model.specs.Numbered.{NumberedChanges}
@@ -6,16 +6,17 @@ use Rattle.cspf_model.specs.Changes.{AreLawful, database_after}
 use Rattle.cspf_model.specs.declared.refusal.Refusal.{Refusal}
 use Rattle.cspf_model.specs.Refusals.{IsRefusal, IsFirstUnfit}
 
--- A list of batches consists of the batches before an index, the batch at this index, and the
--- batches after this index.
+-- A list of batches consists of three parts: the batches before the index `i`, the batch at `i`,
+-- and the batches after `i`.
 pub parted : (batches : List NumberedChanges) (i : ℕ) (b : NumberedChanges) → i < length batches
     → b ≡ get_or batches i b → batches ≡ take i batches ++ (b ∷ drop (i + 1) batches)
 parted batches i b within is_next =
     sym (take-append-drop i batches)
     ∙ ap (λ rest. take i batches ++ rest) (drop_more batches i b within ∙ ap (λ next. next ∷ drop (i + 1) batches) (sym is_next))
 
--- Suppose that each batch before an index fits the database that the batches before it make. If the
--- batch at this index doesn't fit, it is the first batch that doesn't fit.
+-- Suppose that each batch before the index `i` fits the database that its predecessors make. If the
+-- batch at `i` doesn't fit the database that all these batches make, it is the first batch that
+-- doesn't fit.
 abbrev pub first_unfit : (batches : List NumberedChanges) (i : ℕ) (b : NumberedChanges) → i < length batches
     → b ≡ get_or batches i b → (number : ℕ) (why : Refusal) → number ≡ b.number
     → AreLawful (take i batches) → IsRefusal (database_after (take i batches)) b why

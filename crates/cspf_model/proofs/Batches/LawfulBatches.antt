@@ -1,4 +1,4 @@
--- Which lists of batches are lawful: each batch has to fit the database that the batches before it
+-- Which lists of batches are lawful: each batch has to fit the database that the preceding batches
 -- make.
 use Rattle.std.proofs.Common.{◌↔◌, List, [], ◌∷◌, ◌++◌, sym, subst}
 use Rattle.cspf_model.specs.Numbered.{NumberedChanges}
@@ -7,10 +7,10 @@ use Rattle.cspf_model.specs.Changes.{changes_of, no_links, after_changes, AreLaw
 use Rattle.cspf_model.specs.Laws.{LawfulByOneMore, FirstBatchesAreLawful}
 use Rattle.cspf_model.proofs.Databases.LastChanges.{after_changes-append}
 
--- A list of batches is lawful after a database if each batch fits the database that the batches
--- before it make. Two joined lists are lawful after a database exactly if two facts hold. The first
--- list is lawful after this database. The second list is lawful after the database that the first
--- list makes.
+-- A list of batches is lawful after the database `d` if each batch fits the database that the
+-- preceding batches make from `d`. Two concatenated lists are lawful after `d` exactly if two facts
+-- hold. The first list is lawful after `d`. The second list is lawful after the database that the
+-- first list makes.
 AreLawfulAfter-append : (d : Database) (bs cs : List NumberedChanges)
     → AreLawfulAfter d (bs ++ cs) ↔ (AreLawfulAfter d bs × AreLawfulAfter (after_changes d (changes_of bs)) cs)
 AreLawfulAfter-append d [] cs = ((λ more. (tt, more)), λ both. both.1)
@@ -21,15 +21,13 @@ AreLawfulAfter-append d (b ∷ bs) cs =
       λ both. (both.0.0, rest.1 (both.0.1, subst (λ e. AreLawfulAfter e cs) same both.1)),
     )
 
--- A list of batches is lawful if each batch fits the database that the batches before it make. A
--- list with one batch appended is lawful exactly if two facts hold. The list is lawful, and the
--- appended batch fits the database that the list makes.
+-- If a batch is appended to a list, the longer list is lawful exactly if the list is lawful and the
+-- batch fits the database that the list makes.
 pub one_more : LawfulByOneMore
 one_more bs b =
     let parts = AreLawfulAfter-append no_links bs (b ∷ []) in
     ((λ all. let both = parts.0 all in (both.0, both.1.0)), λ both. parts.1 (both.0, (both.1, tt)))
 
--- A list of batches is lawful if each batch fits the database that the batches before it make. If a
--- list is lawful, each beginning of the list is lawful, too.
+-- Each prefix of a lawful list of batches is lawful.
 pub first_batches : FirstBatchesAreLawful
 first_batches bs more all = ((AreLawfulAfter-append no_links bs more).0 all).0

@@ -1,5 +1,5 @@
--- Which reason is the first for which a batch doesn't fit the database, and why a batch is refused
--- for at most one reason.
+-- A batch is refused for at most one reason: the first reason for which it doesn't fit the
+-- database.
 use Rattle.cspf_model.specs.Laws.{OneRefusal}
 use mathlib.Core.Bool.{true≢false}
 use Rattle.std.proofs.Common.{◌≡◌, ℕ, zero, suc, ◌+◌, ◌<◌, ◌≤◌, inl, inr, ◌||◌, true, Option, Some, None, option_map, List, [], ◌∷◌, length, map, take, refl, sym, ap, subst, ◌∙◌, add-one, arith, length-take-le, is_some, IfNone}
@@ -26,13 +26,13 @@ use Rattle.cspf_model.proofs.Databases.Keys.{change_keys_total, change_keys_same
 tie_from : (j k : ChangeKey) → j ≡ k → eq_by_cmp change_key_cmp j k ≡ true
 tie_from j k e = ap (eq_by_cmp change_key_cmp j) (sym e) ∙ change_key_itself j
 
--- The change at the index `at`, counted from 0, has the place `at + 1`, counted from 1.
+-- The change at index `at`, counted from 0, has the position `at + 1`, counted from 1.
 at_place : (cs : List Change) (at : ℕ) (d : Change) → at < length cs
     → change_at cs (at + 1) ≡ Some (slice_index_or cs at d)
 at_place cs at d within = ap (change_at cs) (add-one at) ∙ slice_get-get_or cs at d within
 
--- If a change at an index below `at` has the key of the change at the index `at`, the latter has
--- the key of an earlier change.
+-- If a change at a lower index than `at` has the key of the change at `at`, one of the first `at`
+-- changes has this key.
 repeated_before : (cs : List Change) (at earlier : ℕ) (d : Change) → at < length cs → earlier < at
     → key_changed (slice_index_or cs earlier d) ≡ key_changed (slice_index_or cs at d)
     → is_changed (take at cs) (key_changed (slice_index_or cs at d)) ≡ true
@@ -42,8 +42,9 @@ repeated_before cs at earlier d within before same =
     (λ c. eq_by_cmp change_key_cmp (key_changed (slice_index_or cs at d)) (key_changed c)) (take at cs)
     (earlier, slice_index_or cs earlier d, omega (arith, long, before), get_or_default (take at cs) earlier _ d (omega (arith, long, before)) ∙ get_or-take at cs earlier d before, tie_from _ _ (sym same))
 
--- If no change at an index (from 0) below `at` repeats a key, then no change at a place (from 1) up
--- to `at` repeats a key.
+-- Suppose that no change at an index below `at` repeats the key of an earlier change, where indexes
+-- count from 0. Then no change at a position up to `at` repeats a key, where positions count from
+-- 1.
 new_before : (cs : List Change) (at : ℕ) → ((k : ℕ) → k < at → IsNewAt cs k) → (place : ℕ)
     → place < at + 1 → ¬ RepeatsAt cs place
 new_before cs at new zero within r = absurd (none-some (r.is_second))
@@ -60,8 +61,8 @@ new_before cs at new (suc n) within r = earlier_cases r.earlier r.is_earlier r.i
         true≢false
         (sym (repeated_before cs n m r.second (slice_get_within cs n r.second r.is_second) (omega (arith, before)) (ap key_changed first ∙ r.one_key ∙ ap key_changed (sym second))) ∙ new n (omega (arith, within)) r.second)
 
--- If the index `at` is the first at which a change repeats a key, the place `at + 1` is the least
--- at which a change repeats a key.
+-- If `at` is the first index at which a change repeats a key, `at + 1` is the first position at
+-- which a change repeats a key.
 pub least_repeat : (cs : List Change) (at : ℕ) → at < length cs → IsRepeatedAt cs at
     → ((k : ℕ) → k < at → IsNewAt cs k) → IsLeastPlace (RepeatsAt cs) (at + 1)
 least_repeat [] at within repeated new = absurd (omega (arith, within))
@@ -91,7 +92,7 @@ any-keys : (k : ChangeKey) (cs : List Change)
 any-keys k [] = refl
 any-keys k (c ∷ cs) = ap (λ b. eq_by_cmp change_key_cmp k (key_changed c) || b) (any-keys k cs)
 
--- If no change repeats a key, the first `n` changes have different keys.
+-- If no change repeats the key of an earlier change, the first `n` changes have different keys.
 once_below : (cs : List Change) (d : Change) → ((k : ℕ) → k < length cs → IsNewAt cs k) → (n : ℕ)
     → n ≤ length cs → AreOnceEach (take n cs)
 unfolding IsDistinct
@@ -125,8 +126,8 @@ absent_not_present d (Node router transit) absent present = absent
 absent_not_present d (Remove from local) absent present =
     true≢false (sym present ∙ ap is_some absent)
 
--- If the index `at` is the first at which a change removes a link that the database lacks, `at + 1`
--- is the least place of such a change.
+-- If `at` is the first index at which a change removes a link that the database lacks, `at + 1` is
+-- the first position of such a change.
 pub least_absent : (d : Database) (cs : List Change) (at : ℕ) → at < length cs
     → HoldsAt (RemovesNothing d) cs at → AllWithin (IsPresent d) cs 0 at
     → IsLeastPlace (RemovesNothingAt d cs) (at + 1)
@@ -146,8 +147,7 @@ least_absent d (c ∷ cs) at within absent present = record {
         absent_not_present d r.change r.removes_nothing
         (subst (IsPresent d) (get_or_from_slice_get (c ∷ cs) n r.change r.change r.is_change) (present n r.change (omega arith) (omega (arith, before))))
 
--- If a list has the change `c` at an index, the list of the keys of all its changes has the key of
--- `c` at this index.
+-- If the change at an index is `c`, the list of the changes' keys has the key of `c` at this index.
 key_there : (cs : List Change) (n : ℕ) (c : Change) (d : ChangeKey) → slice_get cs n ≡ Some c
     → slice_index_or (map key_changed cs) n d ≡ key_changed c
 key_there cs n c d is =
@@ -196,7 +196,7 @@ refused_unfit d b Full why fits = absurd (omega (arith, why.1, fits.links))
 refused_unfit d b TooManyRouters why fits = absurd (omega (arith, why.2, fits.routers))
 refused_unfit d b TooManyMarks why fits = absurd (omega (arith, why.3, fits.marks))
 
--- If two places are the least at which `P` holds, they are equal.
+-- There is at most one first position at which `P` holds.
 one_least : (P : ℕ → Type 0) (m n : ℕ) → IsLeastPlace P m → IsLeastPlace P n → m ≡ n
 one_least P m n is also =
     not_apart m n (λ before. also.none_before m before is.here)
@@ -214,8 +214,8 @@ rank Full = 3
 rank TooManyRouters = 4
 rank TooManyMarks = 5
 
--- If a batch is refused for two reasons, the second of which isn't before the first in the order of
--- reasons, the two reasons are equal.
+-- If a batch is refused for the reasons `e` and `f`, and `f` doesn't precede `e` in the order of
+-- reasons, `e` and `f` are equal.
 one_upto : (d : Database) (b : NumberedChanges) (e f : Refusal) → rank e ≤ rank f → IsRefusal d b e → IsRefusal d b f → e ≡ f
 unfolding rank
 one_upto d b TooLong TooLong low is also = refl

@@ -6,18 +6,18 @@ use Rattle.std.specs.List.{IsDistinct, AllByRecursion, AllAdjacentBelow}
 use Rattle.cspf_model.specs.Changes.{ChangeKey, change_key_cmp}
 use Rattle.cspf_model.proofs.Databases.Keys.{change_keys_total}
 
--- The first key is below the second.
+-- The first key is below the second key.
 abbrev pub IsBelow : ChangeKey → ChangeKey → Type 0
 IsBelow j k = change_key_cmp j k ≡ Less
 
--- If keys are in increasing order, the keys after the first are in increasing order.
+-- If keys are in increasing order, the keys without the first are in increasing order, too.
 behind : (q : ChangeKey) (ks : List ChangeKey) → AllAdjacentBelow IsBelow (q ∷ ks) (length (q ∷ ks)) → AllAdjacentBelow IsBelow ks (length ks)
 behind q ks up j d h =
     let next : suc j + 1 ≡ suc (j + 1) = omega arith in
     subst (λ n. change_key_cmp (get_or ks j d) (get_or (q ∷ ks) n d) ≡ Less) next (up (suc j) d (omega arith))
 
--- If keys are in increasing order and another key is below the first of them, this key is different
--- from each of them.
+-- If keys are in increasing order and the key `q` is below the first of them, `q` differs from all
+-- of them.
 apart_behind : (q : ChangeKey) (ks : List ChangeKey) → ((d : ChangeKey) → 0 < length ks → change_key_cmp q (get_or ks 0 d) ≡ Less) → AllAdjacentBelow IsBelow ks (length ks)
     → AllByRecursion (λ y. eq_by_cmp change_key_cmp q y ≡ false) ks
 apart_behind q [] first up = tt

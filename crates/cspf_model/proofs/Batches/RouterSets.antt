@@ -1,5 +1,5 @@
--- How a set of routers is kept in an array, and when links have more than 1,024 routers at their
--- ends.
+-- Sets of routers that are stored as arrays, and when links begin and end at more than 1,024
+-- routers.
 use Rattle.std.proofs.Common.{◌≡◌, ℕ, ◌+◌, ◌<◌, ◌≤◌, ◌||◌, Bool, true, false, cond, List, [], ◌∷◌, ◌++◌, length, length-take-le, take, drop, slice_index, refl, sym, ap, ◌∙◌, arith, eqb}
 use Rattle.std.specs.Ordering.{nat_cmp, eq_by_cmp}
 use Rattle.std.specs.Cmp.{nat_cmp_total, Equal-is, eq_by_cmp_equiv}
@@ -16,8 +16,8 @@ use Rattle.cspf_model.specs.Lemmas.RowsLeft.{is_untouched, rows_untouched, links
 use Rattle.cspf_model.specs.Lemmas.CountedEnds.{with_ends}
 use Rattle.cspf_model.proofs.Databases.EndCounts.{len-with_ends-le, len-insert-le}
 
--- If the numbers of a list are different, the set of the list has as many members as the list has
--- items.
+-- If the numbers in a list are different, the set of these numbers has as many members as the list
+-- has items.
 pub len-from_distinct : (xs : List ℕ) → IsDistinct (eq_by_cmp nat_cmp) xs
     → set.len (set.from_list {R = nat_cmp} xs) ≡ length xs
 unfolding IsDistinct
@@ -34,13 +34,13 @@ len-from_distinct (x ∷ xs) apart =
     none_of x (y ∷ ys) all =
         ap (λ b. b || list_any (eq_by_cmp nat_cmp x) ys) all.0 ∙ none_of x ys all.1
 
--- If all numbers that compare as equal to the inserted number are members already, the set has the
--- same members after the insertion as before.
+-- If each number that compares as equal to the inserted number is already a member, the insertion
+-- adds no member.
 same_or : (tie there : Bool) → (tie ≡ true → there ≡ true) → there ≡ (tie || there)
 same_or true there tied = tied refl
 same_or false there tied = refl
 
--- If a number that a set already has is inserted, the set doesn't change.
+-- Inserting a number that is already a member doesn't change a set.
 pub insert-there : (s : set.FinSet nat_cmp) (k : ℕ) → set.contains s k ≡ true → s ≡ set.insert s k
 insert-there s k there =
     set.same_set nat_cmp_total set.nat_cmp-IsAntisymmetric _ _ (λ q.
@@ -48,8 +48,7 @@ insert-there s k there =
     (λ tie. sym (set.contains_tied nat_cmp_total s q k ((Equal-is (nat_cmp q k)).0 tie)) ∙ there)
     ∙ sym (set.contains-insert nat_cmp_total s k q))
 
--- The set of a list has a number as a member exactly if a search of the list for this number finds
--- it.
+-- A number is a member of the set of a list exactly if a search of the list finds the number.
 pub contains-found : (xs : List ℕ) (x : ℕ)
     → set.contains (set.from_list {R = nat_cmp} xs) x ≡ list_any (λ y. eqb y x) xs
 contains-found xs x = set.contains-from_list_nat xs x
@@ -67,13 +66,12 @@ module _ (xs : List ℕ) (x : ℕ) (new : list_any (λ y. eqb y x) xs ≡ false)
       IsDistinct-push (eq_by_cmp_equiv nat_cmp_total) xs x apart
       (sym (set.contains-from_list nat_cmp_total xs x) ∙ absent)
 
-  -- The set of the numbers in `xs` with `x` appended is the set of the numbers in `xs` with `x`
-  -- inserted.
+  -- Appending `x` to `xs` and taking the set gives the same as inserting `x` into the set of `xs`.
   pub set-push : set.from_list {R = nat_cmp} (xs ++ x ∷ []) ≡ set.insert (set.from_list xs) x
   set-push = set.from_list_push nat_cmp_total set.nat_cmp-IsAntisymmetric xs x
 
-  -- If the numbers in `xs` are different, the set of these numbers and `x` has one member more than
-  -- `xs` has numbers.
+  -- If the numbers in `xs` are different, inserting `x` into their set gives a set with `length xs
+  -- + 1` members.
   pub len-push : IsDistinct (eq_by_cmp nat_cmp) xs
       → set.len (set.insert (set.from_list {R = nat_cmp} xs) x) ≡ length xs + 1
   len-push apart =
@@ -82,16 +80,15 @@ module _ (xs : List ℕ) (x : ℕ) (new : list_any (λ y. eqb y x) xs ≡ false)
       (λ b. cond b (set.len (set.from_list {R = nat_cmp} xs)) (set.len (set.from_list {R = nat_cmp} xs) + 1)) absent
       ∙ ap (λ n. n + 1) (len-from_distinct xs apart)
 
--- The router at which a link begins is inserted into a set, and then the router at which the link
--- ends. If the set has more than 1,024 routers after the first insertion, it has more than 1,024
--- after both.
+-- The two routers of a link are inserted into a set. If the set has more than 1,024 routers after
+-- the first insertion, it has more than 1,024 routers after both insertions.
 pub full-first : (s : set.FinSet nat_cmp) (l : Link) → 1024 < set.len (set.insert s l.from)
     → 1024 < set.len (set.insert (set.insert s l.from) l.to)
 full-first s l full = omega (arith, full, len-insert-le (set.insert s l.from) l.to)
 
--- The routers at the ends of the unchanged links are added to a set, one link after the other. If
--- the set has more than 1,024 routers after the ends of the link `l`, it has more than 1,024 after
--- the ends of all these links.
+-- The routers of the untouched links are added to a set, link by link. If the set has more than
+-- 1,024 routers after the routers of the link `l` are added, the set has more than 1,024 routers
+-- after all are added.
 pub full-row : (s old : set.FinSet nat_cmp) (l : Link) (rows : List Link) (cs : List Change) (i : ℕ)
     → i < length rows → l ≡ slice_index_or rows i l → true ≡ is_untouched cs l
     → with_ends s (rows_untouched (drop i rows) cs) ≡ with_ends old (rows_untouched rows cs)
@@ -104,9 +101,9 @@ full-row s old l rows cs i within read left same full =
     omega
     (arith, full, len-with_ends-le (with_ends s (l ∷ [])) (rows_untouched (drop (i + 1) rows) cs), ap set.len next)
 
--- The routers at the ends of the links that are put are added to a set, one link after the other.
--- If the set has more than 1,024 routers after the ends of the link `l`, it has more than 1,024
--- after the ends of all these links.
+-- The routers of the links that the changes put are added to a set, link by link. If the set has
+-- more than 1,024 routers after the routers of the link `l` are added, the set has more than 1,024
+-- routers after all are added.
 pub full-put : (s old : set.FinSet nat_cmp) (c : Change) (l : Link) (cs : List Change) (i : ℕ)
     → i < length cs → c ≡ slice_index_or cs i c → c ≡ Put l
     → with_ends s (links_put (drop i cs)) ≡ with_ends old (links_put cs)

@@ -1,5 +1,5 @@
--- A database is made from a list of links, called rows. After changes it consists of the rows whose
--- keys no change has and of the links that the changes put.
+-- A database is made from a list of links, called rows. After changes, the database has the rows
+-- whose keys no change has, and the links that the changes put.
 use Rattle.std.proofs.Common.{◌≡◌, zero, suc, ◌||◌, Bool, true, false, cond, not, Option, Some, None, List, [], ◌∷◌, ◌++◌, Contains, map, refl, sym, ap, ◌∙◌, arith}
 use Rattle.std.specs.Ordering.{eq_by_cmp}
 use Rattle.std.specs.List.{IsDistinct, AllByRecursion}
@@ -23,7 +23,7 @@ use Rattle.cspf_model.proofs.Databases.LastChanges.{link_at-after_change}
 use Rattle.cspf_model.proofs.Databases.LinksOfRows.{link_at-database_of}
 use Rattle.cspf_model.proofs.Databases.OneChange.{same_database, same_options, found_too}
 
--- The first link of the list that has this key, if there is one.
+-- The first link with this key in the list, or `None` if no link has this key.
 at_key : List Link → Key → Option Link
 at_key links k = find key_cmp k (map entry_of links)
 
@@ -31,13 +31,14 @@ at_key links k = find key_cmp k (map entry_of links)
 abbrev pub rows_after : List Link → List Change → List Link
 rows_after rows changes = rows_untouched rows changes ++ links_put changes
 
--- If two keys compare as equal, some change has the one key exactly if some change has the other.
+-- If the keys `j` and `k` compare as equal, some change has the key `j` exactly if some change has
+-- the key `k`.
 changed_alike : (cs : List Change) (j k : Key) → eq_by_cmp key_cmp j k ≡ true
     → is_changed cs (link_key j) ≡ is_changed cs (link_key k)
 changed_alike cs j k tie = ap (λ q. is_changed cs (link_key q)) (keys_same j k tie)
 
--- If the first link doesn't have the key that is searched for, and a search of the later links
--- finds nothing, a search of all links finds nothing.
+-- A search for a key finds nothing if the first link doesn't have the key and a search of the other
+-- links finds nothing.
 none_found : (b : Bool) (x : Link) (o : Option Link) → b ≡ false → o ≡ None
     → cond b (Some x) o ≡ None
 none_found true x o off none = absurd (cc)
@@ -63,8 +64,8 @@ not_put (Put l ∷ cs) k off =
 not_put (Remove from local ∷ cs) k off = not_put cs k (or_second _ _ off)
 not_put (Node router transit ∷ cs) k off = not_put cs k (or_second _ _ off)
 
--- At a key that some change has, `rows_untouched` has no link. At any other key it has the same
--- link as `rows`.
+-- At a key that some change has, `rows_untouched` has no link. At any other key, `rows_untouched`
+-- has the same link as `rows`.
 at_left : (rows : List Link) (cs : List Change) (k : Key)
     → at_key (rows_untouched rows cs) k ≡ cond (is_changed cs (link_key k)) None (at_key rows k)
 unfolding at_key
@@ -98,8 +99,8 @@ first_of : Option Link → Option Link → Option Link
 first_of None p = p
 first_of (Some x) p = Some x
 
--- If the first of two lists of links has a link with the key `k`, the joined list has the same link
--- at `k`. Otherwise the joined list has at `k` the link that the second list has there, if any.
+-- In the concatenation of two lists of links, a search for the key `k` finds the link that it finds
+-- in the first list. If it finds none there, it finds what it finds in the second list.
 at_both : (xs ys : List Link) (k : Key) → at_key (xs ++ ys) k ≡ first_of (at_key xs k) (at_key ys k)
 unfolding at_key first_of
 at_both [] ys k = refl
@@ -109,8 +110,8 @@ at_both (x ∷ xs) ys k =
       | false ↦ at_both xs ys k
     ]
 
--- `b` says whether some change has a key. If so, the link at this key is the option `put`, and
--- otherwise it is the option `row`.
+-- `b` says whether some change has a key. If some change has it, the link at this key is `put`.
+-- Otherwise the link at this key is `row`.
 chosen : (b : Bool) (row put : Option Link) → (b ≡ false → put ≡ None)
     → first_of (cond b None row) put ≡ cond b put row
 unfolding first_of
@@ -118,8 +119,8 @@ chosen true row put none = refl
 chosen false None put none = none refl
 chosen false (Some x) put none = refl
 
--- If some change has the key `k`, `rows_after` has at `k` the link that is put, if any. Otherwise
--- it has the same link at `k` as `rows`.
+-- If some change has the key `k`, `rows_after` has at `k` the link that the changes put, or no link
+-- if they put none. Otherwise `rows_after` has at `k` the same link as `rows`.
 at_after : (rows : List Link) (cs : List Change) (k : Key)
     → at_key (rows_after rows cs) k ≡ cond (is_changed cs (link_key k)) (at_key (links_put cs) k) (at_key rows k)
 at_after rows cs k =
@@ -127,7 +128,7 @@ at_after rows cs k =
     ∙ ap (λ o. first_of o (at_key (links_put cs) k)) (at_left rows cs k)
     ∙ chosen (is_changed cs (link_key k)) (at_key rows k) (at_key (links_put cs) k) (not_put cs k)
 
--- If all changes of a list have different keys, no other change has the key of the first change.
+-- If all changes of a list have different keys, no later change has the key of the first change.
 not_again : (c : Change) (cs : List Change) → AreOnceEach (c ∷ cs)
     → is_changed cs (key_changed c) ≡ false
 unfolding IsDistinct
@@ -140,15 +141,16 @@ not_again c cs once = none_on (key_changed c) cs once.0
     none_on k (c ∷ cs) all = ap (λ b. b || is_changed cs k) all.0 ∙ none_on k cs all.1
 
 -- After a change with the key `k`, the database has at `k` the link that the change puts, or no
--- link if the change is a removal. After any other change it has the same link at `k` as before.
+-- link if the change is a removal. After a change with another key, the database has the same link
+-- at `k` as before.
 pub link_at-relinked : (d : Database) (c : Change) (k : Key)
     → link_at (relinked d c) k ≡ cond (eq_by_cmp change_key_cmp (link_key k) (key_changed c)) (link_left c) (link_at d k)
 link_at-relinked d (Put l) k = link_at-after_change d (Put l) k
 link_at-relinked d (Remove from local) k = link_at-after_change d (Remove from local) k
 link_at-relinked d (Node router transit) k = link_at-after_change d (Node router transit) k
 
--- Making the changes of two joined lists gives the same database as making first the changes of the
--- first list and then those of the second list.
+-- Making the changes of two concatenated lists gives the same database as making the changes of the
+-- first list, and then the changes of the second list.
 pub all_relinked-append : (d : Database) (bs cs : List Change)
     → all_relinked d (bs ++ cs) ≡ all_relinked (all_relinked d bs) cs
 all_relinked-append d [] cs = refl
@@ -163,8 +165,8 @@ marks-all_relinked d (Remove from local ∷ cs) = marks-all_relinked (relinked d
 marks-all_relinked d (Node router transit ∷ cs) = marks-all_relinked d cs
 
 -- Suppose that all changes have different keys. At a key that some change has, the database after
--- the changes has the link that this change puts, if any. At any other key it has the same link as
--- before.
+-- the changes has the link that this change puts, or no link for a removal. At any other key, the
+-- database has the same link as before.
 at_changed_by : (d : Database) (cs : List Change) (k : Key) → AreOnceEach cs
     → link_at (all_relinked d cs) k ≡ cond (is_changed cs (link_key k)) (at_key (links_put cs) k) (link_at d k)
 unfolding IsDistinct at_key
@@ -199,8 +201,8 @@ at_changed_by d (Node router transit ∷ cs) k once =
     at_changed_by d cs k once.1
     ∙ ap (λ b. cond (b || is_changed cs (link_key k)) (at_key (links_put cs) k) (link_at d k)) (sym (link_apart k router))
 
--- If all changes in `cs` have different keys, the database that is made from `rows_after rows cs`
--- is the database that is made from `rows`, after these changes (`all_relinked`).
+-- Suppose that all changes in `cs` have different keys. Then the links of `rows_after rows cs` make
+-- the database that the changes to links make from the database of `rows`.
 pub database-rows_after : (rows : List Link) (cs : List Change) → AreOnceEach cs
     → database_of (rows_after rows cs) ≡ all_relinked (database_of rows) cs
 unfolding at_key
@@ -228,7 +230,7 @@ apart_put k (Put l ∷ cs) off = (or_first _ _ off, apart_put k cs (or_second _ 
 apart_put k (Remove from local ∷ cs) off = apart_put k cs (or_second _ _ off)
 apart_put k (Node router transit ∷ cs) off = apart_put k cs (or_second _ _ off)
 
--- If all changes have different keys, the links that they put have different keys.
+-- If all changes have different keys, the links that the changes put have different keys.
 puts_apart : (cs : List Change) → AreOnceEach cs → HaveOwnKeys (links_put cs)
 unfolding IsDistinct
 puts_apart [] once = tt
@@ -237,8 +239,8 @@ puts_apart (Put l ∷ cs) once =
 puts_apart (Remove from local ∷ cs) once = puts_apart cs once.1
 puts_apart (Node router transit ∷ cs) once = puts_apart cs once.1
 
--- If `P` holds of the keys of all links of two lists, it holds of the keys of all links of the
--- joined list.
+-- If `P` holds of the keys of all links of two lists, `P` holds of the keys of all links of their
+-- concatenation.
 all_both : (P : Key → Type 0) (xs ys : List Link) → AllByRecursion P (map key_of xs)
     → AllByRecursion P (map key_of ys) → AllByRecursion P (map key_of (xs ++ ys))
 all_both P [] ys all also = also
@@ -256,7 +258,7 @@ apart-rows_after (l ∷ rows) cs apart once =
       | false ↦ λ off. (all_both (λ y. eq_by_cmp key_cmp (key_of l) y ≡ false) (rows_untouched rows cs) (links_put cs) (apart_left (key_of l) rows cs apart.0) (apart_put (key_of l) cs off), apart-rows_after rows cs apart.1 once)
     ] refl
 
--- If a list contains an item, the list with one more item in front contains this item.
+-- If a list contains the item `y`, the list still contains `y` after the item `x` is put in front.
 behind : {X : Type 0} (x : X) (xs : List X) (y : X) → Contains xs y → Contains (x ∷ xs) y
 behind x xs y has = (suc has.0, omega (arith, has.1), has.2)
 
@@ -286,12 +288,12 @@ put_among (Node router transit ∷ cs) l (suc k, h, is) = put_among cs l (k, ome
 
 -- In this part, `ys` are the changes `cs` in another order, and all changes have different keys.
 module _ (cs ys : List Change) (moved : IsPermutation cs ys) (once : AreOnceEach cs) where
-  -- The changes in the other order have different keys too.
+  -- The changes in the order of `ys` also have different keys.
   still_once : AreOnceEach ys
   still_once =
       IsDistinct-IsPermutation (eq_by_cmp change_key_cmp) (eq_by_cmp_equiv change_keys_total).symm (map key_changed cs) (map key_changed ys) (IsPermutation-map key_changed cs ys moved) once
 
-  -- The changes in the other order put the same link at each key.
+  -- The changes in the order of `ys` put the same link at each key.
   same_put : (k : Key) → at_key (links_put ys) k ≡ at_key (links_put cs) k
   unfolding at_key
   same_put k =

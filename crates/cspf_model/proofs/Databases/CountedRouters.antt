@@ -15,7 +15,7 @@ use Rattle.cspf_model.proofs.Databases.Keys.{keys_total, key_itself}
 use Rattle.cspf_model.proofs.Databases.DistinctRouters.{router_in_ends}
 use Rattle.cspf_model.proofs.Databases.EndCounts.{any-ends_of}
 
--- The link of some entry passes the test `p`, and a search of the entries for `key` finds this
+-- Some entry has a link that passes the test `p`. A search of the entries for `key` finds this
 -- link.
 record Found (p : Link → Bool) (es : List (Key × Link)) : Type 0 where
   pub key : Key
@@ -67,8 +67,8 @@ found_among p (e ∷ es) sorted any =
           record { key = f.key; link = f.link; passes = f.passes; found = ap (λ b. cond b (Some e.1) (map.find key_cmp f.key es)) (not_first e.0 es (both_first _ _ sorted) f.key f.link f.found) ∙ f.found }
     ] refl any
 
--- If a router compares as equal to the router at an end of a link, the link begins or ends at this
--- router.
+-- If a router compares as equal to one of the two routers of a link, the link begins or ends at
+-- this router.
 pub end_at : (router : ℕ) (l : Link)
     → (eq_by_cmp nat_cmp router l.from || eq_by_cmp nat_cmp router l.to) ≡ true → EndsAt router l
 end_at router l =

@@ -1,4 +1,5 @@
--- A list of different routers of a database has at most as many items as the database has routers.
+-- The length of a list of different routers of a database is at most the number of the database's
+-- routers.
 use Rattle.std.proofs.Common.{◌≡◌, ℕ, ◌-◌, ◌≤◌, ◌⊎◌, inl, inr, Bool, true, false, cond, Some, List, [], ◌∷◌, length, map, sym, ap, subst, ◌∙◌, arith, nat_eq}
 use Rattle.std.specs.Ordering.{nat_cmp, eq_by_cmp}
 use Rattle.std.specs.Cmp.{nat_cmp_total}
@@ -10,11 +11,12 @@ use Rattle.std.proofs.lemmas.List.{nil_from_length}
 use Rattle.cspf_model.specs.Changes.{no_links}
 use Rattle.cspf_model.specs.Database.{Database, Key, key_of, key_cmp, IsRouterOf, ends_of, router_count}
 
--- No test is both true and false.
+-- No test gives both true and false.
 true_not_false : {A : Type 0} (b : Bool) → b ≡ true → b ≡ false → A
 true_not_false b on off = cc
 
--- Members of a set that differ from a number stay in the set after this number is removed.
+-- If all items of `rs` are members of a set and differ from `r`, they are still members after `r`
+-- is removed.
 kept : (r : ℕ) (rs : List ℕ) (s : set.FinSet nat_cmp) → AllByRecursion (λ q. nat_eq r q ≡ false) rs
     → AllByRecursion (λ q. set.contains s q ≡ true) rs
     → AllByRecursion (λ q. set.contains (set.remove s r) q ≡ true) rs
@@ -22,7 +24,7 @@ kept r [] s apart all = tt
 kept r (q ∷ rs) s apart all =
     (set.contains-remove nat_cmp_total s r q ∙ grind (arith, apart.0, all.0), kept r rs s apart.1 all.1)
 
--- A list of different members of a set has at most as many items as the set has members.
+-- The length of a list of different members of a set is at most the size of the set.
 length-le-len : (rs : List ℕ) (s : set.FinSet nat_cmp) → IsDistinct nat_eq rs
     → AllByRecursion (λ q. set.contains s q ≡ true) rs → length rs ≤ set.len s
 unfolding IsDistinct
@@ -33,8 +35,8 @@ length-le-len (r ∷ rs) s apart all =
     let some : set.len s ≡ 0 → ⊥ = λ none. true_not_false (set.contains s r) all.0 (ap (λ t. set.contains t r) (set.empty_of_len s none) ∙ set.contains-empty nat_cmp r) in
     omega (arith, rest, shorter, some)
 
--- If a search of entries finds a link, each router at which it begins or ends is among the routers
--- at the ends of the entries' links.
+-- If a search of the entries finds a link, the two routers of this link are in the list of the
+-- routers of all the entries' links.
 ends_found : (q : Key) (l : Link) (router : ℕ) → (l.from ≡ router) ⊎ (l.to ≡ router)
     → (es : List (Key × Link)) → map.find key_cmp q es ≡ Some l
     → list_any (λ y. nat_eq y router) (ends_of (map (λ e. e.1) es)) ≡ true
@@ -58,7 +60,8 @@ ends_found q l router is (e ∷ es) found =
         → list_any (λ y. nat_eq y router) (l.from ∷ l.to ∷ rest) ≡ true
     end_later l router rest h = grind arith
 
--- Each router of a database is among the routers at the ends of the database's links.
+-- Each router of a database is in the set of the routers at which the database's links begin or
+-- end.
 pub router_in_ends : (d : Database) (router : ℕ) → IsRouterOf d router
     → set.contains (set.from_list {R = nat_cmp} (ends_of (map.values d.links))) router ≡ true
 router_in_ends d router (l, is, stands) =
@@ -66,14 +69,15 @@ router_in_ends d router (l, is, stands) =
     ∙ ends_found (key_of l) l router stands (map.entries d.links)
     (sym (map.get-entries d.links (key_of l)) ∙ is)
 
--- If all items of a list are routers of a database, all are among the routers at the ends of the
--- database's links.
+-- If all items of a list are routers of a database, all items are in the set of the routers at
+-- which the database's links begin or end.
 in_ends : (d : Database) (routers : List ℕ) → AllByRecursion (IsRouterOf d) routers
     → AllByRecursion (λ q. set.contains (set.from_list {R = nat_cmp} (ends_of (map.values d.links))) q ≡ true) routers
 in_ends d [] all = tt
 in_ends d (r ∷ rs) all = (router_in_ends d r all.0, in_ends d rs all.1)
 
--- A list of different routers of a database has at most as many items as the database has routers.
+-- The length of a list of different routers of a database is at most the number of the database's
+-- routers.
 pub length-le-router_count : (d : Database) (routers : List ℕ) → IsDistinct nat_eq routers
     → AllByRecursion (IsRouterOf d) routers → length routers ≤ router_count d
 length-le-router_count d routers apart all = length-le-len routers _ apart (in_ends d routers all)

@@ -41,27 +41,27 @@ link_count-database_of (l ∷ rows) apart =
     (link_at-database_of rows (key_of l) ∙ find-behind l rows apart)
     ∙ ap (λ n. n + 1) (link_count-database_of rows apart.1) ∙ omega arith
 
--- The disjunction of three tests doesn't depend on which two are grouped.
+-- The disjunction of tests is associative.
 or_assoc : (a b c : Bool) → (a || (b || c)) ≡ ((a || b) || c)
 or_assoc true b c = refl
 or_assoc false b c = refl
 
--- The disjunction of three tests stays the same if the first two change places.
+-- The disjunction of three tests stays the same if the first two tests are swapped.
 or_swap : (a b c : Bool) → (a || (b || c)) ≡ (b || (a || c))
 or_swap true true c = refl
 or_swap true false c = refl
 or_swap false b c = refl
 
--- Some router in `ends_of links` passes a test exactly if a router at an end of some link passes
--- it.
+-- Some router in `ends_of links` passes the test `p` exactly if some link begins or ends at a
+-- router that passes `p`.
 pub any-ends_of : (p : ℕ → Bool) (links : List Link)
     → list_any p (ends_of links) ≡ list_any (λ l. p l.from || p l.to) links
 any-ends_of p [] = refl
 any-ends_of p (l ∷ links) =
     ap (λ b. p l.from || (p l.to || b)) (any-ends_of p links) ∙ or_assoc (p l.from) (p l.to) _
 
--- After an entry with a new key is added, some link passes a test exactly if the new link or an old
--- link passes it.
+-- After an entry with a new key is added, some link passes the test `p` exactly if the new link or
+-- an old link passes `p`.
 any-put : (p : Link → Bool) (k : Key) (v : Link) (es : List (Key × Link))
     → map.find key_cmp k es ≡ None
     → list_any p (map (λ e. e.1) (put key_cmp k v es)) ≡ (p v || list_any p (map (λ e. e.1) es))
@@ -74,8 +74,8 @@ any-put p k v (e ∷ es) none =
       | Greater ↦ λ rest. ap (λ b. p e.1 || b) (any-put p k v es rest) ∙ or_swap (p e.1) (p v) _
     ] none
 
--- If the links in `rows` have different keys, some link of the database that is made from them
--- passes a test exactly if some link in `rows` passes it.
+-- Suppose that the links in `rows` have different keys. Some link of the database made from them
+-- passes the test `p` exactly if some link in `rows` passes `p`.
 any-values : (p : Link → Bool) (rows : List Link) → HaveOwnKeys rows
     → list_any p (map.values (database_of rows).links) ≡ list_any p rows
 unfolding IsDistinct
@@ -90,12 +90,12 @@ any-values p (l ∷ rows) apart =
     (sym (map.get-entries (database_of rows).links (key_of l)) ∙ link_at-database_of rows (key_of l) ∙ find-behind l rows apart)
     ∙ ap (λ b. p l || b) (any-values p rows apart.1)
 
--- The set of the routers at the ends of these links.
+-- The set of the routers at which these links begin or end.
 ends_set : List Link → set.FinSet nat_cmp
 ends_set links = set.from_list (ends_of links)
 
--- If the links in `rows` have different keys, the database made from them has as many routers as
--- there are different routers at the ends of these links.
+-- Suppose that the links in `rows` have different keys. Then the set of the routers at which these
+-- links begin or end has as many members as the database made from them has routers.
 pub router_count-database_of : (rows : List Link) → HaveOwnKeys rows
     → router_count (database_of rows) ≡ set.len (set.from_list {R = nat_cmp} (ends_of rows))
 router_count-database_of rows apart =
@@ -120,8 +120,8 @@ turn false true false rest = refl
 turn false false true rest = refl
 turn false false false rest = refl
 
--- After the routers at the ends of links are added to a set, the set has exactly its earlier
--- members and these routers.
+-- After the routers of some links are added to a set, the set has exactly its earlier members and
+-- these routers.
 pub contains-with_ends : (s : set.FinSet nat_cmp) (links : List Link) (q : ℕ)
     → set.contains (with_ends s links) q ≡ (set.contains s q || list_any (eq_by_cmp nat_cmp q) (ends_of links))
 contains-with_ends s [] q = or_false _
@@ -131,8 +131,8 @@ contains-with_ends s (l ∷ links) q =
     (set.contains-insert nat_cmp_total (set.insert s l.from) l.to q ∙ ap (λ b. eq_by_cmp nat_cmp q l.to || b) (set.contains-insert nat_cmp_total s l.from q))
     ∙ turn (eq_by_cmp nat_cmp q l.from) (eq_by_cmp nat_cmp q l.to) (set.contains s q) _
 
--- If the routers at the ends of links are added to the empty set one by one, the result is the set
--- of these routers.
+-- If the routers of some links are added to the empty set one by one, the result is the set of
+-- these routers.
 with_ends-empty : (links : List Link) → with_ends set.empty links ≡ set.from_list (ends_of links)
 with_ends-empty links =
     set.same_set nat_cmp_total set.nat_cmp-IsAntisymmetric _ _ (λ q.
@@ -140,8 +140,8 @@ with_ends-empty links =
     ∙ ap (λ b. b || list_any (eq_by_cmp nat_cmp q) (ends_of links)) (set.contains-empty nat_cmp q)
     ∙ sym (set.contains-from_list nat_cmp_total _ q))
 
--- The routers at the ends of one list of links, and then those of another list, are added to a set.
--- Adding the routers at the ends of the joined list gives the same set.
+-- Adding the routers of two lists of links to a set, list by list, gives the same set as adding the
+-- routers of the concatenated list.
 pub with_ends-append : (s : set.FinSet nat_cmp) (xs ys : List Link)
     → with_ends (with_ends s xs) ys ≡ with_ends s (xs ++ ys)
 with_ends-append s [] ys = refl
@@ -156,7 +156,7 @@ len-insert-le s k =
     no_less true n = omega arith
     no_less false n = omega arith
 
--- Adding the routers at the ends of links makes no set smaller.
+-- Adding the routers of links makes no set smaller.
 pub len-with_ends-le : (s : set.FinSet nat_cmp) (links : List Link)
     → set.len s ≤ set.len (with_ends s links)
 len-with_ends-le s [] = omega arith
@@ -175,7 +175,7 @@ stays_inside : (tie found there : Bool) → (tie ≡ true → found ≡ false) �
 stays_inside true found there apart is inside = absurd (cc (apart refl))
 stays_inside false found there apart is inside = inside
 
--- A set has one member more than the same set without one of its members.
+-- If one of a set's members is removed, the set has one member less.
 len-without : (t : set.FinSet nat_cmp) (x : ℕ) → set.contains t x ≡ true
     → set.len (set.remove t x) + 1 ≡ set.len t
 len-without t x there =
@@ -183,8 +183,8 @@ len-without t x there =
     let some : set.len t ≡ 0 → ⊥ = λ none. true≢false (sym there ∙ ap (λ s. set.contains s x) (set.empty_of_len t none) ∙ set.contains-empty nat_cmp x) in
     omega (arith, shorter, some)
 
--- If all items of a list are members of a set, the set of the list has at most as many members as
--- this set.
+-- If all items of a list are members of the set `t`, the set of the list's items has at most as
+-- many members as `t`.
 len-within : (xs : List ℕ) (t : set.FinSet nat_cmp)
     → ((q : ℕ) → list_any (eq_by_cmp nat_cmp q) xs ≡ true → set.contains t q ≡ true)
     → set.len (set.from_list {R = nat_cmp} xs) ≤ set.len t
@@ -207,7 +207,7 @@ len-within (x ∷ xs) t inside =
       )
     ] refl)
 
--- If some link in `rows_untouched rows cs` passes a test, some link in `rows` passes this test.
+-- If some link in `rows_untouched rows cs` passes the test `p`, some link in `rows` passes `p`.
 any_left : (p : Link → Bool) (rows : List Link) (cs : List Change)
     → list_any p (rows_untouched rows cs) ≡ true → list_any p rows ≡ true
 any_left p [] cs is = is
@@ -221,8 +221,8 @@ any_left p (l ∷ rows) cs is =
     or_either true b c e f = refl
     or_either false b c e f = f e
 
--- If some link in `rows` begins or ends at a router, this router is among the routers at the ends
--- of these links.
+-- If some link in `rows` begins or ends at `router`, a number that compares as equal to `router` is
+-- among the routers of these links.
 pub known_end : (rows : List Link) (router q : ℕ) → AnyEndsAt rows router
     → eq_by_cmp nat_cmp q router ≡ true
     → list_any (λ l. eq_by_cmp nat_cmp q l.from || eq_by_cmp nat_cmp q l.to) rows ≡ true
@@ -242,7 +242,7 @@ known_end rows router q (at, within, ends) tie =
     found (l ∷ rows) at within ends =
         (at, slice_index_or (l ∷ rows) at l, within, get_or_default (l ∷ rows) at (slice_index_or (l ∷ rows) at l) l within, one_end (slice_index_or (l ∷ rows) at l) (ends l))
 
--- If a disjunction is true, one of the two tests passes.
+-- To prove `P` from a true disjunction, prove `P` from each of its two tests.
 or_split : {P : Type 0} (a b : Bool) → (a || b) ≡ true → (a ≡ true → P) → (b ≡ true → P) → P
 or_split true b e f g = f refl
 or_split false b e f g = g e
@@ -250,8 +250,8 @@ or_split false b e f g = g e
 -- In this part, the links in `rows` have different keys, the changes have different keys, and the
 -- changes act on the database that is made from `rows`.
 module _ (rows : List Link) (cs : List Change) (apart : HaveOwnKeys rows) (once : AreOnceEach cs) where
-  -- After the changes, the database has as many routers as there are different routers at the ends
-  -- of the unchanged links and of the links that are put.
+  -- After the changes, the number of the database's routers is the size of a set: the routers of
+  -- the untouched links, and of the links that the changes put.
   pub router_count-after : router_count (all_relinked (database_of rows) cs) ≡ set.len (with_ends (with_ends set.empty (rows_untouched rows cs)) (links_put cs))
   router_count-after =
       ap router_count (sym (database-rows_after rows cs once))
@@ -259,8 +259,8 @@ module _ (rows : List Link) (cs : List Change) (apart : HaveOwnKeys rows) (once 
       ∙ ap set.len
       (sym (with_ends-append set.empty (rows_untouched rows cs) (links_put cs) ∙ with_ends-empty (rows_after rows cs)))
 
-  -- Each router at an end of a link after the changes is at an end of a link in `rows`, or of a
-  -- link that the changes put.
+  -- If a link begins or ends at a router after the changes, a link in `rows` or a link that the
+  -- changes put begins or ends at this router.
   in_grown : (q : ℕ) → list_any (eq_by_cmp nat_cmp q) (ends_of (rows_after rows cs)) ≡ true → set.contains (with_ends (set.from_list (ends_of rows)) (links_put cs)) q ≡ true
   in_grown q is =
       let all : set.FinSet nat_cmp = set.from_list (ends_of rows) in
@@ -270,8 +270,8 @@ module _ (rows : List Link) (cs : List Change) (apart : HaveOwnKeys rows) (once 
       (λ left. ap (λ b. b || list_any (eq_by_cmp nat_cmp q) (ends_of (links_put cs))) (set.contains-from_list nat_cmp_total (ends_of rows) q ∙ any-ends_of (eq_by_cmp nat_cmp q) rows ∙ any_left _ rows cs left))
       (λ put. or_right (set.contains all q) _ (any-ends_of (eq_by_cmp nat_cmp q) (links_put cs) ∙ put))
 
-  -- If the changes put links with at most `most` new routers at their ends, the number of the
-  -- database's routers grows by at most `most`.
+  -- If the links that the changes put have at most `most` new routers, the database gains at most
+  -- `most` routers.
   pub router_count-brought : (routers : List ℕ) (most : ℕ) → All (λ r. set.contains (set.from_list {R = nat_cmp} (ends_of rows)) r ≡ true) routers → BringsAtMost routers cs most
       → router_count (all_relinked (database_of rows) cs) ≤ router_count (database_of rows) + most
   router_count-brought routers most inside brings =
@@ -279,9 +279,9 @@ module _ (rows : List Link) (cs : List Change) (apart : HaveOwnKeys rows) (once 
       omega
       (arith, len-within (ends_of (rows_after rows cs)) (with_ends all (links_put cs)) in_grown, brings all inside, ap router_count (database-rows_after rows cs once), router_count-database_of (rows_after rows cs) (apart-rows_after rows cs apart once), router_count-database_of rows apart)
 
-  -- The changes put links with at most `most` new routers at their ends. If they also leave some
-  -- router of the database without links, the number of the database's routers grows by less than
-  -- `most`.
+  -- Suppose that the links that the changes put have at most `most` new routers, and that some
+  -- router of the database has no links after the changes. Then the database gains at most `most -
+  -- 1` routers.
   pub router_count-gone : (routers : List ℕ) (most : ℕ) → All (λ r. set.contains (set.from_list {R = nat_cmp} (ends_of rows)) r ≡ true) routers → BringsAtMost routers cs most
       → HasGone rows routers cs → router_count (all_relinked (database_of rows) cs) + 1 ≤ router_count (database_of rows) + most
   router_count-gone routers most inside brings (g, known, gone) =
@@ -310,21 +310,21 @@ len-insert-most s k =
     one_more true n = omega arith
     one_more false n = omega arith
 
--- If a set already has a router, adding this router doesn't make the set larger. Otherwise the set
--- grows by at most one.
+-- Adding the router `k` to a set makes the set larger by at most `most`. If `most` is 0, the set
+-- has to have `k` already.
 pub one_end : (s : set.FinSet nat_cmp) (k most : ℕ) → (most ≡ 0 → set.contains s k ≡ true) → set.len (set.insert s k) ≤ set.len s + most
 one_end s k zero there = omega (arith, set.len-insert nat_cmp_total s k ∙ ap (λ b. cond b (set.len s) (set.len s + 1)) (there refl))
 one_end s k (suc most) there = omega (arith, len-insert-most s k)
 
--- A `Put` change of the link adds at most `m + n` routers to a set that has all of `routers`. Here
--- `m` is 0 only if the link begins at one of `routers`, and `n` is 0 only if it ends at one.
+-- A `Put` change of the link `l` brings at most `m + n` routers that aren't in `routers`. `m` may
+-- be 0 if `l` begins at a router in `routers`, and `n` may be 0 if `l` ends at such a router.
 pub brings_put : (routers : List ℕ) (l : Link) (m n : ℕ) → (m ≡ 0 → Contains routers l.from) → (n ≡ 0 → Contains routers l.to) → BringsAtMost routers (Put l ∷ []) (m + n)
 brings_put routers l m n from to s inside =
     let there : (r : ℕ) → Contains routers r → set.contains s r ≡ true = λ r. All-contains (λ q. set.contains s q ≡ true) routers r inside in
     omega
     (arith, one_end s l.from m (λ e. there l.from (from e)), one_end (set.insert s l.from) l.to n (λ e. set.contains-insert nat_cmp_total s l.from l.to ∙ or_right (eq_by_cmp nat_cmp l.to l.from) _ (there l.to (to e))))
 
--- The disjunction of three tests stays the same if the last two change places.
+-- The disjunction of three tests stays the same if the last two tests are swapped.
 turn_last : (a b e : Bool) → ((a || b) || e) ≡ ((a || e) || b)
 turn_last true b e = refl
 turn_last false true true = refl
@@ -332,8 +332,8 @@ turn_last false true false = refl
 turn_last false false true = refl
 turn_last false false false = refl
 
--- If the routers at the ends of two lists of links are added to a set, the order of the two lists
--- doesn't matter.
+-- If the routers of two lists of links are added to a set, the order of the two lists doesn't
+-- matter.
 with_ends-turned : (s : set.FinSet nat_cmp) (xs ys : List Link) → with_ends (with_ends s xs) ys ≡ with_ends (with_ends s ys) xs
 with_ends-turned s xs ys =
     set.same_set nat_cmp_total set.nat_cmp-IsAntisymmetric _ _ (λ q.
@@ -342,23 +342,23 @@ with_ends-turned s xs ys =
     ∙ turn_last (set.contains s q) _ _
     ∙ sym (contains-with_ends (with_ends s ys) xs q ∙ ap (λ b. b || list_any (eq_by_cmp nat_cmp q) (ends_of xs)) (contains-with_ends s ys q)))
 
--- This part counts the routers that the database has after the changes. To count them, the routers
--- at the ends of links are added to a set.
+-- This part counts the routers that the database has after the changes. To count them, the code
+-- adds the routers of the links to a set.
 module _ (rows : List Link) (cs : List Change) (apart : HaveOwnKeys rows) (once : AreOnceEach cs) where
-  -- After the changes, the database has as many routers as there are different routers at the ends
-  -- of the links that are put and of the unchanged links.
+  -- After the changes, the number of the database's routers is the size of a set: the routers of
+  -- the links that the changes put, and of the untouched links.
   counted : router_count (all_relinked (database_of rows) cs) ≡ set.len (with_ends (with_ends set.empty (links_put cs)) (rows_untouched rows cs))
   counted = router_count-after rows cs apart once ∙ ap set.len (with_ends-turned set.empty (rows_untouched rows cs) (links_put cs))
 
-  -- If there are more than 1,024 different routers at the ends of the links that are put, the
-  -- database has more than 1,024 routers after the changes.
+  -- If the links that the changes put have more than 1,024 different routers, the database has more
+  -- than 1,024 routers after the changes.
   pub many_put : 1024 < set.len (with_ends set.empty (links_put cs))
       → 1024 < router_count (all_relinked (database_of rows) cs)
   many_put many = omega (arith, many, len-with_ends-le (with_ends set.empty (links_put cs)) (rows_untouched rows cs), counted)
 
-  -- The set `first` has the routers at the ends of the links that are put. The routers at the ends
-  -- of the unchanged links are added to it. If the test `b` says whether the resulting set has at
-  -- most 1,024 routers, it also says this of the database after the changes.
+  -- The set `first` has the routers of the links that the changes put. The set `second` has, in
+  -- addition, the routers of the untouched links. If the test `b` says whether `second` has at most
+  -- 1,024 routers, `b` also says whether the database has at most 1,024 routers after the changes.
   pub tells_both : (b : Bool) (first second : set.FinSet nat_cmp)
       → first ≡ with_ends set.empty (links_put cs)
       → OnTrue b (second ≡ with_ends first (rows_untouched rows cs)) → OnTrue b (set.len second ≤ 1024)

@@ -1,5 +1,5 @@
--- What a search for a key in a list of links, called rows, says of the database that is made from
--- them.
+-- How a search for a key in a list of links, called rows, is related to the database made from the
+-- rows.
 use Rattle.std.proofs.Common.{◌≡◌, ◌≢◌, ℕ, suc, ◌<◌, ◌↔◌, Bool, true, false, cond, Some, None, IsTrue, IsSome, IfSome, IfNone, is_some, not, List, [], ◌∷◌, All, length, map, slice_index_or, refl, sym, ap, subst, ◌∙◌, arith, zero, Option}
 use Rattle.std.specs.Ordering.{eq_by_cmp}
 use Rattle.std.specs.List.{IsDistinct, HoldsAt}
@@ -10,8 +10,8 @@ use Rattle.cspf_model.specs.Lemmas.LinkRows.{entry_of, database_of}
 use Rattle.cspf_model.proofs.Databases.Keys.{keys_apart_from, key_itself}
 use Rattle.cspf_model.proofs.Databases.LinksOfRows.{link_at-database_of, find-row}
 
--- If the links in `rows` have different keys, the database that is made from them has each of these
--- links at the link's own key.
+-- If the links in `rows` have different keys, the database made from them has each of these links
+-- at the link's own key.
 pub link_at-row : (rows : List Link) → IsDistinct (eq_by_cmp key_cmp) (map key_of rows)
     → (k : Key) (at : ℕ) (d : Link) → at < length rows → key_of (slice_index_or rows at d) ≡ k
     → link_at (database_of rows) k ≡ Some (slice_index_or rows at d)
@@ -33,8 +33,8 @@ pub link_at-no_row : (rows : List Link) (k : Key) → All (λ l. key_of l ≢ k)
     → link_at (database_of rows) k ≡ None
 link_at-no_row rows k none = link_at-database_of rows k ∙ find-no_row rows k none
 
--- If `rows` are the links of a database, the test whether one of them begins or ends at a router
--- says whether the database has this router.
+-- If `rows` has exactly the links of a database, the database has a router exactly if some link in
+-- `rows` begins or ends at this router.
 pub tells : (d : Database) (rows : List Link) (router : ℕ) (b : Bool) → AreLinksOf d rows
     → (b ≡ true → (at : ℕ) × (at < length rows) × HoldsAt (EndsAt router) rows at)
     → (b ≡ false → All (λ l. ¬ EndsAt router l) rows) → IsTrue b ↔ IsRouterOf d router
@@ -55,8 +55,8 @@ some_there (l ∷ rows) k zero h has =
 some_there (l ∷ rows) k (suc at) h has =
     elim (eq_by_cmp key_cmp k (key_of l)) as (λ b. IsSome (cond b (Some l) (find key_cmp k (map entry_of rows)))) [ true ↦ refl | false ↦ some_there rows k at (omega arith) has ]
 
--- If a search of `rows` for the key of a removal finds no link, the database lacks the link that is
--- to be removed. If the search finds a link, the database has a link with this key.
+-- A search of `rows` for the key of a removal says whether the database has a link with this key.
+-- The test `b` is true if the search finds nothing.
 pub tells_removal : (rows : List Link) (k : Key) (place : Option ℕ) (b : Bool)
     → is_some place ≡ not b → IfSome place (λ at. at < length rows)
     → IfSome place (HoldsAt (λ l. key_of l ≡ k) rows) → IfNone place (All (λ l. key_of l ≢ k) rows)
@@ -66,8 +66,8 @@ tells_removal rows k None b e bound some none =
 tells_removal rows k (Some at) b e bound some none =
     ((λ on. absurd (cc)), λ _. subst IsSome (sym (link_at-database_of rows k)) (some_there rows k at bound some))
 
--- The database gets an additional link from a `Put` change exactly if a search of `rows` for the
--- link's key finds nothing.
+-- A `Put` change adds a link to the database exactly if a search of `rows` for the key of the link
+-- finds nothing.
 pub tells_addition : (rows : List Link) (k : Key) (place : Option ℕ) (b : Bool)
     → is_some place ≡ not b → IfSome place (λ at. at < length rows)
     → IfSome place (HoldsAt (λ l. key_of l ≡ k) rows) → IfNone place (All (λ l. key_of l ≢ k) rows)

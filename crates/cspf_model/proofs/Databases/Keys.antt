@@ -1,4 +1,4 @@
--- The keys of links and of changes: their order, and which keys compare as equal.
+-- The keys of links and of changes: how keys are ordered, and which keys compare as equal.
 use Rattle.std.proofs.Common.{◌≡◌, ◌≢◌, ℕ, true, false, Option, Some, None, refl, ap}
 use Rattle.std.specs.Ordering.{nat_cmp, eq_by_cmp, is_eq, ordering_then}
 use Rattle.std.specs.declared.cmp.Ordering.{Ordering}
@@ -22,11 +22,11 @@ keys_total =
 pub key_itself : (k : Key) → eq_by_cmp key_cmp k k ≡ true
 key_itself k = (eq_by_cmp_equiv keys_total).refl k
 
--- If one key doesn't compare as equal to another, the other doesn't compare as equal to it.
+-- If the key `j` doesn't compare as equal to `k`, then `k` doesn't compare as equal to `j`.
 pub keys_apart : (j k : Key) → eq_by_cmp key_cmp j k ≡ false → eq_by_cmp key_cmp k j ≡ false
 keys_apart j k e = rw ((eq_by_cmp_equiv keys_total).symm k j) e
 
--- Two keys compare as equal only if they are equal.
+-- The order of keys is antisymmetric: keys whose comparison gives `Equal` are equal.
 pub keys_antisymmetric : IsAntisymmetric key_cmp
 keys_antisymmetric j k e =
     elim (nat_cmp j.0 k.0) as (λ r. nat_cmp j.0 k.0 ≡ r → ordering_then r (nat_cmp j.1 k.1) ≡ Equal → j ≡ k) [
@@ -54,21 +54,21 @@ change_keys_total =
 pub change_key_itself : (k : ChangeKey) → eq_by_cmp change_key_cmp k k ≡ true
 change_key_itself k = (eq_by_cmp_equiv change_keys_total).refl k
 
--- If one key of changes doesn't compare as equal to another, the other doesn't compare as equal to
--- it.
+-- If the key `j` of a change doesn't compare as equal to `k`, then `k` doesn't compare as equal to
+-- `j`.
 pub change_keys_apart : (j k : ChangeKey) → eq_by_cmp change_key_cmp j k ≡ false
     → eq_by_cmp change_key_cmp k j ≡ false
 change_keys_apart j k e = rw ((eq_by_cmp_equiv change_keys_total).symm k j) e
 
--- Two interfaces compare as equal only if they are equal. A missing interface compares as equal
--- only to a missing one.
+-- Optional interface addresses that compare as equal are equal. `None` compares as equal only to
+-- `None`.
 options_antisymmetric : (o p : Option ℕ) → option_cmp nat_cmp o p ≡ Equal → o ≡ p
 options_antisymmetric None None e = refl
 options_antisymmetric None (Some n) e = absurd (cc)
 options_antisymmetric (Some m) None e = absurd (cc)
 options_antisymmetric (Some m) (Some n) e = λ i. Some (nat_cmp-IsAntisymmetric m n e i)
 
--- Two keys of changes compare as equal only if they are equal.
+-- The order of the keys of changes is antisymmetric: keys whose comparison gives `Equal` are equal.
 change_keys_antisymmetric : IsAntisymmetric change_key_cmp
 change_keys_antisymmetric j k e =
     elim (nat_cmp j.0 k.0) as (λ r. nat_cmp j.0 k.0 ≡ r → ordering_then r (option_cmp nat_cmp j.1 k.1) ≡ Equal → j ≡ k) [
@@ -82,8 +82,8 @@ pub change_keys_same : (j k : ChangeKey) → eq_by_cmp change_key_cmp j k ≡ tr
 change_keys_same j k e =
     change_keys_antisymmetric j k ((Equal-is (change_key_cmp j k)).0 e)
 
--- If the second of two comparisons doesn't give `Equal`, the comparison by the first and then by
--- the second doesn't give `Equal`.
+-- If the second of two comparisons doesn't give `Equal`, `ordering_then` of both doesn't give
+-- `Equal`.
 untied_behind : (o p : Ordering) → is_eq p ≡ false → is_eq (ordering_then o p) ≡ false
 untied_behind Less p e = refl
 untied_behind Equal p e = e

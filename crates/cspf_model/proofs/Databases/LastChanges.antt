@@ -17,7 +17,8 @@ use Rattle.cspf_model.specs.Laws.{LastChangeDecides, OneDatabase, OneMoreBatch}
 use Rattle.cspf_model.proofs.Databases.Keys.{keys_total, keys_antisymmetric, keys_same, link_apart, mark_apart}
 
 -- After a change with the key `k`, the database has at `k` the link that the change puts, or no
--- link if the change is a removal. After any other change it has the same link at `k` as before.
+-- link if the change is a removal. After a change with another key, the database has the same link
+-- at `k` as before.
 pub link_at-after_change : (d : Database) (c : Change) (k : Key)
     → link_at (after_change d c) k ≡ cond (eq_by_cmp change_key_cmp (link_key k) (key_changed c)) (link_left c) (link_at d k)
 link_at-after_change d (Put l) k = get-insert keys_total d.links (key_of l) l k
@@ -25,16 +26,16 @@ link_at-after_change d (Remove from local) k = get-remove keys_total d.links (fr
 link_at-after_change d (Node router transit) k =
     ap (λ b. cond b None (link_at d k)) (sym (link_apart k router))
 
--- If a comparison is followed by one that gives `Equal`, both together give `Equal` exactly if the
--- first gives `Equal`.
+-- If the second of two comparisons gives `Equal`, `ordering_then` of both gives `Equal` exactly if
+-- the first comparison gives `Equal`.
 pub tied_alone : (o : Ordering) → is_eq o ≡ is_eq (ordering_then o Equal)
 tied_alone Less = refl
 tied_alone Equal = refl
 tied_alone Greater = refl
 
--- `tie` says whether a router is the one whose transit a change sets. If so, it is then marked as
--- without transit exactly if the change takes the transit away. Otherwise it is marked exactly if
--- it was marked before.
+-- `tie` says whether a change sets the transit of a certain router. If it does, the router is
+-- marked after the change exactly if the change takes the transit away. Otherwise the router is
+-- marked exactly if it was marked before the change.
 marked_by : (transit tie before : Bool)
     → cond transit (not tie && before) (tie || before) ≡ cond tie (not transit) before
 marked_by true true before = refl
@@ -55,7 +56,7 @@ after_mark marks router q false =
     ∙ marked_by false (eq_by_cmp nat_cmp q router) (set.contains marks q)
 
 -- After a change of its transit, a router is marked as without transit exactly if the change takes
--- its transit away. After any other change, it is marked exactly if it was marked before.
+-- the transit away. After any other change, the router is marked exactly if it was marked before.
 contains-after_change : (d : Database) (c : Change) (q : ℕ)
     → set.contains (after_change d c).marks q
     ≡ cond (eq_by_cmp change_key_cmp (mark_key q) (key_changed c)) (mark_left c) (set.contains d.marks q)
@@ -72,8 +73,9 @@ later_or : Option Change → Option Change → Option Change
 later_or None earlier = earlier
 later_or (Some c) earlier = Some c
 
--- If a search finds a change in a list, it finds the same change after one more change is appended.
--- If it finds none in the list, it finds the appended change, if this one passes the test.
+-- If a search of a list finds a change, the search finds the same change after another change is
+-- appended. If it finds none, the search of the longer list finds the appended change, if this
+-- change passes the test.
 find-push : (p : Change → Bool) (cs : List Change) (c : Change)
     → find p (cs ++ c ∷ []) ≡ later_or (find p cs) (cond (p c) (Some c) None)
 unfolding later_or
@@ -81,18 +83,18 @@ find-push p [] c = refl
 find-push p (b ∷ cs) c =
     elim (p b) as (λ t. cond t (Some b) (find p (cs ++ c ∷ [])) ≡ later_or (cond t (Some b) (find p cs)) (cond (p c) (Some c) None)) [ true ↦ refl | false ↦ find-push p cs c ]
 
--- One more change is put at the beginning of a list of changes. If a change of the list has the key
--- `k`, the last change with this key stays the last one. Otherwise the change at the beginning is
--- the last one with the key `k`, if it has this key.
+-- The change `c` is put in front of a list of changes. If the list has a change with the key `k`,
+-- the last such change stays the last. Otherwise `c` is the last change with the key `k`, if `c`
+-- has this key.
 last_on-cons : (k : ChangeKey) (c : Change) (cs : List Change)
     → last_on k (c ∷ cs) ≡ later_or (last_on k cs) (cond (eq_by_cmp change_key_cmp k (key_changed c)) (Some c) None)
 last_on-cons k c cs =
     ap (find (λ b. eq_by_cmp change_key_cmp k (key_changed b))) (reverse-append (c ∷ []) cs)
     ∙ find-push (λ b. eq_by_cmp change_key_cmp k (key_changed b)) (reverse cs) c
 
--- One more change is put at the beginning of a list of changes. If the list has changes with a key,
--- the last of them still decides which link is at this key. Otherwise the change at the beginning
--- decides this, if it has the key.
+-- The change `c` is put in front of a list of changes. If the list has a change with a key, the
+-- last such change still decides which link the database has at the key. Otherwise `c` decides it,
+-- if `c` has the key.
 link_after-later_or : (o : Option Change) (t : Bool) (c : Change) (before : Option Link)
     → link_after (later_or o (cond t (Some c) None)) before ≡ link_after o (cond t (link_left c) before)
 unfolding later_or
@@ -100,9 +102,9 @@ link_after-later_or None true c before = refl
 link_after-later_or None false c before = refl
 link_after-later_or (Some b) t c before = refl
 
--- One more change is put at the beginning of a list of changes. If the list has a change of a
--- router's transit, the last one still decides whether the router is marked as without transit.
--- Otherwise the change at the beginning decides it, if it changes this router's transit.
+-- The change `c` is put in front of a list of changes. If the list has a change of a router's
+-- transit, the last such change still decides whether the router is marked as without transit.
+-- Otherwise `c` decides it, if `c` changes this router's transit.
 mark_after-later_or : (o : Option Change) (t : Bool) (c : Change) (before : Bool)
     → mark_after (later_or o (cond t (Some c) None)) before ≡ mark_after o (cond t (mark_left c) before)
 unfolding later_or
@@ -110,8 +112,8 @@ mark_after-later_or None true c before = refl
 mark_after-later_or None false c before = refl
 mark_after-later_or (Some b) t c before = refl
 
--- After changes, the database has at a key the link that the last change with this key puts, if
--- any. If no change has this key, the database has the same link there as before.
+-- After changes, the last change with a key decides which link the database has at this key, or
+-- that it has none. If no change has this key, the database has the same link at the key as before.
 pub link_at-after_changes : (d : Database) (cs : List Change) (k : Key)
     → link_at (after_changes d cs) k ≡ link_after (last_on (link_key k) cs) (link_at d k)
 link_at-after_changes d [] k = refl
@@ -123,8 +125,8 @@ link_at-after_changes d (c ∷ cs) k =
     ∙ link_after-later_or (last_on (link_key k) cs) (eq_by_cmp change_key_cmp (link_key k) (key_changed c)) c (link_at d k))
 
 -- After changes, a router is marked as without transit exactly if the last change of its transit
--- takes the transit away. If no change sets its transit, it is marked exactly if it was marked
--- before.
+-- takes the transit away. If no change sets the router's transit, the router is marked exactly if
+-- it was marked before.
 marked-after_changes : (d : Database) (cs : List Change) (q : ℕ)
     → set.contains (after_changes d cs).marks q ≡ mark_after (last_on (mark_key q) cs) (set.contains d.marks q)
 marked-after_changes d [] q = refl
@@ -135,9 +137,9 @@ marked-after_changes d (c ∷ cs) q =
     (ap (λ o. mark_after o (set.contains d.marks q)) (last_on-cons (mark_key q) c cs)
     ∙ mark_after-later_or (last_on (mark_key q) cs) (eq_by_cmp change_key_cmp (mark_key q) (key_changed c)) c (set.contains d.marks q))
 
--- The database after batches has at each key the link that the last change with this key put, if
--- any. A router is marked as without transit exactly if the last change of its transit took its
--- transit away.
+-- After a list of batches, the last change with a key decides which link the database has at this
+-- key, or that it has none. The last change of a router's transit decides whether the router is
+-- marked as without transit.
 pub last_decides : LastChangeDecides
 last_decides batches = record {
   at = λ k. link_at-after_changes no_links (changes_of batches) k
@@ -146,7 +148,7 @@ last_decides batches = record {
       ∙ ap (mark_after (last_on (mark_key router) (changes_of batches))) (set.contains-empty nat_cmp router);
 }
 
--- Databases with the same links and the same routers marked as without transit are equal.
+-- Two databases are equal if they have the same links and mark the same routers as without transit.
 pub same_database : (d e : Database) → ((k : Key) → link_at d k ≡ link_at e k)
     → ((q : ℕ) → set.contains d.marks q ≡ set.contains e.marks q) → d ≡ e
 same_database d e same marked =
@@ -154,20 +156,20 @@ same_database d e same marked =
     let marks : d.marks ≡ e.marks = set.same_set nat_cmp_total set.nat_cmp-IsAntisymmetric d.marks e.marks marked in
     λ i. record { links = links i; marks = marks i }
 
--- There is at most one database that a list of batches makes.
+-- A list of batches makes at most one database.
 pub one_database : OneDatabase
 one_database batches d e is also =
     same_database d e (λ k. is.at k ∙ sym (also.at k)) (λ q. is.marked q ∙ sym (also.marked q))
 
--- Making the changes of two joined lists gives the same database as making first the changes of the
--- first list and then those of the second list.
+-- Making the changes of two concatenated lists gives the same database as making the changes of the
+-- first list, and then the changes of the second list.
 pub after_changes-append : (d : Database) (bs cs : List Change)
     → after_changes d (bs ++ cs) ≡ after_changes (after_changes d bs) cs
 after_changes-append d [] cs = refl
 after_changes-append d (b ∷ bs) cs = after_changes-append (after_change d b) bs cs
 
--- The changes of a list with one more batch are the changes of the list, followed by the changes of
--- this batch.
+-- If a batch is appended to a list of batches, the changes of the longer list are the changes of
+-- the list followed by the changes of the batch.
 changes_of-push : (batches : List NumberedChanges) (b : NumberedChanges)
     → changes_of (batches ++ b ∷ []) ≡ changes_of batches ++ b.changes
 changes_of-push [] b = append-nil b.changes
@@ -175,13 +177,14 @@ changes_of-push (a ∷ batches) b =
     ap (λ cs. a.changes ++ cs) (changes_of-push batches b)
     ∙ sym (append_assoc a.changes (changes_of batches) b.changes)
 
--- The changes of one more batch are made after the changes of all batches before it.
+-- If a batch is appended to a list of batches, the batch's changes act in order on the database
+-- that the list makes.
 pub one_more_batch : OneMoreBatch
 one_more_batch batches b =
     ap (after_changes no_links) (changes_of-push batches b)
     ∙ after_changes-append no_links (changes_of batches) b.changes
 
--- If a database has each link at the link's own key, so has the database after a change.
+-- If each link of a database is stored at the link's own key, the same is true after a change.
 kept_at_keys : (d : Database) (c : Change) → AreAtTheirKeys d → AreAtTheirKeys (after_change d c)
 kept_at_keys d (Put l) keyed k m is =
     elim (eq_by_cmp key_cmp k (key_of l)) as (λ t. eq_by_cmp key_cmp k (key_of l) ≡ t → cond t (Some l) (link_at d k) ≡ Some m → key_of m ≡ k) [
@@ -198,19 +201,21 @@ kept_at_keys d (Remove from local) keyed k m is =
     ] (sym (link_at-after_change d (Remove from local) k) ∙ is)
 kept_at_keys d (Node router transit) keyed k m is = keyed k m is
 
--- If a database has each link at the link's own key, so has the database after a list of changes.
+-- If each link of a database is stored at the link's own key, the same is true after a list of
+-- changes.
 changed_at_keys : (d : Database) (cs : List Change) → AreAtTheirKeys d
     → AreAtTheirKeys (after_changes d cs)
 changed_at_keys d [] keyed = keyed
 changed_at_keys d (c ∷ cs) keyed = changed_at_keys (after_change d c) cs (kept_at_keys d c keyed)
 
--- The database without links has each of its links at the link's own key.
+-- In the database without links, each link is stored at the link's own key, because there are no
+-- links.
 none_at_keys : AreAtTheirKeys no_links
 none_at_keys k l is = absurd (none_some (sym (get-empty key_cmp k) ∙ is))
   where
     none_some : ◌≡◌ {A = Option Link} None (Some l) → ⊥
     none_some e = cc
 
--- The database after any list of batches has each link at the link's own key.
+-- In the database after any list of batches, each link is stored at the link's own key.
 pub at_their_keys : (batches : List NumberedChanges) → AreAtTheirKeys (database_after batches)
 at_their_keys batches = changed_at_keys no_links (changes_of batches) none_at_keys

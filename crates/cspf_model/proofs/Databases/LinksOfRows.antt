@@ -1,4 +1,4 @@
--- The links of a database that is made from a list of links, called rows, whose keys are different.
+-- The links of a database that is made from a list of links (called rows) with different keys.
 use Rattle.std.proofs.Common.{◌≡◌, ℕ, zero, suc, ◌+◌, ◌<◌, true, false, cond, Some, List, [], ◌∷◌, length, map, slice_index_or, refl, sym, ap, ◌∙◌, add-one, arith}
 use Rattle.std.specs.Ordering.{eq_by_cmp}
 use Rattle.std.specs.List.{IsDistinct, AllByRecursion, Contains}
@@ -8,13 +8,14 @@ use Rattle.cspf_model.specs.Database.{Key, key_of, key_cmp, AreLinksOf, AreAtThe
 use Rattle.cspf_model.specs.Lemmas.LinkRows.{entry_of, database_of}
 use Rattle.cspf_model.proofs.Databases.Keys.{keys_total, key_itself, keys_apart, keys_same}
 
--- The database that is made from `rows` has at a key the link that a search of `rows` for this key
+-- At each key, the database made from `rows` has the link that a search of `rows` for this key
 -- finds.
 pub link_at-database_of : (rows : List Link) (k : Key)
     → link_at (database_of rows) k ≡ find key_cmp k (map entry_of rows)
 link_at-database_of rows k = get-from_entries keys_total (map entry_of rows) k
 
--- If `P` holds of the keys of all links in `rows`, it holds of the key of the link at each index.
+-- If `P` holds of the keys of all links in `rows`, then for each index `P` holds of the key of the
+-- link at this index.
 at_map : (P : Key → Type 0) (rows : List Link) → AllByRecursion P (map key_of rows)
     → (k : ℕ) (d : Link) → k < length rows → P (key_of (slice_index_or rows k d))
 at_map P [] all k d h = absurd (omega arith)
@@ -45,8 +46,8 @@ row-find (m ∷ rows) q l e =
       | false ↦ λ there. let r = row-find rows q l there in (r.0 + 1, omega arith, rw add-one r.2)
     ] e
 
--- If the links in `rows` have different keys, they are exactly the links of the database that is
--- made from them.
+-- If the links in `rows` have different keys, they are exactly the links of the database made from
+-- `rows`.
 pub rows_listed : (rows : List Link) → IsDistinct (eq_by_cmp key_cmp) (map key_of rows)
     → AreLinksOf (database_of rows) rows
 rows_listed rows apart = record {
@@ -65,6 +66,6 @@ key_of-find (m ∷ rows) k l e =
       | false ↦ λ _ there. key_of-find rows k l there
     ] refl e
 
--- The database that is made from `rows` has each link at the link's own key.
+-- In the database made from `rows`, each link is stored at the link's own key.
 pub rows_keyed : (rows : List Link) → AreAtTheirKeys (database_of rows)
 rows_keyed rows k l is = key_of-find rows k l (sym (link_at-database_of rows k) ∙ is)

@@ -13,28 +13,26 @@ use Rattle.cspf_model.specs.Lemmas.LinkChanges.{relinked, all_relinked}
 use Rattle.cspf_model.specs.Lemmas.MarkChanges.{marked, all_marked}
 use Rattle.cspf_model.specs.Lemmas.LinkRows.{database_of, marks_in, marked_database}
 
--- If two databases have the same links, `after_change` on the one and `relinked` on the other give
--- the same links.
+-- If the databases `d` and `e` have the same links, `after_change` makes from `d` the same links as
+-- `relinked` makes from `e`.
 one_relinked : (d e : Database) (c : Change) → d.links ≡ e.links → (after_change d c).links ≡ (relinked e c).links
 one_relinked d e (Put l) same = ap (λ (m : FinMap key_cmp Link). insert m (key_of l) l) same
 one_relinked d e (Remove from local) same = ap (λ (m : FinMap key_cmp Link). remove m (from, local)) same
 one_relinked d e (Node router transit) same = same
 
--- If two databases have the same links, `after_changes` on the one and `all_relinked` on the other
--- give the same links.
+-- If the databases `d` and `e` have the same links, `after_changes` makes from `d` the same links
+-- as `all_relinked` makes from `e`.
 pub links-after_changes : (d e : Database) (cs : List Change) → d.links ≡ e.links → (after_changes d cs).links ≡ (all_relinked e cs).links
 links-after_changes d e [] same = same
 links-after_changes d e (c ∷ cs) same = links-after_changes (after_change d c) (relinked e c) cs (one_relinked d e c same)
 
--- After a change, the routers that are marked as without transit are those that `marked` computes
--- from the change and the routers that were marked before.
+-- `marked` computes which routers are marked as without transit after a change.
 one_marked : (d : Database) (c : Change) → (after_change d c).marks ≡ marked d.marks c
 one_marked d (Put l) = refl
 one_marked d (Remove from local) = refl
 one_marked d (Node router transit) = refl
 
--- After changes, the routers that are marked as without transit are those that `all_marked`
--- computes from the changes and the routers that were marked before.
+-- `all_marked` computes which routers are marked as without transit after changes.
 pub marks-after_changes : (d : Database) (cs : List Change) → (after_changes d cs).marks ≡ all_marked d.marks cs
 marks-after_changes d [] = refl
 marks-after_changes d (c ∷ cs) = marks-after_changes (after_change d c) cs ∙ ap (λ m. all_marked m cs) (one_marked d c)
@@ -42,8 +40,8 @@ marks-after_changes d (c ∷ cs) = marks-after_changes (after_change d c) cs ∙
 -- In this part, changes act on the database with the links in `rows`, in which the routers in
 -- `marks` are marked as without transit.
 module _ (rows : List Link) (marks : List ℕ) (cs : List Change) where
-  -- After the changes, this database has the same links that `all_relinked` gives for the database
-  -- with the links in `rows` in which no router is marked as without transit.
+  -- After the changes, this database has the same links as if no router were marked. `all_relinked`
+  -- gives these links.
   pub links_changed : (after_changes (marked_database rows marks) cs).links ≡ (all_relinked (database_of rows) cs).links
   links_changed = links-after_changes (marked_database rows marks) (database_of rows) cs refl
 
@@ -56,9 +54,9 @@ module _ (rows : List Link) (marks : List ℕ) (cs : List Change) where
   pub marks_counted : set.len (all_marked (marks_in marks) cs) ≡ mark_count (after_changes (marked_database rows marks) cs)
   marks_counted = ap set.len (sym (marks-after_changes (marked_database rows marks) cs))
 
--- Suppose that the links `new` make a database with the links that the database has after the
--- changes. Suppose also that `more` lists the routers that are then marked as without transit. Then
--- `new` and `more` together make the database after the changes.
+-- Suppose that `new` makes a database with the links that the changes leave, and that `more` lists
+-- the routers that are marked after the changes. Then `new` and `more` together make the database
+-- after the changes.
 pub marked_after : (rows new : List Link) (marks more : List ℕ) (cs : List Change) → database_of new ≡ all_relinked (database_of rows) cs → marks_in more ≡ all_marked (marks_in marks) cs
     → marked_database new more ≡ after_changes (marked_database rows marks) cs
 marked_after rows new marks more cs made set_to =

@@ -16,8 +16,8 @@ use Rattle.cspf_model.specs.Lemmas.LinkRows.{entry_of, database_of}
 use Rattle.cspf_model.proofs.Databases.Keys.{keys_total, keys_antisymmetric, keys_same}
 use Rattle.cspf_model.proofs.Databases.LinksOfRows.{link_at-database_of, find-row, row-find}
 
--- Databases with the same link at each key and the same routers marked as without transit are
--- equal.
+-- Two databases are equal if they have the same link at each key and mark the same routers as
+-- without transit.
 pub same_database : (d e : Database) → d.marks ≡ e.marks → ((k : Key) → link_at d k ≡ link_at e k) → d ≡ e
 same_database d e marks same =
     let links : d.links ≡ e.links = same_map keys_total keys_antisymmetric d.links e.links same in
@@ -46,15 +46,16 @@ found_too rows others k apart in_others l e =
     let at = in_others l (row-find rows k l e) in
     ap (λ q. find key_cmp q (map entry_of others)) (sym (find-key rows k l e) ∙ ap key_of (sym at.2)) ∙ find-row others apart at.0 l at.1 ∙ ap Some at.2
 
--- If the links in `rows` have different keys, the same links in another order make the same
--- database.
+-- If the links in `rows` have different keys, `others`, which has the same links in another order,
+-- makes the same database.
 pub database-permuted : (rows others : List Link) → IsPermutation rows others → HaveOwnKeys rows → HaveOwnKeys others → database_of rows ≡ database_of others
 database-permuted rows others moved apart also =
     same_database _ _ refl (λ k. link_at-database_of rows k
     ∙ same_options _ _ (found_too rows others k also (λ l. Contains-permutation rows others l moved)) (found_too others rows k apart (λ l. Contains-permutation others rows l (IsPermutation-sym rows others moved)))
     ∙ sym (link_at-database_of others k))
 
--- If the links in `rows` have different keys, the same links in another order have different keys.
+-- If the links in `rows` have different keys, the keys are still different after the links are
+-- reordered.
 pub apart-permuted : (rows others : List Link) → IsPermutation rows others → HaveOwnKeys rows → HaveOwnKeys others
 apart-permuted rows others moved apart =
     IsDistinct-IsPermutation (eq_by_cmp key_cmp) (eq_by_cmp_equiv keys_total).symm (map key_of rows) (map key_of others) (IsPermutation-map key_of rows others moved) apart
@@ -70,26 +71,25 @@ pub find-behind : (l : Link) (rows : List Link) → HaveOwnKeys (l ∷ rows) →
 unfolding IsDistinct
 find-behind l rows apart = find-apart rows (key_of l) apart.0
 
--- If the database has no link at a key, it has none at this key after a link was put there and
--- removed.
+-- If the database has no link at a key, it still has none after a link is put at this key and
+-- removed again.
 gone : (b c : Bool) (x y : Option Link) → (b ≡ true → y ≡ None) → b ≡ c → y ≡ cond b None (cond c x y)
 gone true true x y none e = none refl
 gone true false x y none e = absurd (cc)
 gone false true x y none e = absurd (cc)
 gone false false x y none e = refl
 
--- If the database has no link at a key, and a link is put at this key and removed again, the links
--- are as before.
+-- If the database has no link at a key, putting a link at this key and removing it again doesn't
+-- change the links of the database.
 remove-insert : (d : Database) (x : Link) (k : Key) → key_of x ≡ k → get d.links k ≡ None → d.links ≡ remove (insert d.links (key_of x) x) k
 remove-insert d x k e none =
     same_map keys_total keys_antisymmetric _ _ (λ q. gone (eq_by_cmp key_cmp q k) (eq_by_cmp key_cmp q (key_of x)) (Some x) (get d.links q) (λ tie. ap (get d.links) (keys_same q k tie) ∙ none) (ap (eq_by_cmp key_cmp q) (sym e))
     ∙ sym (get-remove keys_total (insert d.links (key_of x) x) k q ∙ ap (cond (eq_by_cmp key_cmp q k) None) (get-insert keys_total d.links (key_of x) x q)))
 
--- In this part, the link at the index `at` of `rows` has the key `k`, and `without rows at` is the
--- list without this link.
+-- In this part, `x` is the link at index `at` of `rows`, and its key is `k`. `without rows at` is
+-- the list without this link.
 module _ (rows : List Link) (at : ℕ) (x : Link) (k : Key) (apart : HaveOwnKeys rows) (within : at < length rows) (read : x ≡ get_or rows at x) (has_key : key_of x ≡ k) where
-  -- The list `without rows at` with the removed link `x` at its beginning is a permutation of
-  -- `rows`.
+  -- The removed link `x`, followed by the links in `without rows at`, is a permutation of `rows`.
   moved : IsPermutation rows (x ∷ without rows at)
   moved = IsPermutation-remove rows at x within read
 
@@ -97,20 +97,21 @@ module _ (rows : List Link) (at : ℕ) (x : Link) (k : Key) (apart : HaveOwnKeys
   still_apart : HaveOwnKeys (x ∷ without rows at)
   still_apart = apart-permuted rows (x ∷ without rows at) moved apart
 
-  -- The links that stay after the removal have different keys.
+  -- The links in `without rows at` have different keys.
   pub apart-without : HaveOwnKeys (without rows at)
   unfolding IsDistinct
   apart-without = still_apart.1
 
-  -- The database that is made from the links that stay is the database of `rows` after the removal.
+  -- The database made from `without rows at` is the database of `rows` after a removal with the key
+  -- `k`.
   pub database-without : database_of (without rows at) ≡ relinked (database_of rows) (Remove k.0 k.1)
   database-without =
       ap (λ m. record { links = m; marks = set.empty }) (remove-insert (database_of (without rows at)) x k has_key
       (ap (link_at (database_of (without rows at))) (sym has_key) ∙ link_at-database_of (without rows at) (key_of x) ∙ find-behind x (without rows at) still_apart))
       ∙ ap (λ d. relinked d (Remove k.0 k.1)) (sym (database-permuted rows (x ∷ without rows at) moved apart still_apart))
 
--- If the database has no link at the key of a removal, the removal leaves the link at each key as
--- it was.
+-- If the database has no link at the key of a removal, the removal doesn't change which link is at
+-- any key.
 missing : (b : Bool) (y : Option Link) → (b ≡ true → y ≡ None) → y ≡ cond b None y
 missing true y none = none refl
 missing false y none = refl

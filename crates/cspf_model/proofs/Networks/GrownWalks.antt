@@ -7,8 +7,8 @@ use Rattle.cspf_model.specs.Admissible.{IsAdmissible}
 use Rattle.cspf_model.specs.Walks.{AreJoined, end_of}
 use Rattle.cspf_model.specs.NetworkLaws.{MayComeNext, WalksGrowByOneLink}
 
--- If `P` holds of each item of a list and of one more item, it holds of each item of the list with
--- this item appended.
+-- If `P` holds of each item of a list and of the item `x`, `P` holds of each item of the list with
+-- `x` appended.
 module _ {A : Type 0} (P : A → Type 0) where
   all_more : (xs : List A) (x : A) → AllByRecursion P xs → P x → AllByRecursion P (xs ++ x ∷ [])
   all_more [] x all holds = (holds, tt)
@@ -18,7 +18,8 @@ module _ {A : Type 0} (P : A → Type 0) where
   last_one [] x all = all.0
   last_one (y ∷ ys) x all = last_one ys x all.1
 
--- If links are joined, and one more link begins where they end, all of them are joined.
+-- If links are joined, and the link `l` begins at the router where they end, the links with `l`
+-- appended are joined.
 joined_more : (router : ℕ) (links : List Link) (l : Link) → AreJoined router links → l.from ≡ end_of router links → AreJoined router (links ++ l ∷ [])
 joined_more router [] l joined from = (from, tt)
 joined_more router (m ∷ links) l joined from = (joined.0, joined_more m.to links l joined.1 from)

@@ -1,4 +1,4 @@
--- Which lists of links are walks in the triangle, depending on the routers that are marked as
+-- Which lists of links are walks in the triangle. This depends on which routers are marked as
 -- without transit.
 use Rattle.std.proofs.Common.{◌≡◌, ◌≢◌, ℕ, ◌<◌, false, List, [], ◌∷◌, refl, sym, ap, ◌∙◌, lit<, ◌||◌, ◌&&◌, not}
 use mathlib.Core.Bool.{true≢false}
@@ -80,9 +80,9 @@ module _ (marks : List ℕ) (priority : 0 < 8) (two_ends : router 1 ≢ router 3
     transit = (passed, (again, tt));
   }
 
--- The routers in `marks` are marked as without transit, and the requests are those from 1.1.1.1 to
--- 3.3.3.3 without hops. If the links are a walk for each request that `made` builds, they are a
--- walk for each request.
+-- The routers in `marks` are marked as without transit, and the requests lead from 1.1.1.1 to
+-- 3.3.3.3 without hops. If the links are a walk of each such request that `made` builds, they are a
+-- walk of every such request.
 walks : (marks : List ℕ) (walk : List Link) → ((priority : 0 < 8) (two_ends : router 1 ≢ router 3) → IsWalk (network triangle marks) (made (asked_fields (router 3) []) priority two_ends) walk)
     → IsWalkWithMarks marks walk
 walks marks walk each q says = for_each (asked_fields (router 3) []) (λ q. IsWalk (network triangle marks) q walk) each q says
@@ -110,8 +110,8 @@ again_unmarked =
 pub middle : IsNoWalkWithMarks (router 2 ∷ []) way_by_2
 middle q says walk = walk.transit.0 (marks-network triangle (router 2 ∷ []) (router 2))
 
--- If 1.1.1.1 is marked as without transit, the links that lead back to 1.1.1.1 and leave it again
--- aren't a walk.
+-- If 1.1.1.1 is marked as without transit, the links from 1.1.1.1 to 2.2.2.2, back to 1.1.1.1, and
+-- on to 3.3.3.3 aren't a walk.
 pub again : IsNoWalkWithMarks (router 1 ∷ []) way_by_1_again
 again q says walk = walk.transit.1.0 (marks-network triangle (router 1 ∷ []) (router 1))
 

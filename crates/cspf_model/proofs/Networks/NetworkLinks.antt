@@ -1,5 +1,5 @@
--- The links of a database that one batch makes, and its routers without transit. The batch first
--- puts links and then marks routers as without transit.
+-- The links and the marks of a database that one batch makes. The batch first puts links, and then
+-- marks routers as without transit.
 use Rattle.std.proofs.Common.{◌≡◌, ℕ, true, false, cond, Some, None, List, [], ◌∷◌, ◌++◌, map, refl, sym, ap, subst, ◌∙◌}
 use Rattle.std.specs.Ordering.{eq_by_cmp}
 use Rattle.std.specs.List.{AllByRecursion}
@@ -24,8 +24,8 @@ links_alone : (d : Database) (links : List Link) (marks : List ℕ)
 links_alone d [] marks = marks_over d marks
 links_alone d (l ∷ links) marks = links_alone (after_change d (Put l)) links marks
 
--- The network has at a key the link that the last `Put` change with this key puts, if any, whatever
--- routers are marked as without transit.
+-- At each key, the network has the link that the last `Put` change with this key puts, or no link
+-- if there is no such change. The marks don't matter.
 pub link_at-network : (links : List Link) (marks : List ℕ) (k : Key)
     → link_at (network links marks) k ≡ link_after (last_on (link_key k) ((network_batch links []).changes ++ [])) None
 link_at-network links marks k =
@@ -60,7 +60,7 @@ module _ (P : Link → Type 0) where
   puts d [] marks all before l is = marks_alone d marks before l is
   puts d (m ∷ links) marks all before l is = puts (after_change d (Put m)) links marks all.1 (put_one d m all.0 before) l is
 
-  -- If `P` holds of each link of the list, it holds of each link of the network.
+  -- If `P` holds of each link in `links`, `P` holds of each link of the network.
   pub each_link : (links : List Link) (marks : List ℕ) → AllByRecursion P links
       → (l : Link) → IsLinkOf (network links marks) l → P l
   each_link links marks all l is = puts no_links links marks all none l is

@@ -9,12 +9,12 @@ use Rattle.cspf_model.specs.NetworkLaws.{network_batch, network, back_to_other_a
 use Rattle.cspf_model.proofs.Routes.ExampleRoutes.{made, admitted}
 use Rattle.cspf_model.proofs.Networks.NetworkLinks.{link_at-network}
 
--- The key that a reverse of the link from 1.1.1.1 to 2.2.2.2 has.
+-- The key of the reverse of the link from 1.1.1.1 to 2.2.2.2.
 abbrev reverse_key : Key
 reverse_key = (router 2, address 10 0 12 2)
 
--- If a link of the network is a reverse of the link from 1.1.1.1 to 2.2.2.2, it is the network's
--- link with the key `reverse_key`.
+-- If a link of the network is the reverse of the link from 1.1.1.1 to 2.2.2.2, its key is
+-- `reverse_key`.
 found : (links : List Link) (r : Link) → IsLinkOf (network links []) r → IsReverse from_1_to_2 r
     → link_after (last_on (link_key reverse_key) ((network_batch links []).changes ++ [])) None ≡ Some r
 found links r is same =
@@ -41,9 +41,9 @@ pub other_from : IsUnusableAmong (from_1_to_2 ∷ back_from_other_router ∷ [])
 other_from q usable =
     let r = usable.reverse in none_some r.0 (found (from_1_to_2 ∷ back_from_other_router ∷ []) r.0 r.1 r.2)
 
--- The next two lemmas: suppose that the link with the key `reverse_key` ends at another address, or
--- at another router, than the link from 1.1.1.1 to 2.2.2.2 begins. Then the link from 1.1.1.1 to
--- 2.2.2.2 isn't usable for any request.
+-- The next two lemmas: the link with the key `reverse_key` isn't the reverse of the link from
+-- 1.1.1.1 to 2.2.2.2, because it ends at another address or another router. So the link from
+-- 1.1.1.1 to 2.2.2.2 isn't usable for any request.
 pub other_remote : IsUnusableAmong (from_1_to_2 ∷ back_to_other_address ∷ [])
 other_remote q usable =
     let r = usable.reverse in
@@ -56,8 +56,8 @@ other_to q usable =
     let same = same_Some back_to_other_router r.0 (found (from_1_to_2 ∷ back_to_other_router ∷ []) r.0 r.1 r.2) in
     eqb-false (router 3) (router 1) refl (ap (λ (l : Link). l.to) same ∙ r.2.to)
 
--- If the network also has the reverse of the link from 1.1.1.1 to 2.2.2.2, the link from 1.1.1.1 to
--- 2.2.2.2 is usable for each request that admits it.
+-- In the network of the link from 1.1.1.1 to 2.2.2.2 and its reverse, this link is usable for each
+-- request that admits it.
 pub with_reverse : IsUsableAmong (from_1_to_2 ∷ back from_1_to_2 ∷ [])
 with_reverse q is = record {
   admitted = is;

@@ -11,7 +11,7 @@ use Rattle.cspf_model.specs.NetworkLaws.{network, from_2_to_1, IsAnswerBetween}
 use Rattle.cspf_model.proofs.Routes.WalkOrder.{one_answer}
 use Rattle.cspf_model.proofs.Networks.NetworkLinks.{link_at-network, each_link}
 
--- If no link begins or ends at a router, the router isn't one of the network.
+-- If no link begins or ends at a router, the router isn't a router of the network.
 no_router : (links : List Link) (marks : List ℕ) (r : ℕ) → AllByRecursion (λ l. ¬ EndsAt r l) links → ¬ IsRouterOf (network links marks) r
 no_router links marks r none known = each_link (λ l. ¬ EndsAt r l) links marks none known.0 known.1 known.2
 
@@ -22,14 +22,13 @@ is_router_1 = (from_1_to_2, link_at-network (from_1_to_2 ∷ []) [] (router 1, f
 pub is_router_2 : IsRouterOf (network (from_1_to_2 ∷ []) []) (router 2)
 is_router_2 = (from_1_to_2, link_at-network (from_1_to_2 ∷ []) [] (router 1, from_1_to_2.local), inr refl)
 
--- A router that is marked as without transit, and at which no link begins or ends, isn't a router
--- of the network.
+-- A marked Router ID at which no link begins or ends isn't a router of the network.
 pub no_router_3 : ¬ IsRouterOf (network (from_1_to_2 ∷ []) (router 3 ∷ [])) (router 3)
 no_router_3 =
     no_router (from_1_to_2 ∷ []) (router 3 ∷ []) (router 3)
     ((λ ends. elim ends [ inl e ↦ eqb-false (router 1) (router 3) refl e | inr e ↦ eqb-false (router 2) (router 3) refl e ]), tt)
 
--- The network of one link and its reverse.
+-- The network of the link from 1.1.1.1 to 2.2.2.2 and its reverse.
 abbrev d : Database
 d = network (from_1_to_2 ∷ from_2_to_1 ∷ []) []
 
@@ -50,14 +49,12 @@ unknown_9 =
       ((λ ends. elim ends [ inl e ↦ eqb-false (router 2) (router 9) refl e | inr e ↦ eqb-false (router 1) (router 9) refl e ]), tt),
     )
 
--- If an answer is a best answer, another answer is a best answer exactly if it is equal to the
--- first.
+-- If `answer` is a best answer, `other` is a best answer exactly if it equals `answer`.
 alone : (q : Request) (answer other : Answer) → IsBestAnswer d q answer → IsBestAnswer d q other ↔ (other ≡ answer)
 alone q answer other is =
     ((λ also. one_answer d q other answer also is), λ same. subst (IsBestAnswer d q) (sym same) is)
 
--- If the head-end is unknown, the answer says that the head-end is unknown, whatever the tail-end
--- is.
+-- If the head-end is unknown, the answer says so, whatever the tail-end is.
 head_end_first : (to : ℕ) → IsAnswerBetween (router 8) to unknown_from
 head_end_first to q from _ other =
     alone q unknown_from other (subst (λ r. ¬ IsRouterOf d r) (sym from) unknown_8)

@@ -39,7 +39,7 @@ made f priority two_ends = record {
   two_ends = two_ends;
 }
 
--- If `P` holds of the request that `made` builds from these fields, it holds of each request with
+-- If `P` holds of the request that `made` builds from these fields, `P` holds of each request with
 -- these fields.
 pub for_each : (f : RequestFields) (P : Request → Type 0)
     → ((priority : f.setup < 8) (two_ends : f.from ≢ f.to) → P (made f priority two_ends))
@@ -48,8 +48,8 @@ for_each f P holds q says =
     let Q : RequestFields → Type 0 = λ g. (priority : g.setup < 8) (two_ends : g.from ≢ g.to) → P (made g priority two_ends) in
     subst Q (sym ((requests_said q f).0 says)) holds q.priority q.two_ends
 
--- If the links in `rows` have different keys, some database has exactly these links. There is a
--- request from 1.1.1.1 to each other router.
+-- If the links in `rows` have different keys, some database has exactly these links. If `to` isn't
+-- 1.1.1.1, there are requests from 1.1.1.1 to `to`.
 found : (rows : List Link) (to : ℕ) → HaveOwnKeys rows → router 1 ≢ to → AreFound rows to
 found rows to apart two_ends = record {
   database = (database_of rows, record { listed = rows_listed rows apart; unmarked = refl });
@@ -68,8 +68,8 @@ pub three_links_found : AreFound (both_ways three_links) (router 3)
 unfolding IsDistinct
 three_links_found = found (both_ways three_links) (router 3) (search rules) (eqb-false _ _ refl)
 
--- If `P` holds of each link in `rows`, and `rows` are the links of the database, `P` holds of each
--- link of the database.
+-- If `rows` has exactly the links of the database, and `P` holds of each link in `rows`, `P` holds
+-- of each link of the database.
 each_link : (P : Link → Type 0) (d : Database) (rows : List Link) → AreLinksOf d rows
     → AllByRecursion P rows → (l : Link) → IsLinkOf d l → P l
 each_link P d rows listed all l is =
@@ -82,7 +82,7 @@ not_owned : (d : Database) (prefix : PrefixParts) (r : ℕ) (rows : List Link) �
 not_owned d prefix r rows listed apart none owns =
     elim owns.covered [ inl covered ↦ apart covered | inr by_link ↦ each_link (λ l. ¬ BeginsWithin prefix r l) d rows listed none by_link.0 by_link.1 by_link.2 ]
 
--- Each link with 1,000 bytes per second unreserved is admitted for the request that `made` builds.
+-- The request that `made` builds admits each link with 1,000 bytes per second unreserved.
 pub admitted : (tail_end : ℕ) (hops : List Hop) (priority : 0 < 8) (two_ends : router 1 ≢ tail_end) (from local to remote metric : ℕ) (apart : from ≢ to)
     → IsAdmitted (made (asked_fields tail_end hops) priority two_ends) (link from local to remote metric 1000 apart)
 admitted tail_end hops priority two_ends from local to remote metric apart = record {
@@ -197,7 +197,7 @@ may_stand_anywhere d q network says =
       );
     }) q says
 
--- With a first hop to the head-end itself, the way over 10.9.0.2 is a route, because its first leg
+-- If the first hop is the head-end itself, the way over 10.9.0.2 is a route, because its first leg
 -- may be empty.
 pub may_be_empty : MayBeEmpty
 may_be_empty d q network says =
@@ -223,7 +223,7 @@ may_be_empty d q network says =
       );
     }) q says
 
--- The way over 3.3.3.3 comes before the way over 10.9.0.2.
+-- The way over 3.3.3.3 precedes the way over 10.9.0.2 in the order of walks.
 pub is_outside_before_inside : IsOutsideBeforeInside
 is_outside_before_inside = refl
 
@@ -260,14 +260,14 @@ module _ (d : Database) (listed : AreLinksOf d (both_ways six_links)) where
     abbrev asking : Request
     asking = made (asked_fields (router 4) (inner_hop ∷ [])) priority two_ends
 
-    -- The leg to the strict hop to 10.9.0.0/16 may not visit the router 3.3.3.3.
+    -- The leg to the strict hop 10.9.0.0/16 may not visit the router 3.3.3.3.
     not_inside : ¬ IsInside d asking 1 (router 3)
     not_inside (inl loose) = cc
     not_inside (inr (inl first)) = eqb-false (router 3) (router 1) refl first
     not_inside (inr (inr owns)) = not_owned_router_3 owns
 
-    -- The way over 3.3.3.3 can't be cut into a leg to the strict hop to 10.9.0.0/16 and a leg to
-    -- the tail-end.
+    -- The way over 3.3.3.3 can't be cut into a leg to the strict hop 10.9.0.0/16 and a leg to the
+    -- tail-end.
     not_cut : (legs : List (List Link)) → ¬ IsCutInto d asking way_outside legs
     not_cut [] cut = absurd (omega (arith, cut.number))
     not_cut ([] ∷ rest) cut = not_owned_router_1 cut.each.0.arrives

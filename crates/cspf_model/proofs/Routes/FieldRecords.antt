@@ -1,5 +1,4 @@
--- A link has exactly the attributes that `fields_of_link` gives for it, and a request has exactly
--- the fields that `fields_of_request` gives for it.
+-- Which attributes a link has, and which fields a request has.
 use Rattle.std.proofs.Common.{subst, rules}
 use Rattle.cspf_model.specs.Fields.{HasLinkFields, HasRequestFields, AreFieldsOfLinks, AreFieldsOfRequests}
 

@@ -9,7 +9,7 @@ use Rattle.cspf_model.specs.Targets.{IsTargetOf, IsLoose, IsInside}
 use Rattle.cspf_model.specs.Legs.{IsCutInto}
 use Rattle.cspf_model.specs.HopLaws.{AreRoutesWithoutHops}
 
--- If a request has no hops, the search for its first hop finds none.
+-- If a request has no hops, `slice_get` gives `None` for its first hop.
 no_first_hop : (q : Request) → q.hops ≡ [] → slice_get q.hops 0 ≡ None
 no_first_hop q none = ap (λ hops. slice_get hops 0) none
 
@@ -24,7 +24,7 @@ only_leg_arrives d q walk none (leg ∷ []) cut =
 only_leg_arrives d q walk none (leg ∷ next ∷ legs) cut =
     absurd (omega (arith, cut.number, ap length none))
 
--- If a request has no hops, its only leg may visit any routers.
+-- If a request has no hops, the only leg of a walk may visit any router.
 stays_inside : (d : Database) (q : Request) → q.hops ≡ [] → (routers : List ℕ)
     → AllByRecursion (IsInside d q 1) routers
 stays_inside d q none [] = tt

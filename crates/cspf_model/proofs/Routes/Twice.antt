@@ -11,7 +11,7 @@ use Rattle.cspf_model.specs.RouteLinks.{VisitsTwice}
 abbrev pub ends : List Link → List ℕ
 ends links = map (λ l. l.to) links
 
--- No link ends at the router exactly if the end of each link differs from it.
+-- The next two lemmas: no link ends at the router exactly if each link ends at a different router.
 
 pub clear : (router : ℕ) (links : List Link) → list_any (λ l. nat_eq router l.to) links ≡ false → AllByRecursion (λ y. nat_eq router y ≡ false) (ends links)
 clear router [] e = tt
@@ -21,8 +21,8 @@ pub none_ends : (router : ℕ) (links : List Link) → AllByRecursion (λ y. nat
 none_ends router [] all = refl
 none_ends router (l ∷ ls) all = or_from _ _ all.0 (none_ends router ls all.1)
 
--- In this part, `l` is the link at the index `i`. In `passed`, no later link ends at the router at
--- which `l` ends. In `shared`, some later link ends at this router.
+-- In this part, `l` is the link at the index `i`. In `passed`, no later link ends at the same
+-- router as `l`. In `shared`, some later link does.
 module _ (links : List Link) (i : ℕ) (within : i < length links) (l : Link) (is : l ≡ slice_index_or links i l)
     (whole : IsDistinct nat_eq (ends (drop i links)) ↔ IsDistinct nat_eq (ends links)) where
   behind : IsDistinct nat_eq (ends (drop i links)) ≡ IsDistinct nat_eq (l.to ∷ ends (drop (i + 1) links))

@@ -22,8 +22,8 @@ walks_total =
     then_total (on_total cost_of nat_cmp_total)
     (then_total (on_total (λ (walk : List Link). length walk) nat_cmp_total) (on_total locals_of nat_list_cmp_total))
 
--- Two lists of admissible links begin at the same router, and in each list each later link begins
--- where the link before it ends. If the lists have the same local addresses, they are equal.
+-- Two lists of admissible links are joined and begin at the same router. If the lists have the same
+-- local addresses in the same order, the lists are equal.
 one_walk : (d : Database) (q : Request) (router : ℕ) (v w : List Link)
     → AllByRecursion (IsAdmissible d q) v → AllByRecursion (IsAdmissible d q) w → AreJoined router v
     → AreJoined router w → locals_of v ≡ locals_of w → v ≡ w
@@ -47,8 +47,7 @@ pub walks_told : WalksAreTold
 walks_told d q v w is also same =
     one_walk d q q.from v w is.links also.links is.joined also.joined same
 
--- If a comparison by a first order and then by a second order gives `Equal`, the comparison by the
--- second order gives `Equal`.
+-- If `ordering_then` of two comparisons gives `Equal`, the second comparison gives `Equal`.
 last_tie : (a b : Ordering) → ordering_then a b ≡ Equal → b ≡ Equal
 last_tie Less b e = absurd (cc)
 last_tie Equal b e = e
@@ -60,7 +59,7 @@ routes_ranked d q v w is also tie =
     walks_told d q v w is.is_walk also.is_walk
     (slice_cmp-IsAntisymmetric nat_cmp-IsAntisymmetric (locals_of v) (locals_of w) (last_tie _ _ (last_tie _ _ tie)))
 
--- If neither of two walks comes before the other, the walks compare as equal.
+-- If neither of two walks precedes the other, the walks compare as equal.
 neither_first : (a b : Ordering) → a ≡ ordering_reverse b → a ≢ Less → b ≢ Less → a ≡ Equal
 neither_first Less b e first second = absurd (first refl)
 neither_first Equal b e first second = refl

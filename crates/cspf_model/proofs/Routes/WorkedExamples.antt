@@ -11,8 +11,8 @@ use Rattle.cspf_model.specs.Changes.{link_key, last_on, link_after}
 use Rattle.cspf_model.specs.Laws.{AddressesCompareAsNumbers, FewerLinksComeFirst, CheaperLinksComeFirst, LastPutStands, LastRemovalStands, ExactBandwidthIsEnough, LessBandwidthIsNot}
 use Rattle.cspf_model.proofs.Databases.Keys.{key_itself}
 
--- Of two walks of one link each and the same cost, the one with the local address 10.0.0.9 comes
--- before the one with 10.0.0.10.
+-- Two walks have one link each, and the same cost. The walk with the local address 10.0.0.9
+-- precedes the walk with 10.0.0.10.
 pub as_numbers : AddressesCompareAsNumbers
 as_numbers l m cost nine ten =
     ap (λ o. ordering_then o (ordering_then Equal (ordering_then (nat_cmp l.local m.local) Equal)))
@@ -20,14 +20,14 @@ as_numbers l m cost nine ten =
     ∙ ap (λ n. ordering_then (nat_cmp n m.local) Equal) nine
     ∙ ap (λ n. ordering_then (nat_cmp 167772169 n) Equal) ten
 
--- A walk of one link comes before a walk of two links with the same cost.
+-- A walk of one link precedes a walk of two links with the same cost.
 pub fewer_first : FewerLinksComeFirst
 fewer_first l m n twenty ten also =
     ap (λ a. ordering_then (nat_cmp (0 + a) (0 + m.metric + n.metric)) Less) twenty
     ∙ ap (λ a. ordering_then (nat_cmp 20 (0 + a + n.metric)) Less) ten
     ∙ ap (λ a. ordering_then (nat_cmp 20 (10 + a)) Less) also
 
--- Two links of metric 1 come before one link of metric 3.
+-- A walk of two links of metric 1 precedes a walk of one link of metric 3.
 pub cheaper_first : CheaperLinksComeFirst
 cheaper_first l m n one also three =
     ap (λ a. ordering_then (nat_cmp (0 + a + m.metric) (0 + n.metric)) Greater) one
@@ -45,8 +45,7 @@ pub removal_stands : LastRemovalStands
 removal_stands l m same =
     ap (λ b. link_after (cond b (Some (Remove l.from l.local)) (last_on (link_key (key_of l)) (Put l ∷ Put m ∷ []))) None) (key_itself (key_of l))
 
--- A link with 1,000 bytes per second unreserved is admitted for a request of 1,000 bytes per
--- second.
+-- A request for 1,000 bytes per second admits a link with 1,000 bytes per second unreserved.
 pub enough : ExactBandwidthIsEnough
 enough q l groups free request_fields = record {
   affinity = record {
@@ -57,7 +56,6 @@ enough q l groups free request_fields = record {
   room = omega (arith, free, request_fields);
 }
 
--- A link with 1,000 bytes per second unreserved isn't admitted for a request of 1,001 bytes per
--- second.
+-- A request for 1,001 bytes per second doesn't admit a link with 1,000 bytes per second unreserved.
 pub too_little : LessBandwidthIsNot
 too_little q l free request_fields is = absurd (omega (arith, free, request_fields, is.room))

@@ -1,4 +1,4 @@
--- Private: how the routers at the ends of links are counted.
+-- Private: how the routers at which links begin or end are counted.
 use Rattle.std.specs.Prelude.{ℕ, Bool, ◌||◌, nat_eq, List, [], ◌∷◌, length, ◌≡◌, ◌+◌, ◌<◌, ◌≤◌, true, All, Contains}
 use Rattle.std.specs.Ordering.{nat_cmp}
 use Rattle.std.specs.List.{HoldsAt, list_any}
@@ -10,7 +10,7 @@ use Rattle.cspf_model.specs.Database.{EndsAt}
 use Rattle.cspf_model.specs.Lemmas.GoneRouters.{puts_at}
 use Rattle.cspf_model.specs.Lemmas.RowsLeft.{links_put}
 
--- A set of routers together with the routers at both ends of the links.
+-- The set `routers`, to which the routers at both ends of each link are added.
 abbrev pub with_ends : FinSet nat_cmp → List Link → FinSet nat_cmp
 with_ends routers [] = routers
 with_ends routers (l ∷ ls) = with_ends (insert (insert routers l.from) l.to) ls
@@ -37,16 +37,17 @@ HasListedEnds routers (Put l) = Contains routers l.from × Contains routers l.to
 HasListedEnds routers (Remove from local) = Unit {0}
 HasListedEnds routers (Node router transit) = Unit {0}
 
--- The links that the changes put have at most `most` routers at their ends that aren't in the list.
--- That is, these links' ends add at most `most` routers to a set that has the list's routers.
+-- The links that the changes put begin and end at no more than `most` routers outside of the list
+-- `routers`. If a set has all routers of the list, adding the routers of these links adds at most
+-- `most` members.
 abbrev pub BringsAtMost : List ℕ → List Change → ℕ → Type 0
 BringsAtMost routers changes most =
     (s : FinSet nat_cmp) → All (λ r. contains s r ≡ true) routers
     → len (with_ends s (links_put changes)) ≤ len s + most
 
--- The link that a change puts has at most `most` new routers at its ends. A router is new if it
--- isn't in the list `routers`, and none of the changes `others` puts a link that begins or ends at
--- it.
+-- If the change `c` puts a link, at most `most` of the two routers of the link are new. A router
+-- isn't new if it is in the list `routers`, or if a change in `others` puts a link that begins or
+-- ends at it.
 abbrev pub BringsBeside : List ℕ → List Change → Change → ℕ → Type 0
 BringsBeside routers others c most =
     (s : FinSet nat_cmp) → All (λ r. contains s r ≡ true) routers

@@ -1,4 +1,4 @@
--- Private: routers at which no link begins or ends after changes.
+-- Private: routers that are gone, because no link begins or ends at them after the changes.
 use Rattle.std.specs.Prelude.{◌≡◌, ℕ, Bool, ◌||◌, false, List, Contains, nat_eq}
 use Rattle.std.specs.List.{list_any}
 use Rattle.cspf_model.specs.declared.link.Link.{Link}

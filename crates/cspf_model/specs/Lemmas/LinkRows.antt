@@ -12,7 +12,7 @@ abbrev pub entry_of : Link → Key × Link
 entry_of l = (key_of l, l)
 
 -- The database with the links in `rows`, each at its own key, in which no router is marked as
--- without transit. Of several links with the same key, the database has the first.
+-- without transit. If several links have the same key, the database has the first of them.
 abbrev pub database_of : List Link → Database
 database_of rows = record { links = from_entries {R = key_cmp} (map entry_of rows); marks = set.empty }
 
@@ -20,7 +20,7 @@ database_of rows = record { links = from_entries {R = key_cmp} (map entry_of row
 abbrev pub AreByKey : List Link → Type 0
 AreByKey rows = IsTrue (is_sorted key_cmp (map entry_of rows))
 
--- The addresses in the list `marks` as a set. They are those of routers without transit.
+-- The set of the routers in the list `marks`.
 abbrev pub marks_in : List ℕ → set.FinSet nat_cmp
 marks_in marks = set.from_list marks
 

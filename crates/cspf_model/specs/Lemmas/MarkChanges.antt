@@ -1,5 +1,5 @@
--- Private: how changes act on the marks of a database, which are the addresses of routers without
--- transit.
+-- Private: how changes act on the marks of a database. The marks are the Router IDs that are marked
+-- as without transit.
 use Rattle.std.specs.Prelude.{Bool, false, not, ◌&&◌, List, [], ◌∷◌}
 use Rattle.std.specs.Ordering.{nat_cmp}
 use Rattle.std.specs.FinSet as set
@@ -20,7 +20,7 @@ abbrev pub all_marked : set.FinSet nat_cmp → List Change → set.FinSet nat_cm
 all_marked marks [] = marks
 all_marked marks (c ∷ cs) = all_marked (marked marks c) cs
 
--- Whether the change takes transit away from a router, and this router isn't in `marks` yet.
+-- Whether the change takes transit away from a router that isn't in `marks` yet.
 abbrev pub adds_mark : set.FinSet nat_cmp → Change → Bool
 adds_mark marks (Put l) = false
 adds_mark marks (Remove from local) = false

@@ -10,12 +10,12 @@ use Rattle.cspf_model.specs.Changes.{ChangeKey, change_key_cmp, key_changed}
 abbrev pub is_changed : List Change → ChangeKey → Bool
 is_changed changes k = list_any (λ c. eq_by_cmp change_key_cmp k (key_changed c)) changes
 
--- The change at the index `k` doesn't have the key of an earlier change.
+-- No earlier change has the key of the change at index `k`.
 abbrev pub IsNewAt : List Change → ℕ → Type 0
 IsNewAt changes k =
     (d : Change) → is_changed (take k changes) (key_changed (slice_index_or changes k d)) ≡ false
 
--- The change at the index `k` has the key of an earlier change.
+-- Some earlier change has the key of the change at index `k`.
 abbrev pub IsRepeatedAt : List Change → ℕ → Type 0
 IsRepeatedAt changes k =
     (d : Change) → is_changed (take k changes) (key_changed (slice_index_or changes k d)) ≡ true

@@ -1,5 +1,5 @@
--- Private: which of a database's links, called rows, are left alone by changes, and which links the
--- changes put, add or remove.
+-- Private: which links of a database the changes leave as they are, and which links the changes
+-- put, add or remove. The links of the database are called rows.
 use Rattle.std.specs.Prelude.{Bool, true, false, not, is_some, List, filter}
 use Rattle.std.specs.List.{filter_map}
 use Rattle.cspf_model.specs.declared.link.Link.{Link}
@@ -13,11 +13,11 @@ use Rattle.cspf_model.specs.Lemmas.RepeatedKeys.{is_changed}
 abbrev pub is_untouched : List Change → Link → Bool
 is_untouched changes row = not (is_changed changes (link_key (key_of row)))
 
--- The links in `rows` whose keys no change has.
+-- The untouched links of `rows`: no change has the key of such a link.
 abbrev pub rows_untouched : List Link → List Change → List Link
 rows_untouched rows changes = filter (is_untouched changes) rows
 
--- Whether the change puts a link at a key at which the database has none.
+-- Whether the change puts a link at a key at which the database has no link.
 abbrev pub adds_link : Database → Change → Bool
 adds_link d (Put l) = not (is_some (link_at d (key_of l)))
 adds_link d (Remove from local) = false

@@ -1,4 +1,4 @@
-//! Laws of hops and routes. Each function here has an empty body. Its contract states the law.
+//! Laws of hops and routes. Each function here has an empty body, and its contract states the law.
 ghost use Rattle.cspf_model.specs.HopLaws.{AreRoutesWithoutHops};
 ghost use Rattle.cspf_model.specs.Examples.{MayStandAtOwners, MayNotStandElsewhere, MayStandAnywhere, IsOutsideBeforeInside, MayBeEmpty, MayBeMetByAnyLink, AreFound, both_ways, six_links, three_links, router};
 
@@ -7,9 +7,10 @@ pub fn route_without_hops()
     ensures { AreRoutesWithoutHops }
 {}
 
-/// Which walks of two small networks are routes. A strict leg visits only routers of its hop's
-/// prefix, which may be several routers. A loose leg visits any routers. A leg may be empty. A
-/// router's addresses include those of its interfaces on links that aren't admissible.
+/// Examples of routes in two small networks. A strict leg may visit several routers with an address
+/// in its hop's prefix, but not the router 3.3.3.3, which has none. A loose leg may visit this
+/// router. A leg may have no links. An interface address counts as the router's even if the
+/// interface's link isn't admissible.
 pub fn worked_routes()
     ensures six_links { AreFound (both_ways six_links) (router 4) }
     ensures three_links { AreFound (both_ways three_links) (router 3) }

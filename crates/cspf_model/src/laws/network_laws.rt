@@ -1,5 +1,5 @@
-//! Laws of the definitions, worked out on small networks. Each function here has an empty body. Its
-//! contract states the law.
+//! Laws of the definitions, worked out on small networks. Each function here has an empty body, and
+//! its contract states the law.
 ghost use Rattle.std.specs.Prelude.{[], ◌∷◌};
 ghost use Rattle.cspf_model.specs.Database.{IsRouterOf};
 ghost use Rattle.cspf_model.specs.Best.{unknown_from, unknown_to};
@@ -7,8 +7,8 @@ ghost use Rattle.cspf_model.specs.Examples.{router, back, from_1_to_2};
 ghost use Rattle.cspf_model.specs.NetworkLaws.{network, back_to_other_address, back_from_other_address, back_to_other_router, back_from_other_router, IsUnusableAmong, IsUsableAmong, MayBeAdmitted, way_by_2, way_and_back, way_by_1_again, IsWalkWithMarks, IsNoWalkWithMarks, MayBeAsked, IsMarkedByChange, IsUnmarkedByChange, WalksGrowByOneLink, IsAnswerBetween};
 
 /// A link isn't usable if the database lacks its reverse. A link in the other direction isn't the
-/// reverse if one of its addresses or routers differs. If the database has the reverse, the link is
-/// usable, even if the reverse has no unreserved bandwidth.
+/// reverse if one of its addresses or routers differs. If the database has the reverse, a link that
+/// the request admits is usable, even if the reverse has no unreserved bandwidth.
 pub fn worked_reverses()
     ensures admitted { MayBeAdmitted from_1_to_2 }
     ensures one_way { IsUnusableAmong (from_1_to_2 ∷ []) }
@@ -20,9 +20,9 @@ pub fn worked_reverses()
 {}
 
 /// A walk doesn't pass through a router that is marked as without transit, but it may begin or end
-/// at one. If the head-end is marked, a walk that has come back to it may not leave it again. A
-/// change that takes a router's transit away marks the router, and a change that gives it transit
-/// takes the mark away.
+/// at such a router. If the head-end is marked, a walk may return to the head-end, but may not
+/// leave it again. A change that takes transit away from a router marks the router. A change that
+/// gives transit to a router removes the mark.
 pub fn worked_marks()
     ensures asked { MayBeAsked }
     ensures unmarked { IsWalkWithMarks [] way_by_2 }
@@ -45,8 +45,9 @@ pub fn worked_unknown_ends()
     ensures tail_end { IsAnswerBetween (router 1) (router 9) unknown_to }
 {}
 
-/// Both ends of a link are routers of the database, even an end at which no link begins. An address
-/// that is marked as without transit, and at which no link begins or ends, isn't a router.
+/// The routers at both ends of a link are routers of the database, even if no link begins at the
+/// second router. A marked Router ID at which no link begins or ends isn't a router of the
+/// database.
 pub fn worked_ends()
     ensures from { IsRouterOf (network (from_1_to_2 ∷ []) []) (router 1) }
     ensures to { IsRouterOf (network (from_1_to_2 ∷ []) []) (router 2) }

@@ -5,7 +5,7 @@ use Rattle.cspf_columns.proofs.ReverseColumn.{not_back}
 use Rattle.cspf_columns.proofs.reverses.index_back.Goals.{then-ne-via-then-ne, then-ne-via-else-ne+then-ne-2}
 use Rattle.cspf_columns.proofs.reverses.index_back.Goals as goal
 
--- if the test for equal numbers fails, the numbers aren't equal
+-- if the test `eqb` fails for two numbers, they aren't equal
 differ : (m n : ℕ) → not (eqb m n) ≡ true → m ≡ n → ⊥
 differ m n off same = eqb-false m n (not-true _ off) same
 

@@ -1,5 +1,5 @@
-//! Whether a router leaves with the changes of a batch: it is an endpoint of a link before the
-//! changes, and no longer after them.
+//! Whether a router leaves with the changes of a batch: some link begins or ends at the router
+//! before the changes, and none after the changes.
 ghost use Rattle.std.specs.Prelude.{◌≡◌, ℕ, ◌<◌, ◌&&◌, true, false, filter, length, nat_eq, slice_index, slice_index_or};
 ghost use Rattle.std.specs.List.{list_any};
 ghost use Rattle.cspf_model.specs.declared.link.Link.{Link as Linked};
@@ -15,14 +15,14 @@ use cspf_columns::routers::search;
 use cspf_columns::rows::{index_of, span};
 use cspf_model::{Change, Link};
 
-/// Whether there is a row (a link) that no change affects.
+/// Whether some row (a link) is affected by no change.
 fn any_untouched(rows: &[Link], changes: &[Change]) -> bool
     ensures { result ≡ list_any (is_untouched changes.now) rows.now }
 {
     rows.iter().any(|row| is_untouched(row, changes))
 }
 
-/// Whether some row (a link) that no change affects runs from the router.
+/// Whether some row (a link) that begins at the router is affected by no change.
 fn any_left_from(rows: &[Link], changes: &[Change], router: Addr) -> bool
     requires { AreByKey rows.now }
     ensures { result
@@ -32,15 +32,16 @@ fn any_left_from(rows: &[Link], changes: &[Change], router: Addr) -> bool
     any_untouched(&rows[first..end], changes)
 }
 
-/// Whether no change affects the row (a link), and the row runs to the router at the index `place`.
-/// `end` is the index of the router to which the row runs.
+/// Whether no change affects the row (a link), and the row ends at the router with the index
+/// `place`. `end` is the index of the router at which the row ends.
 fn is_left_to(row: &Link, end: u16, changes: &[Change], place: usize) -> bool
     ensures { result ≡ (nat_eq end place && is_untouched changes.now row.now) }
 {
     usize::from(end) == place && is_untouched(row, changes)
 }
 
-/// Whether some row (a link) that no change affects runs to the router at the index `place`.
+/// Whether some row (a link) that ends at the router with the index `place` is affected by no
+/// change.
 fn any_left_to(rows: &[Link], ends: &[u16], changes: &[Change], place: usize) -> bool
     requires { length ends.now ≡ length rows.now }
     ensures { result ≡ false → (at : ℕ) (d : Linked) → at < length rows.now
@@ -55,7 +56,7 @@ fn any_left_to(rows: &[Link], ends: &[u16], changes: &[Change], place: usize) ->
     false
 }
 
-/// Whether the router at the index `place` is no endpoint of a link after the changes.
+/// Whether no link begins or ends at the router with the index `place` after the changes.
 fn is_gone(columns: &Columns, changes: &[Change], place: usize) -> bool
     requires columns { AreColumns columns.now }
     requires within { place < length columns.now.routers.items }
@@ -68,8 +69,8 @@ fn is_gone(columns: &Columns, changes: &[Change], place: usize) -> bool
     !any_left_to(&columns.rows, &columns.ends, changes, place)
 }
 
-/// Whether the change affects a row (a link), and one endpoint of this row is no endpoint of a link
-/// after all changes.
+/// Whether the change affects a row (a link), and one of the row's two routers has no links after
+/// all changes.
 fn takes_one(columns: &Columns, changes: &[Change], change: &Change) -> bool
     requires columns { AreColumns columns.now }
     ensures { result ≡ true → HasGone columns.now.rows.items columns.now.routers.items changes.now }
@@ -86,8 +87,8 @@ fn takes_one(columns: &Columns, changes: &[Change], change: &Change) -> bool
     is_gone(columns, changes, place) || is_gone(columns, changes, usize::from(columns.ends[at]))
 }
 
-/// Whether some router that is an endpoint of a link before the changes is no endpoint of a link
-/// after them. Only the endpoints of rows (links) that a change affects are checked.
+/// Whether some router of the database has no links after the changes. The call checks only the
+/// routers of rows (links) that a change affects.
 pub(super) fn any_goes(columns: &Columns, changes: &[Change]) -> bool
     requires columns { AreColumns columns.now }
     ensures { result ≡ true → HasGone columns.now.rows.items columns.now.routers.items changes.now }

@@ -10,7 +10,8 @@ use crate::table::changes::any_on;
 use cspf_addr::Addr;
 use cspf_model::{Change, MOST_CHANGES};
 
-/// The index of the first change that has the same key as an earlier change, if there is one.
+/// The index of the first change that has the same key as an earlier change, or `None` if all keys
+/// are different.
 fn first_repeat(changes: &[Change]) -> Option<usize>
     ensures bound { IfSome result (λ at. at < length changes.now) }
     ensures some { IfSome result (IsRepeatedAt changes.now) }
@@ -35,14 +36,14 @@ fn list_keys(keys: &mut [(Addr, Option<Addr>)], changes: &[Change])
     }
 }
 
-/// Whether the first key is below the second.
+/// Whether the key `low` is below the key `high`.
 fn is_below(low: (Addr, Option<Addr>), high: (Addr, Option<Addr>)) -> bool
     ensures { result ≡ is_lt (change_key_cmp low high) }
 {
     low.0.cmp(&high.0).then(low.1.cmp(&high.1)).is_lt()
 }
 
-/// Whether each key is above the key before it.
+/// Whether the keys are in strictly increasing order.
 fn rise(keys: &[(Addr, Option<Addr>)]) -> bool
     ensures { result ≡ true → IsDistinct (eq_by_cmp change_key_cmp) keys.now }
 {
@@ -54,7 +55,7 @@ fn rise(keys: &[(Addr, Option<Addr>)]) -> bool
     true
 }
 
-/// Whether no two changes have the same key. The keys are sorted in the memory `keys`.
+/// Whether no two changes have the same key. The call uses the slice `keys` to sort the keys.
 fn are_apart_in(keys: &mut [(Addr, Option<Addr>)], changes: &[Change]) -> bool
     requires { length keys.old ≡ length changes.now }
     ensures { result ≡ true → AreOnceEach changes.now }
@@ -64,8 +65,8 @@ fn are_apart_in(keys: &mut [(Addr, Option<Addr>)], changes: &[Change]) -> bool
     rise(keys)
 }
 
-/// Whether no two changes have the same key. The keys are sorted, so not all pairs of them are
-/// compared.
+/// Whether no two changes have the same key. The call sorts the keys, which is faster than
+/// comparing all pairs.
 fn are_apart(changes: &[Change]) -> bool
     requires { length changes.now ≤ MOST_CHANGES }
     ensures { result ≡ true → AreOnceEach changes.now }
@@ -74,14 +75,15 @@ fn are_apart(changes: &[Change]) -> bool
     are_apart_in(&mut keys[..changes.len()], changes)
 }
 
-/// If there are at most this many changes, all pairs of them are compared, and no keys are sorted.
-/// Only then `fit_by_one` is called, which may look for a router that has no link after the
-/// changes.
+/// If there are at most this many changes, `repeat` compares all pairs of changes, and doesn't sort
+/// their keys. Also, `has_too_many_routers` calls `fit_by_one` only for at most this many changes,
+/// because `fit_by_one` is slow for many changes.
 pub(super) const FEW: usize = 16;
 
-/// The index of the first change that has the same key as an earlier change, if there is one. If
-/// `apart` is true, it is already known that there is none. Among many changes, the keys are first
-/// sorted to find out whether two are the same. Only if so, all pairs are compared.
+/// The index of the first change that has the same key as an earlier change, or `None` if all keys
+/// are different. If `apart` is true, the caller knows that all keys are different. For more than
+/// `FEW` changes, the call first sorts the keys. If they are all different, it doesn't compare all
+/// pairs of changes.
 pub(super) fn repeat(changes: &[Change], apart: bool) -> Option<usize>
     requires short { length changes.now ≤ MOST_CHANGES }
     requires known { apart ≡ true → AreOnceEach changes.now }

@@ -19,8 +19,8 @@ use crate::table::fit::tally::count_brought;
 use cspf_columns::Columns;
 use cspf_model::{Change, Link, MOST_ROUTERS};
 
-/// Adds the endpoints of the rows (links) that no change affects to the set of routers. Returns
-/// false if the set would have more than 1,024 routers.
+/// Adds to the set the two routers of each row (a link) that no change affects. Returns false if
+/// the set would have more than 1,024 routers.
 fn add_rows(routers: &mut Routers, rows: &[Link], changes: &[Change]) -> bool
     requires { set.len routers.old ≤ MOST_ROUTERS }
     ensures added { OnTrue result
@@ -40,8 +40,8 @@ fn add_rows(routers: &mut Routers, rows: &[Link], changes: &[Change]) -> bool
     true
 }
 
-/// Adds the endpoints of the links that the changes put to the set of routers. Returns false if the
-/// set would have more than 1,024 routers.
+/// Adds to the set the two routers of each link that the changes put. Returns false if the set
+/// would have more than 1,024 routers.
 fn add_puts(routers: &mut Routers, changes: &[Change]) -> bool
     requires { set.len routers.old ≤ MOST_ROUTERS }
     ensures added { OnTrue result (routers.new ≡ with_ends routers.old (links_put changes.now)) }
@@ -58,9 +58,10 @@ fn add_puts(routers: &mut Routers, changes: &[Change]) -> bool
     true
 }
 
-/// Whether a quick count shows that there are at most 1,024 routers after the changes. It adds the
-/// number of new routers to the number of routers before the changes. The sum is at most 1,024, or
-/// it is 1,025 and some router has no link after the changes.
+/// Whether a quick count shows that there are at most 1,024 routers after the changes. The count is
+/// the number of routers before the changes plus the number of new routers. The result is true if
+/// the count is at most 1,024, or if the count is 1,025 and some router has no links after the
+/// changes.
 fn fit_by_one(columns: &Columns, changes: &[Change]) -> bool
     requires columns { AreColumns columns.now }
     requires short { length changes.now ≤ MOST_CHANGES }
@@ -73,8 +74,8 @@ fn fit_by_one(columns: &Columns, changes: &[Change]) -> bool
 }
 
 /// Whether there are more than 1,024 routers after the changes. `brought` is at least the number of
-/// new routers. First one or two quick counts are tried. If they don't show that there are at most
-/// 1,024 routers, the endpoints of all links are counted.
+/// new routers. The call first tries one or two quick counts. If they don't show that there are at
+/// most 1,024 routers, the call counts the routers of all links.
 pub(super) fn has_too_many_routers(columns: &Columns, changes: &[Change], brought: usize) -> bool
     requires columns { AreColumns columns.now }
     requires short { length changes.now ≤ MOST_CHANGES }

@@ -1,4 +1,4 @@
-//! A set of routers in arrays of fixed size. It is used to count the routers after a batch.
+//! A set of routers in arrays of fixed size. The set is used to count the routers after a batch.
 
 ghost use Rattle.std.specs.Prelude.{◌≡◌, true, ◌<◌, ◌≤◌, [], ◌∷◌, length};
 ghost use Rattle.std.specs.Bool.{OnTrue, OnFalse};
@@ -8,16 +8,17 @@ ghost use Rattle.std.specs.Ordering.{nat_cmp};
 use cspf_model::{Link, MOST_ROUTERS};
 use std::marker::Model;
 
-/// How many slots the hash table of the set has. A slot has a router's index in `found`, counted
-/// from 1, or is free.
+/// The number of slots in the hash table of the set. A slot has a router's index in `found`,
+/// counted from 1, or 0 if the slot is free.
 const SLOTS: usize = 4096;
 
-/// How many slots are tried at most for one router.
+/// The greatest number of slots that are tried for one router.
 const TRIES: u32 = 16;
 
-/// A set of at most 1,024 routers, whose numbers are in `found`. `places` is a hash table: a slot
-/// has the place of a router in `found`, counted from 1, or 0 if the slot is free. The place of a
-/// router is in the first of its slots that was free when the router was added.
+/// A set of at most 1,024 routers. The first `count` numbers of `found` are the addresses of these
+/// routers. `places` is a hash table: a slot has a router's index in `found`, counted from 1, or 0
+/// if the slot is free. A router's index is in the first of its slots that was free when the router
+/// was added.
 #[derive(Drop)]
 pub struct Routers {
     found: [u32; MOST_ROUTERS],
@@ -25,15 +26,15 @@ pub struct Routers {
     places: [u16; SLOTS],
 }
 
-/// The slot that is tried for the router with the number `router` after `others` other slots.
+/// The slot that is tried for the router with the address `router` after `others` other slots.
 fn slot(router: u32, others: u32) -> usize
     ensures { result < SLOTS }
 {
     ((router.wrapping_mul(2654435761) >> 16).wrapping_add(others) % SLOTS as u32) as usize
 }
 
-/// Writes `place`, which is the router's index in `found` counted from 1, into the first of the
-/// router's slots that is free. If none of its slots is free, nothing is written.
+/// Writes `place`, the router's index in `found` counted from 1, into the first free slot among the
+/// router's slots. If none of these slots is free, writes nothing.
 fn note(places: &mut [u16], router: u32, place: u16)
     requires { length places.old ≡ SLOTS }
     ensures { length places.new ≡ SLOTS }
@@ -73,7 +74,7 @@ impl Routers {
         Routers::kept_in([0; MOST_ROUTERS], [0; SLOTS])
     }
 
-    /// The empty set, which is kept in these two arrays.
+    /// The empty set, stored in these two arrays.
     fn kept_in(found: [u32; MOST_ROUTERS], places: [u16; SLOTS]) -> Self
         ensures { result ≡ set.empty }
     {
@@ -84,7 +85,7 @@ impl Routers {
         }
     }
 
-    /// Adds the router with the number `router`. Returns false if the set would have more than
+    /// Adds the router with the address `router`. Returns false if the set would have more than
     /// 1,024 routers.
     fn add(&mut self, router: u32) -> bool
         ensures added { OnTrue result (self.new ≡ set.insert self.old router) }
@@ -106,9 +107,9 @@ impl Routers {
         true
     }
 
-    /// Whether the hash table finds the router with the number `router`: one of its slots has the
-    /// router's index in `found`. The result may be false for a router of the set, but this is
-    /// rare.
+    /// Whether the hash table has the router with the address `router`. If the result is true, the
+    /// set has the router. The result may be false for a router of the set if all slots of the
+    /// router were taken when it was added.
     fn has(&self, router: u32) -> bool
         ensures { result ≡ true → self.now ≡ set.insert self.now router }
     {
@@ -124,15 +125,15 @@ impl Routers {
         false
     }
 
-    /// Whether both endpoints of a link are found in slots of the hash table. If so, they need not
-    /// be added.
+    /// Whether the hash table has both routers of the link. If the result is true, the set has both
+    /// routers.
     pub(super) fn has_ends(&self, link: &Link) -> bool
         ensures { result ≡ true → self.now ≡ with_ends self.now (link.now ∷ []) }
     {
         self.has(link.from.number()) && self.has(link.to.number())
     }
 
-    /// Adds both endpoints of a link. Returns false if the set would have more than 1,024 routers.
+    /// Adds both routers of a link. Returns false if the set would have more than 1,024 routers.
     pub(super) fn add_ends(&mut self, link: &Link) -> bool
         ensures added { OnTrue result (self.new ≡ with_ends self.old (link.now ∷ [])) }
         ensures full { OnFalse result (MOST_ROUTERS < set.len (with_ends self.old (link.now ∷ []))) }

@@ -1,5 +1,5 @@
-//! What the changes of a batch do to the rows (links) and to the number of routers. Finding this
-//! out takes one search for each change.
+//! What the changes of a batch do to the rows (links) and to the number of routers. For each
+//! change, a tally takes at most one search of the rows and two searches of the routers.
 ghost use Rattle.std.specs.Prelude.{◌≡◌, ℕ, ◌*◌, ◌<◌, ◌≤◌, ◌⊎◌, cond, true, [], ◌∷◌, Contains, length, IfOk, IfErr, IfSome, IfNone, IsSomeAnd};
 ghost use Rattle.std.specs.List.{list_any};
 ghost use Rattle.cspf_model.specs.Changes.{IsPresent};
@@ -21,24 +21,23 @@ use cspf_columns::routers::is_among;
 use cspf_columns::rows::{index_of, is_alike};
 use cspf_model::{Change, Link, MOST_LINKS};
 
-/// What some changes do: how many links they add, and how many endpoints of the links that they put
-/// are new routers. An endpoint of several of these links is counted for each of them. Also whether
-/// each change replaces a link between the same two interfaces, and whether no two changes affect
-/// the same row (a link).
+/// A summary of what some changes do to the rows (links) and the routers.
 #[derive(Clone, Copy, Debug)]
 pub struct Tally {
-    /// How many changes put a link at a key at which there is no link.
+    /// The number of changes that put a link at a key at which there is no link.
     pub added: usize,
-    /// How many endpoints of the links that the changes put aren't among the routers of the table.
-    /// An endpoint of several of these links is counted for each of them.
+    /// The number of new routers: routers that aren't in the table, and at which a link that the
+    /// changes put begins or ends. A new router of several links is counted for each of these
+    /// links.
     pub brought: usize,
-    /// Whether each change puts a link in place of a link that joins the same two interfaces.
+    /// Whether each change replaces a link by a link that joins the same two interfaces.
     pub alike: bool,
-    /// Whether it is known that no two changes affect the same row (a link).
+    /// If true, each change affects a row (a link), and no two changes affect the same row. If
+    /// false, this may still be so: `tally_all` checks it only for more than `FEW` changes.
     pub apart: bool,
 }
 
-/// The index of the row (a link) with the change's key, if there is one.
+/// The index of the row (a link) with the change's key, or `None` if no row has this key.
 fn row_of(rows: &[Link], change: &Change) -> Option<usize>
     requires { AreByKey rows.now }
     ensures { IsRowOf rows.now change.now result }
@@ -50,7 +49,7 @@ fn row_of(rows: &[Link], change: &Change) -> Option<usize>
     index_of(rows, key.0, local)
 }
 
-/// 1 if the router isn't among `routers`, and otherwise 0.
+/// 1 if the router is new, that is, not in the list `routers`, and otherwise 0.
 fn count_new(routers: &[Addr], router: Addr) -> usize
     requires { AreRising routers.now }
     ensures few { result ≤ 1 }
@@ -59,8 +58,8 @@ fn count_new(routers: &[Addr], router: Addr) -> usize
     if is_among(routers, router) { 0 } else { 1 }
 }
 
-/// 1 if the router to which the link runs isn't among the routers of the table, and otherwise 0. If
-/// the row (a link) at the index `at` runs to the same router, no search is needed.
+/// 1 if the router at which the link ends isn't a router of the table, and otherwise 0. If the row
+/// (a link) at the index `at` ends at the same router, no search is needed.
 fn count_new_end(columns: &Columns, at: usize, link: &Link) -> usize
     requires columns { AreColumns columns.now }
     requires bound { at < length columns.now.rows.items }
@@ -74,8 +73,8 @@ fn count_new_end(columns: &Columns, at: usize, link: &Link) -> usize
     }
 }
 
-/// The counts and flags of a change that puts `link`. `row` is the index of the row (a link) with
-/// the link's key, if there is such a row.
+/// The tally of a change that puts `link`. `row` is the index of the row (a link) with the link's
+/// key, if there is such a row.
 fn tally_put(columns: &Columns, link: &Link, row: Option<usize>) -> Tally
     requires columns { AreColumns columns.now }
     requires row { IsRowOf columns.now.rows.items (Change.Put link.now) row }
@@ -103,7 +102,7 @@ fn tally_put(columns: &Columns, link: &Link, row: Option<usize>) -> Tally
     }
 }
 
-/// The counts and flags of a change, or `None` if it removes a link that the table doesn't have.
+/// The tally of one change, or `None` if the change removes a link that the table doesn't have.
 /// `row` is the index of the row (a link) with the change's key, if there is such a row.
 fn tally_one(columns: &Columns, change: &Change, row: Option<usize>) -> Option<Tally>
     requires columns { AreColumns columns.now }
@@ -142,8 +141,9 @@ fn tally_one(columns: &Columns, change: &Change, row: Option<usize>) -> Option<T
     }
 }
 
-/// Sets the flag of a row (a link) in `seen`, which says that a change affects this row. Returns
-/// false if there is no row, if `seen` has no item for the row, or if the flag was already set.
+/// Sets the flag of a row (a link) in `seen`. A set flag says that a change affects the row.
+/// Returns false if `row` is `None`, if `seen` has no item for the row, or if the flag was already
+/// set.
 fn see(seen: &mut [bool], row: Option<usize>) -> bool
     ensures { result ≡ true → IsSomeAnd row (IsSeenAt seen.old seen.new) }
 {
@@ -157,8 +157,9 @@ fn see(seen: &mut [bool], row: Option<usize>) -> bool
     true
 }
 
-/// What the changes do. If a change removes a link that the table doesn't have, returns the index
-/// of the first such change. `seen` gets a flag for each row (a link) that a change affects.
+/// The tally of the changes. If a change removes a link that the table doesn't have, the error is
+/// the index of the first such change. In `seen`, the call sets the flag of each row (a link) that
+/// a change affects.
 fn tally_each(columns: &Columns, changes: &[Change], seen: &mut [bool]) -> Result<Tally, usize>
     requires columns { AreColumns columns.now }
     requires short { length changes.now ≤ MOST_CHANGES }
@@ -187,9 +188,9 @@ fn tally_each(columns: &Columns, changes: &[Change], seen: &mut [bool]) -> Resul
     })
 }
 
-/// What the changes do. If a change removes a link that the table doesn't have, returns the index
-/// of the first such change. Whether two changes affect the same row (a link) is found out only if
-/// there are more than `FEW` changes.
+/// The tally of the changes. If a change removes a link that the table doesn't have, the error is
+/// the index of the first such change. The call checks whether two changes affect the same row (a
+/// link) only if there are more than `FEW` changes.
 pub(super) fn tally_all(columns: &Columns, changes: &[Change]) -> Result<Tally, usize>
     requires columns { AreColumns columns.now }
     requires short { length changes.now ≤ MOST_CHANGES }
@@ -202,8 +203,8 @@ pub(super) fn tally_all(columns: &Columns, changes: &[Change]) -> Result<Tally, 
     tally_each(columns, changes, &mut [false; MOST_LINKS])
 }
 
-/// 0 if the router is among `routers` or is an endpoint of a link that the changes put, and
-/// otherwise 1.
+/// 0 if the router is in the list `routers`, or if the changes put a link that begins or ends at
+/// it, and otherwise 1.
 fn count_first(routers: &[Addr], changes: &[Change], router: Addr) -> usize
     requires { AreRising routers.now }
     ensures few { result ≤ 1 }
@@ -217,8 +218,8 @@ fn count_first(routers: &[Addr], changes: &[Change], router: Addr) -> usize
     }
 }
 
-/// How many endpoints of the link that the change puts are new. An endpoint is new if it is neither
-/// among `routers` nor an endpoint of a link that a change of `others` puts.
+/// The number of new routers, 0 to 2, of the link that the change puts. A router isn't new if it is
+/// in the list `routers`, or if a change in `others` puts a link that begins or ends at it.
 fn count_first_ends(routers: &[Addr], others: &[Change], change: &Change) -> usize
     requires { AreRising routers.now }
     ensures few { result ≤ 2 }
@@ -232,8 +233,9 @@ fn count_first_ends(routers: &[Addr], others: &[Change], change: &Change) -> usi
     }
 }
 
-/// How many endpoints of the links that the changes put aren't among `routers`. Each endpoint is
-/// counted once. The call takes as long as comparing all pairs of changes.
+/// The number of new routers: routers that aren't in the list `routers`, and at which a link that
+/// the changes put begins or ends. Each new router is counted once. The call compares all pairs of
+/// changes, so its time is quadratic.
 pub(super) fn count_brought(routers: &[Addr], changes: &[Change]) -> usize
     requires rising { AreRising routers.now }
     requires short { length changes.now ≤ MOST_CHANGES }

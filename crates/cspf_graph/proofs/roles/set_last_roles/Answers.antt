@@ -11,8 +11,8 @@ use Rattle.cspf_graph.proofs.roles.set_last_roles.Goals as goal
 
 module _ (d : Database) (q : Request) (hops place at : ℕ) (roles : List Role) (role : Role) (all : hops ≡ length q.hops) (low : place < 1024) (is : at ≡ hops * 1024 + place)
     (within : at < length roles) where
-  -- If a role is set at the index of a router, the role that is read at this index is that of the
-  -- router. A role says what a route may do at a router in a leg.
+  -- If a correct role is written at the index of a router, the role that is read at this index is
+  -- correct. A role says what a route may do at a router in a leg.
   set_there : IsRole d q (length q.hops + 1) (router_at d place) role
       → (i : ℕ) (e : Role) → i / 1024 ≡ length q.hops → i % 1024 ≡ place → IsRole d q (i / 1024 + 1) (router_at d (i % 1024)) (slice_index_or (set roles at role) i e)
   set_there made i e last here =
@@ -20,8 +20,8 @@ module _ (d : Database) (q : Request) (hops place at : ℕ) (roles : List Role) 
       subst (λ k. IsRole d q (i / 1024 + 1) (router_at d (i % 1024)) (slice_index_or (set roles at role) k e)) (sym same)
       (subst (IsRole d q (i / 1024 + 1) (router_at d (i % 1024))) (sym (get_or-set_same roles at role e within)) (rw (last, here) made))
 
-  -- If a role is set at the index of one router, the roles at the indexes of all other routers
-  -- still say what a route may do there.
+  -- If a role is written at the index of one router, the roles at the indexes of all other routers
+  -- are still correct.
   kept_elsewhere : (i : ℕ) (e : Role) → i % 1024 ≢ place → IsRole d q (i / 1024 + 1) (router_at d (i % 1024)) (slice_index_or roles i e) → IsRole d q (i / 1024 + 1) (router_at d (i % 1024)) (slice_index_or (set roles at role) i e)
   kept_elsewhere i e there known =
       let ne : i ≢ at = λ same. there (omega (arith, same, is, low)) in
