@@ -27,7 +27,8 @@ pub record IsLawfulJournal (records : Records) (batches : List NumberedChanges) 
   pub journal : IsJournal records batches rest.Clean
   pub lawful : AreLawful batches
 
--- the journal consists of `count` whole batches, and then of rows that aren't a whole batch
+-- the journal begins with `count` whole batches, and further rows follow that don't begin with the
+-- next batch
 pub record IsTornAfter (records : Records) (count : ℕ) : Type 0 where
   pub few : length records ≤ MOST_ROWS
   pub batches : List NumberedChanges

@@ -26,7 +26,7 @@ pub enum AuditError {
     /// One stream has more than `MOST_ROWS` rows or lines.
     #[error("too many rows")]
     TooManyRows,
-    /// The last rows of the journal don't make a whole batch.
+    /// Rows follow the last whole batch of the journal.
     #[error("the journal is torn after batch {after}")]
     Torn {
         /// The number of the last whole batch, or 0 if there is none.
