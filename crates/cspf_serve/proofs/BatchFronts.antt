@@ -20,7 +20,8 @@ use Rattle.cspf_serve.specs.PublishedBatches.{IsUnfitBehind, ArePublishedOrRefus
 use Rattle.cspf_serve.proofs.Begun.{begun_behind, begun_weaker}
 use Rattle.cspf_serve.proofs.BatchLines.{IsPublished, one_unfit, refused_alone}
 
--- the lines of a run in which all batches are accepted, and the first `count` requests are answered
+-- the lines of all versions, followed by the replies to the first `count` requests, are lines that
+-- `IsAcceptedInPart` allows
 accepted_in_part : (batches : List NumberedChanges) (requests : List Request) (count : ℕ) (replies : List ℕ) → AreLawful batches
     → AreReplies (database_after batches) (length batches) (take count requests) replies
     → IsAcceptedInPart batches requests (version_lines batches ++ replies)

@@ -163,7 +163,8 @@ run_refused accept_torn (Some journal) (Some requests) (early_end.Failed error) 
 run_refused accept_torn (Some journal) (Some requests) (early_end.Refused line) (Ok status) old new refused two written =
     (judge_line_text line, rw two (refused_alone accept_torn (rows_of journal) (rows_of requests) (judge_line_text line) refused), written)
 
--- the output is the lines of a run over one stream: the journal's rows and then the requests' rows
+-- the output of a run with the status 0 is the output of a run over one stream: the journal's rows,
+-- followed by the rows of the requests
 pub script_written : AreLinesOfAScript → (accept_torn : Bool) (kept asked old new : Option (List ℕ)) → IsWrittenRun accept_torn kept asked 0 old new
     → IfSome kept (λ journal. IfSome asked (λ requests. IsCleanJournal (rows_of journal) → length (rows_of journal ++ rows_of requests) ≤ 1000000
     → (lines : List ℕ) × (counts : Summary) × IsSolveRun (rows_of journal ++ rows_of requests) lines counts × Appends old new lines))

@@ -172,7 +172,7 @@ recorded_end contents batches between after applied (Some e) numbered few inside
 abbrev pub IsHeldAtError : List NumberedChanges → Option (List ℕ) → Option (List ℕ) → Type 0
 IsHeldAtError batches old new = (text : List ℕ) × AreRecordedAtError batches text × Appends old new text
 
--- if batches were applied before the error, the text that the journal got is as
+-- if batches were applied before the error, the text written to the journal is as
 -- `AreRecordedAtError` says
 pub held_applied : {J : Type 0} (contents : J → Option (List ℕ)) (batches : List NumberedChanges) (before after : PublisherState J) (applied : ℕ) (fault : Option ApplyError)
     → AreNumberedFrom 1 batches → length batches ≤ 1000000 → before.batches ≡ [] → before.stopped ≡ false

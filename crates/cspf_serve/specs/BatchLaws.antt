@@ -13,7 +13,7 @@ use Rattle.cspf_serve.specs.BatchRun.{IsBatchRun}
 abbrev pub IsCleanJournal : Records → Type 0
 IsCleanJournal records = (batches : List NumberedChanges) × IsJournal records batches rest.Clean
 
--- The premises: no rows follow the journal's last batch, no row of the requests is refused, and
+-- The premises: no rows follow the journal's last batch, nothing is refused (the status is 0), and
 -- both streams together have at most 1,000,000 rows. Then a run over both streams writes the same
 -- lines as a run over one stream: the journal's rows, followed by the rows of the requests.
 abbrev pub AreLinesOfAScript : Type 0

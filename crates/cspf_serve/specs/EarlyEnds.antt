@@ -46,9 +46,9 @@ AreStreamsRefused accept_torn journal requests line =
     IsJournalRefused accept_torn journal line
     ⊎ ((batches : List NumberedChanges) × AreBatchesOf accept_torn journal batches × AreRequestsRefused requests line)
 
--- The requests are answered in parts. The first error names a request by its index in a part, and
--- the part begins at the index `first` of all requests. The second error is the same error, but
--- with the index in the list of all requests.
+-- The requests are answered in parts. The first error is from the part that begins at the index
+-- `first` of all requests. The second error is the error of the run. In the error `Unaccounted` the
+-- index of a request in its part becomes the index in the whole list.
 abbrev pub IsErrorOfPart : ℕ → ServeError → ServeError → Type 0
 IsErrorOfPart first serve_error.Memory e = e ≡ serve_error.Memory
 IsErrorOfPart first serve_error.NoEntry e = e ≡ serve_error.NoEntry

@@ -20,7 +20,7 @@ judged_error_of judge_error.Device = Device
 abbrev pub IsStreamFault : RunError → Type 0
 IsStreamFault e = (e ≡ Memory) ⊎ (e ≡ Device)
 
--- memory was refused, or the replicas (the two copies of the database's table) had no entry for
+-- memory was refused, or the replicas (the two copies of the database's table) had no place for
 -- another reader
 abbrev pub IsOpeningFault : RunError → Type 0
 IsOpeningFault e = (e ≡ Memory) ⊎ (e ≡ Places)

@@ -113,9 +113,9 @@ fn answer_from<J: Write, W: Write, G: Gate + Sync, T: Threads + Sync>(
     }
 }
 
-/// Converts the error of a part to the error of the whole list of requests. A request's index in
-/// the part is replaced by its index in the whole list. `first` is the index of the first request
-/// of the part.
+/// Converts the error of a part to the error of the whole list of requests. In `Unaccounted` the
+/// index of a request in the part becomes its index in the whole list. `first` is the index of the
+/// first request of the part.
 fn error_of_list(first: usize, error: ServeError) -> ServeError
     ensures { IsErrorOfPart first error result }
 {

@@ -179,8 +179,8 @@ impl<J: Write> Updates<J> {
         self.rows.sink.publisher.tell()
     }
 
-    /// Closes the publisher, and returns the writer of its journal. The call may wait until clients
-    /// have their answers.
+    /// Closes the publisher, and returns the writer of its journal. The call may wait for clients
+    /// whose requests are being answered at that time.
     pub(crate) fn close<R: Wait>(self, rt: &R) -> J
         ensures { result ≡ self.sink.publisher.journal }
     {

@@ -20,8 +20,8 @@ pub enum RunError {
     /// A read failed, or a write failed or accepted no bytes.
     #[error("a read or a write failed")]
     Device,
-    /// The replicas (the two copies of the database's table) have no entry for another reader. This
-    /// error happens in no run, since `open` makes an entry for each reader.
+    /// The replicas (the two copies of the database's table) have no place for another reader. This
+    /// error happens in no run, since `open` makes a place for each reader.
     #[error("no place for a reader")]
     Places,
     /// The workers didn't answer all requests.

@@ -26,7 +26,7 @@ pub(crate) fn open_for<J: Write, T: Wait>(
         All (λ a. a.source ≡ opened.0.source) opened.1.items) }
     ensures count { IfOk result (λ opened. vec_len opened.1 ≡ workers) }
     // `open` allows this number of askers. So there are only two errors: memory is refused, or the
-    // replicas (the two copies of the table) have no entry for another reader.
+    // replicas (the two copies of the table) have no place for another reader.
     ensures error { IfErr result (λ e. IsOpeningFault e.0) }
     ensures journal { IfErr result (λ e. e.1 ≡ journal) }
 {
