@@ -9,9 +9,9 @@ pub(crate) struct Reply {
     pub(crate) answer: Answer,
 }
 
-/// A worker: it draws the indexes of requests from a counter by `drawer`, and computes the answers
-/// by `asker`. `done` has its answers in the order in which it computed them. `fault` is the fault
-/// that stopped the worker, if there was one.
+/// A worker. It draws the indexes of requests from a counter by `drawer`, and computes the answers
+/// by `asker`. `done` has the answers in the order in which the worker computed them. `fault` is
+/// the fault that stopped the worker, if there was one.
 #[derive(Drop)]
 pub(crate) struct Worker<'a> {
     pub(crate) asker: Asker,
@@ -20,8 +20,8 @@ pub(crate) struct Worker<'a> {
     pub(crate) fault: Option<ServeError>,
 }
 
-/// The results of workers: all askers (the objects that computed the answers), and the answers of
-/// each worker. Also the fault of the first worker that had one, if any had one.
+/// The results of workers: all askers (the objects that computed the answers), the answers of each
+/// worker, and the first worker's fault among the workers that had one.
 #[derive(Drop)]
 pub(crate) struct Results {
     pub(crate) askers: Vec<Asker>,
