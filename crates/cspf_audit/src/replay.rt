@@ -22,9 +22,9 @@ impl Replay {
         Ok(Replay { table, version: 0 })
     }
 
-    /// Moves the replay to `version`, by the plans of the journal's batches. If `version` isn't
-    /// below the replay's version, only the batches after the replay's version, up to `version`,
-    /// change the table. If `version` is lower, the replay starts again at version 0.
+    /// Moves the replay to `version` by the plans of the batches. From a lower or equal version,
+    /// only the batches between the two versions change the table. From a higher version, the
+    /// replay starts again at version 0.
     pub(crate) fn go_to(
         &mut self,
         alloc: Global,
