@@ -38,8 +38,7 @@ impl Replay {
         ensures here { OnOk result (IsAtVersion batches.now self.new) }
         ensures version { OnOk result (self.new.version ≡ version) }
     {
-        // Law: the database after one more batch is the database so far with the changes of that
-        // batch.
+        // Law: one more batch makes its changes in the database of the batches before it.
         absorbing();
         if version < self.version {
             *self = Replay::new(alloc)?;
