@@ -115,7 +115,7 @@ module _ (requests : List Request) (i : ℕ) (r : Request) (within : i < length 
 
 -- ---- the requests of a list
 
--- if no request of the list has this id, the id of each request of the list is another one
+-- if no request of a list has this id, each request of the list has a different id
 pub lack_one : (id : ℕ) (requests : List Request) (q : Request) → LackId requests id → Contains requests q → q.id ≢ id
 lack_one id [] q lack (k, within, is) = absurd (omega (arith, within))
 lack_one id (r ∷ requests) q lack (zero, within, is) = λ same. lack.0 (ap (λ (x : Request). x.id) is ∙ same)

@@ -92,7 +92,7 @@ takes_line (Some text) (Some rest) bytes line read drops some cut = go (is_cut t
         let same : line ≡ first = cut ∙ ap (strip_last 10) (read ∙ took) ∙ feed_ends first in
         (subst HasNoFeed (sym same) none, inr (rw (same, left, behind) is))
 
--- a reader at the end of a text takes no line
+-- a reader at the end of a text reads no line
 pub takes_none : (old new : Option (List ℕ)) → IsAtEnd old → TakesLine old new None
 takes_none None new at_end = tt
 takes_none (Some text) new at_end = at_end

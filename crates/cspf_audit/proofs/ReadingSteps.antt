@@ -74,8 +74,8 @@ found_more batches requests seen line claims more findings found open_ones next 
     go index l f (inr one) (inl other) = absurd (omega (arith, one.0, other.0, open_ones.counted))
     go index l f (inr one) (inr other) = rw (one.0, sym one.1, sym other.1, take_at seen (line ∷ []) (length seen) refl) next
 
--- if an id is named by the lines so far or by one more line, an earlier line has the id or the new
--- line has it
+-- After one more line, one of the lines has this id. Then an earlier line has the id, or the new
+-- line has it.
 pub named_cases : (seen : List (List ℕ)) (line : List ℕ) (id : ℕ) → IsNamed (seen ++ line ∷ []) id
     → IsNamed seen id ⊎ ((version : ℕ) × BeginsWithHead line (record { id = id; version = version }))
 named_cases seen line id (l, version, there, begins) = elim (Contains-append_cases seen (line ∷ []) l there) [

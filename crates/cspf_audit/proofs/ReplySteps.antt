@@ -1,4 +1,5 @@
--- What one more line of the replies adds to the findings.
+-- One more line of the replies is read: the changes of the findings, the claims and the list of the
+-- requests with a line.
 use Rattle.std.proofs.Common.{◌≡◌, ◌≢◌, ℕ, ◌+◌, suc, zero, Bool, true, false, List, [], ◌∷◌, ◌++◌, Contains, Some, None, codes, length, inl, inr, refl, sym, ap, subst, ◌∙◌, append-nil, arith}
 use Rattle.std.proofs.lemmas.Bool.{cases_eq}
 use Rattle.std.proofs.lemmas.List.{take_at, length-set}
@@ -69,7 +70,7 @@ module _ (one : HasOneHead) (batches : List NumberedChanges) (requests : List Re
   wasnt_named : (index : ℕ) (q : Request) → slice_get requests index ≡ Some q → slice_get before index ≡ Some false → ¬ IsNamed seen q.id
   wasnt_named index q there is now = let no : Some true ≡ Some false = sym ((named.each index q there).1 now) ∙ is in cc
 
-  -- ---- the requests with a line, after this line was read
+  -- ---- the list of the requests that have a line, after this line was read
 
   -- if no request has the id of the line, the list that says which requests have a line doesn't
   -- change
@@ -134,7 +135,8 @@ module _ (one : HasOneHead) (batches : List NumberedChanges) (requests : List Re
           },
         )
 
-  -- ---- the findings, the claims and the requests with a line, after this line was read
+  -- ---- the findings, the claims and the list of the requests that have a line, after this line
+  -- was read
 
   module _ (claims : List Claim) (findings : List Finding) (open_ones : AreOpenFindings batches requests seen claims findings) (are_claims : AreClaims requests (length batches) seen claims) where
     -- `found`, `claimed` and `after` are the findings, the claims and the requests with a line,

@@ -103,10 +103,10 @@ pub record HasReadLines (batches : List NumberedChanges) (requests : List Reques
   pub claims : AreClaims requests (length batches) seen replies.claims.items
   pub named : AreNamed requests seen replies.named.items
 
--- The reading of a line by its head: the word `ask`, an id and a version. `ids` maps the id of each
--- request to the request's index. `last` is the highest version of the journal. The lists `before`
--- and `after` say for each request whether a line has the request's id. `before` is about the lines
--- so far, and `after` about the same lines and this line.
+-- The result of reading the head of a line: the word `ask`, an id and a version. `ids` maps the id
+-- of each request to the request's index. `last` is the highest version of the journal. The lists
+-- `before` and `after` say for each request whether a line has the request's id. `before` is about
+-- the lines so far, and `after` about the same lines and this line.
 abbrev pub IsReading : BTreeMap ℕ ℕ → ℕ → List ℕ → List Bool → List Bool → Reading → Type 0
 IsReading ids last line before after (reading.Settled finding.PassedOver) = IsPassedOver line × (after ≡ before)
 IsReading ids last line before after (reading.Settled finding.Good) = ⊥

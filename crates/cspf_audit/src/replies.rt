@@ -68,9 +68,9 @@ pub(crate) fn read_replies(
 }
 
 impl ReplyFindings {
-    /// Adds the finding of the next line of the replies. If this line is the first one with a
-    /// request's id, and it names a version of the journal, a claim is added, too: the line is
-    /// still to be compared with the right reply.
+    /// Adds the finding of the next line of the replies. A claim is also added if this line is the
+    /// first one with a request's id and names a version of the journal. A claim says that the line
+    /// is still to be compared with the right reply.
     fn take(
         &mut self,
         line: &[u8],

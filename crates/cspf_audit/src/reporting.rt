@@ -50,7 +50,7 @@ fn report_lines(findings: &[Finding], faults: &mut Vec<AuditFault>) -> Result<u3
     Ok(good)
 }
 
-/// The fault of the line with this number and this finding, if the finding is a fault.
+/// The fault for a line with this number and this finding, or `None` if the finding isn't a fault.
 fn fault_of(line: u32, finding: Finding) -> Option<AuditFault>
     ensures { result ≡ fault_at line finding }
 {

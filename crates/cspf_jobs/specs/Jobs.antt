@@ -16,14 +16,14 @@ AreDone done (w ∷ ws) [] os = ⊥
 AreDone done (w ∷ ws) (j ∷ js) [] = ⊥
 AreDone done (w ∷ ws) (j ∷ js) (o ∷ os) = done w j o × AreDone done ws js os
 
--- Private: the count of threads after one more job got a thread. If an earlier job was refused a
--- thread, the result is still that refusal.
+-- Private: the count of threads after one more job got a thread. If there is an earlier refusal,
+-- the result is still that refusal.
 abbrev pub with_thread : Result ℕ NoThread → Result ℕ NoThread
 with_thread (Ok n) = Ok (n + 1)
 with_thread (Err first) = Err first
 
--- Private: the count of threads after this job was refused a thread: the refusal. If an earlier job
--- was refused a thread, the result is still that earlier refusal.
+-- Private: the count of threads after this job was refused a thread. The result is this refusal, or
+-- an earlier one if there is one.
 abbrev pub without_thread : ℕ → Result ℕ NoThread → Result ℕ NoThread
 without_thread job (Ok n) = Err (record { job = job })
 without_thread job (Err first) = Err first

@@ -219,7 +219,7 @@ fn refusal<'a, N: JobCount>(word: &'a StartWord<N>, said: &Said<'a, N>, count: u
     }
 }
 
-/// As `run_all`, but the work of the calling thread is given as a value.
+/// As `run_all`, but the work of the calling thread is passed as a value.
 fn run_with<
     N: JobCount + Send + Sync + Drop,
     J: Send + Drop,

@@ -16,7 +16,7 @@ pub struct NoThread {
 /// The decision whether the jobs begin. It is set once.
 pub(crate) type StartWord<N> = OnceLock<Result<GoForAll<N>, NoThread>>;
 
-/// A value that shows that the decision is made, and what it is: whether the jobs begin.
+/// A value that shows that the decision is made, and whether the jobs begin.
 pub(crate) type Said<'a, N> = OnceToken<'a, Result<GoForAll<N>, NoThread>>;
 
 /// Waits until it is decided whether the jobs begin.

@@ -16,11 +16,12 @@ use Rattle.cspf_journal.specs.declared.log_step.LogStep.TheVariants.{Recorded}
 use Rattle.cspf_journal.proofs.Prefixes.{BeginsWith-trans, length-prefix, all_of, IsHistory-snoc}
 use Rattle.cspf_journal.proofs.JournalSteps.{batches_of-append, batches_of-prefix, count_from-append, AreOrderedFrom-append}
 
--- the part of a journal's steps that its invariant shows to all threads: none of them
+-- the steps of a journal that its invariant shows to all threads: no steps
 abbrev pub shown : List LogStep → List LogStep
 shown log = []
 
--- the facts that the invariant of a journal's steps shows to all threads about a single step: none
+-- the facts about a single step that the invariant of a journal's steps shows to all threads: no
+-- facts
 abbrev pub moved : List LogStep → List LogStep → ℕ → Type 0
 moved xs ys n = Unit {0}
 

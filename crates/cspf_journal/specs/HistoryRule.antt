@@ -8,7 +8,7 @@ use Rattle.cspf_journal.specs.declared.log_step.LogStep.{LogStep}
 use Rattle.cspf_journal.specs.declared.log_step.LogStep.TheVariants.{Recorded, Published, Read}
 
 -- The rule: the first counter is the number of recorded batches, and the second counter is the
--- number of published batches. The steps are those of one journal.
+-- number of published batches. All steps are steps of one journal.
 pub record IsKeptHistory (cells : List Cell) (steps : List LogStep) : Type 0 where
   pub words : cells ≡ (length (batches_of steps), true) ∷ (count_of steps, true) ∷ []
   pub journal : AreJournalSteps steps

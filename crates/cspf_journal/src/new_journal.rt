@@ -1,4 +1,4 @@
-//! A new journal.
+//! A new journal: its writer, its empty list of batches, and the right to show its batches.
 ghost use Rattle.std.specs.Prelude.{◌≡◌, [], false};
 
 use crate::batch_list::BatchList;

@@ -1,5 +1,6 @@
-//! The rights of a journal: to show its batches to askers (which answer requests), to keep the two
-//! copies of the table that these batches make, and to count the batches as published.
+//! The rights of a journal. One is the right to show its batches to askers (which answer requests),
+//! and one is the right to count them as published. Two are rights to keep a copy of the table that
+//! the batches make.
 ghost use Rattle.std.specs.Prelude.{◌≡◌, length, MatchBool};
 ghost use Rattle.cspf_model.specs.Numbered.{NumberedChanges};
 ghost use Rattle.cspf_journal.specs.Histories.{BeginsWith};
@@ -160,8 +161,8 @@ impl RightToShow {
     }
 
     /// Splits this right into its parts: the right to count batches as published, the count of
-    /// published batches, which that right raises, and the two `CopyRight`s. Each `CopyRight` is
-    /// the right to keep a copy of the table.
+    /// published batches, and the two `CopyRight`s. The right to count raises this count. Each
+    /// `CopyRight` is the right to keep a copy of the table.
     pub fn split(self) -> (RightToCount, PublishedCount, CopyRight, CopyRight)
         ensures right { result.0 ≡ self }
         ensures count { result.1 ≡ self.source }

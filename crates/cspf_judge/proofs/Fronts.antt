@@ -7,7 +7,7 @@ use Rattle.std.specs.Io.KnownBytes.{Appends}
 use Rattle.std.specs.List.{flat_map}
 use Rattle.cspf_judge.specs.EarlyEnds.{WritesFront}
 
--- a fact that holds anyway also holds if the result is an error
+-- a true fact is also true if the result is an error
 pub at_error : {T E : Type 0} (P : Type 0) (r : Result T E) → P → OnErr r P
 at_error P (Ok x) holds = tt
 at_error P (Err e) holds = holds
@@ -37,8 +37,8 @@ front_behind old mid new whole text before begun = record {
   written = Appends-trans old mid new whole begun.front before begun.written;
 }
 
--- if the texts of the first elements of a list were written, and then a prefix of the next
--- element's text, a prefix of all these texts was written
+-- The texts of the first elements of a list were written, and then a prefix of the next element's
+-- text. Then a prefix of the texts of the whole list was written.
 pub front_in_list : {X : Type 0} (f : X → List ℕ) (xs : List X) (i : ℕ) (x d : X) (old mid new : Option (List ℕ)) → i < length xs → x ≡ get_or xs i d
     → Appends old mid (flat_map f (take i xs)) → WritesFront mid new (f x) → WritesFront old new (flat_map f xs)
 front_in_list f xs i x d old mid new within is_next before begun =

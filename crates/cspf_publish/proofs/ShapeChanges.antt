@@ -1,6 +1,6 @@
--- A list of batches begins with a shorter list. If both lists have the same number of batches that
--- change more than unreserved bandwidths, the databases that they make have one shape: they differ
--- at most in unreserved bandwidths.
+-- A list of batches begins with a shorter list. Both lists have the same number of batches that
+-- change more than unreserved bandwidths. Then the databases that they make have one shape: they
+-- differ at most in unreserved bandwidths.
 use Rattle.std.proofs.Common.{◌≡◌, ℕ, ◌+◌, ◌≤◌, List, [], ◌∷◌, ◌++◌, length, refl, sym, ap, subst, inl, inr, ◌∙◌, arith}
 use Rattle.cspf_model.specs.Numbered.{NumberedChanges}
 use Rattle.cspf_model.specs.Database.{Database}
@@ -42,8 +42,8 @@ after_one_batch d b xs ys is =
     subst (λ e. HaveOneShape e (after_changes d (changes_of (b ∷ ys)))) (sym (after_batch d b xs))
     (subst (HaveOneShape (after_changes (after_changes d b.changes) (changes_of xs))) (sym (after_batch d b ys)) is)
 
--- If a whole list and a prefix of it have the same number of batches that change more than
--- unreserved bandwidths, the databases of both differ at most in unreserved bandwidths.
+-- A whole list and a prefix of it have the same number of batches that change more than unreserved
+-- bandwidths. Then their databases differ at most in unreserved bandwidths.
 as_many_changes : (d : Database) (first rest : List NumberedChanges) (count : ℕ) → HasShapeChangesAfter d first count → HasShapeChangesAfter d (first ++ rest) count
     → HaveOneShape (after_changes d (changes_of first)) (after_changes d (changes_of (first ++ rest)))
 as_many_changes d [] rest count is all = none_changed d rest (subst (HasShapeChangesAfter d rest) is all)

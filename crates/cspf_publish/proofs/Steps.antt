@@ -33,9 +33,9 @@ AllKnow-set s views seat w all knows j u e =
 AllKnow-snoc : (s : ReplicaState) (views : List SeatView) (w : SeatView) → AllKnow s views → Knows s w → AllKnow s (views ++ w ∷ [])
 AllKnow-snoc s views w all knows j u e = ⊎_elim (all j u) (λ (t : w ≡ u). subst (λ (z : SeatView). Knows s z) t knows) (at_snoc views w u j e)
 
--- If one view is replaced, at most one view is still the publisher's. The new view may be the
--- publisher's only if the replaced view was. A view has the batches that one user of the replicas
--- knows.
+-- At most one view of a list is the publisher's. This is still true after one view is replaced, if
+-- the new view isn't the publisher's or the replaced view was. A view has the batches that one user
+-- of the replicas knows.
 HasOnePublisher-set : (views : List SeatView) (seat : ℕ) (v w : SeatView) → get_elem? views seat ≡ some v → HasOnePublisher views → (IsPublisher w → IsPublisher v) → HasOnePublisher (set views seat w)
 HasOnePublisher-set views seat v w at one was i j x y ex ey px py =
     ⊎_elim
@@ -252,8 +252,8 @@ idle_twice s =
     ap (λ (d : Database). (let it : ReplicaState = record { right = s.right; database = d; known = s.known; shape_changes = 0; is_open = true } in it))
     (ap (λ (d : Database). database_with d (idle_batch s.known).batch) (nothing s.database) ∙ nothing s.database)
 
--- If `is_open` is true, and the replica has the database of its batches and a `CopyRight` of the
--- journal that they are from, it is `published_state`.
+-- A replica is `published_state` if three facts hold. Its `is_open` is true, it has the database of
+-- its batches, and it has a `CopyRight` of the journal that the batches are from.
 pub state_from_known : (s : ReplicaState) → HasItsDatabase s → IsCopyByRight s → s.is_open ≡ true → s ≡ published_state s.known s.shape_changes
 state_from_known s has right now =
     ap (λ (d : Database). (let it : ReplicaState = record { right = s.right; database = d; known = s.known; shape_changes = s.shape_changes; is_open = s.is_open } in it)) has

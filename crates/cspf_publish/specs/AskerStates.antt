@@ -4,8 +4,8 @@ use Rattle.logbook.specs.Pages.{Book}
 use Rattle.cspf_model.specs.Numbered.{NumberedChanges}
 use Rattle.cspf_journal.specs.KnownBatches.{KnownBatches}
 
--- The state of an asker: the batches that it knows, the identity of the journal that they are from
--- (its source), and the most trees of lower bounds that the asker keeps.
+-- The state of an asker: the batches that it knows, and the identity of the journal that they are
+-- from (its source). `most_trees` is the most trees of lower bounds that the asker keeps.
 pub record AskerState : Type 0 where
   pub batches : List NumberedChanges
   pub source : Book

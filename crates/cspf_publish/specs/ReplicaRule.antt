@@ -15,7 +15,7 @@ use Rattle.cspf_publish.specs.ShapeChanges.{HasShapeChanges}
 use Rattle.cspf_publish.specs.declared.seat_view.SeatView.{SeatView}
 use Rattle.cspf_publish.specs.declared.seat_view.SeatView.TheVariants.{New, Asker, Publisher}
 
--- the replica's database is the one that the replica's batches make
+-- the replica's batches make the replica's database
 abbrev pub HasItsDatabase : ReplicaState → Type 0
 HasItsDatabase s = s.database ≡ database_after s.known.batches
 

@@ -10,8 +10,8 @@ use Rattle.cspf_publish.specs.BatchAbsorption.{database_with}
 
 -- The state of a replica (a copy of the table). `right` is the source (the identity) of the journal
 -- whose `CopyRight` the replica has. `known` are the replica's batches. `shape_changes` is the
--- number of these batches that change more than unreserved bandwidths. `is_open` becomes true at
--- the publisher's first step. Then the publisher's view has the batches.
+-- number of these batches that change more than unreserved bandwidths. `is_open` is true after the
+-- publisher's first step: the publisher's view then has the batches.
 pub record ReplicaState : Type 0 where
   pub right : Book
   pub database : Database

@@ -173,8 +173,8 @@ fn append_idle(writer: &mut ReplicaWriter, alloc: Global, known: &Known) -> Resu
     Ok(())
 }
 
-// The writer of two empty replicas (the table's two copies), after the publisher's first step. The
-// replicas hold the two `CopyRight`s of their journal.
+// Makes the writer of two empty replicas (the table's two copies), after the publisher's first
+// step. The replicas have the two `CopyRight`s of their journal.
 fn new_writer<R: Wait>(
     rt: &R,
     alloc: Global,

@@ -56,8 +56,8 @@ unfit_written bs published qs line old mid new is lawful versions last = (
   Appends-trans old mid new (version_lines published) line versions last,
 )
 
--- the lines of all batches are written, and then the replies to the requests: these are the lines
--- of a run in which all batches are accepted
+-- The lines of all batches are written, and then the replies to the requests. These are the lines
+-- of a run in which all batches are accepted.
 pub accepted_written : (bs : List NumberedChanges) (qs : List Request) (d : Database) (old mid new : Option (List ℕ))
     → AreLawful bs → d ≡ database_after bs → Appends old mid (version_lines bs) → Writes mid new (AreReplies d (length bs) qs)
     → Writes old new (λ lines. IsAcceptedOrUnfit bs qs lines 0)
@@ -114,8 +114,8 @@ module _ (accept_torn : Bool) (kept asked : Option (List ℕ)) (published : List
       let is = ran read.0 read.2 in
       (is.0, inr (read.0, read.1, inr (qs, of_rows, is.1)), is.2)
 
-  -- if a run ends with a status, the lines of accepted batches, or of batches of which one doesn't
-  -- fit, are the lines of a run over the journal and the requests
+  -- A run ends with a status. It wrote the lines of accepted batches, or of batches of which one
+  -- doesn't fit. These are the lines of a run over the journal and the requests.
   pub batch_ran : (r : Result ℕ RunError)
       → IfOk r (λ status. (batches : List NumberedChanges) → ArePublishedOrRefused batches published unfit
       → Writes old new (λ lines. IsAcceptedOrUnfit batches qs lines status))

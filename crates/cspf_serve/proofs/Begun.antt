@@ -21,8 +21,8 @@ begun_behind old mid new text P Q written here more (inl kept) =
 begun_behind old mid new text P Q written here more (inr (lines, is, begun)) =
     inr (text ++ lines, more lines is, front_behind old mid new text lines written begun)
 
--- If `P` implies `Q`, and the output is a prefix of lines of which `P` holds, it is a prefix of
--- lines of which `Q` holds. The same is true if nothing is written.
+-- Suppose that `P` implies `Q`. If the output is a prefix of lines of which `P` holds, it is a
+-- prefix of lines of which `Q` holds. The same is true if nothing is written.
 pub begun_weaker : (old new : Option (List ℕ)) (P Q : List ℕ → Type 0) → ((lines : List ℕ) → P lines → Q lines) → HasBegun old new P → HasBegun old new Q
 begun_weaker old new P Q f (inl kept) = inl kept
 begun_weaker old new P Q f (inr (lines, is, begun)) = inr (lines, f lines is, begun)

@@ -112,8 +112,8 @@ ended contents batches between after applied (Some e) last status numbered few i
     let line : IsFaultShown (Some next) (Some e) last status = subst (λ (b : Option NumberedChanges). IsFaultShown b (Some e) last status) at shown in
     (begun_text next e, inr (next, e, at, why.0, line.0, refl, line.1), why.1)
 
--- If batches are applied, the requests are answered at published versions, and the lines of
--- `AreLiveLines` are written, then the live run is as `AreAnsweredLive` says.
+-- Batches are applied, the requests are answered at published versions, and the lines of
+-- `AreLiveLines` are written. Then the live run is as `AreAnsweredLive` says.
 pub live_answered : {J : Type 0} (contents : J → Option (List ℕ)) (batches : List NumberedChanges) (requests : List Request) (answers : List Answer)
     (before after : PublisherState J) (applied version : ℕ) (fault : Option ApplyError) (status : ℕ) (old new : Option (List ℕ))
     → AreNumberedFrom 1 batches → length batches ≤ 1000000 → before.batches ≡ [] → before.stopped ≡ false
@@ -151,9 +151,8 @@ live_answered {J} contents batches requests answers before after applied version
 
 -- ---- after an error
 
--- A run may end by an error after it has applied batches. The text that follows the published
--- batches in its journal is the text that a run without an error, with some last line and some
--- status, also writes there.
+-- A run may end by an error after it has applied batches. Some run without an error writes the same
+-- text to its journal after the published batches.
 recorded_end : {J : Type 0} (contents : J → Option (List ℕ)) (batches : List NumberedChanges) (between after : PublisherState J) (applied : ℕ) (fault : Option ApplyError)
     → AreNumberedFrom 1 batches → length batches ≤ 1000000 → applied ≤ length batches
     → between.stopped ≡ false → between.batches ≡ take applied batches → IsEndOfApplying contents between after batches applied fault
@@ -196,7 +195,7 @@ held_in_part contents batches before after numbered few fresh going (inl same) =
 held_in_part contents batches before after numbered few fresh going (inr part) =
     held_applied contents batches before after part.0 part.1 numbered few fresh going part.2
 
--- a fact that holds anyway also holds if the run ends by an error
+-- a true fact is also true if the run ends by an error
 pub at_error : {X : Type 0} (r : Result ℕ RunError) → X → IfErr r (λ e. X)
 at_error (Ok status) x = tt
 at_error (Err e) x = x
@@ -262,8 +261,8 @@ held_of : (updates : List (List (List ℕ))) (bs : List NumberedChanges) (text :
 held_of updates bs text batches (inl none) = inl none
 held_of updates bs text batches (inr some) = inr (bs, batches, some)
 
--- if `bs` are the batches of the updates, and the journal after an error is as `IsHeldAtError` says
--- of `bs`, it is as `IsHeldLive` says of the updates
+-- Let `bs` be the batches of the updates. If the journal after an error is as `IsHeldAtError` says
+-- of `bs`, it is as `IsHeldLive` says of the updates.
 pub live_held : (updates : Option (List ℕ)) (bs : List NumberedChanges) (r : Result ℕ RunError) (old new : Option (List ℕ))
     → IfSome updates (λ bytes. AreBatchesOf false (rows_of bytes) bs) → (AreNumberedFrom 1 bs → IfErr r (λ e. IsHeldAtError bs old new))
     → IfErr r (λ e. IsHeldLive updates old new)

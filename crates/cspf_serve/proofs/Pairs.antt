@@ -13,17 +13,17 @@ pairs_push R [] (b ∷ ys) x y all one = absurd all
 pairs_push R (a ∷ xs) [] x y all one = absurd all
 pairs_push R (a ∷ xs) (b ∷ ys) x y all one = (all.0, pairs_push R xs ys x y all.1 one)
 
--- If a relation holds at each position of two lists, and a fact holds of each element of the first
--- list, then both the relation and the fact hold at each position.
+-- A relation holds at each position of two lists, and a fact holds of each element of the first
+-- list. Then both the relation and the fact hold at each position.
 pub pairs_with : {A B : Type 0} (R : A → B → Type 0) (P : A → Type 0) (xs : List A) (ys : List B) → AllZip R xs ys → All P xs → AllZip (λ x y. R x y × P x) xs ys
 pairs_with R P [] [] all each = tt
 pairs_with R P [] (y ∷ ys) all each = absurd all
 pairs_with R P (x ∷ xs) [] all each = absurd all
 pairs_with R P (x ∷ xs) (y ∷ ys) all each = ((all.0, All-head P x xs each), pairs_with R P xs ys all.1 (All-tail P x xs each))
 
--- `xs` and `ys` are related by `R` at each position, and `ys` and `zs` by `S`. If `R` and `S`
--- together imply `T`, then `xs` and `zs` are related by `T`. `R` and `T` also depend on the number
--- of the position.
+-- At each position, `R` holds of the elements of `xs` and `ys`, and `S` holds of the elements of
+-- `ys` and `zs`. If `R` and `S` together imply `T`, then `T` holds of the elements of `xs` and `zs`
+-- at each position. `R` and `T` also depend on the number of the position.
 pub numbered_through : {A B C : Type 0} (R : ℕ → A → B → Type 0) (S : B → C → Type 0) (T : ℕ → A → C → Type 0) → ((n : ℕ) (x : A) (y : B) (z : C) → R n x y → S y z → T n x z)
     → (n : ℕ) (xs : List A) (ys : List B) (zs : List C) → AreNumberedPairs R n xs ys → AllZip S ys zs → AreNumberedPairs T n xs zs
 numbered_through R S T both n [] [] [] r s = tt

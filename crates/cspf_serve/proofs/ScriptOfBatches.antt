@@ -195,8 +195,8 @@ few_batches (b ∷ bs) =
     let changes = map change_row b.changes in
     omega (arith, one, length-append (batch_rows b) (journal_rows bs), length-append changes (row.End b.number (length b.changes) ∷ []))
 
--- If at most 1,000,000 rows are answered by these lines, and no change is open after them (waiting
--- for its `end` row), the rows and the lines are those of a whole run.
+-- At most 1,000,000 rows are answered by these lines, and no change is open after them (waiting for
+-- its `end` row). Then the rows and the lines are the rows and lines of a whole run.
 run_of : (rows : Records) (lines : List ℕ) (accepted : List NumberedChanges) → length rows ≤ 1000000 → IsAfter start rows lines accepted []
     → (summary : Summary) × IsSolveRun rows lines summary
 run_of rows lines accepted few after =
@@ -212,8 +212,8 @@ run_of rows lines accepted few after =
       },
     )
 
--- If no rows follow the batches of a journal, these batches are accepted, and the requests are
--- answered, then one run over a single stream answers the rows of both in the same way.
+-- No rows follow the batches of a journal, these batches are accepted, and the requests are
+-- answered. Then one run over a single stream answers the rows of both in the same way.
 accepted_run : OneMoreBatch → (journal requests : Records) (bs : List NumberedChanges) (qs : List Request) (lines : List ℕ) → IsJournal journal bs rest.Clean
     → AreRequests requests qs → AreAccepted bs qs lines → length (journal ++ requests) ≤ 1000000 → (summary : Summary) × IsSolveRun (journal ++ requests) lines summary
 accepted_run more journal requests bs qs lines clean asked accepted few =

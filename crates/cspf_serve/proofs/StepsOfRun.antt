@@ -14,7 +14,7 @@ use Rattle.cspf_client.proofs.Prefixes.{BeginsWith-trans, IsPrefix-trans}
 use Rattle.cspf_serve.specs.ServedSteps.{IsOfSource}
 use Rattle.cspf_serve.specs.UpdatesStates.{AreAllCounted}
 
--- If some steps count all batches of a publisher as published, they also do so for another
+-- Some steps count all batches of a publisher as published. They also count all batches of another
 -- publisher with the same batches and the same journal (the source is its identity).
 pub counted_again : {J : Type 0} (p q : PublisherState J) (steps : KnownSteps) → AreAllCounted p steps → q.batches ≡ p.batches → q.source ≡ p.source → AreAllCounted q steps
 counted_again p q steps are same source = record {
@@ -24,7 +24,7 @@ counted_again p q steps are same source = record {
 }
 
 -- if some steps of a journal count all batches of the publisher as published, later steps of this
--- journal do so too
+-- journal count them, too
 pub counted_by : {J : Type 0} (p : PublisherState J) (its new : KnownSteps) → new.source ≡ p.source → count_of its.steps ≡ length p.batches → BeginsWith (batches_of its.steps) p.batches
     → BeginsWith (batches_of new.steps) (batches_of its.steps) → count_of its.steps ≤ count_of new.steps → AreAllCounted p new
 counted_by p its new source count recorded begins later = record {
@@ -34,7 +34,7 @@ counted_by p its new source count recorded begins later = record {
 }
 
 -- if the steps `old` count all batches of the publisher as published, later steps of the same
--- journal do so too
+-- journal count them, too
 pub counted_later : {J : Type 0} (p : PublisherState J) (old new : KnownSteps) → AreAllCounted p old → new.source ≡ old.source → BeginsWith (batches_of new.steps) (batches_of old.steps)
     → count_of old.steps ≤ count_of new.steps → AreAllCounted p new
 counted_later p old new are source begins later = record {

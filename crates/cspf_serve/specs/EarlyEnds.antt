@@ -13,8 +13,8 @@ use Rattle.cspf_stream.specs.Lines.{refused_batch_line}
 use Rattle.cspf_work.specs.declared.serve_error.ServeError.{ServeError}
 use Rattle.cspf_work.specs.declared.serve_error.ServeError.TheVariants as serve_error
 
--- the line of a batch that isn't published by a fault of the batch itself; for other errors no line
--- is written
+-- the line of a batch that isn't published because of its own fault; for other errors no line is
+-- written
 abbrev pub IsOwnFaultLine : ApplyError → ℕ → List ℕ → Type 0
 IsOwnFaultLine error.Stopped number line = ⊥
 IsOwnFaultLine error.Exhausted number line = line ≡ refused_batch_line number refusal.Exhausted

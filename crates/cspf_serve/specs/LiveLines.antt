@@ -15,8 +15,8 @@ IsFaultShown next None line status = (line ≡ []) × (status ≡ 0)
 IsFaultShown None (Some why) line status = (line ≡ []) × (status ≡ 0)
 IsFaultShown (Some next) (Some why) line status = (line ≡ unpublished_line next.number why) × (status ≡ 2)
 
--- the lines of a live run: first the replies, then the line that counts the applied batches, and
--- then the line that says why the next batch wasn't applied
+-- The lines of a live run: first the replies, and then the line that counts the applied batches. If
+-- the next batch wasn't applied, a last line says why.
 abbrev pub AreLiveLines : List Answer → List NumberedChanges → ℕ → Option ApplyError → ℕ → List ℕ → Type 0
 AreLiveLines answers batches applied fault status lines =
     (replies : List ℕ) × (last : List ℕ) × AreAnswerLines answers replies

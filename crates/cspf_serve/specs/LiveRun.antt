@@ -86,12 +86,13 @@ pub record AreRecorded (batches : List NumberedChanges) (text : List ℕ) : Type
   pub end : IsEndOfLiveRun batches applied last begun status
   pub recorded : text ≡ flat_map batch_text (take applied batches) ++ begun
 
--- the journal's text of a live run that ends by an error: it is empty, or batches were applied, and
--- it is as `AreRecorded` says
+-- The journal's text of a live run that ends by an error. It is empty, or batches were applied and
+-- it is as `AreRecorded` says.
 abbrev pub AreRecordedAtError : List NumberedChanges → List ℕ → Type 0
 AreRecordedAtError batches text = (text ≡ []) ⊎ AreRecorded batches text
 
--- the same, given the records of the stream of updates
+-- the journal's text of a live run that ends by an error, given the records of the stream of
+-- updates
 abbrev pub IsRecordedAtError : Records → List ℕ → Type 0
 IsRecordedAtError updates text =
     (text ≡ []) ⊎ ((batches : List NumberedChanges) × AreBatchesOf false updates batches × AreRecorded batches text)

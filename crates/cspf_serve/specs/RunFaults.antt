@@ -25,8 +25,8 @@ IsStreamFault e = (e ≡ Memory) ⊎ (e ≡ Device)
 abbrev pub IsOpeningFault : RunError → Type 0
 IsOpeningFault e = (e ≡ Memory) ⊎ (e ≡ Places)
 
--- The workers didn't answer all requests. A worker had a fault, or the version of an answer can't
--- be right: `IsStray` holds of the index of its request and of this version.
+-- The workers didn't answer all requests. A worker had a fault, or an answer has an impossible
+-- version. In the second case `IsStray` holds of the index of the request and of this version.
 abbrev pub IsAnsweringFault : (ℕ → ℕ → Type 0) → RunError → Type 0
 IsAnsweringFault IsStray e =
     ((fault : ServeError) × (e ≡ Serve fault) × IsFaultOfWorker fault)

@@ -52,8 +52,8 @@ IsFreshLine steps client place (Ok (row.End number count)) line = Unit {0}
 IsFreshLine steps client place (Ok (row.Ask q)) line = IsFreshReply steps client place q line
 
 -- The line that answers the row with the number `place` is as `IsFreshLine` says: the version of a
--- reply is at least the one that was published before the row was read. Nothing is stated about the
--- client's states before and after the row.
+-- reply is at least the version that was published before the row was read. Nothing is stated about
+-- the client's states before and after the row.
 abbrev pub IsAnsweredFresh : List LogStep → ℕ → AnswersOf (Unit {0})
 IsAnsweredFresh steps client place s fields line t = IsFreshLine steps client place (row_of fields) line
 

@@ -128,8 +128,8 @@ abbrev pub IsServedStatus : {V : Type 0} → UpdatesState → List (ServedClient
 IsServedStatus t clients status =
     (IsAllAccepted t clients × (status ≡ 0)) ⊎ ((¬ IsAllAccepted t clients) × (status ≡ 2))
 
--- The published batches are the batches of the updates that were accepted. Their texts were
--- appended to the journal. Each client was answered from prefixes of these batches. The run returns
+-- The published batches are the accepted batches of the updates. Their texts were appended to the
+-- journal. The answers to each client are computed from prefixes of these batches. The run returns
 -- one list of the journal's steps. These steps record the batches, count them as published, and
 -- have the clients' readings of the count of published batches. The clients are numbered from 1.
 pub record IsServedRun {W J Q V : Type 0} (updates : Option (List ℕ)) (said : W → Option (List ℕ)) (recorded : J → Option (List ℕ)) (bytes : Q → Option (List ℕ)) (contents : V → Option (List ℕ)) (writer : W) (journal : J) (clients : List (Client Q V)) (served : Served W J V) : Type 0 where

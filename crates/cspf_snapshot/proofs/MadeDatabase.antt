@@ -24,8 +24,8 @@ has_links e d (l ∷ links) marks own = (
   has_links (after_change e (Put l)) d links marks own.1,
 )
 
--- Two options are equal, if the value of the first is also the value of the second, and the first
--- has a value whenever the second has one.
+-- Two options are equal if two facts hold. The value of the first option is also the value of the
+-- second. The first option has a value whenever the second one has a value.
 same_option : (o p : Option Link) → ((l : Link) → o ≡ Some l → p ≡ Some l)
     → ((l : Link) → p ≡ Some l → is_some o ≡ true) → o ≡ p
 same_option None None part has = refl

@@ -50,8 +50,9 @@ some_changes : (b : NumberedChanges) (bs : List NumberedChanges) → AreFullButL
     → 0 < length (changes_of (b ∷ bs))
 some_changes b bs full = omega (arith, length-changes_of-lt (b ∷ bs) full)
 
--- Two lists of batches are equal, if they have the same changes in the same order, if both are
--- numbered consecutively from `first`, and if in both each batch except the last one is full.
+-- Two lists of batches have the same changes in the same order. In both lists, the batches are
+-- numbered consecutively from `first`, and each batch except the last one is full. Then the lists
+-- are equal.
 same_batches : (first : ℕ) (bs cs : List NumberedChanges) → AreFullButLast bs → AreFullButLast cs
     → AreNumberedFrom first bs → AreNumberedFrom first cs → changes_of bs ≡ changes_of cs → bs ≡ cs
 same_batches first [] [] full also numbers others e = refl

@@ -30,8 +30,8 @@ mark_below_apart : (router other : ℕ) → nat_cmp router other ≡ Less
     → eq_by_cmp change_key_cmp (mark_key router) (mark_key other) ≡ false
 mark_below_apart router other below = rw below refl
 
--- if a router's address is less than the addresses of other routers, the change that marks this
--- router has a different key from the changes that mark those routers
+-- The address of a router is less than the addresses of other routers. Then the change that marks
+-- the router has a different key from the changes that mark the other routers.
 apart_above : (router : ℕ) (marks : List ℕ)
     → AllByRecursion (λ other. nat_cmp router other ≡ Less) marks
     → AllByRecursion (λ k. eq_by_cmp change_key_cmp (mark_key router) k ≡ false) (map key_changed (map marking marks))
@@ -53,8 +53,8 @@ apart_from_marks : (k : Key) (marks : List ℕ)
 apart_from_marks k [] = tt
 apart_from_marks k (router ∷ marks) = (link_apart k router, apart_from_marks k marks)
 
--- if the key of a link differs from the keys of other links, the change that puts the link has a
--- different key from the changes that put those links or mark routers
+-- The key of a link differs from the keys of other links. Then the change that puts the link has a
+-- different key from the changes that put the other links, and from the changes that mark routers.
 apart_from_all : (k : Key) (links : List Link) (marks : List ℕ)
     → AllByRecursion (λ j. eq_by_cmp key_cmp k j ≡ false) (map key_of links)
     → AllByRecursion (λ j. eq_by_cmp change_key_cmp (link_key k) j ≡ false) (map key_changed (changes_making links marks))

@@ -88,8 +88,8 @@ module _ (d : Database) (links : List Link) (marks : List ℕ) (lists : AreLists
     database = ap (after_changes no_links) changes ∙ making;
   }
 
--- if three facts about a value imply a fourth fact, and the three facts hold of the value of a
--- result, the fourth fact holds of it, too
+-- Three facts about a value imply a fourth fact. If the three facts hold of the value of a result,
+-- the fourth fact also holds of this value.
 pub if_ok_by : {A E : Type 0} (P Q S R : A → Type 0) → ((a : A) → P a → Q a → S a → R a)
     → (r : Result A E) → IfOk r P → IfOk r Q → IfOk r S → IfOk r R
 if_ok_by P Q S R gives (Ok a) p q s = gives a p q s

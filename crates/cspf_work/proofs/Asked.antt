@@ -1,5 +1,5 @@
--- The replies of a worker stay right when its asker (which computes its answers) learns of more
--- batches.
+-- The replies of a worker are still right after its asker (which computes its answers) learns of
+-- more batches.
 use Rattle.std.proofs.Common.{◌≡◌, ℕ, ◌-◌, ◌<◌, ◌≤◌, List, [], ◌∷◌, ◌++◌, length, take, Some, get_or, All, sym, ap, ◌∙◌, subst, arith, length-append, append_assoc, slice_get}
 use Rattle.std.proofs.lemmas.List.{take-append-le}
 use Rattle.std.proofs.lemmas.List.Elements.{All-push}
@@ -69,8 +69,8 @@ done_more_known requests before w v knows same is = record {
   versions = rw same is.versions;
 }
 
--- If the replies of a worker are right, and its asker (which computes its answers) learns of more
--- batches and answers one more request correctly, all replies are right.
+-- The replies of a worker are right. Its asker (which computes its answers) learns of more batches,
+-- and answers one more request correctly. Then all replies are right.
 pub done_next : (requests : List Request) (before : AskerState) (w v : Worker) (q : Request) (r : Reply)
     → KnowsNoLess w.asker v.asker → v.done.items ≡ w.done.items ++ r ∷ []
     → r.index < length requests → slice_get requests r.index ≡ Some q → IsAnswerAfter v.asker.batches q r.answer

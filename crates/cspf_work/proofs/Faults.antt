@@ -14,8 +14,8 @@ option_or-assoc : (a b c : Option ServeError) → option_or a (option_or b c) �
 option_or-assoc None b c = refl
 option_or-assoc (Some e) b c = refl
 
--- If a worker is added at the end of a list, the first fault is still the fault of an earlier
--- worker, if an earlier worker has one. Otherwise it is the fault of the new worker.
+-- A worker is added at the end of a list. If an earlier worker has a fault, the first fault is
+-- still the fault of an earlier worker. Otherwise it is the fault of the new worker.
 pub first_fault-push : (ws : List Worker) (w : Worker) → first_fault (ws ++ w ∷ []) ≡ option_or (first_fault ws) w.fault
 first_fault-push [] w = option_or-none w.fault
 first_fault-push (v ∷ ws) w = ap (option_or v.fault) (first_fault-push ws w) ∙ option_or-assoc v.fault (first_fault ws) w.fault

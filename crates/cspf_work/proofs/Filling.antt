@@ -36,7 +36,7 @@ indexes-append (x ∷ xs) ys = ap (λ l. x.index ∷ l) (indexes-append xs ys)
 pub times-append : (x : ℕ) (xs ys : List ℕ) → times x (xs ++ ys) ≡ times x xs + times x ys
 times-append x xs ys = sum_by-append (λ y. cond (eqb y x) 1 0) xs ys
 
--- if the number `y` is added at the end of a list, the list has `y` one more time, and each other
+-- the number `y` is added at the end of a list: it is in the list one more time, and each other
 -- number as often as before
 pub times-push : (x : ℕ) (xs : List ℕ) (y : ℕ) → times x (xs ++ y ∷ []) ≡ times x xs + cond (eqb y x) 1 0
 times-push x xs y = sum_by_push (λ z. cond (eqb z x) 1 0) xs y
@@ -262,8 +262,8 @@ left_next P before x left after all whole next holds =
     let here : All P (before ++ x ∷ after) = subst (All P) (sym same) holds in
     All-head P x after (all_back P before (x ∷ after) here)
 
--- if an element is added at the end of a list, its image is added at the end of the list of the
--- images under `f`
+-- if an element is added at the end of a list, its value under `f` is added at the end of the list
+-- of values
 pub map_push : {X Y : Type 0} (f : X → Y) (xs ys : List X) (x : X) → ys ≡ xs ++ x ∷ [] → map f ys ≡ map f xs ++ f x ∷ []
 map_push f xs ys x pushed = ap (map f) pushed ∙ map-append f xs (x ∷ [])
 

@@ -1,5 +1,5 @@
 -- Workers answer requests while a publisher applies batches. Afterwards each asker (which computes
--- a worker's answers) learns of the published batches. The answers stay right.
+-- a worker's answers) learns of the published batches. The answers are still right then.
 use Rattle.std.proofs.Common.{◌≡◌, ℕ, zero, suc, ◌+◌, ◌<◌, ◌≤◌, cond, eqb, List, [], ◌∷◌, length, length-append, Option, Some, get_or, All, Vec, inl, inr, refl, sym, ap, ◌∙◌, subst, arith, slice_get, slice_set, sum_by, unwrap_or, option_map}
 use Rattle.std.specs.Global.{Global}
 use Rattle.std.proofs.lemmas.Bool.{cases_Bool, cases_lt, eqb-true, eqb-false}

@@ -1,4 +1,4 @@
--- Defines the state after batches are applied in order, until one is refused or none is left.
+-- Defines the state after batches are applied in order, until one is refused or no batch is left.
 use Rattle.std.specs.Prelude.{◌≡◌, ℕ, ◌<◌, ◌≤◌, ◌⊎◌, List, ◌++◌, length, take, Option, Some, None, slice_get, flat_map, All, false}
 use Rattle.std.specs.Io.KnownBytes.{Appends}
 use Rattle.cspf_model.specs.Numbered.{NumberedChanges}
@@ -35,9 +35,9 @@ pub record IsAppliedUpTo {W : Type 0} (contents : W → Option (List ℕ)) (befo
   pub first : AreApplied contents before between (take applied batches)
   pub stop : IsEndOfApplying contents between after batches applied fault
 
--- Nothing happened, or batches were applied until one was refused or none was left. The texts of
--- the published batches were appended to the journal. If the journal failed, it also has a prefix
--- of the next batch's text, and the publisher is stopped.
+-- Nothing happened, or batches were applied until one was refused or no batch was left. The texts
+-- of the published batches were appended to the journal. If the journal failed, it also has a
+-- prefix of the next batch's text, and the publisher is stopped.
 abbrev pub IsAppliedInPart : {W : Type 0} → (W → Option (List ℕ)) → PublisherState W → PublisherState W → List NumberedChanges → Type 0
 IsAppliedInPart contents before after batches =
     (after ≡ before)

@@ -18,9 +18,9 @@ use std::thread::Threads;
 /// workers run at once, each in its own thread. If no thread can be made, they run one after the
 /// other.
 ///
-/// All askers are returned in order, with an error too. Each asker knows at least the batches that
-/// it knew before. If several workers have faults, the fault of the first of these workers is
-/// returned.
+/// All askers are returned in order, also if there is an error. Each asker knows at least the
+/// batches that it knew before. If several workers have faults, the fault of the first of these
+/// workers is returned.
 pub fn answer_all<G: Gate + Sync, R: Threads + Sync>(
     rt: &R,
     alloc: Global,

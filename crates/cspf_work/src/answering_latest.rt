@@ -16,8 +16,8 @@ use std::thread::Threads;
 /// Then requests are answered as by `answer_all`, at the last published version. If an answer has a
 /// later version, the call returns the error `Unaccounted`.
 ///
-/// The askers have to be those that `open` made for this publisher. All of them are returned in
-/// order, with an error too, and know the published batches.
+/// The askers have to be the askers that `open` made for this publisher. All of them are returned
+/// in order, also if there is an error, and know the published batches.
 pub fn answer_latest<W: Write, G: Gate + Sync, R: Threads + Sync>(
     rt: &R,
     alloc: Global,

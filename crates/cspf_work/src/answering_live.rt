@@ -26,8 +26,8 @@ use std::sync::Wait;
 use std::thread;
 use std::thread::Threads;
 
-/// Applies batches in order, until one is refused or none is left. Returns the number of applied
-/// batches, and why the next batch was refused, if it was.
+/// Applies batches in order, until one is refused or no batch is left. Returns the number of
+/// applied batches, and why the next batch was refused, if it was.
 fn apply_all<W: Write, R: Wait>(
     rt: &R,
     alloc: Global,
@@ -158,14 +158,14 @@ fn run_lent<W: Write, G: Gate + Sync, R: Threads + Wait + Sync>(
 }
 
 /// Answers requests as `answer_all` does. Meanwhile the calling thread applies batches in order,
-/// until one is refused or none is left. Afterwards each asker (the object that computes a worker's
-/// answers) learns of the published batches. If an answer has a version that isn't published, the
-/// call returns the error `Unaccounted`.
+/// until one is refused or no batch is left. Afterwards each asker (the object that computes a
+/// worker's answers) learns of the published batches. If an answer has a version that isn't
+/// published, the call returns the error `Unaccounted`.
 ///
-/// The askers have to be those that `open` made for this publisher. An error also returns the
-/// publisher, and all askers in order. With an error, either nothing has happened, or the batches
-/// were applied until one was refused or none was left. In the second case a fault of the journal
-/// may have stopped the publisher, and each asker has learnt of the published batches.
+/// The askers have to be the askers that `open` made for this publisher. If there is an error, the
+/// publisher and all askers are returned, too. Then either nothing has happened, or the batches
+/// were applied until one was refused or no batch was left. In the second case a fault of the
+/// journal may have stopped the publisher, and each asker has learnt of the published batches.
 pub fn run_live<W: Write, G: Gate + Sync, R: Threads + Wait + Sync>(
     rt: &R,
     alloc: Global,

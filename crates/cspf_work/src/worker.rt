@@ -20,8 +20,8 @@ pub(crate) struct Worker<'a> {
     pub(crate) fault: Option<ServeError>,
 }
 
-/// The results of workers: all askers (the objects that computed the answers), the answers of each
-/// worker, and the first worker's fault among the workers that had one.
+/// The results of workers: all askers (the objects that computed the answers), and the answers of
+/// each worker. If workers had faults, `fault` is the fault of the first of these workers.
 #[derive(Drop)]
 pub(crate) struct Results {
     pub(crate) askers: Vec<Asker>,

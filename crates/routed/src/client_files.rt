@@ -90,8 +90,8 @@ fn add_client<'a>(
     add(rt, all, names.replies, true)
 }
 
-/// Adds a file to `all`, the files of the run. The file is refused if `is_shared` is true of it and
-/// an earlier file: they have the same path, or they are the same file and the run writes it.
+/// Adds a file to `all`, the files of the run. The file is refused if `is_shared` is true of this
+/// file and an earlier one. Then both have the same path, or both are one file that the run writes.
 fn add<'a>(
     rt: &HostRuntime,
     all: &mut Vec<Named<'a>>,

@@ -83,9 +83,9 @@ pub(crate) fn flushed<W: Write>(writer: &mut Noted<W>, ran: Ran) -> Ran {
     }
 }
 
-/// Flushes standard output, and returns the result of the run. If the run stopped because a device
-/// failed, and a call on standard output failed, the result also names standard output, if it named
-/// no device before.
+/// Flushes standard output, and returns the result of the run. The result of a run that stopped may
+/// not name the failed device yet. If a call on standard output failed, standard output is named
+/// then.
 pub(crate) fn finish(out: &mut Output<'_>, ran: Ran) -> Ran {
     match flushed(out, ran) {
         Ok(status) => Ok(status),

@@ -12,7 +12,7 @@ const LIMITS: &str = "/proc/self/limits";
 /// number of bytes, or `unlimited`.
 const FILE_SIZE: &str = "Max file size";
 
-/// The most bytes that a file of this process may have, if the system gives that limit.
+/// The most bytes that a file of this process may have, or `None` if the system doesn't tell.
 fn most_bytes(rt: &HostRuntime) -> Option<u64> {
     match fs::read_to_string(rt, LIMITS) {
         Ok(limits) => limit_in(limits.as_str()),

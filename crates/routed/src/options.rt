@@ -24,7 +24,7 @@ pub const KEEP: &str = "keep";
 /// The flag to skip the rows after the last whole batch.
 pub const ACCEPT_TORN: &str = "accept-torn";
 
-/// The flag to say why a run stops.
+/// The flag with which a run writes why it stops.
 pub const EXPLAIN: &str = "explain";
 
 /// The option that gives the paths of the two files of a client.
@@ -65,7 +65,7 @@ pub enum CommandOption {
     Trees,
     /// Whether to skip the rows after the last whole batch of a journal.
     AcceptTorn,
-    /// Whether to say why a run stops.
+    /// Whether the run writes why it stops.
     Explain,
 }
 
@@ -138,7 +138,7 @@ fn named<'a>(alloc: Global, name: &'static str, help: &'static str) -> Arg<'a> {
     Arg::new(alloc, name).long(name).help(help)
 }
 
-/// Makes the option required, and gives its value a name for help.
+/// Makes the option required, and sets the name that help shows for its value.
 fn required<'a>(arg: Arg<'a>, value: &'static str) -> Arg<'a> {
     arg.value_name(value).required(true)
 }

@@ -181,7 +181,7 @@ pub(crate) fn explain_rows(call: &Call<'_, '_>, options: &[CommandOption]) {
     }
 }
 
-/// Writes which row of an option's file is refused, if one is. Returns whether the next file has to
+/// If a row of an option's file is refused, writes which row. Returns whether the next file has to
 /// be read too.
 fn is_accepted(call: &Call<'_, '_>, option: &'static str) -> bool {
     let is_journal = option != REQUESTS;

@@ -147,7 +147,7 @@ fn explain_ends(rt: &HostRuntime, words: &[&str], clients: &[ServedClient<Closin
     }
 }
 
-/// If a client ended before its rows ended, writes why: a line was too long, a row had a quotation
+/// If a client ended before its rows ended, writes why. A line was too long, a row had a quotation
 /// mark, or there was an error. An error of a file is written with the file's path.
 fn explain_end(rt: &HostRuntime, number: usize, word: &str, client: &ServedClient<Closing>) {
     let Err(error) = client.end else {

@@ -72,7 +72,7 @@ fn time<R: AllocGlobal + Clock + Print + Threads + Wait + Sync>(
     }
 }
 
-/// The number that an argument gives.
+/// Reads an argument as a number.
 fn number(word: &str) -> io::Result<usize> {
     word.parse().map_err(|_| refused())
 }

@@ -32,10 +32,10 @@ use std::thread::Threads;
 /// Publishes the batches of updates to a journal, while `workers` workers answer the requests of a
 /// stream: `IsLiveRun`. The workers keep as many trees of lower bounds as the askers of `open`.
 /// Both streams are read whole before any batch is published. The status is 2 if anything was
-/// refused, and 0 otherwise. The journal's writer is returned, with an error too. This writer got
-/// the text of each published batch. If the journal failed, it also got a prefix of the next
-/// batch's text. If an error is returned, the contents of the other writer are unspecified. Neither
-/// writer is flushed.
+/// refused, and 0 otherwise. The journal's writer is always returned, also if there is an error.
+/// This writer got the text of each published batch. If the journal failed, it also got a prefix of
+/// the next batch's text. If an error is returned, the contents of the other writer are
+/// unspecified. Neither writer is flushed.
 pub fn run_live_rows<
     R: Read + Drop,
     Q: Read + Drop,

@@ -50,7 +50,7 @@ pub enum ServedError {
 /// The result of a run over updates and clients.
 pub struct Served<W, J, V> {
     /// 0 if all rows and batches of all streams were accepted, and no change is open (without its
-    /// `end` row) at the end. Otherwise 2.
+    /// `end` row) at the end. Otherwise the status is 2.
     pub status: u8,
     /// How the stream of updates ended.
     pub updates: Result<(), StreamError>,

@@ -114,8 +114,8 @@ impl<J: Write, R: Wait> Answering<R> for Updates<J> {
 
     ghost fails = { λ fault. IsUpdateFailed J.contents };
 
-    // A row adds at most 1 to the number of open changes (without their `end` row), at most 1 to
-    // the number of answers, and at most 1 to the number of refusals.
+    // A row adds at most 1 to each of three numbers: of open changes (without their `end` row), of
+    // answers, and of refusals.
     ghost may_stand = { λ place k. (k.changes.count < place) × (k.answers < place) × (k.refused < place) };
 
     fn answer(

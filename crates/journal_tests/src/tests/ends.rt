@@ -76,8 +76,8 @@ fn at_row(error: Option<RowError>, row: u32) -> RequestsError {
     }
 }
 
-/// Whether reading ends with this error at the row `last`, and no later row is read. This row has
-/// the number `place`, counted from 1.
+/// Whether reading ends with this error at the row `last`, and no later row is read. The row `last`
+/// has the number `place`, counted from 1.
 fn end_at(alloc: Global, before: u32, last: &[u8], place: u32, error: RequestsError) -> bool {
     let mut rows = RowByRow::new(ASK, before, last);
     let found = read_requests(alloc, &mut rows).err();

@@ -52,8 +52,8 @@ const ASKERS: usize = 8;
 /// The number of requests that each asker (which computes the answers) answers.
 const ASKS: u64 = 12_500;
 
-/// The number of requests that all askers together answer between two batches. The publisher waits
-/// for this many before each next batch.
+/// The number of requests between two batches. Before each next batch, the publisher waits until
+/// all askers together have answered this many more requests.
 const ASKS_A_BATCH: u64 = 400;
 
 /// The number of requests that an asker (which computes the answers) answers before it waits for
@@ -223,8 +223,8 @@ fn wait_for(count: &AtomicU64, least: u64) {
 }
 
 /// Lets the client's asker (which computes the answers) answer the request once, and returns the
-/// version of the answer. An answer is right if its version isn't lower than the version of the
-/// answer before, and its outcome is the one that the search finds in a table at its version.
+/// version of the answer. A right answer has at least the version of the answer before. Its outcome
+/// is the one that the search finds in a table at its version.
 fn ask_once(alloc: Global, shared: &Shared<'_>, client: &mut Client) -> Result<u32, Fault> {
     let before = client.version;
     match client.asker.ask(alloc, shared.request) {

@@ -131,8 +131,8 @@ const TARGETS: &[(u32, [bool; 3], bool)] = &[
     (9, [false, false, false], false),
 ];
 
-// Whether the values of `targets` are right for this router: they say which of the legs 0, 1 and 2
-// (parts of the route between hops) may end at it.
+// Whether `targets` is right for this router. It says of the legs 0, 1 and 2 (parts of the route
+// between hops) whether the leg may end at the router.
 fn is_target(table: &Table, router: Addr, targets: [bool; 3]) -> Result<bool, Fail> {
     let strict = request(7, (0, 0, 0), false)?;
     let first = member(table, router, 0, &strict) == targets[0];

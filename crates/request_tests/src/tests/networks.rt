@@ -17,9 +17,9 @@ pub(super) enum Edit {
     /// Puts the link from the first router to the second, in the groups of this mask, with this
     /// unreserved bandwidth at each priority.
     Put(u32, u32, u32, [u64; 8]),
-    /// Puts the link from 1.1.1.1 to 3.3.3.3, but with another end: the link ends at the first
-    /// router given here. Its remote address is that of the interface of 3.3.3.3 that leads to the
-    /// second router given here.
+    /// Puts the link from 1.1.1.1 to 3.3.3.3, but makes it end at the first router given here. Its
+    /// remote address is the address of the interface of 3.3.3.3 that leads to the second router
+    /// given here.
     Turn(u32, u32),
     /// Removes the link from the first router to the second.
     Drop(u32, u32),

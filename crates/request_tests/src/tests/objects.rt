@@ -124,8 +124,8 @@ fn cut_objects(rt: HostRuntime) -> Result<(), Fail> {
     Ok(())
 }
 
-/// The error when an object of one strict hop has the value `byte` at the offset `at`. The result
-/// is `None` if this object is read.
+/// The error of an object of one strict hop after its byte at the offset `at` is set to `byte`. The
+/// result is `None` if this object is read.
 fn refusal_of_one(at: usize, byte: u8) -> Option<EroError> {
     match (at, byte) {
         (0, 0) | (1, 12) | (2, 20) | (3, 1) | (4, 1 | 129) | (5, 8) | (10, 0..=32) => None,

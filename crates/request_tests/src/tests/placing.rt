@@ -119,9 +119,9 @@ fn moves_and_releases(rt: HostRuntime) {
 }
 
 /// Places 700 bytes per second through 2.2.2.2 at holding priority 4. Returns whether the book
-/// counts the right bandwidths. On the first link they are 700 at priority 4 and 0 at priority 3.
-/// On the second link they are 700 at priority 255, which is counted as priority 7. On the reverse
-/// of the first link they are 0.
+/// counts the right bandwidths. The counts on the first link are 700 at priority 4 and 0 at
+/// priority 3. The count on the second link is 700 at priority 255, which the book treats as
+/// priority 7. The count on the reverse of the first link is 0.
 fn is_counted(alloc: Global, book: &mut Book) -> bool {
     let is_placed = placed(alloc, book, 1, 700, b"2.2.2.2/32s", 4) == Some(Ok(2));
     let first = Addr::new(ONE);

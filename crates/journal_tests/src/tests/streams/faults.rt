@@ -10,7 +10,7 @@ const ROWS: [&[u8]; 3] = [b"a\n", b"end,1,0\n", b"b\n"];
 
 const ANSWERS: &[u8] = b"row 1 refused: kind\nrow 3 refused: kind\n";
 
-/// A fault that stops a stream, and what is read and written before.
+/// A fault that stops a stream, and the numbers of bytes written and rows read before it.
 struct Fault {
     /// The number of bytes that the writer accepts before a write fails.
     most: usize,

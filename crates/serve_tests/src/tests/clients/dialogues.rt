@@ -40,7 +40,7 @@ fn requests_and_other_rows(rt: HostRuntime) -> Result<(), Fail> {
     Ok(())
 }
 
-/// If a batch isn't accepted, version 0 stays published, and version 0 has no routers.
+/// If a batch isn't accepted, version 0 is still the published version. Version 0 has no routers.
 #[test]
 fn version_0(rt: HostRuntime) -> Result<(), Fail> {
     let second = link_batch(rt.alloc(), 2)?;

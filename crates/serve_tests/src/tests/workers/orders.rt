@@ -24,9 +24,9 @@ use std::thread::Threads;
 /// The number of bytes that are written to the journal for a batch of a link and its reverse.
 const TEXT: usize = 172;
 
-/// A gate (callbacks before and after each request). In it each worker waits, before or after it
-/// computes an answer, until the first batch is published. The publisher doesn't publish the first
-/// batch until a worker waits.
+/// A gate (callbacks before and after each request). In one of its callbacks each worker waits,
+/// before or after it computes an answer, until the first batch is published. The publisher doesn't
+/// publish the first batch until a worker waits.
 #[derive(Drop)]
 struct Order {
     /// Whether workers wait before they compute an answer. If false, they wait after it.
