@@ -6,8 +6,8 @@
 //!
 //! The journal and the list of batches are those of `cspf_journal`. In that crate,
 //! `specs/Histories.antt` says which lists of batches may be published, and
-//! `specs/KnownBatches.antt` says which batches a publisher or an asker knows. A `Told` also has
-//! known batches, and askers learn of them from it. In this crate, `specs/ReplicaRule.antt` has the
+//! `specs/KnownBatches.antt` says which batches a publisher or an asker knows. A `Told` is a value
+//! from which askers learn of published batches. In this crate, `specs/ReplicaRule.antt` has the
 //! rule of the replicas, which is an invariant, and the effect of each kind of step.
 #![tactic(auto)]
 

@@ -93,8 +93,8 @@ module _ (accept_torn : Bool) (published : List NumberedChanges) (unfit : Option
   batch_begun kept asked (Ok status) read of_rows begun = tt
   batch_begun kept asked (Err e) read of_rows begun = begun_of kept asked read of_rows begun
 
--- A run ends by an error, and it wrote at most the line that refuses a stream, or a prefix of that
--- line. Then `IsBegunRun` holds of the run.
+-- A run ends by an error, and it wrote at most a prefix of the line that refuses a stream. Then
+-- `IsBegunRun` holds of the run.
 pub run_refused_begun : (accept_torn : Bool) (kept asked : Option (List ℕ)) (s : EarlyEnd) (r : Result ℕ RunError) (old new : Option (List ℕ))
     → IfRefused s (λ line. IfSome kept (λ journal. IfSome asked (λ requests. AreStreamsRefused accept_torn (rows_of journal) (rows_of requests) line)))
     → OnErr r (IsRefusalBegun s old new) → OnErr r (IsBegunRun accept_torn kept asked old new)

@@ -60,12 +60,12 @@ version_front bs made old mid new numbered within before begun =
     front_in_list (λ (b : NumberedChanges). version_line b.number) bs made (get_or bs made none) none old mid new within refl before
     (subst (λ (n : ℕ). WritesFront mid new (version_line n)) (sym number) begun)
 
--- the number of the last batch is `first` plus the number of batches before it
+-- the last batch has the number `first` plus the count of the batches before it
 last_number : (first : ℕ) (bs : List NumberedChanges) (b : NumberedChanges) → AreNumberedFrom first (bs ++ (b ∷ [])) → b.number ≡ first + length bs
 last_number first [] b numbered = let is = numbered.0 in omega arith
 last_number first (x ∷ bs) b numbered = let is = last_number (first + 1) bs b numbered.1 in omega arith
 
--- if a batch has the next number and a line refuses it, the batch doesn't fit
+-- if a batch with the next number is refused by a line, this batch doesn't fit
 shown_unfit : {W : Type 0} (contents : W → Option (List ℕ)) (p after : PublisherState W) (b : NumberedChanges) (e : ApplyError) (line : List ℕ)
     → b.number ≡ length p.batches + 1 → length p.batches + 1 ≤ 1000000 → IsApplyError contents p after b e → IsOwnFaultLine e b.number line
     → (why : Refusal) × IsRefusal (database_after p.batches) b why × (line ≡ refused_batch_line b.number (refusal.Unfit why))

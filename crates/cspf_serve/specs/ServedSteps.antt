@@ -32,10 +32,9 @@ abbrev pub AreNumberedSeats : ℕ → List ClientSeat → Type 0
 AreNumberedSeats n [] = ⊤
 AreNumberedSeats n (seat ∷ seats) = (seat.number ≡ n) × AreNumberedSeats (suc n) seats
 
--- There are `count` seats. A seat has all that the thread of one client needs. The askers of the
--- seats (which answer requests) are all of one publisher, and the seats are numbered from 1. The
--- lists for the states and the results of the clients are empty, and have capacity for `count`
--- clients.
+-- There are `count` seats, numbered from 1. A seat has all that the thread of one client needs. The
+-- seats have askers of one publisher, which answer requests. The lists for the states and the
+-- results of the clients are empty, and have capacity for `count` clients.
 pub record AreSeats {Q V : Type 0} (source : Book) (count : ℕ) (made : Seats Q V) : Type 0 where
   pub seats : All (IsSeat source) made.seats.items
   pub numbers : AreNumberedSeats 1 made.seats.items

@@ -37,9 +37,9 @@ pub record AreNowCounted (batches : List NumberedChanges) (before after : List L
   pub later : IsPrefix before after
   pub counted : length batches ≤ count_of after
 
--- The state after a fault kept a batch from being published. If memory was refused, the journal is
--- unchanged. If the journal failed, it has a prefix of the batch's text, and nothing more is
--- written to it.
+-- The state after a fault. The fault kept a batch from being published. If memory was refused, the
+-- journal is unchanged. If the journal failed, it has a prefix of the batch's text, and nothing
+-- more is written to it.
 abbrev pub IsLeftByFault : UpdatesState → ℕ → ApplyError → UpdatesState → Type 0
 IsLeftByFault s number error.Stopped t = ⊥
 IsLeftByFault s number error.Exhausted t = ⊥

@@ -20,7 +20,7 @@ fn assert_case(rt: &impl Abort, name: &str, number: usize, holds: bool) {
     assert!(rt; holds, "{name} {number}");
 }
 
-// Whether the text is the wanted text. It isn't if memory for it was refused.
+// Whether the text is the wanted text. If memory for the text was refused, the result is false.
 fn is_text(text: Result<String, AllocError>, wanted: &str) -> bool {
     match text {
         Ok(text) => text.as_str() == wanted,

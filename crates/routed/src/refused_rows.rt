@@ -130,8 +130,8 @@ fn refused_row<R: Read + Drop>(alloc: Global, file: R, is_journal: bool) -> Opti
     refused_of(&mut rows, &mut fields, is_journal)
 }
 
-/// The refused row of these rows. It is the first refused row, or the first row beyond the limit if
-/// a journal has too many rows.
+/// Finds the refused row. It is the first refused row, or the first row beyond the limit if a
+/// journal has too many rows.
 fn refused_of<R: Read>(
     rows: &mut Reader<R>,
     fields: &mut ByteRecord,

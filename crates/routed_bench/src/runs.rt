@@ -1,7 +1,7 @@
 //! The timed runs of publishers.
 //!
 //! First each batch after the batches of the network is published and timed. Then 1, 2 or 4 askers
-//! run at once, while these batches are published. Each of them asks all requests. At last the
+//! run at once, while these batches are published. Each of them asks all requests. Finally the
 //! requests are divided among 1, 2 or 4 workers, in two ways. In fixed shares, each of n workers
 //! asks every nth request. By draws, each worker draws its next request.
 

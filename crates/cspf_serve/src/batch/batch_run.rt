@@ -47,8 +47,7 @@ struct Streams<R, Q> {
 /// bounds as the askers of `open`. Only one batch at a time is in memory. Both streams are read
 /// before the first line is written. The status is 2 if anything was refused, and 0 otherwise. If
 /// an error is returned, the writer has a prefix of the lines of a run without an error, perhaps
-/// none of them. Such a run may answer only some first requests: `IsBatchRunInPart`. The writer
-/// isn't flushed.
+/// none of them: `IsBatchRunInPart`. The writer isn't flushed.
 pub fn run_batch<
     R: Read + Drop,
     Q: Read + Drop,
