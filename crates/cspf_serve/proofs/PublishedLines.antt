@@ -144,8 +144,9 @@ of_bytes None Holds is = tt
 of_bytes (Some text) Holds is = is
 
 module _ {R : Type 0} (accept_torn : Bool) (rem : R → Option (List ℕ)) (reader : JournalReader R) (bytes : Option (List ℕ)) where
-  -- The result of publishing is described for any records that the journal's reader may have read.
-  -- If the bytes of the journal are known, it also holds of the records in these bytes.
+  -- If the published batches are right for any records that the journal's reader may have read,
+  -- they are right for the records in the journal's bytes. Nothing is stated if these bytes aren't
+  -- known.
   pub read_of_bytes : (published : List NumberedChanges) (r : Result (Option JudgeLine) EarlyEnd) → HasGiven rem (option_map rows_of bytes) reader []
       → IfOk r (λ unfit. (all : Option (List (List (List ℕ)))) → HasGiven rem all reader []
       → IfSome all (λ rows. (batches : List NumberedChanges) × AreBatchesOf accept_torn rows batches × ArePublishedOrRefused batches published unfit))

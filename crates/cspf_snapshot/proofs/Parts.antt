@@ -27,8 +27,8 @@ IsOwnChange d (Node router transit) = transit ≡ false
 abbrev pub AreOwnChanges : Database → List Change → Type 0
 AreOwnChanges d cs = AllByRecursion (IsOwnChange d) cs
 
--- applying two concatenated lists of changes is applying the first list, and then the second list
--- to the result
+-- to apply two concatenated lists of changes is to apply the first list, and then to apply the
+-- second list to the result
 pub after_changes-append : (d : Database) (bs cs : List Change)
     → after_changes d (bs ++ cs) ≡ after_changes (after_changes d bs) cs
 after_changes-append d [] cs = refl

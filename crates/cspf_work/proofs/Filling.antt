@@ -194,7 +194,7 @@ all_lists P [] all = All-nil (λ (l : Vec Reply Global). All P l.items)
 all_lists P (l ∷ ls) all =
     All-cons (λ (v : Vec Reply Global). All P v.items) l ls (all_front P l.items (replies ls) all) (all_lists P ls (all_back P l.items (replies ls) all))
 
--- an index is in all lists together as often as the sum of its counts in the single lists says
+-- the count of an index in all lists together is the sum of its counts in the single lists
 pub times-replies : (x : ℕ) (lists : List (Vec Reply Global)) → times x (indexes (replies lists)) ≡ times_in x lists
 times-replies x [] = refl
 times-replies x (l ∷ ls) =

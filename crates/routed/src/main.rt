@@ -1,6 +1,6 @@
-//! `routed` answers route requests over a traffic engineering database. `command_line.rt` finds the
-//! command that is named: `solve`, `batch`, `live`, `serve`, `snapshot`, `audit` or `book`. Each
-//! command has a source file with its name.
+//! `routed` answers route requests over a traffic engineering database. `command_line.rt` reads the
+//! command line, which names one of the commands `solve`, `batch`, `live`, `serve`, `snapshot`,
+//! `audit` and `book`. Each command has a source file with its name.
 //!
 //! The status is 0 if nothing was refused, 1 if the command line was refused, and 2 if something
 //! else was refused or the audit found a fault. The status is 3 if memory was refused or a device

@@ -7,8 +7,9 @@ use std::process::Abort;
 use std::test::Fail;
 
 /// Rows. Each row has a list of pairs: a length in bytes, and words. The words of a pair are for
-/// the prefixes of the row from this length up to, but without, the length of the next pair. Such a
-/// prefix is refused with these words. If the words are `read`, it is read as a row.
+/// the prefixes of the row that have at least the pair's length and are shorter than the next
+/// pair's length. Such a prefix is refused with these words. If the words are `read`, it is read as
+/// a row.
 const ROWS: &[(&[u8], &[(usize, &str)])] = &[
     (
         b"put,1.1.1.1,10.0.12.1,2.2.2.2,10.0.12.2,10,0x1,1000,1000,1000,1000,1000,1000,1000,1000",

@@ -1,6 +1,6 @@
-//! Tests an asker, the object that computes the answers. At each version it answers so many
-//! requests that it makes a tree of lower bounds for its search. Some batches change only
-//! unreserved bandwidths, and each other batch makes a cheaper route.
+//! Tests an asker, the object that computes the answers. At each version it answers enough requests
+//! to make a tree of lower bounds for its search. Some batches change only unreserved bandwidths,
+//! and each other batch makes a cheaper route.
 
 use super::fixtures::{ONE, Said, TWO, assert_case, batch, is_same, opened, said_by};
 use cspf_addr::{Addr, Hops, Mask};
@@ -18,8 +18,8 @@ const THREE: u32 = 0x03030303; // 3.3.3.3
 
 const FOUR: u32 = 0x04040404; // 4.4.4.4
 
-/// The number of answers that an asker (the object that computes them) gives at each version. After
-/// so many answers the asker has made a tree of lower bounds and uses it.
+/// The number of answers that an asker (the object that computes them) gives at each version. It is
+/// large enough that the asker makes a tree of lower bounds and uses it.
 const ASKS: usize = 9;
 
 /// The two routers of a circuit, and the address of the first router's interface. The address of

@@ -160,8 +160,8 @@ fn assert_targets(rt: &impl Abort, table: &Table) -> Result<(), Fail> {
     Ok(())
 }
 
-// The prefix of the hop covers an address of router 2, and of no other router. It is the address of
-// its interface on a link that the request can't use.
+// The prefix of the hop covers an address of router 2, and of no other router. This is the address
+// of router 2's interface on a link that the request can't use.
 #[test]
 fn targets_of_legs(rt: HostRuntime) -> Result<(), Fail> {
     let (there, third) = (two_links()?, Change::Put(link(3, 0x0a00_0003, 1)?));
