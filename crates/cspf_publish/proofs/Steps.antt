@@ -49,7 +49,8 @@ HasOnePublisher-set views seat v w at one was i j x y ex ey px py =
     (at_set views seat j w y ey))
     (at_set views seat i w x ex)
 
--- if no view of the list is the publisher's, at most one view is after one of them is replaced
+-- if no view of a list is the publisher's, at most one view is the publisher's after one view is
+-- replaced
 HasOnePublisher-first : (views : List SeatView) (seat : ℕ) (w : SeatView) → ((j : ℕ) (u : SeatView) → get_elem? views j ≡ some u → IsPublisher u → ⊥) → HasOnePublisher (set views seat w)
 HasOnePublisher-first views seat w none i j x y ex ey px py =
     ⊎_elim

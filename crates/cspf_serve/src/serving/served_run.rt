@@ -304,7 +304,7 @@ fn close_run<W, J: Write, Q: Read + Drop, V: Replies + Drop, T: Wait>(
 }
 
 /// Publishes updates as they come in, and writes each batch to the journal first. Each client has
-/// its own asker and thread, which answer its requests. It waits neither for another client nor for
+/// its own asker and thread, which answer its requests. No client waits for another client or for
 /// the publisher. The publisher and the askers together keep at most `trees` trees of lower bounds.
 /// The run ends when the updates and all clients have ended: `IsServedRun`.
 ///
