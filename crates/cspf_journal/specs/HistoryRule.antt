@@ -1,5 +1,5 @@
--- Defines the rule of a journal's steps, which is an invariant. Also defines the facts that the
--- thread which makes a step knows after it, for each kind of step.
+-- Defines the rule of a journal's steps, which is an invariant. Also defines, for each kind of
+-- step, the facts that a thread knows after it makes such a step.
 use Rattle.std.specs.Prelude.{ℕ, ◌≡◌, ◌==◌, ◌≤◌, true, List, [], ◌∷◌, ◌++◌, length, MatchBool}
 use Rattle.logbook.specs.Pages.{Cell, Step, View, Book, Named}
 use Rattle.cspf_journal.specs.Histories.{IsHistory}

@@ -48,6 +48,6 @@ pub record KnownSteps : Type 0 where
   pub steps : List LogStep
   pub source : Book
 
--- the steps `after` are the steps `before`, perhaps other steps, and then this step
+-- `after` consists of the steps `before`, then perhaps other steps, and then this step
 abbrev pub AreStepsUpTo : List LogStep → List LogStep → LogStep → Type 0
 AreStepsUpTo before after step = (others : List LogStep) × (after ≡ (before ++ others) ++ step ∷ [])

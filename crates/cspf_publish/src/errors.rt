@@ -12,7 +12,7 @@ use thiserror::Error;
 /// Why no publisher is opened.
 #[derive(Clone, Copy, Debug, PartialEq, Eq, Error)]
 pub enum OpenError {
-    /// The number of askers (which answer requests) isn't between 1 and 64.
+    /// The number of askers (which answer requests) is 0 or above 64.
     #[error("the number of askers is not 1 to {most}", most = MOST_ASKERS)]
     Askers,
     /// Out of memory.

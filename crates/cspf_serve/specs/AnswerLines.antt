@@ -1,4 +1,4 @@
--- Private: the reply lines that answers make.
+-- Private: the reply lines for a list of answers.
 use Rattle.std.specs.Prelude.{◌≡◌, ℕ, List, [], ◌∷◌, ◌++◌}
 use Rattle.cspf_ero.specs.ReplyLine.{IsReply}
 use Rattle.cspf_model.specs.Outcome.{answer_of}

@@ -71,8 +71,8 @@ IsBatchRun accept_torn journal requests lines status =
     ⊎ ((batches : List NumberedChanges) × AreBatchesOf accept_torn journal batches
     × AreAnsweredTogether batches requests lines status)
 
--- The lines that a run wrote if it ended early. They are all lines of a run that refuses something,
--- or the lines of the batches and the replies to a prefix of the requests.
+-- The lines that a run wrote before it ended early. They are the complete lines of a run that
+-- refuses something, or the lines of the batches and the replies to a prefix of the requests.
 abbrev pub IsBatchRunInPart : Bool → Records → Records → List ℕ → Type 0
 IsBatchRunInPart accept_torn journal requests lines =
     IsBatchRun accept_torn journal requests lines 2

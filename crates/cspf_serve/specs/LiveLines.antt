@@ -8,8 +8,8 @@ use Rattle.cspf_serve.specs.LiveWords.{applied_line, unpublished_line}
 use Rattle.cspf_serve.specs.declared.line.Line.{Line}
 use Rattle.cspf_serve.specs.LineTexts.{line_text}
 
--- `line` and `status` report a refused batch, if there is one: the line of its refusal and 2, or no
--- line and 0
+-- If a batch was refused, `line` is the line that refuses it, and `status` is 2. Otherwise `line`
+-- is empty, and `status` is 0.
 abbrev pub IsFaultShown : Option NumberedChanges → Option ApplyError → List ℕ → ℕ → Type 0
 IsFaultShown next None line status = (line ≡ []) × (status ≡ 0)
 IsFaultShown None (Some why) line status = (line ≡ []) × (status ≡ 0)

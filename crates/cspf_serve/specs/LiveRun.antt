@@ -47,9 +47,9 @@ abbrev pub begun_text : NumberedChanges → ApplyError → List ℕ
 begun_text b (error.Journal written) = take written (batch_text b)
 begun_text b why = []
 
--- How a live run ends: the line after the line of counts, the journal's text after the published
--- batches, and the status. All batches are published, or the first batch after the published
--- batches is refused.
+-- How a live run ends: the line after the line that counts the published batches, the journal's
+-- text after the published batches, and the status. All batches are published, or the first batch
+-- after the published batches is refused.
 abbrev pub IsEndOfLiveRun : List NumberedChanges → ℕ → List ℕ → List ℕ → ℕ → Type 0
 IsEndOfLiveRun batches applied line text status =
     ((applied ≡ length batches) × (line ≡ []) × (text ≡ []) × (status ≡ 0))

@@ -17,8 +17,8 @@ use Rattle.cspf_work.specs.Served.{IsAnswerWithin, KnowsNoLess, IsFaultOfWorker}
 abbrev pub indexes : List Reply → List ℕ
 indexes done = map (λ r. r.index) done
 
--- the reply of a worker is right, if its asker (which computes its answers) knew the batches
--- `before` at the start and now knows the batches `known`
+-- The reply is right for a worker. The worker's asker (which computes its answers) knew the batches
+-- `before` at the start and now knows the batches `known`.
 pub record IsDone (requests : List Request) (before known : List NumberedChanges) (r : Reply) : Type 0 where
   pub inside : r.index < length requests
   pub later : length before ≤ r.answer.version
