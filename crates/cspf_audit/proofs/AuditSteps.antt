@@ -1,4 +1,4 @@
--- The findings of the replies' lines, which were read and compared with the right replies, make an
+-- Once the replies' lines are read and compared with the right replies, their findings make an
 -- audit.
 use Rattle.std.proofs.Common.{◌≡◌, ℕ, suc, IsPermutation, Result, Ok, Err, IfOk, Bool, true, false, List, [], ◌∷◌, Some, inl, inr, refl, arith}
 use Rattle.std.proofs.lemmas.List.Sorted.{Contains-permutation, IsPermutation-sym}
@@ -36,7 +36,7 @@ are_unanswered (q ∷ requests) lines (true ∷ named) are = inl ((are.each 0 q 
 are_unanswered (q ∷ requests) lines (false ∷ named) are =
     inr ((λ now. let no : Some false ≡ Some true = (are.each 0 q refl).1 now in cc), (unnamed_faults requests named, refl, are_unanswered requests lines named (named_behind q requests lines false named are)))
 
--- ---- two properties of a result give a third
+-- ---- three properties of a result: the first two imply the third
 
 pub both_ok : {A E : Type 0} {P Q R : A → Type 0} (r : Result A E) → IfOk r P → IfOk r Q → ((a : A) → P a → Q a → R a) → IfOk r R
 both_ok (Ok a) p q f = f a p q

@@ -1,4 +1,5 @@
--- The database and the plans of a journal's first batches, after one more batch.
+-- The database of the first `i` batches of a journal, and the plans of these batches, when the next
+-- batch is added.
 use Rattle.std.proofs.Common.{◌≡◌, ℕ, ◌+◌, ◌<◌, List, [], ◌∷◌, ◌++◌, length, take, get_or, inl, inr, sym, ap, subst, ◌∙◌, arith}
 use Rattle.std.proofs.lemmas.Bool.{cases_eq}
 use Rattle.std.proofs.lemmas.List.{get_or_at, get_or_append_left, get_or_default, length_push}
@@ -15,23 +16,24 @@ module _ (batches : List NumberedChanges) (i : ℕ) (b : NumberedChanges) (withi
   one_more : take (i + 1) batches ≡ take i batches ++ b ∷ []
   one_more = (take_at_read batches i b within).1 ∙ ap (λ next. take i batches ++ next ∷ []) (sym is_next)
 
-  -- the changes of the next batch, made in the database of the batches before it, give the database
-  -- after it
+  -- The batch at index `i` makes its changes in the database of the first `i` batches. The result
+  -- is the database of the first `i + 1` batches.
   pub database_next : OneMoreBatch → after_changes (database_after (take i batches)) b.changes ≡ database_after (take (i + 1) batches)
   database_next law = sym (ap database_after one_more ∙ law (take i batches) b)
 
-  -- if each of the first batches fits the database of the batches before it, and so does the next
-  -- batch, this holds of all these batches together
+  -- If the first `i` batches are lawful and the next batch fits their database, the first `i + 1`
+  -- batches are lawful. A list of batches is lawful if each fits the database of the batches before
+  -- it.
   pub lawful_next : LawfulByOneMore → AreLawful (take i batches) → Fits (database_after (take i batches)) b → AreLawful (take (i + 1) batches)
   lawful_next law lawful fits = subst AreLawful (sym one_more) ((law (take i batches) b).1 (lawful, fits))
 
-  -- If a table with the database of the first i batches makes the changes of the next batch, it then has the
-  -- database of the first i + 1 batches.
+  -- A table with the database of the first `i` batches absorbs the next batch. Then it has the
+  -- database of the first `i + 1` batches.
   pub absorbed : OneMoreBatch → (before after : Database) → before ≡ database_after (take i batches) → after ≡ after_changes before b.changes → after ≡ database_after (take (i + 1) batches)
   absorbed law before after here absorbs = absorbs ∙ ap (λ d. after_changes d b.changes) here ∙ database_next law
 
-  -- the plans of the first i batches, with the plan of the next batch behind them, are the plans of the first i + 1
-  -- batches
+  -- the plans of the first `i` batches, followed by the plan of the next batch, are the plans of
+  -- the first `i + 1` batches
   pub one_more_plan : (plans : List Plan) (plan : Plan) → ArePlansUpTo batches plans i → IsPlanOf (database_after (take i batches)) b plan → ArePlansUpTo batches (plans ++ plan ∷ []) (i + 1)
   one_more_plan plans plan are is = record {
     many = omega (arith, length_push plans plan, are.many);

@@ -1,5 +1,5 @@
--- The lines that have claims are compared with the right replies, one after the other. A claim says
--- that a line is still to be compared.
+-- Each line that has a claim is compared with the right reply. A claim says that a line is still to
+-- be compared.
 use Rattle.std.proofs.Common.{◌≡◌, ℕ, ◌<◌, ◌⊎◌, ◌↔◌, Bool, IsTrue, suc, zero, List, [], ◌∷◌, Some, length, take, get_or, inl, inr, refl, sym, ap, subst, ◌∙◌, arith}
 use Rattle.std.proofs.lemmas.Bool.{cases_eq}
 use Rattle.std.proofs.lemmas.List.{length-set, get_or_default}
@@ -16,15 +16,14 @@ use Rattle.cspf_audit.specs.Findings.{IsFinding, AreFindings, IsRightReply}
 use Rattle.cspf_audit.proofs.Lookups.{one_element, get-set_same, get-set_other}
 use Rattle.cspf_audit.specs.Reading.{IsClaim, IsClaimed, AreClaims, AreOpenFindings}
 
--- a claim says that a line is still to be compared with the right reply; if `AreClaims` holds of a
--- list of claims, `IsClaim` holds of the claim at each index
+-- if `IsClaim` holds of each claim of a list (`AreClaims`), it holds of the claim at each index of
+-- the list
 pub claim_at : (requests : List Request) (last : ℕ) (lines : List (List ℕ)) (claims : List Claim) (i : ℕ) (d : Claim) → AreClaims requests last lines claims → i < length claims
     → IsClaim requests last lines (get_or claims i d)
 claim_at requests last lines claims i d are within = are (get_or claims i d) (i, within, get_or_default claims i (get_or claims i d) d within)
 
--- Take the claim at an index: it says that a line is still to be compared with the right reply to a
--- request. The index of this request is below the number of requests, and the index of this line is
--- below the number of lines.
+-- A claim gives the index of a request and the index of a line. Both indexes are within their
+-- lists.
 pub claim_within : (requests : List Request) (last : ℕ) (lines : List (List ℕ)) (claims : List Claim) (i : ℕ) (d : Claim) → AreClaims requests last lines claims → i < length claims
     → ((get_or claims i d).request < length requests) × ((get_or claims i d).line < length lines)
 claim_within requests last lines claims i d are within =
@@ -34,17 +33,16 @@ claim_within requests last lines claims i d are within =
 read_at : {A : Type 0} (xs : List A) (i : ℕ) (x : A) → i < length xs → x ≡ get_or xs i x → slice_get xs i ≡ Some x
 read_at xs i x within is = slice_get-get_or xs i x within ∙ ap Some (sym is)
 
--- A claim says that a line is still to be compared with the right reply. If a list of claims has a
--- claim of the line at this index, it is the first claim or a later one.
+-- if one of these claims is of the line at this index, it is the first claim or a later claim
 claimed_behind : (claim : Claim) (rest : List Claim) (index : ℕ) → IsClaimed (claim ∷ rest) index → (claim.line ≡ index) ⊎ IsClaimed rest index
 claimed_behind claim rest index (c, (zero, within, is), at) = inl (ap (λ (k : Claim). k.line) is ∙ at)
 claimed_behind claim rest index (c, (suc k, within, is), at) = inr (c, (k, omega arith, is), at)
 
 module _ (batches : List NumberedChanges) (requests : List Request) (lines : List (List ℕ)) (claim : Claim) (rest : List Claim) (findings : List Finding)
     (open_ones : AreOpenFindings batches requests lines (claim ∷ rest) findings) (is_claim : IsClaim requests (length batches) lines claim) where
-  -- A claim names a line that is to be compared with the right reply to a request. The database,
-  -- the request and the line here are those of the claim. So a test whether this line is the right
-  -- reply says whether the claim's line is.
+  -- `right` says whether this line is the right reply to this request in this database. The
+  -- database, the request and the line are those of the claim. So `right` also says whether the
+  -- claim's line is the right reply.
   pub asked_of_claim : (d : Database) (q : Request) (line : List ℕ) (right : Bool) → d ≡ database_after (take claim.version batches)
       → claim.request < length requests → q ≡ get_or requests claim.request q → claim.line < length lines → line ≡ get_or lines claim.line line
       → IsTrue right ↔ IsRightReply d q claim.version line
@@ -56,8 +54,8 @@ module _ (batches : List NumberedChanges) (requests : List Request) (lines : Lis
       (subst (λ r. IsTrue right ↔ IsRightReply d r claim.version is_claim.line) same_q
       (subst (λ l. IsTrue right ↔ IsRightReply d q claim.version l) same_line test))
 
-  -- a claim names a line to be compared; if the line of the first claim is the right reply, only
-  -- the lines of the later claims are still to be compared
+  -- if the line of the first claim is the right reply, only the lines of the later claims are still
+  -- to be compared
   pub right_step : IsRightReply (database_after (take claim.version batches)) is_claim.q claim.version is_claim.line → AreOpenFindings batches requests lines rest findings
   right_step right = record { counted = open_ones.counted; each = λ index line found is_line is_found. go index line found is_line (open_ones.each index line found is_line is_found) }
     where
@@ -75,9 +73,8 @@ module _ (batches : List NumberedChanges) (requests : List Request) (lines : Lis
 
 module _ (batches : List NumberedChanges) (requests : List Request) (lines : List (List ℕ)) (claim : Claim) (rest : List Claim) (findings : List Finding)
     (open_ones : AreOpenFindings batches requests lines (claim ∷ rest) findings) (is_claim : IsClaim requests (length batches) lines claim) where
-  -- A claim names a line to be compared with the right reply. If the line of the first claim isn't
-  -- the right reply, and its finding becomes `Altered`, only the lines of the later claims are
-  -- still to be compared.
+  -- If the line of the first claim isn't the right reply, its finding becomes `Altered`. Then only
+  -- the lines of the later claims are still to be compared.
   pub altered_step : ¬ IsRightReply (database_after (take claim.version batches)) is_claim.q claim.version is_claim.line
       → AreOpenFindings batches requests lines rest (slice_set findings claim.line finding.Altered)
   altered_step wrong = record {
@@ -105,7 +102,7 @@ module _ (batches : List NumberedChanges) (requests : List Request) (lines : Lis
             | inr more ↦ inr (good, more)
           ]
 
--- if no line is still to be compared with the right reply, each line has its right finding
+-- if no claims are left, each line has its right finding
 pub all_settled : (batches : List NumberedChanges) (requests : List Request) (lines : List (List ℕ)) (findings : List Finding)
     → AreOpenFindings batches requests lines [] findings → AreFindings batches requests lines findings
 all_settled batches requests lines findings open_ones = record {

@@ -1,4 +1,4 @@
--- The index of a request by its id, as the requests are added one after the other.
+-- The index of a request is found by its id, while the requests are added one after the other.
 use Rattle.std.proofs.Common.{◌≡◌, ◌≢◌, ℕ, ◌+◌, ◌<◌, Bool, true, false, cond, eqb, nat_eq, List, [], ◌∷◌, ◌++◌, Contains, length, map, take, drop, get_or, Option, Some, None, is_some, refl, sym, ap, subst, ◌∙◌, arith, suc, zero, append_assoc}
 use Rattle.std.proofs.lemmas.Bool.{eqb-true, eqb-false, eq-eqb, ne_eqb}
 use Rattle.std.proofs.lemmas.Grind.{take_at_read}
@@ -25,8 +25,8 @@ lack_id n id (q ∷ requests) found = go (eqb q.id id) refl found (lack_id (n + 
     go true same found behind = absurd (cc)
     go false other found behind = (eqb-false q.id id other, behind found)
 
--- If no earlier request has the id of a new request, the new request is found by its id at the next index. Each
--- other id is found at the same index as before.
+-- If no earlier request has the id of a new request, the new request's id is found at the next
+-- index. Each other id is found at the same index as before.
 pub place_more : (n : ℕ) (requests : List Request) (q : Request) (id : ℕ) → LackId requests q.id
     → place_from n id (requests ++ q ∷ []) ≡ cond (eqb q.id id) (Some (n + length requests)) (place_from n id requests)
 place_more n [] q id lack = ap (λ k. cond (eqb q.id id) (Some k) None) (omega arith)
@@ -113,9 +113,9 @@ module _ (requests : List Request) (i : ℕ) (r : Request) (within : i < length 
         again = (first.1, read_there (take i requests) first.0 first.1 first.3, first.4);
       }
 
--- ---- requests that are in the list
+-- ---- the requests of a list
 
--- if no request of a list has an id, each request of the list has another id
+-- if no request of a list has this id, each request of the list has a different id
 pub lack_one : (id : ℕ) (requests : List Request) (q : Request) → LackId requests id → Contains requests q → q.id ≢ id
 lack_one id [] q lack (k, within, is) = absurd (omega (arith, within))
 lack_one id (r ∷ requests) q lack (zero, within, is) = λ same. lack.0 (ap (λ (x : Request). x.id) is ∙ same)
@@ -136,7 +136,7 @@ own_place n (suc k) (r ∷ requests) q own found =
     ap (λ b. cond b (Some n) (place_from (n + 1) q.id requests)) (other_id r.id k requests q (IsDistinct-head nat_eq r.id (map (λ (x : Request). x.id) requests) own) found)
     ∙ own_place (n + 1) k requests q (IsDistinct-tail nat_eq r.id (map (λ (x : Request). x.id) requests) own) found ∙ ap Some (omega arith)
 
--- the index that is found for an id is below the number of requests
+-- the index that is found for an id is below the length of the list of requests
 pub place_within : (id : ℕ) (requests : List Request) (index : ℕ) → place_of id requests ≡ Some index → index < length requests
 place_within id requests index found =
     let there = place_found 0 id requests index found in

@@ -1,4 +1,4 @@
--- How the lines of a text are read one after the other.
+-- A text is read line by line.
 use Rattle.std.proofs.Common.{◌≡◌, ◌≢◌, ℕ, ◌+◌, ◌-◌, ◌⊎◌, Bool, true, false, cond, eqb, nat_lt, ◌&&◌, List, [], ◌∷◌, ◌++◌, length, take, get_or, Option, Some, None, IfSome, inl, inr, refl, sym, ap, ◌∙◌, subst, append_assoc, append-nil, length-append, arith}
 use Rattle.std.proofs.lemmas.Bool.{eqb-true, eqb-false, eq-eqb, ne_eqb, lt-ltb}
 use Rattle.std.proofs.lemmas.List.{take_at}
@@ -70,7 +70,7 @@ is_cut (x ∷ text) = go (eqb x 10) refl (is_cut text)
     go false other (inr parts) =
         inr (x ∷ parts.0, parts.1, (eqb-false x 10 other, parts.2), ap (λ t. x ∷ t) parts.3, rw (other, parts.4) refl, rw (other, parts.5) refl)
 
--- if a reader read some bytes, the bytes that it read aren't empty
+-- if a reader read at least one byte, the list of the bytes read isn't empty
 pub some_bytes : (bytes : List ℕ) (n : ℕ) → length bytes ≡ 0 + n → n ≢ 0 → bytes ≢ []
 some_bytes bytes n counted read empty = read (omega (arith, counted, ap length empty))
 
@@ -92,7 +92,7 @@ takes_line (Some text) (Some rest) bytes line read drops some cut = go (is_cut t
         let same : line ≡ first = cut ∙ ap (strip_last 10) (read ∙ took) ∙ feed_ends first in
         (subst HasNoFeed (sym same) none, inr (rw (same, left, behind) is))
 
--- a reader at the end of a text takes no line
+-- a reader at the end of a text reads no line
 pub takes_none : (old new : Option (List ℕ)) → IsAtEnd old → TakesLine old new None
 takes_none None new at_end = tt
 takes_none (Some text) new at_end = at_end

@@ -1,4 +1,4 @@
--- Lists whose items are read and set by index.
+-- Elements of lists are read and set by index.
 use Rattle.std.proofs.Common.{◌≡◌, ◌≢◌, ℕ, ◌<◌, suc, zero, List, [], ◌∷◌, ◌++◌, Some, length, take, drop, refl, sym, ap, ◌∙◌, arith}
 use Rattle.std.proofs.lemmas.List.{take_at}
 use Rattle.std.specs.List.{slice_get, slice_set}
@@ -21,6 +21,6 @@ get-set_other (x ∷ xs) zero (suc j) v apart = refl
 get-set_other (x ∷ xs) (suc i) zero v apart = refl
 get-set_other (x ∷ xs) (suc i) (suc j) v apart = get-set_other xs i j v (λ e. apart (ap suc e))
 
--- if a slice of all elements of a list is changed and written back, the list is then the changed slice
+-- if a slice of all elements of a list is changed, the list consists of the changed elements
 pub written : {A : Type 0} (old new : List A) (n : ℕ) → length new ≡ length old → n ≡ length old → take n (new ++ drop (length new) old) ≡ new
 written old new n kept whole = take_at new (drop (length new) old) n (kept ∙ sym whole)

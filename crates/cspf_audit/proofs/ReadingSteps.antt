@@ -1,4 +1,4 @@
--- How the findings of the replies' lines, and the claims (lines still to be compared with right
+-- The findings of the replies' lines, and the claims (lines still to be compared with right
 -- replies), change as the lines are read one after the other.
 use Rattle.std.proofs.Common.{◌≡◌, ℕ, ◌+◌, ◌<◌, ◌⊎◌, suc, zero, List, [], ◌∷◌, ◌++◌, Contains, Some, length, take, get_or, inl, inr, refl, sym, ap, ◌∙◌, length-append, arith}
 use Rattle.std.proofs.lemmas.List.{take_at, take-append-le}
@@ -15,7 +15,7 @@ use Rattle.cspf_audit.specs.declared.finding.Finding.TheVariants as finding
 use Rattle.cspf_audit.specs.Findings.{IsFinding, IsNamed}
 use Rattle.cspf_audit.specs.Reading.{IsClaim, IsClaimed, AreOpenFindings}
 
--- the lines before an index and the line at the index are the lines up to the next index
+-- the first `i` lines, followed by the line at index `i`, are the first `i + 1` lines
 pub take_line : {A : Type 0} (lines : List A) (i : ℕ) (line text : A) → i < length lines → line ≡ get_or lines i line → text ≡ line → take i lines ++ text ∷ [] ≡ take (i + 1) lines
 take_line lines i line text within is same = ap (λ t. take i lines ++ t ∷ []) (same ∙ is) ∙ sym (take_at_read lines i line within).1
 
@@ -37,8 +37,7 @@ get_snoc (z ∷ xs) x (suc i) y found = elim (get_snoc xs x i y found) [
 claimed_more : (claims more : List Claim) (index : ℕ) → IsClaimed claims index → IsClaimed (claims ++ more) index
 claimed_more claims more index claimed = (claimed.0, Contains-append_left claims more claimed.0 claimed.1, claimed.2)
 
--- if `IsClaim` holds of a claim (of a line to be compared with the right reply) for the lines so
--- far, it holds after one more line
+-- a claim that is right for the lines so far is still right after one more line
 pub claim_more : (requests : List Request) (last : ℕ) (seen : List (List ℕ)) (line : List ℕ) (claim : Claim) → IsClaim requests last seen claim → IsClaim requests last (seen ++ line ∷ []) claim
 claim_more requests last seen line claim is =
     let within = slice_get_within seen claim.line is.line is.is_line in record {
@@ -50,8 +49,8 @@ claim_more requests last seen line claim is =
       within = is.within;
     }
 
--- Each line so far has its right finding, or is still to be compared with the right reply. If this
--- also holds of one more line, it holds of all these lines together.
+-- Each line so far has its right finding, or it is still to be compared with the right reply. If
+-- this also holds of one more line, it holds of all these lines.
 pub found_more : (batches : List NumberedChanges) (requests : List Request) (seen : List (List ℕ)) (line : List ℕ) (claims more : List Claim) (findings : List Finding) (found : Finding)
     → AreOpenFindings batches requests seen claims findings
     → IsFinding batches requests seen line found ⊎ ((found ≡ finding.Good) × IsClaimed (claims ++ more) (length seen))
@@ -75,8 +74,8 @@ found_more batches requests seen line claims more findings found open_ones next 
     go index l f (inr one) (inl other) = absurd (omega (arith, one.0, other.0, open_ones.counted))
     go index l f (inr one) (inr other) = rw (one.0, sym one.1, sym other.1, take_at seen (line ∷ []) (length seen) refl) next
 
--- if one of the lines has an id after one more line was read, an earlier line or the new line has
--- it
+-- After one more line, one of the lines has this id. Then an earlier line has the id, or the new
+-- line has it.
 pub named_cases : (seen : List (List ℕ)) (line : List ℕ) (id : ℕ) → IsNamed (seen ++ line ∷ []) id
     → IsNamed seen id ⊎ ((version : ℕ) × BeginsWithHead line (record { id = id; version = version }))
 named_cases seen line id (l, version, there, begins) = elim (Contains-append_cases seen (line ∷ []) l there) [

@@ -1,4 +1,4 @@
--- A line is the reply of a best answer exactly if it is the line that is written for that answer.
+-- A line is the right reply exactly if it is the line that is written for a best answer.
 use Rattle.std.proofs.Common.{◌≡◌, ℕ, ◌-◌, ◌↔◌, Bool, true, IsTrue, List, [], ◌∷◌, ◌++◌, length, take, drop, sym, ap, ◌∙◌, length-append, arith}
 use Rattle.std.proofs.lemmas.List.{take-append-drop, take_at}
 use Rattle.std.proofs.lemmas.Slice.Eq.{bytes_eq-Decides}
@@ -19,8 +19,8 @@ right_reply one same d q version answer bytes line right best written test = (
   λ found. test.1 (same q.id version found.0 bytes (line ++ 10 ∷ []) (rw (sym (one d q answer found.0 best found.1)) written) found.2),
 )
 
--- Bytes that end with a line feed are a line and its line feed, exactly if the bytes before that line
--- feed are the line.
+-- The last of these bytes is a line feed. The bytes are a line and its line feed, exactly if the
+-- bytes before that line feed are the line.
 pub feed_behind : (bytes text line : List ℕ) (same : Bool) → bytes_eq (drop (length bytes - 1) bytes) (10 ∷ []) ≡ true → text ≡ take (length bytes - 1) bytes
     → same ≡ bytes_eq text line → IsTrue same ↔ (bytes ≡ line ++ 10 ∷ [])
 feed_behind bytes text line same feed front test =

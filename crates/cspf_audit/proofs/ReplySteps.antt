@@ -1,4 +1,5 @@
--- What one more line of the replies adds to the findings.
+-- One more line of the replies is read: the changes of the findings, the claims and the list of the
+-- requests with a line.
 use Rattle.std.proofs.Common.{◌≡◌, ◌≢◌, ℕ, ◌+◌, suc, zero, Bool, true, false, List, [], ◌∷◌, ◌++◌, Contains, Some, None, codes, length, inl, inr, refl, sym, ap, subst, ◌∙◌, append-nil, arith}
 use Rattle.std.proofs.lemmas.Bool.{cases_eq}
 use Rattle.std.proofs.lemmas.List.{take_at, length-set}
@@ -42,18 +43,18 @@ get_last (y ∷ xs) x = get_last xs x
 module _ (one : HasOneHead) (batches : List NumberedChanges) (requests : List Request) (own : HaveOwnIds requests)
     (ids : BTreeMap ℕ ℕ) (places : ArePlaces ids requests)
     (seen : List (List ℕ)) (line : List ℕ) (before : List Bool) (named : AreNamed requests seen before) where
-  -- ---- the request whose id the line has
+  -- ---- the request that has the id of the line
 
   same_id : (id version other more : ℕ) → BeginsWithHead line (record { id = id; version = version }) → BeginsWithHead line (record { id = other; version = more }) → id ≡ other
   same_id id version other more a b = ap (λ (head : Head). head.id) (one line (record { id = id; version = version }) (record { id = other; version = more }) a b)
 
-  -- if `ids` has an index for an id, the request at this index has the id
+  -- if `ids` maps an id to an index, the request at this index has the id
   found_at : (id index : ℕ) → get nat_cmp ids id ≡ Some index → (q : Request) × (slice_get requests index ≡ Some q) × (q.id ≡ id)
   found_at id index is =
       let there = place_found 0 id requests index (sym (places id) ∙ is) in
       (there.1, subst (λ k. slice_get requests k ≡ Some there.1) (omega (arith, there.2)) there.3, there.4)
 
-  -- if `ids` has an index for an id, no request at another index has the id
+  -- if `ids` maps an id to an index, no request at another index has the id
   only_at : (id index : ℕ) → get nat_cmp ids id ≡ Some index → (other : ℕ) (q : Request) → slice_get requests other ≡ Some q → q.id ≡ id → other ≡ index
   only_at id index is other q there same =
       let found : Some (0 + other) ≡ Some index = sym (own_place 0 other requests q own there) ∙ ap (λ i. place_of i requests) same ∙ sym (places id) ∙ is in
@@ -69,10 +70,10 @@ module _ (one : HasOneHead) (batches : List NumberedChanges) (requests : List Re
   wasnt_named : (index : ℕ) (q : Request) → slice_get requests index ≡ Some q → slice_get before index ≡ Some false → ¬ IsNamed seen q.id
   wasnt_named index q there is now = let no : Some true ≡ Some false = sym ((named.each index q there).1 now) ∙ is in cc
 
-  -- ---- which requests have a line, once this line is read
+  -- ---- the list of the requests that have a line, after this line was read
 
-  -- if the line has the id of no request, the list that says which requests have a line stays the
-  -- same
+  -- if no request has the id of the line, the list that says which requests have a line doesn't
+  -- change
   named_none : ((q : Request) (version : ℕ) → Contains requests q → ¬ BeginsWithHead line (record { id = q.id; version = version })) → AreNamed requests (seen ++ line ∷ []) before
   named_none none = record {
     counted = named.counted;
@@ -86,8 +87,8 @@ module _ (one : HasOneHead) (batches : List NumberedChanges) (requests : List Re
   }
 
   module _ (id version index : ℕ) (begins : BeginsWithHead line (record { id = id; version = version })) (is_at : get nat_cmp ids id ≡ Some index) where
-    -- the line has the id of the request at `index`. If `after` is the list before the line, but
-    -- with `true` at this index, `after` says which requests now have a line.
+    -- The line has the id of the request at `index`. If `after` is the list `before` with `true`
+    -- set at this index, `after` says which requests now have a line.
     named_at : (after : List Bool) → length after ≡ length before → slice_get after index ≡ Some true → ((other : ℕ) → other ≢ index → slice_get after other ≡ slice_get before other)
         → AreNamed requests (seen ++ line ∷ []) after
     named_at after counted marked others = record {
@@ -134,7 +135,8 @@ module _ (one : HasOneHead) (batches : List NumberedChanges) (requests : List Re
           },
         )
 
-  -- ---- the findings, the claims and the requests with a line, once this line is read
+  -- ---- the findings, the claims and the list of the requests that have a line, after this line
+  -- was read
 
   module _ (claims : List Claim) (findings : List Finding) (open_ones : AreOpenFindings batches requests seen claims findings) (are_claims : AreClaims requests (length batches) seen claims) where
     -- `found`, `claimed` and `after` are the findings, the claims and the requests with a line,
@@ -207,8 +209,8 @@ module _ (one : HasOneHead) (batches : List NumberedChanges) (requests : List Re
             only (zero, low, same) = same
             only (suc k, low, same) = absurd (omega arith)
 
--- if the state of the audit has these lists, and the lists are right for the lines that were read, the state is
--- right for these lines
+-- if these lists are right for the lines that were read, the state of the audit that has these
+-- lists is also right
 pub has_read : (batches : List NumberedChanges) (requests : List Request) (seen : List (List ℕ)) (replies : ReplyFindings) (findings : List Finding) (claims : List Claim) (named : List Bool)
     → replies.findings.items ≡ findings → replies.claims.items ≡ claims → replies.named.items ≡ named
     → AreOpenFindings batches requests seen claims findings × AreClaims requests (length batches) seen claims × AreNamed requests seen named → HasReadLines batches requests replies seen

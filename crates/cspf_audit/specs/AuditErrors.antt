@@ -1,4 +1,5 @@
--- The audit of whole streams, or the first reason why they aren't audited.
+-- Defines the audit of three whole streams, and the errors of an audit: why the streams can't be
+-- audited.
 use Rattle.std.specs.Prelude.{◌≡◌, ℕ, ◌<◌, ◌≤◌, ◌⊎◌, List, length, Option, IfSome}
 use Rattle.cspf_model.specs.declared.refusal.Refusal.{Refusal}
 use Rattle.cspf_model.specs.declared.request.Request.{Request}
@@ -19,33 +20,36 @@ use Rattle.cspf_audit.specs.Lines.{AreLines, HasTooManyLines}
 use Rattle.cspf_audit.specs.Requests.{HaveOwnIds, RepeatsId}
 use Rattle.cspf_audit.specs.Audits.{IsAudit}
 
--- The journal has at most `MOST_ROWS` records. The records are these batches, with no rows after them.
--- Each batch fits the database of the batches before it.
+-- The journal has at most `MOST_ROWS` records. They consist of these batches, and no rows follow
+-- the last batch. Each batch fits the database that the batches before it make.
 pub record IsLawfulJournal (records : Records) (batches : List NumberedChanges) : Type 0 where
   pub few : length records ≤ MOST_ROWS
   pub journal : IsJournal records batches rest.Clean
   pub lawful : AreLawful batches
 
--- rows follow this many whole batches of the journal
+-- the journal begins with `count` whole batches, and further rows follow that don't begin with the
+-- next batch
 pub record IsTornAfter (records : Records) (count : ℕ) : Type 0 where
   pub few : length records ≤ MOST_ROWS
   pub batches : List NumberedChanges
   pub journal : IsJournal records batches rest.Torn
   pub counted : count ≡ length batches
 
--- no rows follow the batches of the journal, and this is the first batch that doesn't fit
+-- No rows follow the last batch of the journal. The batch with this number is the first one that
+-- doesn't fit, for the reason `why`.
 pub record IsUnlawfulJournal (records : Records) (number : ℕ) (why : Refusal) : Type 0 where
   pub few : length records ≤ MOST_ROWS
   pub batches : List NumberedChanges
   pub journal : IsJournal records batches rest.Clean
   pub unfit : IsFirstUnfit batches number why
 
--- the stream has at most `MOST_ROWS` records, and they are these requests
+-- the stream has at most `MOST_ROWS` records, and these requests are read from them
 pub record AreAsked (records : Records) (requests : List Request) : Type 0 where
   pub few : length records ≤ MOST_ROWS
   pub asked : AreRequests records requests
 
--- The audit of whole streams: of a journal, of requests with distinct ids, and of a text of replies.
+-- `audit` is the audit of three whole streams: a journal, requests with distinct ids, and a text of
+-- replies.
 pub record IsAuditOf (journal requests : Records) (text : List ℕ) (audit : Audit) : Type 0 where
   pub batches : List NumberedChanges
   pub asked : List Request
@@ -57,15 +61,16 @@ pub record IsAuditOf (journal requests : Records) (text : List ℕ) (audit : Aud
   pub few : length lines ≤ MOST_ROWS
   pub is_audit : IsAudit batches asked lines audit
 
--- the journal has batches, and each fits the database of the batches before it
+-- the journal is read without a fault, and each of its batches fits the database of the batches
+-- before it
 abbrev pub HasLawfulJournal : Records → Type 0
 HasLawfulJournal journal = (batches : List NumberedChanges) × IsLawfulJournal journal batches
 
--- the requests are read, and no two of them have the same id
+-- the requests are read without a fault, and no two of them have the same id
 abbrev pub HasOwnRequests : Records → Type 0
 HasOwnRequests requests = (asked : List Request) × AreAsked requests asked × HaveOwnIds asked
 
--- a row of the requests is refused
+-- a row of the requests is refused for this reason: it can't be read, or it isn't a request
 abbrev pub IsRowRefused : Records → RequestsError → Type 0
 IsRowRefused records requests_error.Memory = ⊥
 IsRowRefused records requests_error.Device = ⊥
@@ -73,7 +78,8 @@ IsRowRefused records requests_error.TooManyRows = ⊥
 IsRowRefused records (requests_error.Bad row why) = IsRequestsFault records (requests_error.Bad row why)
 IsRowRefused records (requests_error.NotAsk row) = IsRequestsFault records (requests_error.NotAsk row)
 
--- one of the streams is too long, and the streams that are checked before it have no fault
+-- one of the streams has more than `MOST_ROWS` rows or lines, and the streams that are checked
+-- before it have no fault
 abbrev pub IsOneTooLong : Records → Records → List ℕ → Type 0
 IsOneTooLong journal requests text =
     (MOST_ROWS < length journal)
@@ -81,9 +87,9 @@ IsOneTooLong journal requests text =
     × (IsRequestsFault requests requests_error.TooManyRows
     ⊎ (HasOwnRequests requests × HasTooManyLines text)))
 
--- Why streams aren't audited: the first reason that applies. The journal, its batches, the
--- requests, their ids and the replies are checked in this order. Nothing is stated about a stream
--- whose bytes aren't known.
+-- Why the streams aren't audited: the first reason that applies. The journal, its batches, the
+-- requests, their ids and the replies are checked in this order. A stream is `None` if its bytes
+-- aren't known. Then nothing is stated about it.
 abbrev pub IsAuditError : Option (List ℕ) → Option (List ℕ) → Option (List ℕ) → AuditError → Type 0
 IsAuditError journal requests replies error.Memory = Unit {0}
 IsAuditError journal requests replies error.Device = Unit {0}

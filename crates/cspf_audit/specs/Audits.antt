@@ -1,4 +1,4 @@
--- The audit of the lines of replies.
+-- Defines the audit of the replies' lines: the list of faults, and the number of good lines.
 use Rattle.std.specs.Prelude.{◌≡◌, ℕ, ◌+◌, ◌⊎◌, Bool, true, false, Option, Some, None, List, [], ◌∷◌, ◌++◌}
 use Rattle.std.specs.List.{count_by}
 use Rattle.cspf_model.specs.declared.request.Request.{Request}
@@ -10,7 +10,8 @@ use Rattle.cspf_audit.specs.declared.finding.Finding.{Finding}
 use Rattle.cspf_audit.specs.declared.finding.Finding.TheVariants as finding
 use Rattle.cspf_audit.specs.Findings.{IsNamed, AreFindings}
 
--- the fault of the line with this number, counted from 1, if the line's finding is a fault
+-- `place` is the number of a line, counted from 1. The result is the fault of this line, or `None`
+-- if its finding isn't a fault.
 abbrev pub fault_at : ℕ → Finding → Option AuditFault
 fault_at place finding.PassedOver = None
 fault_at place finding.Good = None
@@ -20,17 +21,18 @@ fault_at place finding.Doubled = Some (fault.Doubled place)
 fault_at place finding.NoVersion = Some (fault.NoVersion place)
 fault_at place finding.Altered = Some (fault.Altered place)
 
--- the list of faults, with this fault in front of the list if there is one
+-- the list `faults`, with the given fault (if there is one) in front of it
 abbrev pub with_fault : Option AuditFault → List AuditFault → List AuditFault
 with_fault None faults = faults
 with_fault (Some f) faults = f ∷ faults
 
--- The faults of lines that have these findings. The first of these lines has this number.
+-- The faults of consecutive lines that have these findings. `place` is the number of the first of
+-- these lines.
 abbrev pub faults_from : ℕ → List Finding → List AuditFault
 faults_from place [] = []
 faults_from place (found ∷ findings) = with_fault (fault_at place found) (faults_from (place + 1) findings)
 
--- the line isn't skipped, and has no fault
+-- whether a line with this finding is good: it isn't skipped, and has no fault
 abbrev pub is_good : Finding → Bool
 is_good finding.PassedOver = false
 is_good finding.Good = true
@@ -40,11 +42,12 @@ is_good finding.Doubled = false
 is_good finding.NoVersion = false
 is_good finding.Altered = false
 
--- how many lines are good: they aren't skipped, and have no fault
+-- the number of good findings
 abbrev pub good_count : List Finding → ℕ
 good_count findings = count_by is_good findings
 
--- a fault for each request whose id no line has, in the order of the requests
+-- `faults` has a fault `Unanswered` for each request whose id is in none of the lines, in the order
+-- of the requests
 abbrev pub AreUnanswered : List (List ℕ) → List Request → List AuditFault → Type 0
 AreUnanswered lines [] faults = faults ≡ []
 AreUnanswered lines (q ∷ requests) faults =
@@ -52,9 +55,9 @@ AreUnanswered lines (q ∷ requests) faults =
     ⊎ ((¬ IsNamed lines q.id)
     × ((more : List AuditFault) × (faults ≡ fault.Unanswered q.id ∷ more) × AreUnanswered lines requests more))
 
--- The audit of the lines of the replies, given a journal's batches and the requests. First come the
--- faults of lines, in the order of the lines, and then a fault for each request whose id no line
--- has. The audit also counts the good lines.
+-- The audit of the replies' lines, given a journal's batches and the requests. The list of faults
+-- begins with the faults of lines, in the order of the lines. A fault for each request whose id is
+-- in no line follows. The audit also counts the good lines.
 pub record IsAudit (batches : List NumberedChanges) (requests : List Request) (lines : List (List ℕ)) (audit : Audit) : Type 0 where
   pub findings : List Finding
   pub unanswered : List AuditFault

@@ -15,13 +15,13 @@ use Rattle.cspf_audit.specs.declared.audit_error.AuditError.{AuditError}
 use Rattle.cspf_audit.specs.declared.audit_error.AuditError.TheVariants as error
 use Rattle.cspf_audit.specs.AuditErrors.{IsTornAfter, IsUnlawfulJournal}
 
--- the audit's error for a fault of the journal
+-- the error of the audit if reading the journal fails
 abbrev pub audit_error_of : ReadError → AuditError
 audit_error_of read.Memory = error.Memory
 audit_error_of read.Device = error.Device
 audit_error_of read.TooManyRows = error.TooManyRows
 
--- the audit's error for a fault of the requests
+-- the error of the audit if reading the requests fails
 abbrev pub requests_error_of : RequestsError → AuditError
 requests_error_of requests.Memory = error.Memory
 requests_error_of requests.Device = error.Device
@@ -29,13 +29,14 @@ requests_error_of requests.TooManyRows = error.TooManyRows
 requests_error_of (requests.Bad row why) = error.Requests (requests.Bad row why)
 requests_error_of (requests.NotAsk row) = error.Requests (requests.NotAsk row)
 
--- the audit's error for a fault of the replies: `Memory` if memory was refused, and else `Device`
+-- the error of the audit if reading the replies fails: `Memory` if memory was refused, and else
+-- `Device`
 abbrev pub IsIoFault : Error → AuditError → Type 0
 IsIoFault why e =
     ((error_kind why ≡ kind.OutOfMemory) × (e ≡ error.Memory))
     ⊎ ((error_kind why ≢ kind.OutOfMemory) × (e ≡ error.Device))
 
--- the audit's error if a journal can't be read, is torn, or has a batch that doesn't fit
+-- the error of the audit if the journal can't be read, is torn, or has a batch that doesn't fit
 abbrev pub IsJournalFault : Records → AuditError → Type 0
 IsJournalFault records error.Memory = Unit {0}
 IsJournalFault records error.Device = Unit {0}
@@ -45,7 +46,8 @@ IsJournalFault records (error.Batch number why) = IsUnlawfulJournal records numb
 IsJournalFault records (error.Requests why) = ⊥
 IsJournalFault records (error.SameId row) = ⊥
 
--- the audit's error if memory is refused, or if a batch doesn't fit the database of the batches before it
+-- the error of the audit if memory is refused, or if a batch doesn't fit the database of the
+-- batches before it
 abbrev pub IsUnfitBatch : List NumberedChanges → AuditError → Type 0
 IsUnfitBatch batches error.Memory = Unit {0}
 IsUnfitBatch batches error.Device = ⊥

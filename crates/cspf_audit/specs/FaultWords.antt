@@ -4,7 +4,7 @@ use Rattle.std.specs.Fmt.{decimal}
 use Rattle.cspf_audit.specs.declared.faults.AuditFault.{AuditFault}
 use Rattle.cspf_audit.specs.declared.faults.AuditFault.TheVariants as fault
 
--- the text names the line or the request, and then what is wrong with it
+-- the text of a fault: first the line or the request, and then what is wrong with it
 abbrev pub fault_words : AuditFault → List ℕ
 fault_words (fault.Unread line) = codes "line " ++ decimal line ++ codes " unread"
 fault_words (fault.Foreign line) = codes "line " ++ decimal line ++ codes " foreign"

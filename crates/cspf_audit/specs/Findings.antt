@@ -1,5 +1,5 @@
--- What the audit finds of a line. It depends on a journal's batches, the requests and the lines
--- before this one.
+-- Defines the audit's finding about a line. The finding depends on a journal's batches, the
+-- requests and the lines before this line.
 use Rattle.std.specs.Prelude.{◌≡◌, ℕ, ◌<◌, ◌≤◌, ◌⊎◌, ◌==◌, List, [], ◌∷◌, ◌++◌, Contains, Some, length, take, codes}
 use Rattle.std.specs.List.{before_first, slice_get}
 use Rattle.cspf_model.specs.declared.request.Request.{Request}
@@ -30,18 +30,21 @@ IsNamed lines id =
     (line : List ℕ) × (version : ℕ) × Contains lines line
     × BeginsWithHead line (record { id = id; version = version })
 
--- the line and a line feed after it are the reply line of a best answer to the request at this version
+-- The line, with a line feed added, is the reply line of a best answer to the request in the
+-- database `d`. The reply line names this version.
 abbrev pub IsRightReply : Database → Request → ℕ → List ℕ → Type 0
 IsRightReply d q version line =
     (answer : Answer) × IsBestAnswer d q answer × IsReply q.id version answer (line ++ 10 ∷ [])
 
--- the line is the first line with the id of this request, and names this version
+-- the line is the first line with the id of this request, and it names this version; `before` has
+-- the earlier lines
 pub record IsFirstReply (requests : List Request) (before : List (List ℕ)) (line : List ℕ) (q : Request) (version : ℕ) : Type 0 where
   pub head : BeginsWithHead line (record { id = q.id; version = version })
   pub asked : Contains requests q
   pub first : ¬ IsNamed before q.id
 
--- What the audit finds of a line that comes after the lines `before`: the first finding that applies.
+-- The audit's finding about a line: the first finding that applies. The list `before` has the lines
+-- that precede this line.
 abbrev pub IsFinding : List NumberedChanges → List Request → List (List ℕ) → List ℕ → Finding → Type 0
 IsFinding batches requests before line finding.PassedOver = IsPassedOver line
 IsFinding batches requests before line finding.Unread = (¬ IsPassedOver line) × HasNoHead line
@@ -61,7 +64,7 @@ IsFinding batches requests before line finding.Good =
     × (version ≤ length batches)
     × IsRightReply (database_after (take version batches)) q version line
 
--- There is one finding for each line, and `IsFinding` holds of the line and its finding.
+-- there is one finding for each line, and `IsFinding` holds of each line and its finding
 pub record AreFindings (batches : List NumberedChanges) (requests : List Request) (lines : List (List ℕ)) (findings : List Finding) : Type 0 where
   pub counted : length findings ≡ length lines
   pub each : (index : ℕ) (line : List ℕ) (found : Finding) → slice_get lines index ≡ Some line

@@ -1,4 +1,5 @@
-//! Why an audit ends before it judges the replies. The readers' errors are converted to these reasons.
+//! Why an audit ends before it judges the replies. The errors of the readers are converted to this
+//! type.
 
 ghost use Rattle.std.specs.Prelude.{◌≡◌};
 ghost use Rattle.cspf_rows.specs.declared.read_error.ReadError.{ReadError as IsReadError};
@@ -28,7 +29,7 @@ pub enum AuditError {
     /// Rows follow the last whole batch of the journal.
     #[error("the journal is torn after batch {after}")]
     Torn {
-        /// The number of the last whole batch, or 0.
+        /// The number of the last whole batch, or 0 if there is none.
         after: u32,
     },
     /// A batch of the journal doesn't fit the database of the batches before it.

@@ -25,10 +25,10 @@ use std::collections::BTreeMap;
 use std::io::Read;
 
 /// Audits replies. Each line names a request and a version of the journal, and has to be the reply
-/// to this request at this version. `best_by_rounds` computes the answer of that reply. A request
-/// without a line is a fault, too. Lines whose first word is `version`, `applied` or `batch` are
-/// skipped. Each stream is read whole, and is refused if it has more than `MOST_ROWS` rows or
-/// lines.
+/// to this request at this version. `best_by_rounds` computes the answer for this reply. A request
+/// that no line answers is a fault, too. Lines whose first word is `version`, `applied` or `batch`
+/// are skipped. Each stream is read whole. A stream with more than `MOST_ROWS` rows or lines is
+/// refused.
 pub fn audit<R: Read + Drop, Q: Read + Drop, P: Read + Drop>(
     alloc: Global,
     journal: R,

@@ -1,5 +1,5 @@
-//! Compares each line that begins as a reply, and has no fault so far, with the reply that the
-//! plain search (`best_by_rounds`) computes.
+//! Compares a line with the reply that the plain search (`best_by_rounds`) computes. This is done
+//! for each line that begins as a reply and has no fault so far.
 
 ghost use Rattle.std.specs.Prelude.{◌≡◌, ◌↔◌, IsTrue, IfOk, OnOk, ◌∷◌, ◌++◌, [], length};
 ghost use Rattle.cspf_audit.specs.Findings.{IsRightReply, AreFindings};
@@ -15,9 +15,9 @@ use cspf_model::{Batch, Request, one_best_answer};
 use cspf_search::best_by_rounds;
 use std::alloc::{AllocError, Global};
 
-/// Compares each line whose head has no fault with the right reply at the version that the line
-/// names. Each such line has a claim: it is still to be compared. The finding of a line that
-/// differs from the right reply becomes `Altered`.
+/// Compares each line that has a claim with the right reply at the version that the line names. A
+/// claim says that a line is still to be compared. If the line differs from the right reply, its
+/// finding becomes `Altered`.
 pub(crate) fn compare_all(
     alloc: Global,
     batches: &[Batch],
@@ -44,7 +44,8 @@ pub(crate) fn compare_all(
     Ok(())
 }
 
-/// Whether a line is the reply to a request at a version. The table has the database of that version.
+/// Whether a line is the right reply to a request at a version. The table has the database of that
+/// version.
 fn is_reply(
     alloc: Global,
     table: &Table,
@@ -55,7 +56,8 @@ fn is_reply(
     ensures { IfOk result (λ right. IsTrue right
         ↔ IsRightReply table.now request.now version line.now) }
 {
-    // Laws: a request has only one best answer, and an answer has only one reply line.
+    // Laws: a request has only one best answer in a database, and an answer has only one reply
+    // line.
     one_best_answer();
     one_reply_line();
     let outcome = best_by_rounds(alloc, table, request)?;
@@ -63,7 +65,7 @@ fn is_reply(
     Ok(is_line(line, &reply))
 }
 
-/// Whether the bytes are this line and a line feed after it.
+/// Whether `bytes` is this line, followed by a line feed.
 fn is_line(line: &[u8], bytes: &[u8]) -> bool
     ensures { IsTrue result ↔ (bytes.now ≡ line.now ++ 10 ∷ []) }
 {

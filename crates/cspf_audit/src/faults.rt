@@ -2,7 +2,7 @@
 
 use std::fmt;
 
-/// What is wrong with the replies. Lines are counted from 1, skipped lines included.
+/// What is wrong with the replies. Lines are counted from 1. Skipped lines are counted, too.
 #[derive(Clone, Copy, Debug, PartialEq, Eq)]
 pub enum AuditFault {
     /// A line doesn't begin with `ask`, an id and a version.
@@ -20,7 +20,7 @@ pub enum AuditFault {
         /// The number of the line.
         line: u32,
     },
-    /// The line's version is above the number of the journal's batches.
+    /// The line names a version above the journal's last version.
     NoVersion {
         /// The number of the line.
         line: u32,
@@ -60,7 +60,7 @@ impl fmt::Display for AuditFault {
 pub struct Audit {
     /// How many of the lines that aren't skipped have no fault.
     pub good: u32,
-    /// First the faults of lines, in the order of the lines. Then the requests without a line, in the
-    /// order of the requests.
+    /// The faults of lines, in the order of the lines. After them, a fault for each request that no
+    /// line answers, in the order of the requests.
     pub faults: Vec<AuditFault>,
 }

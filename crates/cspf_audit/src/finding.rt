@@ -1,4 +1,4 @@
-/// What the audit finds of a line.
+/// The audit's finding about a line.
 #[derive(Clone, Copy, Debug, PartialEq, Eq)]
 pub(crate) enum Finding {
     /// The line reports a batch or a run, so it is skipped.
@@ -11,7 +11,7 @@ pub(crate) enum Finding {
     Foreign,
     /// An earlier line has the line's id.
     Doubled,
-    /// The line's version is above the number of the journal's batches.
+    /// The line names a version above the journal's last version.
     NoVersion,
     /// The line isn't the reply to its request at its version.
     Altered,

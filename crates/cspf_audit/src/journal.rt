@@ -1,5 +1,5 @@
-//! Reads a journal whose batches are lawful: each fits the database of the batches before it. Plans
-//! each batch.
+//! Reads a journal, and makes a plan for each of its batches. The batches have to be lawful: each
+//! fits the database of the batches before it.
 
 ghost use Rattle.std.specs.Prelude.{◌≡◌, ◌≤◌, [], length, IfOk, IfErr, OnOk, IfSome};
 ghost use Rattle.std.specs.Vec.{vec_capacity};
@@ -18,8 +18,8 @@ use cspf_rows::{Journal, Rest, read_journal};
 use std::alloc::Global;
 use std::io::Read;
 
-/// The batches of a journal, and a plan of each batch. The plan says what the batch changes in the
-/// table of the batches before it.
+/// The batches of a journal, and a plan for each batch. The plan says what its batch changes in the
+/// table that the batches before it make.
 #[derive(Drop)]
 pub(crate) struct LawfulJournal {
     /// The batches.
@@ -51,8 +51,8 @@ pub(crate) fn lawful_journal<R: Read + Drop>(
     Ok(LawfulJournal { batches, plans })
 }
 
-/// Makes a plan for each batch: how the batch changes the table that the batches before it make. The
-/// first batch that doesn't fit is refused.
+/// Makes a plan for each batch. The plan says what the batch changes in the table that the batches
+/// before it make. The first batch that doesn't fit that table is refused.
 fn plan_all(alloc: Global, batches: &[Batch]) -> Result<Vec<Plan>, AuditError>
     ensures lawful { OnOk result (AreLawful batches.now) }
     ensures planned { IfOk result (λ plans. ArePlansUpTo batches.now plans.items (length batches.now)) }
@@ -64,8 +64,9 @@ fn plan_all(alloc: Global, batches: &[Batch]) -> Result<Vec<Plan>, AuditError>
     Ok(plans)
 }
 
-/// Makes a plan for each batch: how the batch changes the table that the batches before it make. Or
-/// returns the first batch that doesn't fit. The plans are added to an empty list that has room for them, so the call takes no memory.
+/// Makes a plan for each batch. The plan says what the batch changes in the table that the batches
+/// before it make. The call fails with the first batch that doesn't fit that table. The plans are
+/// added to an empty list that has capacity for all of them, so the call allocates no memory.
 fn plan_each(table: &mut Table, batches: &[Batch], plans: &mut Vec<Plan>) -> Result<(), UnfitBatch>
     requires empty { table.old ≡ no_links }
     requires none { plans.old.items ≡ [] }
@@ -74,9 +75,9 @@ fn plan_each(table: &mut Table, batches: &[Batch], plans: &mut Vec<Plan>) -> Res
     ensures planned { OnOk result (ArePlansUpTo batches.now plans.new.items (length batches.now)) }
     ensures err { IfErr result (λ unfit. IsFirstUnfit batches.now unfit.number unfit.refusal) }
 {
-    // Laws: the next batch makes its changes in the database of the batches before it. If the next
-    // batch fits this database, each batch up to the next one fits the database of the batches
-    // before it.
+    // Laws: the next batch makes its changes in the database of the batches before it. If some
+    // batches are lawful, and the next batch fits their database, the batches with the next one are
+    // also lawful.
     absorbing();
     lawful_batches();
     for batch in batches {

@@ -1,10 +1,10 @@
-//! The audit: it finds out whether each reply to a request was right at the version that the reply
-//! names.
+//! The audit. It checks whether each reply was the right reply to its request at the version that
+//! the reply names.
 //!
-//! `specs/Lines.antt` defines how replies are cut into lines. `specs/Findings.antt` defines the finding
-//! of a line, which depends on a journal's batches, the requests and the lines before it.
-//! `specs/Audits.antt` defines the audit of all lines. `specs/AuditErrors.antt` defines the audit of
-//! whole streams, and why streams aren't audited.
+//! `specs/Lines.antt` defines how the text of the replies is cut into lines. `specs/Findings.antt`
+//! defines the finding about a line, which depends on a journal's batches, the requests and the
+//! earlier lines. `specs/Audits.antt` defines the audit of all lines. `specs/AuditErrors.antt`
+//! defines the audit of whole streams, and why streams aren't audited.
 #![tactic(auto)]
 
 mod audit_error;

@@ -22,9 +22,9 @@ impl Replay {
         Ok(Replay { table, version: 0 })
     }
 
-    /// Changes the table to the database at `version` of the journal, by the plans of the journal's
-    /// batches. If `version` is at least the replay's version, the table makes only the changes of
-    /// the batches between the two. If `version` is lower, the replay first goes back to version 0.
+    /// Moves the replay to `version` by the plans of the batches. From a lower or equal version,
+    /// only the batches between the two versions change the table. From a higher version, the
+    /// replay starts again at version 0.
     pub(crate) fn go_to(
         &mut self,
         alloc: Global,
@@ -38,7 +38,7 @@ impl Replay {
         ensures here { OnOk result (IsAtVersion batches.now self.new) }
         ensures version { OnOk result (self.new.version ≡ version) }
     {
-        // Law: the next batch makes its changes in the database of the batches before it.
+        // Law: one more batch makes its changes in the database of the batches before it.
         absorbing();
         if version < self.version {
             *self = Replay::new(alloc)?;

@@ -1,5 +1,5 @@
-//! What the head of each line of the replies tells. The head is the word `ask`, an id and a
-//! version. The rest of the line is compared later.
+//! Reads the head of each line of the replies. The head is the word `ask`, an id and a version. The
+//! rest of the line is compared later.
 
 ghost use Rattle.std.specs.Prelude.{◌≡◌, ◌++◌, ◌∷◌, [], ◌<◌, ℕ, List, length, Some, OnOk, IfOk};
 ghost use Rattle.std.specs.BTreeMap.{get};
@@ -31,17 +31,17 @@ pub(crate) struct ReplyFindings {
     pub(crate) named: Vec<bool>,
 }
 
-/// What the audit knows of a line before it compares the line with the right reply.
+/// The audit's result for a line before it compares the line with the right reply.
 #[derive(Clone, Copy)]
 enum Reading {
-    /// The line needn't be compared with the right reply: it has this finding.
+    /// The line has this finding, and needn't be compared with the right reply.
     Settled(Finding),
-    /// The line is to be compared with the right reply to the request at this index, at this
-    /// version.
+    /// The line is to be compared with the right reply. The fields are the index of the request and
+    /// the version.
     Claims(usize, u32),
 }
 
-/// Reads the lines of the replies. `ids` has the index of each request by the request's id, and
+/// Reads the lines of the replies. `ids` maps the id of each request to the request's index, and
 /// `last` is the highest version of the journal.
 pub(crate) fn read_replies(
     alloc: Global,
@@ -68,9 +68,9 @@ pub(crate) fn read_replies(
 }
 
 impl ReplyFindings {
-    /// Adds the finding of the next line of the replies. If the line is the first one with a
-    /// request's id, and names a version of the journal, also adds a claim: the line is still to be
-    /// compared with the right reply.
+    /// Adds the finding of the next line of the replies. A claim is also added if this line is the
+    /// first one with a request's id and names a version of the journal. A claim says that the line
+    /// is still to be compared with the right reply.
     fn take(
         &mut self,
         line: &[u8],
@@ -104,8 +104,8 @@ impl ReplyFindings {
     }
 }
 
-/// Reads the head of a line. If the head has the id of a request, `named` becomes true at the index
-/// of this request.
+/// Reads the head of a line. If the head has the id of a request, `named` is set to true at the
+/// index of this request.
 fn read_reply(line: &[u8], ids: &BTreeMap<u64, usize>, last: usize, named: &mut [bool]) -> Reading
     requires within { (id index : ℕ) → get nat_cmp ids.now id ≡ Some index
         → index < length named.old }

@@ -1,4 +1,4 @@
-//! Makes the faults of an audit from the findings of the lines, and from the list that says which
+//! Makes the result of an audit from the findings of the lines, and from the list that says which
 //! requests have a line.
 
 ghost use Rattle.std.specs.Prelude.{◌≡◌, ◌++◌, ◌≤◌, List, ℕ, length, IfOk, OnOk};
@@ -31,8 +31,8 @@ pub(crate) fn report(
     Ok(Audit { good, faults })
 }
 
-/// Adds the fault of each line that has a fault, and counts the good lines, which aren't skipped
-/// and have no fault.
+/// Adds the fault of each line that has a fault. The result is the number of good lines: they
+/// aren't skipped and have no fault.
 fn report_lines(findings: &[Finding], faults: &mut Vec<AuditFault>) -> Result<u32, AllocError>
     requires most { length findings.now ≤ MOST_ROWS }
     ensures good { IfOk result (λ good. good ≡ good_count findings.now) }
@@ -50,7 +50,7 @@ fn report_lines(findings: &[Finding], faults: &mut Vec<AuditFault>) -> Result<u3
     Ok(good)
 }
 
-/// The fault of the line with this number and this finding, if the finding is a fault.
+/// The fault for a line with this number and this finding, or `None` if the finding isn't a fault.
 fn fault_of(line: u32, finding: Finding) -> Option<AuditFault>
     ensures { result ≡ fault_at line finding }
 {

@@ -1,7 +1,7 @@
 ghost use Rattle.std.specs.Prelude.{◌≡◌, ◌==◌, ◌↔◌, IsTrue, position};
 ghost use Rattle.cspf_audit.specs.Findings.{first_word, IsPassedOver};
 
-/// Whether the audit skips a line: its first word is `version`, `applied` or `batch`.
+/// Whether the audit skips the line, because its first word is `version`, `applied` or `batch`.
 pub(crate) fn is_passed_over(line: &[u8]) -> bool
     ensures { IsTrue result ↔ IsPassedOver line.now }
 {

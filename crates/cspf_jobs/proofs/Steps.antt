@@ -1,4 +1,4 @@
--- What holds of all jobs of a run. The proofs add the result of one more thread at a time.
+-- Facts about all jobs of a run. The proofs add the result of one more thread at a time.
 use Rattle.std.proofs.Common.{◌≡◌, suc, ◌<◌, ◌≤◌, ◌^◌, List, [], ◌∷◌, ◌++◌, length, Result, Ok, Err, MatchResult, IsOkAnd, refl, sym, ap, subst, ◌∙◌, arith, Global}
 use Rattle.std.proofs.Math.Nat.{ℕ_set}
 use Rattle.std.specs.Global.{Vec}
@@ -11,7 +11,7 @@ use Rattle.cspf_jobs.specs.declared.word.NoThread.{NoThread}
 one_heap : (a b : Global) → a ≡ b
 one_heap a b = refl
 
--- Vectors with the same address, the same capacity and the same items are equal.
+-- Two vectors with the same address, the same capacity and the same elements are equal.
 vec_same : {X : Type 0} (v w : Vec X) → v.ptr ≡ w.ptr → v.cap ≡ w.cap → v.items ≡ w.items → v ≡ w
 vec_same v w p c i =
     let l : v.len ≡ w.len = v.ok.0 ∙ ap length i ∙ sym w.ok.0 in
@@ -25,7 +25,8 @@ vec_same v w p c i =
       small = is_prop→PathP (λ j. c j < 2 ^ 63) (λ j. le_prop) v.small w.small k;
     }
 
--- What holds of the pairs of two lists holds of the last pair, and of the pairs before it.
+-- A relation between two lists, element by element, holds of the last pair, and of the pairs before
+-- it.
 pub zip_front : {A B : Type 0} (R : A → B → Type 0) (xs : List A) (ys : List B) (x : A) (y : B) → AllZip R (xs ++ x ∷ []) (ys ++ y ∷ []) → AllZip R xs ys × R x y
 zip_front R [] [] x y all = (tt, all.0)
 zip_front R [] (b ∷ []) x y all = absurd all.1
@@ -59,13 +60,13 @@ none_done done Ready (w ∷ ws) [] none all = absurd all
 none_done done Ready ws (j ∷ js) none all = absurd (omega (arith, none))
 
 module _ {G W J O M P : Type 0} (done : W → J → O → Type 0) (last_done : M → Unit {0} → P → Type 0) where
-  -- What a thread ends with: the output of its job if the decision `said` is that the jobs begin,
+  -- The result of a thread: the output of its job if the decision `said` is that the jobs begin,
   -- and the job itself otherwise.
   abbrev Ends : Result G NoThread → W → J → Result O J → Type 0
   Ends said w j ended = MatchResult said (λ go. IsOkAnd ended (done w j)) (λ not. ended ≡ Err j)
 
-  -- Suppose that there are no jobs. The work of the calling thread was done if the decision is that
-  -- the jobs begin, and is as before otherwise. Then `HaveEnded` holds.
+  -- There are no jobs. The work of the calling thread was done if the decision is that the jobs
+  -- begin, and is unchanged otherwise. Then `HaveEnded` holds.
   pub gone_none : (Ready : W → J → Type 0) (workers : List W) (jobs : Vec J) (outputs : List O) (last : M) (said : Result G NoThread) (result : Result P M)
       → jobs.len ≡ 0 → outputs ≡ [] → AllZip Ready workers jobs.items
       → MatchResult said (λ go. IsOkAnd result (last_done last tt)) (λ not. result ≡ Err last)
@@ -74,8 +75,8 @@ module _ {G W J O M P : Type 0} (done : W → J → O → Type 0) (last_done : M
       (rw no_output (none_done done Ready workers jobs.items (sym jobs.ok.0 ∙ none) ready), ends)
   gone_none Ready workers jobs outputs last (Err not) result none no_output ready ends = (refl, ends)
 
-  -- If the thread ended with an output, the list of outputs has room for it. If the thread ended
-  -- with its job, the list of jobs that weren't begun has room for this job.
+  -- If the thread ended with an output, the list of outputs has capacity for the output. If the
+  -- thread ended with its job, the list of jobs that weren't begun has capacity for the job.
   pub keeps : (workers : List W) (jobs left : Vec J) (outputs : Vec O) (last : M) (w : W) (j : J) (said : Result G NoThread) (result : Result P M) (ended : Result O J)
       → HaveEnded done last_done workers jobs outputs.items last left said result → Ends said w j ended
       → jobs.len < jobs.cap → jobs.len < outputs.cap
@@ -88,8 +89,9 @@ module _ {G W J O M P : Type 0} (done : W → J → O → Type 0) (last_done : M
       subst (λ r. MatchResult r (λ o. outputs.len < outputs.cap) (λ k. left.len < left.cap)) (sym ends) (subst (λ (v : Vec J). v.len < v.cap) (sym gone.0) more)
 
   -- The decision says whether the jobs begin. The earlier jobs, the calling thread's work and the
-  -- last job have ended as it says. The last job's output is appended to the outputs, or this job
-  -- itself to the jobs that weren't begun. Then `HaveEnded` holds of all jobs.
+  -- last job have ended according to it. If the jobs began, the last job's output is appended to
+  -- the outputs. If not, this job itself is appended to the jobs that weren't begun. Then
+  -- `HaveEnded` holds of all jobs.
   pub gone_more : (workers front : List W) (jobs before left kept : Vec J) (outputs more : Vec O) (last : M) (w : W) (j : J) (said : Result G NoThread) (result : Result P M) (ended : Result O J)
       → HaveEnded done last_done front before outputs.items last left said result → Ends said w j ended
       → workers ≡ front ++ w ∷ [] → jobs.items ≡ before.items ++ j ∷ [] → before.ptr ≡ jobs.ptr → before.cap ≡ jobs.cap

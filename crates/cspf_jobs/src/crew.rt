@@ -26,13 +26,13 @@ pub trait Doer<J> {
     /// The postcondition of `work`, on the worker, the job and the output.
     ghost done: { Self → J → Self.Output → Type 0 };
 
-    /// Does the job. `go` shows how many jobs have a thread.
+    /// Does the job. `go` shows the number of jobs that have a thread.
     fn work(self, go: &Go, job: J) -> Self::Output
         requires { ready go.now self job }
         ensures { done self job result };
 }
 
-/// The calling thread's own work, which it does while the workers do their jobs.
+/// The calling thread's own work. It does this work while the workers do their jobs.
 pub trait Meanwhile {
     /// The output of this work.
     type Output;
@@ -44,7 +44,7 @@ pub trait Meanwhile {
     /// the call.
     ghost ran: { Self → Self.Output → Self → Type 0 };
 
-    /// Does the work. `go` shows how many jobs have a thread.
+    /// Does the work. `go` shows the number of jobs that have a thread.
     fn run(&mut self, go: &Go) -> Self::Output
         requires { ready go.now self.old }
         ensures { ran self.old result self.new };
@@ -70,16 +70,16 @@ impl<'a, P, M: Meanwhile<Output = P>> Doer<()> for Lent<'a, M> {
     }
 }
 
-/// The result of a thread: the decision that it has read whether the jobs begin, and the output of
-/// its job. If the job wasn't begun, the job is returned in place of the output.
+/// The result of a thread: the decision whether the jobs begin, as the thread has read it, and the
+/// output of its job. If the job wasn't begun, the job is returned in place of the output.
 #[derive(Drop)]
 pub(crate) struct Came<'a, N: JobCount, J, O> {
     said: Said<'a, N>,
     ended: Result<O, J>,
 }
 
-/// What a thread is given: the once-lock that gets the decision whether the jobs begin, the worker
-/// and the job.
+/// The arguments of a thread: the once-lock that gets the decision whether the jobs begin, the
+/// worker and the job.
 #[derive(Drop)]
 pub(crate) struct Given<'a, N: JobCount, W, J> {
     word: &'a StartWord<N>,
@@ -132,9 +132,9 @@ fn finish<'a, N: JobCount, P, M: Doer<(), Output = P> + Drop, R: Wait>(
     (said, ended)
 }
 
-/// Makes a thread for each job, the last job first, and counts the threads. Then it decides whether
-/// the jobs begin. If they begin, it does the work of the calling thread. At the end it joins the
-/// threads.
+/// Makes a thread for each job, starting with the last job, and counts the threads. Then it decides
+/// whether the jobs begin. If they begin, it does the work of the calling thread. At the end it
+/// joins the threads.
 fn call_all<
     's,
     'w: 's,
@@ -204,8 +204,8 @@ fn keep<J, O>(ended: Result<O, J>, jobs: &mut Vec<J>, outputs: &mut Vec<O>)
     }
 }
 
-/// The decision `said` names the job that was refused a thread. Returns the error with this job's
-/// number, which is from 1 to `count`, the number of jobs.
+/// Returns the error with the number of the job that was refused a thread, as the decision `said`
+/// names it. The number is from 1 to `count`, the number of jobs.
 fn refusal<'a, N: JobCount>(word: &'a StartWord<N>, said: &Said<'a, N>, count: usize) -> NoThread
     requires { (said.now.of ≡ word.now.id) × (0 < count) }
     ensures { (0 < result.job) × (result.job ≤ count) }
@@ -219,7 +219,7 @@ fn refusal<'a, N: JobCount>(word: &'a StartWord<N>, said: &Said<'a, N>, count: u
     }
 }
 
-/// As `run_all`, but the work of the calling thread is given as a value.
+/// As `run_all`, but the work of the calling thread is passed as a value.
 fn run_with<
     N: JobCount + Send + Sync + Drop,
     J: Send + Drop,
@@ -244,7 +244,7 @@ fn run_with<
     run_under(rt, &word, workers, jobs, room, last)
 }
 
-/// As `run_with`, but the caller gives the once-lock `word`, which gets the decision whether the
+/// As `run_with`, but the caller passes the once-lock `word`, which gets the decision whether the
 /// jobs begin.
 fn run_under<
     'w,
@@ -297,13 +297,13 @@ fn run_under<
     )
 }
 
-/// Does each job in its own thread, by the worker at the same place in `workers`. Meanwhile the
+/// Does each job in its own thread, by the worker at the same index in `workers`. Meanwhile the
 /// calling thread does its own work. No job and no work of the calling thread begins before all
-/// jobs have a thread. Each worker, and the work of the calling thread, gets a `Go`, which shows
-/// that as many threads were made as there are jobs. The outputs are put into `room`.
+/// jobs have a thread. Each worker, and the work of the calling thread, gets a `Go`. It shows that
+/// each job has a thread. The outputs are put into `room`.
 ///
-/// If a thread can't be had, no job begins, and the calling thread doesn't do its own work. All
-/// threads end, and the jobs are returned.
+/// If the system refuses a thread, no job begins, and the calling thread doesn't do its own work.
+/// All threads end, and the jobs are returned.
 pub fn run_all<
     J: Send + Drop,
     O: Send + Drop,
@@ -337,7 +337,7 @@ pub fn run_all<
     }
 }
 
-/// Does nothing. By this use of the reference, the borrow checker ties the reference to the value
+/// Does nothing. This use of the reference makes the borrow checker tie the reference to the value
 /// that was lent.
 fn take_back<M>(own: &mut M)
     ensures { own.new ≡ own.old }

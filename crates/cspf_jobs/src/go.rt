@@ -1,5 +1,5 @@
-//! `Go` shows how many jobs have a thread, and no work begins without it. It is made from the count
-//! of threads.
+//! `Go` shows the number of jobs that have a thread. No work begins without a `Go`. It is made from
+//! the count of threads.
 
 ghost use Rattle.std.specs.Prelude.{◌≡◌, ◌<◌, Ok, Err, IsOk, MatchResult};
 ghost use Rattle.std.specs.Result.{ForOk, ForErr};
@@ -10,7 +10,7 @@ use std::marker::{Brand, Model, PhantomData};
 use std::snapshot::Snapshot;
 use std::thread::{Promise, PromisedHandle, SpawnError, Threads};
 
-/// A type that stands for the number of jobs of a run. Only proofs use it.
+/// A type that represents the number of jobs of a run. Only proofs use it.
 pub(crate) trait JobCount {
     ghost use Rattle.std.specs.Prelude.{ℕ};
 
@@ -21,7 +21,7 @@ impl JobCount for Brand {
     ghost jobs = { 0 };
 }
 
-/// Shows how many jobs have a thread. In contracts its value is that number.
+/// Shows the number of jobs that have a thread. In contracts its value is this number.
 #[derive(Drop)]
 pub struct Go {
     threads: usize,
@@ -44,7 +44,8 @@ pub(crate) struct GoForAll<N: JobCount> {
 }
 
 impl<N: JobCount> GoForAll<N> {
-    /// Returns the `Go` that is passed to the workers. It shows how many jobs have a thread.
+    /// Returns the `Go` that is passed to the workers. It shows the number of jobs that have a
+    /// thread.
     pub(crate) fn go(&self) -> &Go
         ensures { result.now ≡ N.jobs }
     {
@@ -73,7 +74,7 @@ impl<T, P: Promise<T>, F: FnOnce() -> T> JobThread<T, P, F> {
     }
 }
 
-/// How many jobs have a thread, or the first refusal of a thread.
+/// The number of jobs that have a thread, or the first refusal of a thread.
 #[derive(Drop)]
 pub(crate) struct ThreadCount {
     made: Result<usize, NoThread>,
@@ -89,8 +90,8 @@ impl ThreadCount {
         ThreadCount { made: Ok(0) }
     }
 
-    /// Counts the thread of the job with this number, or notes that the job was refused a thread.
-    /// The call takes the thread, so that no thread is counted twice.
+    /// Counts the thread of the job with the number `job`, or notes that this job was refused a
+    /// thread. The call takes ownership of the thread. So no thread is counted twice.
     pub(crate) fn add<'a, N: JobCount, J, O, W: Doer<J, Output = O>, F>(
         &mut self,
         job: usize,

@@ -1,10 +1,10 @@
 //! Runs each job in its own thread. No job begins before all jobs have a thread.
 //!
 //! `run_all` makes a thread for each job, and counts the threads. All threads wait for one
-//! decision: go, or that no thread could be had for some job. Only the count of threads makes a
-//! `Go`, which every piece of work needs. If the decision is go, each thread does its job, and the
-//! calling thread does its own work meanwhile. Otherwise no job begins, and all jobs are returned.
-//! The terms of the contract of `run_all` are defined in `specs/Jobs.antt`.
+//! decision: that the jobs begin, or that a job was refused a thread. Only the count of threads
+//! makes a `Go`, and every piece of work needs a `Go`. If the jobs begin, each thread does its job,
+//! and the calling thread does its own work meanwhile. Otherwise no job begins, and all jobs are
+//! returned. The terms of the contract of `run_all` are defined in `specs/Jobs.antt`.
 #![tactic(auto)]
 
 mod crew;

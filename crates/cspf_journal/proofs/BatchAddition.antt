@@ -1,5 +1,5 @@
--- The atomic exchange that adds a batch to a journal's list of batches keeps the invariant of the
--- journal's steps.
+-- A batch is added to a journal's list of batches by an atomic exchange. This exchange keeps the
+-- invariant of the journal's steps.
 use Rattle.std.proofs.Common.{◌≡◌, ℕ, ◌+◌, ◌<◌, ◌==◌, Bool, true, false, List, [], ◌∷◌, ◌++◌, length, refl, ap, sym, ◌∙◌, subst, arith, inl, length-append, None}
 use Rattle.std.proofs.lemmas.List.{append-nil}
 use Rattle.std.proofs.lemmas.Bool.Decides.{nat_tests}
@@ -16,12 +16,12 @@ use Rattle.cspf_journal.specs.declared.log_step.LogStep.TheVariants.{Recorded}
 use Rattle.cspf_journal.proofs.Prefixes.{BeginsWith-trans, length-prefix, all_of, IsHistory-snoc}
 use Rattle.cspf_journal.proofs.JournalSteps.{batches_of-append, batches_of-prefix, count_from-append, AreOrderedFrom-append}
 
--- what the invariant of a journal's steps lets threads see of these steps: nothing
+-- the steps of a journal that its invariant shows to all threads: no steps
 abbrev pub shown : List LogStep → List LogStep
 shown log = []
 
--- what the invariant of a journal's steps lets threads see of the change that a single step makes:
--- nothing
+-- the facts about a single step that the invariant of a journal's steps shows to all threads: no
+-- facts
 abbrev pub moved : List LogStep → List LogStep → ℕ → Type 0
 moved xs ys n = Unit {0}
 
@@ -60,9 +60,9 @@ adds_goes law log v first e old len known next journal pre false is =
       rw is tt,
     )
 
--- Whatever the journal's earlier steps are, the atomic exchange on the length of the list of
--- batches does one of two things. It adds the batch after all recorded batches, or it finds that
--- this length isn't `old`.
+-- For any earlier steps of the journal, the atomic exchange on the length of the list of batches
+-- does one of two things. It adds the batch after all recorded batches, or it finds that the length
+-- isn't `old`.
 pub adds_moves : LawfulByOneMore → (v : List LogStep) (first : List NumberedChanges) (e : NumberedChanges) (old : ℕ) → length first ≡ old → BeginsWith (batches_of v) first → MayFollow first e
     → Moves IsKeptHistory shown moved 0 (v, (no_nib, None)) (λ n. either (n == old) (old + 1) n) (Adds (step 0 old (old + 1) (Recorded e)) (v, (no_nib, None)))
 adds_moves law v first e old len known next cs log kept pre away =

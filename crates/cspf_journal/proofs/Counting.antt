@@ -15,13 +15,12 @@ use Rattle.cspf_journal.proofs.BatchAddition.{shown, moved, IsKeptHistory-same}
 use Rattle.cspf_journal.proofs.Prefixes.{length-prefix}
 use Rattle.cspf_journal.proofs.JournalSteps.{batches_of-append, batches_of-prefix, count_from-append, count_from-le, AreJournalSteps-same}
 
--- if `v` is a prefix of a journal's steps `log`, and the step `e` is added at the end of `log`, `e`
--- comes after all steps of `v`
+-- if `v` is a prefix of the steps `log`, and the step `e` is added at the end of `log`, then `e`
+-- follows all steps of `v`
 up_to : (v log : List LogStep) (e : LogStep) → IsPrefix v log → AreStepsUpTo v (log ++ e ∷ []) e
 up_to v log e pre = (pre.0, ap (λ (w : List LogStep). w ++ e ∷ []) (sym pre.1))
 
--- the batches that a journal's steps record stay the same if one more step, which records no batch,
--- comes after these steps
+-- a step that records no batch doesn't change the batches that the journal's steps record
 recorded-same : (log : List LogStep) (e : LogStep) → batches_of (e ∷ []) ≡ [] → batches_of (log ++ e ∷ []) ≡ batches_of log
 recorded-same log e none = batches_of-append log (e ∷ []) ∙ (ap (λ (w : List NumberedChanges). batches_of log ++ w) none ∙ append-nil (batches_of log))
 
@@ -55,8 +54,8 @@ counts_goes log v old new one within journal pre false is =
       rw is tt,
     )
 
--- whatever the journal's earlier steps are, the atomic exchange counts one more recorded batch as
--- published, or finds that the count of published batches isn't `old`
+-- for any earlier steps of the journal, the atomic exchange counts one more recorded batch as
+-- published, or it finds that the count of published batches isn't `old`
 pub counts_moves : (v : List LogStep) (old new : ℕ) → new ≡ old + 1 → new ≤ length (batches_of v)
     → Moves IsKeptHistory shown moved 1 (v, (no_nib, None)) (λ n. either (n == old) new n) (CountsOneMore (step 1 old new (Published new)) (v, (no_nib, None)))
 counts_moves v old new one within cs log kept pre away =
@@ -81,8 +80,8 @@ reads_goes log v reader place asked journal pre =
       (up_to v log e pre, omega (arith, within, length_is), journal'),
     )
 
--- whatever the journal's earlier steps are, the reading finds the count of published batches that
--- these steps give
+-- for any earlier steps of the journal, the reading finds the count of published batches that these
+-- steps give
 pub reads_moves : (v : List LogStep) (reader place asked : ℕ)
     → Moves IsKeptHistory shown moved 1 (v, (no_nib, None)) (λ n. n) (Reads (step 1 0 0 (Read reader place asked)) (v, (no_nib, None)))
 reads_moves v reader place asked cs log kept pre away =

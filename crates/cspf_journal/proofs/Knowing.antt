@@ -1,5 +1,5 @@
--- Which batches of a journal are known: a prefix of the batches that the known steps of this
--- journal record.
+-- The known batches of a journal are a prefix of the batches that the known steps of this journal
+-- record.
 use Rattle.std.proofs.Common.{◌≡◌, ◌≤◌, ◌⊎◌, ℕ, zero, suc, max, List, [], ◌∷◌, ◌++◌, length, take, inl, inr, refl, sym, ap, subst, ◌∙◌, arith, append_assoc, ⊎_elim}
 use Rattle.std.proofs.lemmas.List.{length-take-le}
 use mathlib.Core.List.{IsPrefix}
@@ -19,15 +19,15 @@ use Rattle.cspf_journal.proofs.JournalSteps.{batches_of-prefix, finds_counts}
 pub known_in : (n : ℕ) (steps all : List LogStep) → IsPrefix steps all → BeginsWith (batches_of all) (take n (batches_of steps))
 known_in n steps all p = BeginsWith-trans (batches_of all) (batches_of steps) (take n (batches_of steps)) (batches_of-prefix steps all p) (BeginsWith-take n (batches_of steps))
 
--- if `steps` are the steps `seen`, perhaps other steps, and then one more step, each prefix of
+-- if `steps` are the steps `seen`, then any further steps, and then one last step, each prefix of
 -- `seen` is also a prefix of `steps`
 pub IsPrefix-up_to : (first seen steps : List LogStep) (e : LogStep) → IsPrefix first seen → AreStepsUpTo seen steps e → IsPrefix first steps
 IsPrefix-up_to first seen steps e pre up =
     let rest = up.0 ++ e ∷ [] in
     (pre.0 ++ rest, sym (append_assoc first pre.0 rest) ∙ (ap (λ (w : List LogStep). w ++ rest) pre.1 ∙ (sym (append_assoc seen up.0 (e ∷ [])) ∙ sym up.1)))
 
--- `raised` is the larger of `version` and `count`. So a reader that knew `version` batches knows
--- `raised` batches after it has read the count of published batches.
+-- `raised` is the larger of `version` and `count`. If a reader knew `version` batches and reads the
+-- count `count` of published batches, it then knows `raised` batches.
 abbrev pub IsRaised : ℕ → ℕ → ℕ → Type 0
 IsRaised version count raised = ((raised ≡ version) × (count ≤ version)) ⊎ ((raised ≡ count) × (version ≤ count))
 

@@ -22,7 +22,7 @@ BeginsWith-take n all = (drop n all, sym (take-append-drop n all))
 pub length-prefix : (all first : List NumberedChanges) → BeginsWith all first → length first ≤ length all
 length-prefix all first p = omega (arith, ap length p.1, length-append first p.0)
 
--- of two prefixes of one list the shorter is a prefix of the longer
+-- if two lists are prefixes of one list, the shorter one is a prefix of the longer one
 pub shorter : (xs ys all : List NumberedChanges) → BeginsWith all xs → BeginsWith all ys → length xs ≤ length ys → BeginsWith ys xs
 shorter [] ys all p q le = (ys, refl)
 shorter (x ∷ xs) [] all p q le = absurd (omega arith)
@@ -32,7 +32,7 @@ shorter (x ∷ xs) (y ∷ ys) (z ∷ zs) p q le =
     let rest = shorter xs ys zs (p.0, cc (p.1)) (q.0, cc (q.1)) (omega arith) in
     (rest.0, cc (heads, rest.1))
 
--- a prefix that is as long as the whole list is the whole list
+-- a prefix of a list that is as long as the list is the whole list
 pub all_of : (xs all : List NumberedChanges) → BeginsWith all xs → length xs ≡ length all → xs ≡ all
 all_of [] [] p len = refl
 all_of [] (y ∷ ys) p len = absurd (omega arith)
@@ -45,8 +45,9 @@ AreNumberedFrom-snoc : (n : ℕ) (bs : List NumberedChanges) (b : NumberedChange
 AreNumberedFrom-snoc n [] b all is = (omega (arith, is), tt)
 AreNumberedFrom-snoc n (c ∷ bs) b all is = (all.0, AreNumberedFrom-snoc (n + 1) bs b all.1 (omega (arith, is)))
 
--- If `IsHistory` holds of batches (numbered from 1, each fitting those before it), it still holds
--- when one more batch that may come next is added at their end.
+-- If `IsHistory` holds of a list of batches, it still holds when the next batch that may be
+-- published is added at the end. Such batches are numbered from 1, and each fits the batches before
+-- it.
 pub IsHistory-snoc : LawfulByOneMore → (bs : List NumberedChanges) (b : NumberedChanges) → IsHistory bs → MayFollow bs b → IsHistory (bs ++ b ∷ [])
 IsHistory-snoc law bs b h f = record {
   lawful = (law bs b).1 (h.lawful, f.fits);
@@ -58,8 +59,8 @@ AreNumberedFrom-prefix : (n : ℕ) (bs more : List NumberedChanges) → AreNumbe
 AreNumberedFrom-prefix n [] more all = tt
 AreNumberedFrom-prefix n (b ∷ bs) more all = (all.0, AreNumberedFrom-prefix (n + 1) bs more all.1)
 
--- if `IsHistory` holds of batches (numbered from 1, each fitting those before it), it holds of each
--- prefix of their list
+-- If `IsHistory` holds of a list of batches, it holds of each prefix of the list. Such batches are
+-- numbered from 1, and each fits the batches before it.
 pub IsHistory-prefix : FirstBatchesAreLawful → (all first : List NumberedChanges) → BeginsWith all first → IsHistory all → IsHistory first
 IsHistory-prefix law all first p h = record {
   lawful = law first p.0 (subst AreLawful p.1 h.lawful);

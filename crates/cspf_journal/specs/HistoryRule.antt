@@ -1,5 +1,5 @@
--- The rule of a journal's steps, an invariant. Also what the thread that makes a step knows after
--- each kind of step.
+-- Defines the rule of a journal's steps, which is an invariant. Also defines, for each kind of
+-- step, the facts that a thread knows after it makes such a step.
 use Rattle.std.specs.Prelude.{ℕ, ◌≡◌, ◌==◌, ◌≤◌, true, List, [], ◌∷◌, ◌++◌, length, MatchBool}
 use Rattle.logbook.specs.Pages.{Cell, Step, View, Book, Named}
 use Rattle.cspf_journal.specs.Histories.{IsHistory}
@@ -7,43 +7,41 @@ use Rattle.cspf_journal.specs.JournalSteps.{batches_of, count_of, AreOrderedFrom
 use Rattle.cspf_journal.specs.declared.log_step.LogStep.{LogStep}
 use Rattle.cspf_journal.specs.declared.log_step.LogStep.TheVariants.{Recorded, Published, Read}
 
--- The first counter is the number of recorded batches, and the second counter is the number of
--- published batches. The steps are those of one journal.
+-- The rule: the first counter is the number of recorded batches, and the second counter is the
+-- number of published batches. All steps are steps of one journal.
 pub record IsKeptHistory (cells : List Cell) (steps : List LogStep) : Type 0 where
   pub words : cells ≡ (length (batches_of steps), true) ∷ (count_of steps, true) ∷ []
   pub journal : AreJournalSteps steps
 
--- the shared counter that has the length of the list of the journal with the identity `source`
+-- the shared counter for the number of recorded batches of the journal with the identity `source`
 abbrev pub length_word : Book → Named
 length_word source = record { tracked = true; key = 0; book = source }
 
--- the shared counter that has the number of published batches of the journal with the identity
--- `source`
+-- the shared counter for the number of published batches of the journal with the identity `source`
 abbrev pub count_word : Book → Named
 count_word source = record { tracked = true; key = 1; book = source }
 
--- if the list of batches had the expected length (`s.old`), the batch was added after all recorded
--- batches
+-- if the list of batches had the expected length (`s.old`), the batch was added at its end
 abbrev pub Adds : Step LogStep → View LogStep ℕ → ℕ → View LogStep ℕ → Type 0
 Adds s v found w = MatchBool (found == s.old)
     ((length (batches_of v.0) ≡ found) × (batches_of w.0 ≡ batches_of v.0 ++ batches_of (s.ask ∷ [])) × AreJournalSteps w.0)
     (Unit {0})
 
--- if the count of published batches was as expected (`s.old`), one more batch is counted as
--- published
+-- if the count of published batches was the expected count (`s.old`), one more batch is now counted
+-- as published
 abbrev pub CountsOneMore : Step LogStep → View LogStep ℕ → ℕ → View LogStep ℕ → Type 0
 CountsOneMore s v found w = MatchBool (found == s.old)
     (AreStepsUpTo v.0 w.0 s.ask × (count_of w.0 ≡ s.new) × AreJournalSteps w.0)
     (Unit {0})
 
--- the step that reads the count of published batches, with the count that it finds; other steps
--- stay as they are
+-- a reading of the count of published batches, with the count that it found; other steps are
+-- unchanged
 abbrev pub reading_of : LogStep → ℕ → LogStep
 reading_of (Recorded b) found = Recorded b
 reading_of (Published count) found = Published count
 reading_of (Read reader place count) found = Read reader place found
 
--- the reading of the count of published batches comes after all journal steps that the reader has
--- seen, and finds at most as many batches as are recorded
+-- the reading of the count of published batches follows all steps that the reader has seen, and
+-- finds at most the number of recorded batches
 abbrev pub Reads : Step LogStep → View LogStep ℕ → ℕ → View LogStep ℕ → Type 0
 Reads s v found w = AreStepsUpTo v.0 w.0 (reading_of s.ask found) × (found ≤ length (batches_of w.0)) × AreJournalSteps w.0

@@ -1,5 +1,5 @@
--- Which batches of a journal's list are known by a publisher, by an asker, or by a `Told`, the
--- value from which askers learn of published batches.
+-- Defines the batches of a journal's list that a publisher or an asker knows. Askers learn of
+-- published batches from a `Told`, which also has known batches.
 use Rattle.std.specs.Prelude.{◌≡◌, List, [], ◌∷◌, ◌++◌}
 use Rattle.logbook.specs.Pages.{Book}
 use Rattle.cspf_model.specs.Numbered.{NumberedChanges}
@@ -10,13 +10,13 @@ pub record KnownBatches : Type 0 where
   pub batches : List NumberedChanges
   pub source : Book
 
--- the batches `first` are a prefix of the batches `all`, perhaps all of them, and both are batches
--- of one journal (the source is its identity)
+-- the batches of `first` are a prefix of the batches of `all`, and both are batches of one journal
+-- (the source is its identity)
 pub record AreFirstOf (all first : KnownBatches) : Type 0 where
   pub source : first.source ≡ all.source
   pub begins : BeginsWith all.batches first.batches
 
--- these batches with the batch `b` added at their end, and the identity of their journal (the
--- source)
+-- the known batches after the batch `b` is added at the end of `batches`; `source` is the identity
+-- of their journal
 abbrev pub known_with : List NumberedChanges → Book → NumberedChanges → KnownBatches
 known_with batches source b = record { batches = batches ++ b ∷ []; source = source }

@@ -1,5 +1,5 @@
--- Readings of the count of published batches: which count they find, and which batches the reader
--- knows afterwards.
+-- Defines readings of the count of published batches: the count that a reading finds, and the
+-- batches that the reader knows afterwards.
 use Rattle.std.specs.Prelude.{◌≡◌, ◌≤◌, ◌⊎◌, ℕ, List, [], ◌∷◌, ◌++◌, length}
 use Rattle.cspf_journal.specs.Histories.{BeginsWith}
 use Rattle.cspf_journal.specs.KnownBatches.{KnownBatches}
@@ -7,11 +7,10 @@ use Rattle.cspf_journal.specs.JournalSteps.{KnownSteps, batches_of, count_of, Ar
 use Rattle.cspf_journal.specs.declared.log_step.LogStep.{LogStep}
 use Rattle.cspf_journal.specs.declared.log_step.LogStep.TheVariants.{Read}
 
--- A reader reads the count of published batches before it answers its row at this place. The step
--- of this reading comes after all steps that the reader has seen. The count is at least the count
--- that these steps give. After the reading the reader knows at least as many batches as the count
--- says, and all of them are recorded. Either the reader learns of no batch, or it then knows
--- exactly as many batches as the count says.
+-- A reader reads the count of published batches before it answers its row with the number `place`.
+-- This reading follows all steps that the reader has seen. The count is at least the count of those
+-- steps. After the reading the reader knows at least `count` batches, and all of its batches are
+-- recorded. Either the reader learns of no new batch, or it then knows exactly `count` batches.
 pub record CatchesUp (before after : KnownBatches) (seen steps : KnownSteps) (reader place count : ℕ) : Type 0 where
   pub source : after.source ≡ before.source
   pub journal : steps.source ≡ seen.source
@@ -22,8 +21,8 @@ pub record CatchesUp (before after : KnownBatches) (seen steps : KnownSteps) (re
   pub recorded : BeginsWith (batches_of steps.steps) after.batches
   pub only : (after ≡ before) ⊎ (length after.batches ≡ count)
 
--- A reading finds at least the count of published batches that the steps before it give. The reading
--- finds at most as many batches as were recorded before it.
+-- A reading finds at least the count of published batches that the steps before it give, and at
+-- most the number of batches recorded before it.
 abbrev pub ReadingsFindCounts : Type 0
 ReadingsFindCounts =
     (before after : List LogStep) (reader place found : ℕ)

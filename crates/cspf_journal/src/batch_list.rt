@@ -14,11 +14,11 @@ use cspf_model::{Batch, lawful_batches};
 use logbook::{Offer, Seen, Start, Word};
 use std::marker::Model;
 
-/// The counter that threads share: the length of the list of batches.
+/// The counter that threads share. It is the length of the list of batches.
 type LengthWord = Word<LogStep, u64, History>;
 
-/// A list of batches, in the hands of the list's owner. It has the shared counter that is the
-/// list's length, and the batches that the owner knows. Batches are added only through this value.
+/// A list of batches, as its owner has it: the shared counter that is the list's length, and the
+/// batches that the owner knows. Batches are added only through this value.
 #[derive(Drop)]
 pub(crate) struct BatchList {
     word: LengthWord,
@@ -38,8 +38,8 @@ impl Model for BatchList {
 }
 
 impl BatchList {
-    /// A new list without batches, and the right to show the list's batches to askers, which answer
-    /// requests.
+    /// Makes a new list without batches, and the right to show the list's batches to askers, which
+    /// answer requests.
     pub(crate) fn new() -> (BatchList, RightToShow)
         ensures list { result.0.batches ≡ [] }
         ensures right { result.1 ≡ record { batches = []; source = result.0.source } }
@@ -61,8 +61,8 @@ impl BatchList {
         ensures { IfSome result (λ longer.
             longer ≡ known_with self.now.batches self.now.source batch.now) }
     {
-        // Law: if each batch of a list fits after the batches before it, the same holds of the list
-        // with one more batch that fits.
+        // Law: if a list of batches is lawful and one more batch fits its database, the longer list
+        // is lawful. A list is lawful if each batch fits the database of the batches before it.
         lawful_batches();
         let mut seen = self.kept.seen();
         let mut offer: Offer<LogStep, u64, History, NoGain> = seen.plain::<NoGain, Batch, AddBatch>(
@@ -79,7 +79,7 @@ impl BatchList {
         Some(Known::new(batch.number, seen))
     }
 
-    /// Makes `longer` the list of batches that this value knows.
+    /// After this call `longer` is the list of batches that this value knows.
     pub(crate) fn keep(&mut self, longer: &Known)
         requires { longer.now.source ≡ self.old.source }
         ensures { self.new ≡ longer.now }

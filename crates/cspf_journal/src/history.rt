@@ -1,12 +1,12 @@
-//! The steps of a journal, which exist only in proofs. Threads share only two counters: how many
-//! batches are recorded, and how many are published.
+//! The steps of a journal, which exist only in proofs. At run time threads share only two counters:
+//! the number of recorded batches, and the number of published batches.
 use crate::log_step::{LogStep, RowOfReader};
 use cspf_model::Batch;
 use logbook::{Gain, Plain, Play, Rule};
 
-/// The rule of a journal's steps, an invariant. The steps are in order, and the recorded batches
-/// are numbered from 1, and each fits those before it. One counter is the number of recorded
-/// batches, and the other counter is the number of published batches.
+/// The rule of a journal's steps, which is an invariant. The steps are in order. The recorded
+/// batches are numbered from 1, and each fits the batches before it. One counter is the number of
+/// recorded batches, and the other counter is the number of published batches.
 pub struct History;
 
 impl Rule<LogStep, u64> for History {
@@ -27,8 +27,8 @@ impl Rule<LogStep, u64> for History {
     ghost moves = { λ ask before after answer. Unit {0} };
 }
 
-/// What a caller gains by making a step: only that it then knows the journal's steps up to this
-/// step.
+/// The facts that a caller gains by making a step: it then knows the journal's steps up to this
+/// step, and nothing else.
 pub struct NoGain;
 
 impl Gain<LogStep, u64> for NoGain {
@@ -84,9 +84,8 @@ impl Play<LogStep, u64> for ReadCount {
     ghost then = { Reads };
 }
 
-/// The caller names the reader, and the row that the reader answers after this step has read the
-/// count of published batches. The count 0 that is written here is replaced by the count that the
-/// step finds.
+/// The caller names the reader, and the row that the reader answers after this reading. The count 0
+/// is a placeholder: the count that the step finds replaces it.
 impl Plain<RowOfReader, LogStep, u64> for ReadCount {
     ghost use Rattle.std.specs.Prelude.{None};
     ghost use Rattle.cspf_journal.specs.declared.log_step.LogStep.TheVariants.{Read};

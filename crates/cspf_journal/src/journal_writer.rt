@@ -1,4 +1,4 @@
-//! A journal: the writer of the batches' texts, and the list of the batches that are recorded.
+//! A journal: the writer of the batches' texts, and the list of the recorded batches.
 ghost use Rattle.std.specs.Prelude.{◌≡◌, ◌++◌, ◌∷◌, [], false, length, IfOk, OnOk, IfErr, OnErr};
 ghost use Rattle.std.specs.Io.KnownBytes.{Appends};
 ghost use Rattle.cspf_rows.specs.BatchText.{batch_text};
@@ -15,7 +15,7 @@ use std::io::Write;
 use std::marker::Model;
 
 /// A writer, and the list of the batches whose texts the writer has. Only `record` makes a longer
-/// list known. So a batch that isn't recorded can't be shown to askers, which answer requests.
+/// list known. So only recorded batches can be shown to askers, which answer requests.
 #[derive(Drop)]
 pub struct JournalWriter<W> {
     writer: W,
@@ -60,7 +60,7 @@ impl<W> JournalWriter<W> {
         self.stopped
     }
 
-    /// The writer, as the last call left it.
+    /// The writer in its state after the last call.
     pub fn into_writer(self) -> W
         ensures { result ≡ self.writer }
     {
@@ -76,8 +76,8 @@ impl<W> JournalWriter<W> {
 impl<W: Write> JournalWriter<W> {
     /// Records a batch. First the batch is added to the shared list of batches. If that list
     /// already has more batches than this journal has recorded, the error is `Lost` and nothing is
-    /// written. Otherwise the batch's text is written whole, and the batches up to this batch are
-    /// returned. The call takes no memory and always returns.
+    /// written. Otherwise the whole text of the batch is written, and the batches up to this batch
+    /// are returned. The call allocates no memory, and always returns.
     pub fn record(&mut self, batch: &Batch, text: &[u8]) -> Result<Known, NotRecorded>
         requires going { self.old.stopped ≡ false }
         requires next { MayFollow self.old.batches batch.now }

@@ -1,4 +1,4 @@
-//! The known prefix of the list of all batches of a journal.
+//! A prefix of a journal's list of batches: the known batches.
 ghost use Rattle.std.specs.Prelude.{◌≡◌, ◌<◌, length, MatchBool};
 ghost use Rattle.cspf_journal.specs.Histories.{BeginsWith, IsHistory};
 ghost use Rattle.cspf_journal.specs.JournalSteps.{batches_of};
@@ -12,8 +12,9 @@ use cspf_model::lawful_batches;
 use logbook::Seen;
 use std::marker::Model;
 
-/// A prefix of a journal's list of batches. At run time only the prefix's length is kept. In proofs
-/// the value also has the journal's steps that were seen. They may record more batches.
+/// A prefix of a journal's list of batches. At run time only the prefix's length is stored. In
+/// proofs the value also has the steps of the journal that were seen. These steps may record more
+/// batches.
 #[derive(Drop)]
 pub struct Known {
     version: u32,
@@ -55,7 +56,7 @@ impl Known {
         self.seen.again()
     }
 
-    /// How many batches are known.
+    /// The number of known batches.
     pub fn version(&self) -> u32
         ensures version { result ≡ length self.now.batches }
         ensures history { IsHistory self.now.batches }
@@ -73,8 +74,8 @@ impl Known {
         }
     }
 
-    /// Takes over the batches of `other`, if they aren't fewer than the known batches. Returns whether
-    /// it took them over. The shorter list is a prefix of the longer list.
+    /// If `other` has at least as many batches as this value, they become the known batches.
+    /// Returns whether they did. Of the two lists, the shorter one is a prefix of the longer one.
     pub fn raise(&mut self, other: &Known) -> bool
         requires { other.now.source ≡ self.old.source }
         ensures { MatchBool result
@@ -92,8 +93,8 @@ impl Known {
     }
 
     /// Reads the count of published batches, before the reader named in `row` answers this row.
-    /// From then on this value has at least as many batches as the count says. The reading is a
-    /// step of the journal, and the last step of `steps` after the call.
+    /// After the call this value has at least as many batches as the count. The reading is a step
+    /// of the journal, and the last step of `steps` after the call.
     pub fn catch_up(
         &mut self,
         count: &PublishedCount,
@@ -104,8 +105,8 @@ impl Known {
         requires steps { steps.old.source ≡ self.old.source }
         ensures { CatchesUp self.old self.new steps.old steps.new row.reader row.place result }
     {
-        // Law: if each batch of a list fits after the batches before it, the same holds of each prefix
-        // of the list.
+        // Law: if each batch of a list fits the database of the batches before it, the same is true
+        // of each prefix of the list.
         lawful_batches();
         let mut seen = steps.seen();
         seen.learn(&self.seen);

@@ -3,7 +3,7 @@
 ghost use Rattle.cspf_journal.specs.Readings.{ReadingsFindCounts};
 
 /// A reading of the count of published batches finds at least the count that the journal's steps
-/// before it give. The reading finds at most as many batches as were recorded before it.
+/// before it give. It finds at most the number of batches that were recorded before it.
 pub fn readings_find_what_was_counted()
     ensures { ReadingsFindCounts }
 {}

@@ -1,25 +1,25 @@
-//! The journal of a publisher: the list of its batches, which of these batches are known, and the
-//! writer that gets their texts.
+//! The journal of a publisher: the list of its batches, the known prefixes of this list, and the
+//! writer of the batches' texts.
 //!
-//! Only `NewJournal::new` makes a list of batches, and each list has an identity of its own, its
-//! *source*. Only `JournalWriter::record` makes a longer list known, after the last batch's text is
-//! written whole. Nothing else makes a list, or a `Known`, a known prefix of a list. So no other
-//! crate can show a batch to askers before its text is written, not even in a call that never
-//! returns.
+//! Only `NewJournal::new` makes a list of batches, and each list has its own identity, its
+//! *source*. Only `JournalWriter::record` makes a longer list known, after the whole text of the
+//! last batch is written. Nothing else makes a list or a `Known`, which is a known prefix of a
+//! list. So no other crate can show a batch to askers before its text is written, not even in a
+//! call that never returns.
 //!
-//! The count of published batches is a counter that threads share. The holder of a journal's
+//! The count of published batches is a counter that threads share. The owner of a journal's
 //! `RightToCount` raises the counter by one for each batch that it publishes. A `Known` that reads
-//! the counter knows at least as many batches from then on. Each raising and each reading of the
-//! counter is a step of the journal, so a later reading finds no smaller count. The step of a
-//! reading names the reader, and the row that the reader is about to answer.
+//! the counter then knows at least as many batches as the counter says. Each raising and each
+//! reading of the counter is a step of the journal, so a later reading never finds a smaller count.
+//! The step of a reading names the reader, and the row that the reader is about to answer.
 //!
-//! A journal gives two `CopyRight`s. Each copy of the publisher's table holds one of them, so there are
-//! two copies.
+//! A journal makes two `CopyRight`s. Each copy of the publisher's table has one of them, so there
+//! are only two copies.
 //!
 //! `specs/Histories.antt` says which lists may be published, and `specs/KnownBatches.antt` says
 //! which batches of a list are known. `specs/JournalStates.antt` has the values by which contracts
-//! describe a journal. `specs/JournalSteps.antt` has the steps, and `specs/Readings.antt` says what
-//! a reading finds.
+//! describe a journal. `specs/JournalSteps.antt` defines the steps, and `specs/Readings.antt` says
+//! which count a reading finds.
 #![tactic(auto)]
 
 mod batch_list;

@@ -1,4 +1,4 @@
-//! A new journal.
+//! A new journal: its writer, its empty list of batches, and the right to show its batches.
 ghost use Rattle.std.specs.Prelude.{◌≡◌, [], false};
 
 use crate::batch_list::BatchList;
@@ -28,7 +28,7 @@ impl<W> Model for NewJournal<W> {
 }
 
 impl<W> NewJournal<W> {
-    /// A journal with this writer, and with a new list that has no batches.
+    /// Makes a journal with this writer, and with a new list that has no batches.
     pub fn new(writer: W) -> NewJournal<W>
         ensures { result.writer ≡ writer }
     {
@@ -40,8 +40,8 @@ impl<W> NewJournal<W> {
         }
     }
 
-    /// The journal, and the only right to show the journal's batches to askers (which answer
-    /// requests).
+    /// Returns the journal, and the only right to show the journal's batches to askers (which
+    /// answer requests).
     pub fn start(self) -> (JournalWriter<W>, RightToShow)
         ensures journal { result.0 ≡ record {
           batches = [];

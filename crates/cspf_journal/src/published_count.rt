@@ -1,4 +1,4 @@
-//! The count of published batches, a counter that threads share.
+//! The count of published batches. It is a counter that threads share.
 ghost use Rattle.std.specs.Prelude.{◌≡◌, ◌<◌, ◌≤◌, length, MatchBool};
 ghost use Rattle.cspf_journal.specs.HistoryRule.{count_word};
 ghost use Rattle.cspf_journal.specs.JournalSteps.{batches_of, count_of, AreJournalSteps, AreStepsUpTo};
@@ -9,9 +9,9 @@ use crate::log_step::{LogStep, RowOfReader};
 use logbook::{Offer, Seen, Word};
 use std::marker::Model;
 
-/// How many batches of a journal are published. Only the holder of the journal's `RightToCount`
-/// raises the count, by one for each batch. Contracts describe this value by its journal's identity
-/// (the source), since the count is known only when it is read or raised.
+/// The number of published batches of a journal. Only the owner of the journal's `RightToCount`
+/// raises this count, by one for each batch. In contracts the value is its journal's identity (the
+/// source), since the count is only known when it is read or raised.
 #[derive(Drop)]
 pub struct PublishedCount {
     word: Word<LogStep, u64, History>,
@@ -40,8 +40,8 @@ impl PublishedCount {
         PublishedCount { word }
     }
 
-    /// Counts one more batch as published, in one atomic step. Returns whether it did so. If not,
-    /// the count before the call wasn't `count` minus 1.
+    /// Counts one more batch as published, in one atomic step, and returns true. If the count
+    /// before the call isn't `count` minus 1, nothing changes, and the result is false.
     pub(crate) fn move_to(&self, count: u32, seen: &mut Seen<LogStep, u64, History>) -> bool
         requires source { seen.old.book ≡ self.now }
         requires recorded { (0 < count) × (count ≤ length (batches_of seen.old.log)) }

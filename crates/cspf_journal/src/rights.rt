@@ -1,5 +1,6 @@
-//! The rights of a journal: to show its batches to askers (which answer requests), to keep the two
-//! copies of the table that these batches make, and to count the batches as published.
+//! The rights of a journal. One is the right to show its batches to askers (which answer requests),
+//! and one is the right to count them as published. Two are rights to keep a copy of the table that
+//! the batches make.
 ghost use Rattle.std.specs.Prelude.{◌≡◌, length, MatchBool};
 ghost use Rattle.cspf_model.specs.Numbered.{NumberedChanges};
 ghost use Rattle.cspf_journal.specs.Histories.{BeginsWith};
@@ -11,9 +12,9 @@ use crate::published_count::PublishedCount;
 use crate::seen_steps::SeenSteps;
 use std::marker::Model;
 
-/// The right to count the batches of a journal as published, one by one. Each journal gives one
-/// such right, and it can't be copied. Contracts describe the right by the batches that were
-/// counted as published.
+/// The right to count the batches of a journal as published, one by one. Each journal makes only
+/// one such right, and it can't be copied. In contracts the value of the right is the batches that
+/// were counted as published.
 #[derive(Drop)]
 pub struct RightToCount {
     known: Known,
@@ -36,7 +37,7 @@ impl Model for RightToCount {
 }
 
 impl RightToCount {
-    /// The right to count as published the batches that come after the batches `known`.
+    /// The right to count batches as published, starting after the batches `known`.
     pub(crate) fn new(known: Known, steps: SeenSteps) -> RightToCount
         requires source { steps.source ≡ known.source }
         requires count { count_of steps.steps ≡ length known.batches }
@@ -53,9 +54,9 @@ impl RightToCount {
         self.known.copy()
     }
 
-    /// Counts the last batch of `published` as published. Returns whether it did so. It doesn't if
-    /// the counter `word` isn't at the number of batches that this right has counted. That happens
-    /// in no run.
+    /// Counts the last batch of `published` as published, and returns true. If the count in `word`
+    /// isn't the number of batches that this right has counted, nothing changes, and the result is
+    /// false. This happens in no run.
     pub fn count(&mut self, word: &PublishedCount, published: &Known) -> bool
         requires word { word.now ≡ self.old.source }
         requires next { (b : NumberedChanges)
@@ -72,8 +73,8 @@ impl RightToCount {
         true
     }
 
-    /// The journal's steps up to the last step that counts a batch as published. These steps record the
-    /// published batches, and count all of them.
+    /// The journal's steps, up to the last step that counts a batch as published. These steps
+    /// record the published batches, and count all of them.
     pub fn steps(&self) -> SeenSteps
         ensures source { result.source ≡ self.now.source }
         ensures count { count_of result.steps ≡ length self.now.batches }
@@ -83,9 +84,9 @@ impl RightToCount {
     }
 }
 
-/// The right to keep one copy of the table of a journal's batches. Each journal gives two such
-/// rights, and they can't be copied. Contracts describe the right by its journal's identity (the
-/// source). The right takes no memory.
+/// The right to keep one copy of the table of a journal's batches. Each journal makes two such
+/// rights, and they can't be copied. In contracts the value of the right is its journal's identity
+/// (the source). The right uses no memory.
 #[derive(Drop)]
 pub struct CopyRight {
     steps: SeenSteps,
@@ -111,8 +112,8 @@ impl CopyRight {
     }
 }
 
-/// The right to show the batches of a journal to askers, which answer requests. Each journal gives
-/// one such right, and the right can't be copied.
+/// The right to show the batches of a journal to askers, which answer requests. Each journal makes
+/// only one such right, and the right can't be copied.
 #[derive(Drop)]
 pub struct RightToShow {
     right: RightToCount,
@@ -135,9 +136,9 @@ impl Model for RightToShow {
 }
 
 impl RightToShow {
-    /// The right to show the journal's batches to askers (which answer requests). It holds the
-    /// right `right` to count batches as published, and the count of published batches that `right`
-    /// raises. It also holds two `CopyRight`s. Each is the right to keep a copy of the table.
+    /// The right to show the journal's batches to askers (which answer requests). It has the right
+    /// `right` to count batches as published, and the count of published batches that `right`
+    /// raises. It also has two `CopyRight`s. Each is the right to keep a copy of the table.
     pub(crate) fn new(right: RightToCount, count: PublishedCount) -> RightToShow
         requires { count ≡ right.source }
         ensures { result ≡ right }
@@ -152,16 +153,16 @@ impl RightToShow {
         }
     }
 
-    /// The known batches of the new journal: none.
+    /// The batches that this right knows. A new journal has none.
     pub fn known(&self) -> Known
         ensures { result ≡ self.now }
     {
         self.right.known()
     }
 
-    /// Splits this right into three parts. The first is the right to count batches as published.
-    /// The second is the count of published batches, which that right raises. The third part is the
-    /// two `CopyRight`s. Each is the right to keep a copy of the table.
+    /// Splits this right into its parts: the right to count batches as published, the count of
+    /// published batches, and the two `CopyRight`s. The right to count raises this count. Each
+    /// `CopyRight` is the right to keep a copy of the table.
     pub fn split(self) -> (RightToCount, PublishedCount, CopyRight, CopyRight)
         ensures right { result.0 ≡ self }
         ensures count { result.1 ≡ self.source }

@@ -1,4 +1,4 @@
-//! The steps of a journal, from its first step on, as far as they were seen.
+//! The steps of a journal, from its first step up to a step that was seen.
 ghost use Rattle.std.specs.Prelude.{◌≡◌, ◌≤◌};
 ghost use mathlib.Core.List.{IsPrefix};
 ghost use Rattle.cspf_journal.specs.Histories.{BeginsWith};
@@ -9,7 +9,8 @@ use crate::log_step::LogStep;
 use logbook::Seen;
 use std::marker::Model;
 
-/// The steps of a journal, from the first step up to a step that was seen. The value takes no memory.
+/// The steps of a journal, from the first step up to a step that was seen. The value uses no
+/// memory.
 #[derive(Drop)]
 pub struct SeenSteps {
     seen: Seen<LogStep, u64, History>,
@@ -34,7 +35,7 @@ impl SeenSteps {
         SeenSteps { seen }
     }
 
-    /// The steps that were seen, in the form that the next step on a shared counter takes.
+    /// The steps that were seen, in the form that the next step on a shared counter uses.
     pub(crate) fn seen(&self) -> Seen<LogStep, u64, History>
         ensures { (result.log ≡ self.now.steps) × (result.book ≡ self.now.source) }
     {
@@ -51,8 +52,9 @@ impl SeenSteps {
         }
     }
 
-    /// Adds the steps of `other` to the known steps. A later reading of the count of published
-    /// batches finds at least the larger of the two counts that these two lists of steps give.
+    /// Adds the steps of `other` to the known steps. Each of the two lists of steps gives a count
+    /// of published batches. A later reading of the count finds at least the larger of these two
+    /// counts.
     pub fn learn(&mut self, other: &SeenSteps)
         requires { other.now.source ≡ self.old.source }
         ensures source { self.new.source ≡ self.old.source }

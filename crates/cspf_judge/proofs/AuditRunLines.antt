@@ -1,4 +1,4 @@
--- The lines of an audit, and the line by which streams are refused, are the output of an audit run.
+-- The output of an audit run is the lines of an audit, or the line that refuses the streams.
 use Rattle.std.proofs.Common.{◌≡◌, ℕ, Option, List, Result, Ok, Err, IfOk, OnOk, OnErr, IfSome, inl, inr, refl}
 use Rattle.std.specs.Io.KnownBytes.{Appends}
 use Rattle.cspf_rows.specs.Records.{rows_of}

@@ -7,7 +7,7 @@ use Rattle.std.specs.Io.KnownBytes.{Appends}
 use Rattle.std.specs.List.{flat_map}
 use Rattle.cspf_judge.specs.EarlyEnds.{WritesFront}
 
--- what holds whatever the result is, also holds if the result is an error
+-- a true fact is also true if the result is an error
 pub at_error : {T E : Type 0} (P : Type 0) (r : Result T E) → P → OnErr r P
 at_error P (Ok x) holds = tt
 at_error P (Err e) holds = holds
@@ -18,7 +18,7 @@ no_front old text = record { front = []; rest = text; split = refl; written = Ap
 pub cut_front : (old new : Option (List ℕ)) (text : List ℕ) (n : ℕ) → Appends old new (take n text) → WritesFront old new text
 cut_front old new text n written = record { front = take n text; rest = drop n text; split = sym (take-append-drop n text); written = written }
 
--- if a prefix of a text was written, it is a prefix of any longer text that begins with this text
+-- a written prefix of a text is also a prefix of each longer text that begins with this text
 pub front_before : (old new : Option (List ℕ)) (text more : List ℕ) → WritesFront old new text → WritesFront old new (text ++ more)
 front_before old new text more begun = record {
   front = begun.front;
@@ -27,7 +27,8 @@ front_before old new text more begun = record {
   written = begun.written;
 }
 
--- if a whole text was written and then a prefix of another text, a prefix of the two texts together was written
+-- if a whole text was written, and then a prefix of another text, a prefix of their concatenation
+-- was written
 pub front_behind : (old mid new : Option (List ℕ)) (whole text : List ℕ) → Appends old mid whole → WritesFront mid new text → WritesFront old new (whole ++ text)
 front_behind old mid new whole text before begun = record {
   front = whole ++ begun.front;
@@ -36,8 +37,8 @@ front_behind old mid new whole text before begun = record {
   written = Appends-trans old mid new whole begun.front before begun.written;
 }
 
--- if the texts of the first elements of a list were written, and then a prefix of the next
--- element's text, a prefix of all these texts was written
+-- The texts of the first elements of a list were written, and then a prefix of the next element's
+-- text. Then a prefix of the texts of the whole list was written.
 pub front_in_list : {X : Type 0} (f : X → List ℕ) (xs : List X) (i : ℕ) (x d : X) (old mid new : Option (List ℕ)) → i < length xs → x ≡ get_or xs i d
     → Appends old mid (flat_map f (take i xs)) → WritesFront mid new (f x) → WritesFront old new (flat_map f xs)
 front_in_list f xs i x d old mid new within is_next before begun =

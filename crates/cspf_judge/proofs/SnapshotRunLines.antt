@@ -1,5 +1,5 @@
--- The line that refuses a journal is the output of a snapshot run. The line may also name a batch
--- that doesn't fit.
+-- If a journal is refused, also for a batch that doesn't fit, the line of the refusal is the output
+-- of the snapshot run.
 use Rattle.std.proofs.Common.{◌≡◌, ℕ, Bool, Option, Some, None, List, Result, Ok, Err, IfOk, IfSome, OnErr, inl, inr, refl}
 use Rattle.cspf_rows.specs.JournalLaws.{journal_text}
 use Rattle.cspf_rows.specs.Records.{rows_of}
@@ -14,7 +14,8 @@ use Rattle.cspf_judge.specs.declared.early_end.EarlyEnd.{EarlyEnd}
 use Rattle.cspf_judge.specs.declared.early_end.EarlyEnd.TheVariants as early_end
 use Rattle.cspf_judge.specs.declared.early_end.JudgeError.{JudgeError}
 
--- if a journal is refused and the line that says so is written, this line is the output of the run
+-- if a journal is refused and the line of the refusal is written, this line is the output of the
+-- run
 pub refusal_written : (accept_torn : Bool) (result : Result ℕ JudgeError) (journal old new : Option (List ℕ)) (end : EarlyEnd)
     → IfRefused end (λ line. IfSome journal (λ bytes. IsSnapshotRefused accept_torn (rows_of bytes) line))
     → IfOk result (λ status. status ≡ 2) → IfOk result (λ status. IsRefusalWritten end old new)
@@ -41,7 +42,7 @@ snapshot_begun accept_torn None old new making is begun = tt
 snapshot_begun accept_torn (Some bytes) old new making is begun =
     inr (journal_text making, (0, inl (record { making = making; snapshot = is; text = refl; accepted = refl })), begun)
 
--- if a batch doesn't fit, the journal is refused with the line of this batch
+-- if a batch doesn't fit, the line that refuses this batch refuses the journal
 pub unfit_refused : (accept_torn : Bool) (journal : Option (List ℕ)) (batches : List NumberedChanges) (unfit : UnfitBatch) (end : EarlyEnd)
     → end ≡ unfit_end unfit → IfSome journal (λ bytes. AreBatchesOf accept_torn (rows_of bytes) batches)
     → IsFirstUnfit batches unfit.number unfit.refusal

@@ -1,4 +1,4 @@
--- The lines and the status of an audit of a journal, requests and replies.
+-- Defines the lines and the status of an audit of a journal, requests and replies.
 use Rattle.std.specs.Prelude.{◌≡◌, ℕ, ◌⊎◌, ◌++◌, ◌==◌, if◌then◌else◌, List, length, codes, Option, IfSome}
 use Rattle.std.specs.Fmt.{decimal}
 use Rattle.std.specs.List.{flat_map}
@@ -17,7 +17,7 @@ use Rattle.cspf_judge.specs.Inputs.{torn_line, IsFaultLine}
 abbrev pub fault_line : AuditFault → List ℕ
 fault_line fault = fault_words fault ++ codes "\n"
 
--- the last line: how many lines are good, and the count of faults
+-- the last line, with the number of good lines and the number of faults
 abbrev pub audited_line : ℕ → ℕ → List ℕ
 audited_line good faults = codes "good=" ++ decimal good ++ codes " faults=" ++ decimal faults ++ codes "\n"
 
@@ -33,7 +33,8 @@ audit_lines audit = flat_map fault_line audit.faults.items ++ audited_line audit
 abbrev pub audit_status : Audit → ℕ
 audit_status audit = if length audit.faults.items == 0 then 0 else 2
 
--- the line that refuses streams which can't be audited. If memory or a device fails, there is no line.
+-- The line that refuses streams which can't be audited. If memory is refused or a device fails,
+-- there is no line.
 abbrev pub IsAuditErrorLine : AuditError → List ℕ → Type 0
 IsAuditErrorLine error.Memory line = ⊥
 IsAuditErrorLine error.Device line = ⊥
@@ -43,7 +44,7 @@ IsAuditErrorLine (error.Batch number why) line = line ≡ refused_batch_line num
 IsAuditErrorLine (error.Requests why) line = IsFaultLine why line
 IsAuditErrorLine (error.SameId row) line = line ≡ same_id_line row
 
--- The lines are the lines of the audit, or the one line that refuses the streams.
+-- The lines are the lines of the audit, or one line that refuses the streams.
 abbrev pub IsAuditRun : Option (List ℕ) → Option (List ℕ) → Option (List ℕ) → List ℕ → ℕ → Type 0
 IsAuditRun journal requests replies lines status =
     ((audit : Audit) × (lines ≡ audit_lines audit) × (status ≡ audit_status audit)

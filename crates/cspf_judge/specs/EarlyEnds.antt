@@ -1,4 +1,5 @@
--- How a run over a journal or requests may end early: with a line that refuses an input, or with an error.
+-- Defines how a run over a journal or requests may end early: with a line that refuses an input, or
+-- with an error.
 use Rattle.std.specs.Prelude.{◌≡◌, ◌⊎◌, ℕ, Option, List, ◌++◌}
 use Rattle.std.specs.Io.KnownBytes.{Appends, Keeps}
 use Rattle.cspf_audit.specs.declared.audit_error.AuditError.{AuditError}
@@ -18,7 +19,7 @@ use Rattle.cspf_judge.specs.declared.early_end.JudgeError.TheVariants.{Memory, D
 use Rattle.cspf_judge.specs.declared.line.JudgeLine.TheVariants as line
 use Rattle.cspf_judge.specs.LineTexts.{judge_line_text}
 
--- if an input is refused, `Holds` is true of the line that says so
+-- if an input is refused, `Holds` is true of the line that refuses it
 abbrev pub IfRefused : EarlyEnd → (List ℕ → Type 0) → Type 0
 IfRefused (early_end.Refused line) Holds = Holds (judge_line_text line)
 IfRefused (early_end.Failed error) Holds = Unit {0}
@@ -28,18 +29,18 @@ abbrev pub IfFailed : EarlyEnd → (JudgeError → Type 0) → Type 0
 IfFailed (early_end.Refused line) Holds = Unit {0}
 IfFailed (early_end.Failed error) Holds = Holds error
 
--- an input is refused, and the line that says so was written
+-- an input is refused, and the line that refuses it was written
 abbrev pub IsRefusalWritten : EarlyEnd → Option (List ℕ) → Option (List ℕ) → Type 0
 IsRefusalWritten (early_end.Refused line) old new = Appends old new (judge_line_text line)
 IsRefusalWritten (early_end.Failed error) old new = ⊥
 
--- the error of the whole run: the error of the early end, or any error if an input is refused and writing the line
--- that says so failed
+-- The error of the whole run is the error of the early end. But if an input is refused and its line
+-- can't be written, the run may end with any error.
 abbrev pub IsLastError : EarlyEnd → JudgeError → Type 0
 IsLastError (early_end.Refused line) e = Unit {0}
 IsLastError (early_end.Failed error) e = e ≡ error
 
--- a prefix of the text was written: nothing, a part, or the whole text
+-- a prefix of the text was written: nothing, some of it, or the whole text
 pub record WritesFront (old new : Option (List ℕ)) (text : List ℕ) : Type 0 where
   pub front : List ℕ
   pub rest : List ℕ
@@ -50,8 +51,8 @@ pub record WritesFront (old new : Option (List ℕ)) (text : List ℕ) : Type 0 
 abbrev pub HasBegun : Option (List ℕ) → Option (List ℕ) → (List ℕ → Type 0) → Type 0
 HasBegun old new Holds = Keeps old new ⊎ ((lines : List ℕ) × Holds lines × WritesFront old new lines)
 
--- If an input is refused, a prefix of the line that says so was written. If memory was refused or a device failed,
--- nothing was written.
+-- If an input is refused, a prefix of the line that refuses it was written. If memory was refused
+-- or a device failed, nothing was written.
 abbrev pub IsRefusalBegun : EarlyEnd → Option (List ℕ) → Option (List ℕ) → Type 0
 IsRefusalBegun (early_end.Refused line) old new = WritesFront old new (judge_line_text line)
 IsRefusalBegun (early_end.Failed error) old new = Keeps old new
@@ -64,20 +65,20 @@ Writes old new Holds = (lines : List ℕ) × Holds lines × Appends old new line
 abbrev pub unfit_end : UnfitBatch → EarlyEnd
 unfit_end unfit = early_end.Refused (line.Stream (stream_line.RefusedBatch unfit.number (refusal.Unfit unfit.refusal)))
 
--- the line of a journal that can't be read. If memory or a device fails, there is no line.
+-- The line that refuses a journal which can't be read. If memory is refused or a device fails,
+-- there is no line.
 abbrev pub IsJournalLine : ReadError → List ℕ → Type 0
 IsJournalLine read_error.Memory line = ⊥
 IsJournalLine read_error.Device line = ⊥
 IsJournalLine read_error.TooManyRows line = line ≡ too_many_line
 
--- the error of a run whose journal can't be read. A journal that is refused with a line gives no
--- error.
+-- The error of a run whose journal can't be read. If a line refuses the journal, there is no error.
 abbrev pub IsJournalError : ReadError → JudgeError → Type 0
 IsJournalError read_error.Memory e = e ≡ Memory
 IsJournalError read_error.Device e = e ≡ Device
 IsJournalError read_error.TooManyRows e = ⊥
 
--- the error of a run whose requests can't be read. Requests that are refused with a line give no
+-- The error of a run whose requests can't be read. If a line refuses the requests, there is no
 -- error.
 abbrev pub IsRequestsError : RequestsError → JudgeError → Type 0
 IsRequestsError requests_error.Memory e = e ≡ Memory
@@ -86,7 +87,7 @@ IsRequestsError requests_error.TooManyRows e = ⊥
 IsRequestsError (requests_error.Bad row why) e = ⊥
 IsRequestsError (requests_error.NotAsk row) e = ⊥
 
--- the error of a run whose streams can't be audited. Streams that are refused with a line give no
+-- The error of a run whose streams can't be audited. If a line refuses the streams, there is no
 -- error.
 abbrev pub IsAuditFailure : AuditError → JudgeError → Type 0
 IsAuditFailure audit_error.Memory e = e ≡ Memory

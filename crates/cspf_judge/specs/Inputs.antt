@@ -1,4 +1,4 @@
--- How a journal and a stream of requests are read, and the lines that refuse them.
+-- Defines how a journal and a stream of requests are read, and the lines that refuse them.
 use Rattle.std.specs.Prelude.{◌≡◌, ℕ, ◌<◌, ◌≤◌, ◌⊎◌, Bool, true, false, List, ◌++◌, length, codes}
 use Rattle.std.specs.Fmt.{decimal}
 use Rattle.cspf_rows.specs.Records.{Records}
@@ -15,7 +15,7 @@ use Rattle.cspf_rows.specs.Requests.{AreRequests, IsRequestsFault}
 use Rattle.cspf_rows.specs.Words.{words}
 use Rattle.cspf_stream.specs.Lines.{too_many_line}
 
--- the line that refuses a torn journal, in which rows follow this many whole batches
+-- the line that refuses a torn journal: rows follow its `count` whole batches
 abbrev pub torn_line : ℕ → List ℕ
 torn_line count = codes "journal torn after " ++ decimal count ++ codes "\n"
 
@@ -24,16 +24,16 @@ abbrev pub refused_request_line : ℕ → RowError → List ℕ
 refused_request_line row error =
     codes "request row " ++ decimal row ++ codes " refused: " ++ words error ++ codes "\n"
 
--- A journal of at most 1,000,000 records has these batches. Records after the last whole batch are skipped if
--- `accept_torn` is set, and otherwise there are none.
+-- A journal of at most 1,000,000 records has these batches. If `accept_torn` is true, records after
+-- the last whole batch are skipped. If it is false, there are no such records.
 pub record AreBatchesOf (accept_torn : Bool) (records : Records)
     (batches : List NumberedChanges) : Type 0 where
   pub few : length records ≤ MOST_ROWS
   pub journal : IsJournal records batches rest.Clean
       ⊎ (IsJournal records batches rest.Torn × (accept_torn ≡ true))
 
--- This line refuses the records of a journal: there are too many of them, or the journal is torn and
--- `accept_torn` isn't set.
+-- This line refuses the records of a journal: there are too many records, or the journal is torn
+-- and `accept_torn` is false.
 abbrev pub IsJournalRefused : Bool → Records → List ℕ → Type 0
 IsJournalRefused accept_torn records line =
     ((MOST_ROWS < length records) × (line ≡ too_many_line))

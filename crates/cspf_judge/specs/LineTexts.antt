@@ -1,4 +1,4 @@
--- The text of each line of a run over a journal, requests or replies, except reply lines.
+-- Defines the text of each line of a run over a journal, requests or replies, except reply lines.
 use Rattle.std.specs.Prelude.{ℕ, List}
 use Rattle.cspf_judge.specs.declared.line.JudgeLine.{JudgeLine}
 use Rattle.cspf_judge.specs.declared.line.JudgeLine.TheVariants as line

@@ -1,4 +1,5 @@
--- The output of a run that writes the batches which make a journal's last database from the empty one.
+-- Defines the output of a run that writes the batches which make a journal's last database from the
+-- empty database.
 use Rattle.std.specs.Prelude.{◌≡◌, ℕ, ◌⊎◌, Bool, List, Option, IfSome}
 use Rattle.cspf_rows.specs.Records.{Records, rows_of}
 use Rattle.cspf_model.specs.Refusals.{IsFirstUnfit}
@@ -20,7 +21,8 @@ pub record IsSnapshotOf (accept_torn : Bool) (records : Records) (making : List 
   pub lawful : AreLawful batches
   pub snapshot : IsSnapshot (database_after batches) making
 
--- a batch of the journal doesn't fit the database of the batches before it, and the line says so
+-- a batch of the journal doesn't fit the database of the batches before it, and the line refuses
+-- this batch
 pub record IsJournalUnfit (accept_torn : Bool) (records : Records) (line : List ℕ) : Type 0 where
   pub batches : List NumberedChanges
   pub read : AreBatchesOf accept_torn records batches
@@ -29,7 +31,7 @@ pub record IsJournalUnfit (accept_torn : Bool) (records : Records) (line : List 
   pub first : IsFirstUnfit batches number why
   pub line_is : line ≡ refused_batch_line number (Unfit why)
 
--- the journal is too long, torn, or has a batch that doesn't fit, and the line says so
+-- the line refuses the journal: it is too long, it is torn, or it has a batch that doesn't fit
 abbrev pub IsSnapshotRefused : Bool → Records → List ℕ → Type 0
 IsSnapshotRefused accept_torn records line =
     IsJournalRefused accept_torn records line ⊎ IsJournalUnfit accept_torn records line

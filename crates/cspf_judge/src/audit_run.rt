@@ -16,8 +16,8 @@ use std::io::{Read, Write};
 /// Audits replies against a journal and requests. Writes a line for each fault, and then a line
 /// with the numbers of good lines and of faults. `IsAuditRun` defines these lines. Streams that
 /// can't be audited are refused with one line. Returns the status: 0 if there is no fault and no
-/// refusal, and 2 otherwise. After an error the writer has a prefix of these lines, or none of
-/// them. The writer isn't flushed.
+/// refusal, and 2 otherwise. If an error is returned, the writer has a prefix of these lines,
+/// perhaps none of them. The writer isn't flushed.
 pub fn run_audit<W: Write, R: Read + Drop, Q: Read + Drop, P: Read + Drop>(
     alloc: Global,
     journal: R,

@@ -1,4 +1,4 @@
-//! Why a run ends before its streams are judged: an input is refused with a line, or there is an
+//! How a run ends before its streams are judged: an input is refused with a line, or there is an
 //! error.
 
 ghost use Rattle.std.specs.Prelude.{◌≡◌};
@@ -18,7 +18,7 @@ pub enum JudgeError {
     /// Memory was refused.
     #[error("out of memory")]
     Memory,
-    /// A read failed, or a write failed or took no bytes.
+    /// A read failed, or a write failed or accepted no bytes.
     #[error("a read or a write failed")]
     Device,
 }
@@ -31,7 +31,7 @@ impl From<AllocError> for JudgeError {
     }
 }
 
-/// How a run over a journal or requests ends before these are judged.
+/// How a run over a journal or requests ends before its input is judged.
 #[derive(Clone, Copy)]
 pub enum EarlyEnd {
     /// An input is refused with this line.

@@ -15,8 +15,8 @@ use cspf_stream::StreamLine;
 use std::alloc::Global;
 use std::io::Read;
 
-/// Reads the batches of a journal. Rows after the last whole batch are skipped if `accept_torn` is
-/// set. Otherwise the journal is refused if there are such rows.
+/// Reads the batches of a journal. If `accept_torn` is true, rows after the last whole batch are
+/// skipped. If it is false, a journal with such rows is refused.
 pub fn batches_of<R: Read + Drop>(
     alloc: Global,
     journal: R,
@@ -47,8 +47,8 @@ pub fn journal_end_of(error: ReadError) -> EarlyEnd
     }
 }
 
-/// The batches of a journal that was read. A torn journal, in which rows follow the last whole
-/// batch, is refused unless `accept_torn` is set.
+/// The batches of a journal that was read. If `accept_torn` is false, a torn journal is refused:
+/// one with rows after the last whole batch.
 fn whole_batches(journal: Journal, accept_torn: bool) -> Result<Vec<Batch>, EarlyEnd>
     ensures ok { IfOk result (λ batches. (batches.items ≡ journal.batches.items)
         × (journal.rest ≡ IsTorn → accept_torn ≡ true)) }
@@ -60,7 +60,7 @@ fn whole_batches(journal: Journal, accept_torn: bool) -> Result<Vec<Batch>, Earl
     Ok(journal.batches)
 }
 
-/// Refuses a torn journal of `count` batches, unless `accept_torn` is set.
+/// Refuses a torn journal of `count` batches, if `accept_torn` is false.
 pub fn accept_rest(rest: Rest, count: usize, accept_torn: bool) -> Result<(), EarlyEnd>
     ensures ok { OnOk result (rest ≡ IsTorn → accept_torn ≡ true) }
     ensures err { IfErr result (λ end. IfRefused end (λ line. (rest ≡ IsTorn)

@@ -2,10 +2,11 @@
 //!
 //! `run_audit` judges replies against a journal and requests, and `specs/AuditRun.antt` defines its
 //! output. `run_snapshot` writes the batches that make a journal's last database from the empty
-//! one, and `specs/SnapshotRun.antt` defines its output.
+//! database, and `specs/SnapshotRun.antt` defines its output.
 //!
-//! The crate also has what all runs over a journal and requests share. `specs/Inputs.antt` defines how the
-//! two are read, and the lines that refuse them. `specs/EarlyEnds.antt` defines how a run ends early.
+//! The crate also has the code that all runs over a journal and requests share. `specs/Inputs.antt`
+//! defines how a journal and requests are read, and the lines that refuse them.
+//! `specs/EarlyEnds.antt` defines how a run ends early.
 #![tactic(auto)]
 
 mod audit_run;

@@ -19,8 +19,8 @@ pub enum JudgeLine {
     SameId { row: u32 },
     /// The audit found this fault.
     Fault { fault: AuditFault },
-    /// The audit found this many good lines, which aren't skipped and have no fault, and this many
-    /// faults.
+    /// The numbers of good lines and of faults that the audit found. A good line isn't skipped and
+    /// has no fault.
     Audited { good: u32, faults: usize },
 }
 

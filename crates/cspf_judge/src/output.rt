@@ -9,7 +9,8 @@ use cspf_rows::put_all;
 use std::alloc::Global;
 use std::io::Write;
 
-/// Writes the bytes of a line. After an error the writer may have a prefix of these bytes.
+/// Writes the bytes of a line. If an error is returned, the writer may have a prefix of these
+/// bytes.
 pub fn put<W: Write>(line: &[u8], writer: &mut W) -> Result<(), JudgeError>
     ensures text { OnOk result (Appends (W.contents writer.old) (W.contents writer.new) line.now) }
     ensures front { OnErr result (WritesFront
@@ -22,13 +23,13 @@ pub fn put<W: Write>(line: &[u8], writer: &mut W) -> Result<(), JudgeError>
     }
 }
 
-/// Writes a line. After an error the writer may have a prefix of the line.
+/// Writes a line. If an error is returned, the writer may have a prefix of the line.
 pub fn put_line<W: Write>(alloc: Global, line: JudgeLine, writer: &mut W) -> Result<(), JudgeError>
     ensures text { OnOk result (Appends (W.contents writer.old) (W.contents writer.new)
         (judge_line_text line)) }
     ensures front { OnErr result (WritesFront
         (W.contents writer.old) (W.contents writer.new) (judge_line_text line)) }
-    // Memory can be refused only before the first byte is written.
+    // If memory is refused, no byte is written.
     ensures memory { IfErr result (λ e. e ≡ JudgeError.Memory
         → HoldsAsBefore (W.contents writer.old) (W.contents writer.new)) }
 {
@@ -36,8 +37,8 @@ pub fn put_line<W: Write>(alloc: Global, line: JudgeLine, writer: &mut W) -> Res
     put(&bytes, writer)
 }
 
-/// If an input is refused, writes the line that says so, and returns the status 2. If the run ends
-/// with an error, returns the error.
+/// If an input is refused, writes the line that refuses it, and returns the status 2. If the run
+/// ends with an error, returns this error.
 pub fn refuse<W: Write>(alloc: Global, end: EarlyEnd, writer: &mut W) -> Result<u8, JudgeError>
     ensures status { IfOk result (λ status. status ≡ 2) }
     ensures line { IfOk result (λ status.

@@ -17,9 +17,9 @@ use std::io::{Read, Write};
 
 /// Writes the batches that make the journal's last database from the empty database.
 /// `IsSnapshotRun` defines the lines. A journal is refused with one line if it is too long, if it
-/// is torn and `accept_torn` isn't set, or if a batch doesn't fit. Returns the status: 2 if the
-/// journal is refused, and 0 otherwise. After an error the writer has a prefix of the lines, or
-/// nothing of them. The writer isn't flushed.
+/// is torn and `accept_torn` is false, or if a batch doesn't fit. Returns the status: 2 if the
+/// journal is refused, and 0 otherwise. If an error is returned, the writer has a prefix of the
+/// lines, perhaps none of them. The writer isn't flushed.
 pub fn run_snapshot<R: Read + Drop, W: Write>(
     alloc: Global,
     journal: R,

@@ -1,4 +1,4 @@
--- The test in `database_with` is true exactly if the batch fits.
+-- The test `is_fitting` is true exactly if the batch fits.
 use Rattle.std.proofs.Common.{◌≡◌, ℕ, ◌≤◌, Bool, true, false, not, cond, nat_le, List, [], ◌∷◌, length, map, refl, ap, Decides}
 use Rattle.std.specs.List.{list_all, IsDistinct, AllByRecursion}
 use Rattle.std.specs.Ordering.{eq_by_cmp}
@@ -19,7 +19,7 @@ not-Decides false = (λ _. refl, λ _. refl)
 nat_le-Decides : (a b : ℕ) → Decides (nat_le a b) (a ≤ b)
 nat_le-Decides a b = (leb-true a b, le-leb a b)
 
--- the test is true exactly if the key isn't among the other keys
+-- the test is true exactly if the key differs from each of the other keys
 other_keys-Decides : (k : ChangeKey) (ks : List ChangeKey)
     → Decides (list_all (λ j. not (eq_by_cmp change_key_cmp k j)) ks) (AllByRecursion (λ j. eq_by_cmp change_key_cmp k j ≡ false) ks)
 other_keys-Decides k [] = (λ _. tt, λ _. refl)
@@ -50,8 +50,8 @@ is_fitting-Decides d b =
 pub database_with-Fits : (d : Database) (b : NumberedChanges) → Fits d b → database_with d b ≡ after_changes d b.changes
 database_with-Fits d b f = ap (λ t. cond t (after_changes d b.changes) d) ((is_fitting-Decides d b).1 f)
 
--- A database is `database_with` if it has the batch's changes when the batch fits, and is as before
--- when the batch doesn't fit.
+-- If a database has the batch's changes when the batch fits, and is unchanged when the batch
+-- doesn't fit, it is `database_with`.
 pub is_database_with : (d e : Database) (b : NumberedChanges)
     → (Fits d b → e ≡ after_changes d b.changes) → ((¬ Fits d b) → e ≡ d) → e ≡ database_with d b
 is_database_with d e b fits unfit =

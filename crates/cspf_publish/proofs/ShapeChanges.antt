@@ -1,6 +1,6 @@
--- Take a list of batches and its first part. If as many batches of both change more than unreserved
--- bandwidths, the databases that both make have one shape: they differ at most in unreserved
--- bandwidths.
+-- A list of batches begins with a shorter list. Both lists have the same number of batches that
+-- change more than unreserved bandwidths. Then the databases that they make have one shape: they
+-- differ at most in unreserved bandwidths.
 use Rattle.std.proofs.Common.{◌≡◌, ℕ, ◌+◌, ◌≤◌, List, [], ◌∷◌, ◌++◌, length, refl, sym, ap, subst, inl, inr, ◌∙◌, arith}
 use Rattle.cspf_model.specs.Numbered.{NumberedChanges}
 use Rattle.cspf_model.specs.Database.{Database}
@@ -18,23 +18,23 @@ HaveOneShape-self d = record { marks = refl; links = λ k. refl }
 HaveOneShape-trans : (d e f : Database) → HaveOneShape d e → HaveOneShape e f → HaveOneShape d f
 HaveOneShape-trans d e f p q = record { marks = q.marks ∙ p.marks; links = λ k. q.links k ∙ p.links k }
 
--- the database after a list of batches is the database after its first batch, changed by the other
--- batches
+-- the database after a list of batches is the database after the first batch, with the changes of
+-- the later batches made
 after_batch : (d : Database) (b : NumberedChanges) (bs : List NumberedChanges)
     → after_changes d (changes_of (b ∷ bs)) ≡ after_changes (after_changes d b.changes) (changes_of bs)
 after_batch d b bs = after_changes-append d b.changes (changes_of bs)
 
--- if none of the batches changes more than unreserved bandwidths, the database after them differs
--- from the one before at most in unreserved bandwidths
+-- if no batch changes more than unreserved bandwidths, the databases before and after the batches
+-- differ at most in unreserved bandwidths
 none_changed : (d : Database) (bs : List NumberedChanges) → HasShapeChangesAfter d bs 0 → HaveOneShape d (after_changes d (changes_of bs))
 none_changed d [] is = HaveOneShape-self d
 none_changed d (b ∷ bs) (inl p) =
     subst (HaveOneShape d) (sym (after_batch d b bs)) (HaveOneShape-trans d (after_changes d b.changes) _ p.0 (none_changed (after_changes d b.changes) bs p.1))
 none_changed d (b ∷ bs) (inr p) = absurd (omega (arith, p.2))
 
--- Apply one batch to a database, and then each of two lists of batches to the result. If the two
--- databases at the end differ at most in unreserved bandwidths, the same holds of the two lists
--- that begin with this batch.
+-- One batch is applied to a database, and then each of two lists is applied to the result. If the
+-- two databases at the end differ at most in unreserved bandwidths, the same is true of the two
+-- lists that begin with this batch.
 after_one_batch : (d : Database) (b : NumberedChanges) (xs ys : List NumberedChanges)
     → HaveOneShape (after_changes (after_changes d b.changes) (changes_of xs)) (after_changes (after_changes d b.changes) (changes_of ys))
     → HaveOneShape (after_changes d (changes_of (b ∷ xs))) (after_changes d (changes_of (b ∷ ys)))
@@ -42,8 +42,8 @@ after_one_batch d b xs ys is =
     subst (λ e. HaveOneShape e (after_changes d (changes_of (b ∷ ys)))) (sym (after_batch d b xs))
     (subst (HaveOneShape (after_changes (after_changes d b.changes) (changes_of xs))) (sym (after_batch d b ys)) is)
 
--- If as many batches change more than unreserved bandwidths in a whole list as in its first part,
--- the databases of both differ at most in unreserved bandwidths.
+-- A whole list and a prefix of it have the same number of batches that change more than unreserved
+-- bandwidths. Then their databases differ at most in unreserved bandwidths.
 as_many_changes : (d : Database) (first rest : List NumberedChanges) (count : ℕ) → HasShapeChangesAfter d first count → HasShapeChangesAfter d (first ++ rest) count
     → HaveOneShape (after_changes d (changes_of first)) (after_changes d (changes_of (first ++ rest)))
 as_many_changes d [] rest count is all = none_changed d rest (subst (HasShapeChangesAfter d rest) is all)
@@ -61,8 +61,8 @@ one_shape all first count begins is its =
     subst (λ bs. HaveOneShape (database_after first) (database_after bs)) (sym begins.1)
     (as_many_changes no_links first begins.0 count is (subst (λ bs. HasShapeChanges bs count) begins.1 its))
 
--- one more batch that changes at most unreserved bandwidths doesn't change the count of batches
--- that change more
+-- a further batch that changes at most unreserved bandwidths leaves the count of batches that
+-- change more unchanged
 kept_after : (d : Database) (bs : List NumberedChanges) (b : NumberedChanges) (count : ℕ) → HasShapeChangesAfter d bs count
     → HaveOneShape (after_changes d (changes_of bs)) (after_changes (after_changes d (changes_of bs)) b.changes) → HasShapeChangesAfter d (bs ++ b ∷ []) count
 kept_after d [] b count is one = inl (one, is)
@@ -71,7 +71,7 @@ kept_after d (a ∷ bs) b count (inl p) one =
 kept_after d (a ∷ bs) b count (inr p) one =
     inr (p.0, p.1, p.2, kept_after (after_changes d a.changes) bs b p.1 p.3 (subst (λ e. HaveOneShape e (after_changes e b.changes)) (after_batch d a bs) one))
 
--- one more batch that changes more than unreserved bandwidths adds 1 to the count of such batches
+-- a further batch that changes more than unreserved bandwidths adds 1 to the count of such batches
 changed_after : (d : Database) (bs : List NumberedChanges) (b : NumberedChanges) (count : ℕ) → HasShapeChangesAfter d bs count
     → (¬ HaveOneShape (after_changes d (changes_of bs)) (after_changes (after_changes d (changes_of bs)) b.changes)) → HasShapeChangesAfter d (bs ++ b ∷ []) (count + 1)
 changed_after d [] b count is not = inr (not, count, refl, is)
@@ -89,7 +89,7 @@ pub HasShapeChanges-changed : (s : ReplicaState) (b : NumberedChanges) → HasIt
 HasShapeChanges-changed s b has counts not = changed_after no_links s.known.batches b s.shape_changes counts (subst (λ d. ¬ HaveOneShape d (after_changes d b.changes)) has not)
 
 -- the number of batches that change more than unreserved bandwidths is at most the length of the
--- list
+-- list of batches
 within_length : (d : Database) (bs : List NumberedChanges) (count : ℕ) → HasShapeChangesAfter d bs count → count ≤ length bs
 within_length d [] count is = omega (arith, is)
 within_length d (b ∷ bs) count (inl p) = omega (arith, within_length (after_changes d b.changes) bs count p.1)

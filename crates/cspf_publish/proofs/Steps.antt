@@ -22,8 +22,7 @@ use Rattle.cspf_publish.specs.declared.seat_view.SeatView.TheVariants.{New, Aske
 use Rattle.cspf_journal.proofs.Prefixes.{BeginsWith-self, BeginsWith-snoc, IsHistory-snoc}
 use Rattle.cspf_publish.proofs.FitTest.{database_with-Fits, database_with-nothing}
 
--- each user of the replicas (a new reader, an asker or the publisher) knows the batches that its
--- view has
+-- each user of the replicas (a new reader, an asker or the publisher) knows the batches of its view
 abbrev AllKnow : ReplicaState → List SeatView → Type 0
 AllKnow s views = (seat : ℕ) (v : SeatView) → get_elem? views seat ≡ some v → Knows s v
 
@@ -34,9 +33,9 @@ AllKnow-set s views seat w all knows j u e =
 AllKnow-snoc : (s : ReplicaState) (views : List SeatView) (w : SeatView) → AllKnow s views → Knows s w → AllKnow s (views ++ w ∷ [])
 AllKnow-snoc s views w all knows j u e = ⊎_elim (all j u) (λ (t : w ≡ u). subst (λ (z : SeatView). Knows s z) t knows) (at_snoc views w u j e)
 
--- A view is what one user of the replicas knows. If one view is replaced, at most one view is still
--- a publisher's. The condition is that the new view is a publisher's only if the replaced view was
--- one.
+-- At most one view of a list is the publisher's. This is still true after one view is replaced, if
+-- the new view isn't the publisher's or the replaced view was. A view has the batches that one user
+-- of the replicas knows.
 HasOnePublisher-set : (views : List SeatView) (seat : ℕ) (v w : SeatView) → get_elem? views seat ≡ some v → HasOnePublisher views → (IsPublisher w → IsPublisher v) → HasOnePublisher (set views seat w)
 HasOnePublisher-set views seat v w at one was i j x y ex ey px py =
     ⊎_elim
@@ -50,8 +49,8 @@ HasOnePublisher-set views seat v w at one was i j x y ex ey px py =
     (at_set views seat j w y ey))
     (at_set views seat i w x ex)
 
--- if no view of the list (what one user of the replicas knows) is a publisher's, at most one is a
--- publisher's after one view is replaced
+-- if no view of a list is the publisher's, at most one view is the publisher's after one view is
+-- replaced
 HasOnePublisher-first : (views : List SeatView) (seat : ℕ) (w : SeatView) → ((j : ℕ) (u : SeatView) → get_elem? views j ≡ some u → IsPublisher u → ⊥) → HasOnePublisher (set views seat w)
 HasOnePublisher-first views seat w none i j x y ex ey px py =
     ⊎_elim
@@ -75,8 +74,8 @@ HasOnePublisher-snoc views w one not i j x y ex ey px py =
 pub AreFirstOf-self : (known : KnownBatches) → AreFirstOf known known
 AreFirstOf-self known = record { source = refl; begins = BeginsWith-self known.batches }
 
--- after one more batch is published, askers (which answer requests) and new readers still know the
--- batches that they knew before
+-- after one more batch is published, the views of askers (which answer requests) and new readers
+-- are still right
 Knows-more : (s t : ReplicaState) (b : NumberedChanges) → t.known ≡ known_with s.known.batches s.known.source b → (v : SeatView) → Knows s v → (IsPublisher v → ⊥) → Knows t v
 Knows-more s t b is New knows not = tt
 Knows-more s t b is (Asker known) knows not =
@@ -84,8 +83,8 @@ Knows-more s t b is (Asker known) knows not =
     subst (λ (k : KnownBatches). AreFirstOf k known) (sym is) more
 Knows-more s t b is (Publisher known) knows not = absurd (not tt)
 
--- a publisher's first step doesn't change what the askers (which answer requests) and the new
--- readers know
+-- after the publisher's first step, the views of askers (which answer requests) and new readers are
+-- still right
 Knows-opens : (s t : ReplicaState) → t.known ≡ s.known → (v : SeatView) → Knows s v → (IsPublisher v → ⊥) → Knows t v
 Knows-opens s t is New knows not = tt
 Knows-opens s t is (Asker known) knows not = subst (λ (k : KnownBatches). AreFirstOf k known) (sym is) knows
@@ -96,8 +95,8 @@ is_open_by s New knows is = absurd is
 is_open_by s (Asker known) knows is = absurd is
 is_open_by s (Publisher known) knows is = knows.1
 
--- the invariant of the replicas (the table's two copies), `HoldsBetweenSteps`, holds at first, when
--- the replicas have only one user, the writer, and the writer knows no batches
+-- The invariant of the replicas (the table's two copies), `HoldsBetweenSteps`, holds at the start.
+-- Then the only user of the replicas is the writer, and it knows no batches.
 pub begins : (s : ReplicaState) → IsHistory s.known.batches → HasItsDatabase s → CountsShapeChanges s → IsCopyByRight s → HoldsBetweenSteps s (New ∷ [])
 begins s history has counts right = record {
   history = history;
@@ -109,7 +108,7 @@ begins s history has counts right = record {
 }
 
 -- the invariant of the replicas (the table's two copies), `HoldsBetweenSteps`, still holds after a
--- new reader that knows no batches is made
+-- new reader is made, which knows no batches
 pub admits : Admits HoldsBetweenSteps New
 admits s views w = record {
   history = w.history;
@@ -159,7 +158,7 @@ opens seat v s next was now database same as_many right views w at =
     )
 
 -- the invariant of the replicas (the table's two copies), `HoldsBetweenSteps`, still holds after
--- the publisher publishes a batch that may come next
+-- the publisher publishes the next batch
 pub publishes : LawfulByOneMore → (seat : ℕ) (v : SeatView) (s next : ReplicaState) (b : NumberedChanges) → v ≡ Publisher s.known → MayFollow s.known.batches b
     → next.known ≡ known_with s.known.batches s.known.source b → next.is_open ≡ true → HasItsDatabase next → CountsShapeChanges next → next.right ≡ s.right → TurnsAt HoldsBetweenSteps seat v s next Publishes
 publishes law seat v s next b mine follows is now has counts right views w at =
@@ -221,7 +220,7 @@ forks seat v s views w at = record {
 }
 
 -- the invariant of the replicas (the table's two copies), `HoldsBetweenSteps`, still holds after a
--- user of the replicas takes in another user's note of known batches
+-- user of the replicas reads another user's note of known batches
 pub merges : (seat : ℕ) (v : SeatView) (other : ℕ) (w : SeatView) → Merges HoldsBetweenSteps seat v other w (view_with_note v w) New
 merges seat v other w s views holds at apart there =
     let its : Knows s w = ⊎_elim (λ (t : (other ≡ seat) × (view_with_note v w ≡ w)). absurd (apart t.0)) (λ (t : (other ≢ seat) × (get_elem? views other ≡ some w)). holds.seats other w t.1) (at_set views seat other (view_with_note v w) w there) in
@@ -235,17 +234,17 @@ merges seat v other w s views holds at apart there =
       one_publisher = HasOnePublisher-set (set views seat (view_with_note v w)) other w New there one (λ p. absurd p);
     }
 
--- a replica's database is still the database after its batches, if the replica (a copy of the
--- table) absorbs a batch that may come next
+-- if a replica (a copy of the table) absorbs the next batch, the replica's database is still the
+-- one that its batches make
 pub HasItsDatabase-more : OneMoreBatch → (s : ReplicaState) (b : NumberedChanges) (count : ℕ) → HasItsDatabase s → MayFollow s.known.batches b
     → HasItsDatabase (state_with s b (known_with s.known.batches s.known.source b) count)
 HasItsDatabase-more law s b count has follows =
     database_with-Fits s.database b (subst (λ (d : Database). Fits d b) (sym has) follows.fits)
     ∙ (ap (λ (d : Database). after_changes d b.changes) has ∙ sym (law s.known.batches b))
 
--- After two operations without changes, a replica (a copy of the table) counts 0 batches that
--- change more than unreserved bandwidths. Its field `is_open` is true, and its other fields are as
--- before.
+-- After two operations without changes, the count of batches that change more than unreserved
+-- bandwidths is 0 in a replica (a copy of the table). The field `is_open` is true, and the other
+-- fields are unchanged.
 pub idle_twice : (s : ReplicaState)
     → state_with (state_with s (idle_batch s.known).batch s.known 0) (idle_batch s.known).batch s.known 0
     ≡ record { right = s.right; database = s.database; known = s.known; shape_changes = 0; is_open = true }
@@ -254,8 +253,8 @@ idle_twice s =
     ap (λ (d : Database). (let it : ReplicaState = record { right = s.right; database = d; known = s.known; shape_changes = 0; is_open = true } in it))
     (ap (λ (d : Database). database_with d (idle_batch s.known).batch) (nothing s.database) ∙ nothing s.database)
 
--- A replica with `is_open` true is `published_state`, if it has the database of its batches, and a
--- `CopyRight` of the journal that they are from.
+-- A replica is `published_state` if three facts hold. Its `is_open` is true, it has the database of
+-- its batches, and it has a `CopyRight` of the journal that the batches are from.
 pub state_from_known : (s : ReplicaState) → HasItsDatabase s → IsCopyByRight s → s.is_open ≡ true → s ≡ published_state s.known s.shape_changes
 state_from_known s has right now =
     ap (λ (d : Database). (let it : ReplicaState = record { right = s.right; database = d; known = s.known; shape_changes = s.shape_changes; is_open = s.is_open } in it)) has

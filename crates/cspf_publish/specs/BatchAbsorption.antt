@@ -1,6 +1,5 @@
--- The effect of an operation on the database of a replica (a copy of the table of links): the
--- batch's changes are made if the batch fits, and nothing changes otherwise. Also the test whether
--- a batch fits.
+-- Defines how a replica (a copy of the table of links) absorbs a batch. If the batch fits, its
+-- changes are made. If not, nothing changes. Also defines the test whether a batch fits.
 use Rattle.std.specs.Prelude.{Bool, true, ◌&&◌, not, cond, nat_le, is_some, List, [], ◌∷◌, length, map}
 use Rattle.std.specs.Ordering.{eq_by_cmp}
 use Rattle.std.specs.List.{list_all}
@@ -16,7 +15,7 @@ abbrev pub are_distinct : List ChangeKey → Bool
 are_distinct [] = true
 are_distinct (k ∷ ks) = list_all (λ j. not (eq_by_cmp change_key_cmp k j)) ks && are_distinct ks
 
--- true, unless the change removes a link that the database doesn't have
+-- false if the change removes a link that the database doesn't have, and true otherwise
 abbrev pub is_present : Database → Change → Bool
 is_present d (Put l) = true
 is_present d (Remove from local) = is_some (link_at d (from, local))
@@ -32,6 +31,6 @@ is_fitting d b =
     && (nat_le (router_count (after_changes d b.changes)) MOST_ROUTERS
     && nat_le (mark_count (after_changes d b.changes)) MOST_MARKS))))
 
--- the database with the batch's changes if the batch fits, or else the database as it was
+-- the database with the batch's changes if the batch fits, and the unchanged database otherwise
 abbrev pub database_with : Database → NumberedChanges → Database
 database_with d b = cond (is_fitting d b) (after_changes d b.changes) d

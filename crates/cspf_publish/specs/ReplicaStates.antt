@@ -1,5 +1,5 @@
--- The value by which the rule of the replicas describes a replica (one of the two copies of the
--- table of links).
+-- Defines the value by which the rule of the replicas describes one replica. The replicas are the
+-- two copies of the table of links.
 use Rattle.std.specs.Prelude.{ℕ, Bool, true}
 use Rattle.logbook.specs.Pages.{Book}
 use Rattle.cspf_model.specs.Numbered.{NumberedChanges}
@@ -8,10 +8,10 @@ use Rattle.cspf_model.specs.Changes.{database_after}
 use Rattle.cspf_journal.specs.KnownBatches.{KnownBatches}
 use Rattle.cspf_publish.specs.BatchAbsorption.{database_with}
 
--- `right` is the source (the identity) of the journal whose `CopyRight` the replica (a copy of the
--- table) holds. `known` are the replica's batches, and `shape_changes` is how many of them change
--- more than unreserved bandwidths. `is_open` is true from the publisher's first step on: then the
--- publisher's view has the batches.
+-- The state of a replica (a copy of the table). `right` is the source (the identity) of the journal
+-- whose `CopyRight` the replica has. `known` are the replica's batches. `shape_changes` is the
+-- number of these batches that change more than unreserved bandwidths. `is_open` is true after the
+-- publisher's first step: the publisher's view then has the batches.
 pub record ReplicaState : Type 0 where
   pub right : Book
   pub database : Database
@@ -31,8 +31,7 @@ published_state known shape_changes = record {
 }
 
 -- The replica (a copy of the table) after it absorbs a batch. `known` are the replica's batches
--- after that, and this batch is the last of them. A batch that doesn't fit leaves the database as
--- it was.
+-- with this batch as the last one. A batch that doesn't fit leaves the database unchanged.
 abbrev pub state_with : ReplicaState → NumberedChanges → KnownBatches → ℕ → ReplicaState
 state_with s b known shape_changes = record {
   right = s.right;

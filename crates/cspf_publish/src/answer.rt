@@ -5,8 +5,8 @@ use cspf_model::Outcome;
 pub struct Answer {
     /// The request's id.
     pub id: u64,
-    /// The version of the database: how many batches the database has. The outcome is the best answer
-    /// in that database.
+    /// The version of the database: the number of its batches. The outcome is the best answer in
+    /// that database.
     pub version: u32,
     /// The outcome.
     pub outcome: Outcome,

@@ -21,9 +21,9 @@ use std::alloc::Global;
 use std::marker::Model;
 use std::sync::Arc;
 
-/// An asker answers requests, and knows the batches up to the last version that it saw or learnt. One
-/// thread uses an asker at a time, and the asker may be moved to another thread. The calls of an asker
-/// never block.
+/// An asker answers requests, and knows the batches up to the last version that it saw or learnt
+/// of. Only one thread uses an asker at a time, but an asker may be moved to another thread. The
+/// calls of an asker never block.
 #[derive(Drop)]
 pub struct Asker {
     seat: AskerSeat,
@@ -68,11 +68,11 @@ impl Asker {
     }
 
     /// Returns the best answer in the database of the last published version. After the call the
-    /// asker knows the batches of that version. On `NoEntry` nothing has changed. On `Memory` at
-    /// most the known batches have changed.
-    // The asker (which answers requests) never enters a replica (a copy of the table) of a lower
-    // version than before. If the version of the replica is below a version that the asker learnt
-    // of, the call returns `NoEntry`. This happens in no run.
+    /// asker knows the batches of that version. On `NoEntry` the asker is unchanged. On `Memory` it
+    /// may know more batches than before, and nothing else has changed.
+    // The asker never enters a replica (a copy of the table) of a lower version than before. If the
+    // version of the replica is below a version that the asker learnt of, the call returns
+    // `NoEntry`. This happens in no run.
     pub fn ask(&mut self, alloc: Global, request: &Request) -> Result<Answer, AskError>
         ensures source { self.new.source ≡ self.old.source }
         ensures later { BeginsWith self.new.batches self.old.batches }
@@ -97,8 +97,8 @@ impl Asker {
         }
     }
 
-    /// Learns the batches that were published when `told` was made, if they are more than the asker
-    /// (which answers requests) knows.
+    /// Learns of the batches that were published when `told` was made, if they are more than the
+    /// asker (which answers requests) knows.
     pub fn learn(&mut self, told: Told)
         requires { told.source ≡ self.old.source }
         ensures source { self.new.source ≡ self.old.source }
@@ -110,8 +110,8 @@ impl Asker {
         let _raised = self.known.raise(told.known());
     }
 
-    /// The batches that the asker (which answers requests) knows. The journal has recorded them
-    /// all.
+    /// The batches that the asker (which answers requests) knows. The journal has recorded all of
+    /// them.
     pub fn known(&self) -> &Known
         ensures { result.now ≡ known_of self.now }
     {
@@ -126,8 +126,8 @@ impl Asker {
         self.known.version()
     }
 
-    /// Learns the batches that were published when `told` was made. Returns the version up to which
-    /// the asker (which answers requests) then knows batches.
+    /// Learns of the batches that were published when `told` was made. Returns the version up to
+    /// which the asker (which answers requests) then knows batches.
     pub fn meet(&mut self, told: Told) -> u32
         requires { told.source ≡ self.old.source }
         ensures source { self.new.source ≡ self.old.source }
@@ -142,10 +142,10 @@ impl Asker {
     }
 
     /// Reads the count of published batches, in one step of the journal. The step names the reader,
-    /// and the row that the reader is about to answer. From then on the asker knows at least as
-    /// many batches as the count says. The reading is the last step of `steps` after the call. The
-    /// publisher raises the count after each batch that it publishes. The call takes no memory, and
-    /// never blocks.
+    /// and the row that the reader is about to answer. After the step the asker knows at least as
+    /// many batches as the count. The reading is the last step of `steps` after the call. The
+    /// publisher raises the count after each batch that it publishes. The call allocates no memory,
+    /// and never blocks.
     pub fn catch_up(&mut self, steps: &mut SeenSteps, row: RowOfReader) -> u32
         requires { steps.old.source ≡ self.old.source }
         ensures caught_up { CatchesUp (known_of self.old) (known_of self.new) steps.old steps.new row.reader row.place result }

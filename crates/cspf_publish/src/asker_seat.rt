@@ -1,5 +1,5 @@
-//! What an asker (which answers requests) keeps between two requests: its *seat*. Also how the
-//! asker enters a replica of the table and searches there.
+//! The *seat* of an asker (which answers requests): the state that it keeps between two requests.
+//! Also how the asker enters a replica of the table and searches there.
 
 ghost use Rattle.std.specs.Prelude.{◌≡◌, IfOk, IfSome, IfNone};
 ghost use Rattle.left_right.specs.Sides.{view};
@@ -22,22 +22,21 @@ use std::alloc::{AllocError, Global};
 /// A reader of the published replica (a copy of the table of links).
 pub(crate) type ReplicaReader = Reader<Replica, SeatView, ReplicaRule>;
 
-/// What an asker (which answers requests) keeps between two requests.
+/// The state that an asker (which answers requests) keeps between two requests.
 #[derive(Drop)]
 pub(crate) struct AskerSeat {
     /// The reader of the published replica (a copy of the table).
     pub(crate) reader: ReplicaReader,
     /// Trees of lower bounds for the search in the database of the replica (a copy of the table)
-    /// that the asker (which answers requests) entered last. The field is `None` before the first
-    /// entry.
+    /// that the asker entered last. The field is `None` before the first entry.
     pub(crate) trees: Option<KnownTrees>,
-    /// How many trees of lower bounds the asker (which answers requests) keeps at most.
+    /// The most trees of lower bounds that the asker keeps.
     pub(crate) most_trees: usize,
 }
 
 // Returns the trees of lower bounds for the database of a replica (a copy of the table). They are
-// made from `trees`, those of an earlier database. If `trees` is `None`, the result has no trees
-// yet, and memory for at most `most` trees.
+// made from `trees`, which are for an earlier database. If `trees` is `None`, the result has no
+// trees yet, and capacity for at most `most` trees.
 fn trees_at(alloc: Global, replica: &Replica, most: usize, trees: Option<KnownTrees>) -> KnownTrees
     requires shapes { CountsShapeChanges replica.now }
     requires source { IfSome trees (λ old. replica.now.known.source ≡ old.source) }

@@ -12,14 +12,14 @@ use thiserror::Error;
 /// Why no publisher is opened.
 #[derive(Clone, Copy, Debug, PartialEq, Eq, Error)]
 pub enum OpenError {
-    /// The number of askers (which answer requests) isn't 1 to 64.
+    /// The number of askers (which answer requests) is 0 or above 64.
     #[error("the number of askers is not 1 to {most}", most = MOST_ASKERS)]
     Askers,
     /// Out of memory.
     #[error("out of memory")]
     Memory,
-    /// The replicas (the table's two copies) have no place left for another reader. This error
-    /// happens in no run, since `open` makes a place for each asker's reader.
+    /// The replicas (the table's two copies) have no place for another reader. This error happens
+    /// in no run, since `open` makes a place for each asker's reader.
     #[error("no place for a reader")]
     Places,
 }
@@ -32,13 +32,13 @@ impl From<AllocError> for OpenError {
     }
 }
 
-/// Why a batch isn't published. Every error but `Journal` leaves the publisher as it was.
+/// Why a batch isn't published. Every error except `Journal` leaves the publisher unchanged.
 #[derive(Clone, Copy, Debug, PartialEq, Eq, Error)]
 pub enum ApplyError {
-    /// The journal has failed at an earlier batch.
+    /// The journal failed at an earlier batch.
     #[error("stopped by a fault of the journal")]
     Stopped,
-    /// 1,000,000 batches, the most that are allowed, are already published.
+    /// 1,000,000 batches are already published. More aren't allowed.
     #[error("{most} batches are published", most = MOST_VERSIONS)]
     Exhausted,
     /// The batch's number isn't the published version plus 1.
@@ -53,10 +53,10 @@ pub enum ApplyError {
     /// Out of memory. The same batch may be accepted later.
     #[error("out of memory")]
     Memory,
-    /// The journal's writer failed, and the publisher is stopped for good.
+    /// The journal's writer failed. The publisher publishes no more batches.
     #[error("the journal failed after {written} bytes of the batch")]
     Journal {
-        /// How many bytes of the batch's text were written.
+        /// The number of bytes of the batch's text that were written.
         written: usize,
     },
 }
@@ -64,7 +64,7 @@ pub enum ApplyError {
 /// Why a request isn't answered.
 #[derive(Clone, Copy, Debug, PartialEq, Eq, Error)]
 pub enum AskError {
-    /// The published replica (a copy of the table) couldn't be entered. Nothing changed.
+    /// The published replica (a copy of the table) couldn't be entered. The asker is unchanged.
     #[error("no entry")]
     NoEntry,
     /// Out of memory. The asker (which answers requests) may know more batches than before.

@@ -13,8 +13,8 @@ use cspf_trees::{Trees, trees_outlast_bandwidth};
 use std::alloc::{AllocError, Global};
 use std::marker::Model;
 
-/// Trees of lower bounds for the search in a database, the batches that make this database, and how
-/// many of these batches change more than unreserved bandwidths.
+/// Trees of lower bounds for the search in a database, with the batches that make this database,
+/// and the number of these batches that change more than unreserved bandwidths.
 #[derive(Drop)]
 pub(crate) struct KnownTrees {
     trees: Trees,
@@ -38,8 +38,8 @@ impl Model for KnownTrees {
 }
 
 impl KnownTrees {
-    /// Memory for at most `most` trees of lower bounds in a replica's database. There are no trees
-    /// yet.
+    /// Makes an empty value with capacity for at most `most` trees of lower bounds in a replica's
+    /// database.
     pub(crate) fn new(alloc: Global, replica: &Replica, most: usize) -> KnownTrees
         requires { CountsShapeChanges replica.now }
         ensures { result ≡ asker_with replica.now.known most }
@@ -52,15 +52,15 @@ impl KnownTrees {
     }
 
     /// Moves on to the database of a replica (a copy of the table) of the same journal. The trees
-    /// are kept if the batches that the replica has beyond those of the trees change at most
-    /// unreserved bandwidths. Otherwise there are no trees any more.
+    /// are kept if the newer batches of the replica change at most unreserved bandwidths. Otherwise
+    /// the trees are dropped.
     pub(crate) fn enter(&mut self, replica: &Replica)
         requires source { replica.now.known.source ≡ self.old.source }
         requires shapes { CountsShapeChanges replica.now }
         ensures { self.new ≡ asker_with replica.now.known self.old.most_trees }
     {
-        // Law: a tree of lower bounds for one database is also one for each database that differs
-        // from it only in unreserved bandwidths.
+        // Law: if two databases differ only in unreserved bandwidths, a tree of lower bounds for
+        // one of them is also one for the other.
         trees_outlast_bandwidth();
         if self.shape_changes == replica.shape_changes && self.known.raise(&replica.known) {
             return;
@@ -70,8 +70,8 @@ impl KnownTrees {
         self.shape_changes = replica.shape_changes;
     }
 
-    /// The best answer to a request in the database of a replica (a copy of the table). The replica
-    /// has the same batches as these trees.
+    /// The best answer to a request in the database of a replica (a copy of the table). The batches
+    /// of the replica are the batches of these trees.
     pub(crate) fn best(
         &mut self,
         alloc: Global,

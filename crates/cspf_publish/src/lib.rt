@@ -1,14 +1,14 @@
-//! Publishes copies of the database. One publisher applies batches. Askers, each in a thread,
-//! answer requests from the last published version without waiting.
+//! Publishes copies of the database. One publisher applies batches. Each asker has a thread, and
+//! answers requests from the last published version without waiting.
 //!
-//! A batch takes effect in one step: the swap of the two replicas (copies) of the table. An asker's
-//! search takes effect in one step, too: the asker's entry into a replica.
+//! A batch takes effect in one step: the swap of the two replicas (copies of the table). The search
+//! of an asker also takes effect in one step: the asker's entry into a replica.
 //!
-//! The journal and the list of batches are those of `cspf_journal`. There `specs/Histories.antt`
-//! says which lists of batches may be published. `specs/KnownBatches.antt` says which batches of a
-//! list a publisher or an asker knows, or a `Told`, from which askers learn. In this crate
-//! `specs/ReplicaRule.antt` has the rule of the replicas, which is an invariant, and the effect of
-//! each kind of step.
+//! The journal and the list of batches are those of `cspf_journal`. In that crate,
+//! `specs/Histories.antt` says which lists of batches may be published, and
+//! `specs/KnownBatches.antt` says which batches a publisher or an asker knows. A `Told` is a value
+//! from which askers learn of published batches. In this crate, `specs/ReplicaRule.antt` has the
+//! rule of the replicas, which is an invariant, and the effect of each kind of step.
 #![tactic(auto)]
 
 mod answer;

@@ -1,12 +1,12 @@
-//! How many askers (which answer requests) a publisher has at most, and how many trees of lower
-//! bounds each asker may keep.
+//! The most askers (which answer requests) of a publisher, and the most trees of lower bounds of
+//! each asker.
 ghost use Rattle.std.specs.Prelude.{◌*◌, ◌≤◌};
 
-/// How many askers (which answer requests) a publisher has at most.
+/// The most askers (which answer requests) that a publisher may have.
 pub const MOST_ASKERS: usize = 64;
 
-/// How many trees of lower bounds each of `askers` askers may keep, if all of them together keep at
-/// most `trees`.
+/// The most trees of lower bounds that each of `askers` askers may keep. Together they keep at most
+/// `trees` trees.
 pub(crate) fn trees_of_each(trees: usize, askers: usize) -> usize
     ensures { askers * result ≤ trees }
 {

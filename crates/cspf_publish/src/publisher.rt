@@ -1,5 +1,5 @@
-//! The publisher: it checks each batch, writes the batch's text to the journal, and then shows the
-//! batch to the askers (which answer requests).
+//! The publisher: it checks each batch, writes the batch's text to the journal, and then publishes
+//! the batch to the askers (which answer requests).
 
 ghost use Rattle.std.specs.Prelude.{◌≡◌, ◌↔◌, ◌*◌, ◌≤◌, ◌⊎◌, ◌++◌, [], ◌∷◌, true, false, length, take, All, IfOk, OnOk, IfErr, OnErr, vec_len, sum_by};
 ghost use Rattle.std.specs.Io.KnownBytes.{Appends};
@@ -23,8 +23,8 @@ use std::io::Write;
 use std::marker::Model;
 use std::sync::Wait;
 
-/// Publishes batches, each after its text is written to the journal. A publisher isn't `Drop`: end it
-/// by `close`.
+/// Publishes batches. The text of each batch is first written to the journal. A publisher isn't
+/// `Drop`: end it by `close`.
 pub struct Publisher<W> {
     replicas: Replicas,
     journal: JournalWriter<W>,
@@ -49,8 +49,8 @@ impl<W> Model for Publisher<W> {
 }
 
 /// Opens a publisher of the empty database, version 0, with 1 to 64 askers (which answer requests).
-/// The publisher owns the journal's writer. All trees of lower bounds of the askers take at most
-/// `TREE_MEGABYTES` megabytes for their bounds. Each error returns the writer untouched.
+/// The publisher owns the journal's writer. The trees of lower bounds of all askers together use at
+/// most `TREE_MEGABYTES` megabytes for their bounds. Each error returns the writer unchanged.
 pub fn open<W: Write, R: Wait>(
     rt: &R,
     alloc: Global,
@@ -74,8 +74,8 @@ pub fn open<W: Write, R: Wait>(
     open_over(rt, alloc, NewJournal::new(journal), askers, trees)
 }
 
-/// Does what `open` does, over a new journal. All askers (which answer requests) together keep at
-/// most `trees` trees of lower bounds, in equal parts. The publisher and its askers know only
+/// Does the same as `open`, over a new journal. All askers (which answer requests) together keep at
+/// most `trees` trees of lower bounds, in equal shares. The publisher and its askers know only
 /// batches of this journal (the source is its identity). So the journal has recorded all batches
 /// that they know.
 pub fn open_over<W: Write, R: Wait>(
@@ -120,7 +120,7 @@ pub fn open_over<W: Write, R: Wait>(
 }
 
 impl<W: Write> Publisher<W> {
-    /// The published version: how many batches are published.
+    /// The published version: the number of published batches.
     pub fn version(&self) -> u32
         ensures version { result ≡ length self.now.batches }
         ensures history { IsHistory self.now.batches }
@@ -157,9 +157,10 @@ impl<W: Write> Publisher<W> {
         self.replicas.tell()
     }
 
-    /// Returns the steps of the journal up to the last step that counts a batch as published. These
-    /// steps count as many batches as this publisher's version says. So an asker (which answers
-    /// requests) that reads the count of published batches later reads at least this version.
+    /// Returns the steps of the journal, up to the last step that counts a batch as published.
+    /// These steps count as many batches as this publisher has published. So an asker (which
+    /// answers requests) that reads the count of published batches later reads at least this
+    /// version.
     pub fn steps(&self) -> SeenSteps
         ensures source { result.source ≡ self.now.source }
         ensures count { count_of result.steps ≡ length self.now.batches }
@@ -168,10 +169,10 @@ impl<W: Write> Publisher<W> {
         self.replicas.steps()
     }
 
-    /// Publishes a batch and returns the new version. The batch's text is first written whole to
-    /// the journal. Once the batch is published, the count of published batches is the new version,
-    /// and askers (which answer requests) read this count. The call may wait for askers that are
-    /// inside a call. Errors are checked in the order of `ApplyError`.
+    /// Publishes a batch and returns the new version. The whole text of the batch is first written
+    /// to the journal. After the batch is published, the count of published batches is raised to
+    /// the new version, for askers (which answer requests) to read. The call may wait for askers
+    /// that are inside a call. Errors are checked in the order of `ApplyError`.
     pub fn apply<R: Wait>(
         &mut self,
         rt: &R,
@@ -217,8 +218,8 @@ impl<W: Write> Publisher<W> {
         }
     }
 
-    /// Ends the publisher, and returns the journal's writer as the last call left it. The call may
-    /// wait for askers (which answer requests) that are inside a call.
+    /// Ends the publisher, and returns the journal's writer as it was after the last call. This
+    /// call may wait for askers (which answer requests) that are inside a call.
     pub fn close<R: Wait>(self, rt: &R) -> W
         ensures { result ≡ self.journal }
     {

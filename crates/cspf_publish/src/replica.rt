@@ -24,8 +24,8 @@ pub struct PendingBatch {
     pub shape_changes: u32,
 }
 
-/// A table, and the batches that make its database. The table is one of the two copies of a journal's
-/// table.
+/// A table with the batches that make its database. The table is one of the two copies of a
+/// journal's table.
 #[derive(Drop)]
 pub struct Replica {
     /// The right to be one of the two copies of a journal's table.
@@ -36,9 +36,9 @@ pub struct Replica {
     pub known: Known,
     /// How many of the absorbed batches changed more than unreserved bandwidths.
     pub shape_changes: u32,
-    /// Whether the replica (a copy of the table) has absorbed an operation, perhaps one without
-    /// changes. From the publisher's first step on, the replica that askers (which answer requests)
-    /// enter has done so.
+    /// Whether the replica (a copy of the table) has absorbed an operation. The operation may be
+    /// one without changes. After the publisher's first step, the replica that askers (which answer
+    /// requests) enter has absorbed an operation.
     pub is_open: bool,
 }
 
@@ -61,8 +61,8 @@ impl Model for Replica {
 }
 
 impl Replica {
-    /// How many of the replica's batches, together with this batch, change more than unreserved
-    /// bandwidths.
+    /// The number of batches that change more than unreserved bandwidths, among the replica's
+    /// batches and this batch.
     pub(crate) fn shape_changes_with(&self, batch: &Batch) -> u32
         requires database { HasItsDatabase self.now }
         requires shapes { CountsShapeChanges self.now }

@@ -1,5 +1,6 @@
-//! The rule of the replicas (the two copies of the table), an invariant of all steps on them. Also
-//! what the publisher or an asker knows after each kind of step that it makes.
+//! The rule of the replicas (the two copies of the table), which is an invariant of all steps on
+//! them. Also the views after each kind of step: a view has the batches that the publisher or an
+//! asker knows.
 ghost use Rattle.cspf_publish.specs.ReplicaRule.{HoldsBetweenSteps, Enters, Opens, Publishes, note_of, view_with_note};
 ghost use Rattle.cspf_publish.specs.declared.seat_view.SeatView.TheVariants.{New as IsNew};
 
@@ -8,8 +9,8 @@ use crate::seat_view::SeatView;
 use atomic_table::{Join, Split};
 use crossbeam_utils::rule::{Outcome, Protocol};
 
-/// The rule of the replicas (the two copies of the table), an invariant: it holds before the first
-/// step on the replicas, and after each step.
+/// The rule of the replicas (the two copies of the table). It is an invariant: it holds before the
+/// first step on the replicas, and after each step.
 pub struct ReplicaRule;
 
 impl Protocol<Replica, SeatView> for ReplicaRule {
@@ -19,7 +20,7 @@ impl Protocol<Replica, SeatView> for ReplicaRule {
 }
 
 /// The publisher's first step, which changes no replica's database. After this step the publisher's
-/// view (what it knows) has the published batches.
+/// view has the published batches.
 pub struct Opening;
 
 impl Outcome<Replica, SeatView> for Opening {
@@ -41,8 +42,7 @@ impl Outcome<Replica, SeatView> for Entry {
     ghost then = { Enters };
 }
 
-/// The note from which a new asker's view (what it knows) is made: the batches that the publisher
-/// knows.
+/// The note from which a new asker's view is made. It has the batches that the publisher knows.
 pub struct FirstNote;
 
 impl Split<SeatView> for FirstNote {

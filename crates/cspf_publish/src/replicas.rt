@@ -36,9 +36,9 @@ use std::sync::{Arc, Wait};
 
 type ReplicaWriter = Writer<Replica, PendingBatch, SeatView, ReplicaRule>;
 
-/// A pair of replicas (the table's two copies), and the count of the batches that are published in
-/// them. The pair holds its journal's only right to count batches as published. Its replicas hold
-/// the journal's two `CopyRight`s, so a journal has only one pair. A pair isn't `Drop`: end it by
+/// A pair of replicas (the table's two copies), with the count of the batches that are published in
+/// them. The pair has the journal's only right to count batches as published. Its replicas have the
+/// journal's two `CopyRight`s. So a journal has only one pair. A pair isn't `Drop`: end it by
 /// `close`.
 pub(crate) struct Replicas {
     writer: ReplicaWriter,
@@ -68,8 +68,8 @@ impl Model for Replicas {
         × (arc_value r.count ≡ r.writer.desk.shown.value.known.source) };
 }
 
-// Takes the publisher's first step, which changes no table. After this step the writer's view (what
-// it knows) has the published batches.
+// Makes the publisher's first step, which changes no table. After this step the writer's view has
+// the published batches.
 fn open_writer<R: Wait>(writer: ReplicaWriter, rt: &R) -> ReplicaWriter
     requires empty { writer.desk.shown.value ≡ record {
       right = writer.desk.shown.value.known.source;
@@ -113,9 +113,9 @@ fn swap_replicas<R: Wait>(writer: ReplicaWriter, rt: &R) -> (ReplicaWriter, u32)
         → result.0.desk.shown.value.known ≡ p.known }
     ensures version { result.1 ≡ length result.0.desk.shown.value.known.batches }
 {
-    // Laws: the database after one more batch is the database after the batches before it, with the
-    // changes of this batch made. If each batch of a list fits after the batches before it, the
-    // same holds of the list with one more batch that fits.
+    // Laws: the database after one more batch is the database before it, with the changes of this
+    // batch made. If a list of batches is lawful and one more batch fits its database, the longer
+    // list is lawful. A list is lawful if each batch fits the database of the batches before it.
     absorbing();
     lawful_batches();
     let (writer, published) = writer.publish_as::<Swap, R>(rt);
@@ -157,7 +157,7 @@ fn empty_replica(alloc: Global, known: &Known, right: CopyRight) -> Result<Repli
     })
 }
 
-// Appends two operations that change nothing, so that the log has memory for two operations.
+// Appends two operations that change nothing. After that the log has capacity for two operations.
 fn append_idle(writer: &mut ReplicaWriter, alloc: Global, known: &Known) -> Result<(), AllocError>
     ensures desk { writer.new.desk ≡ writer.old.desk }
     ensures pending { IfOk result (λ _. drop writer.new.behind writer.new.log.items
@@ -173,8 +173,8 @@ fn append_idle(writer: &mut ReplicaWriter, alloc: Global, known: &Known) -> Resu
     Ok(())
 }
 
-// The writer of two empty replicas (the table's two copies), after the publisher's first step. The
-// replicas hold the two `CopyRight`s of their journal.
+// Makes the writer of two empty replicas (the table's two copies), after the publisher's first
+// step. The replicas have the two `CopyRight`s of their journal.
 fn new_writer<R: Wait>(
     rt: &R,
     alloc: Global,
@@ -201,7 +201,7 @@ fn new_writer<R: Wait>(
 }
 
 // Appends an operation to the writer's log of operations for the replicas (the table's two copies).
-// The log has had memory for it since the replicas were made, so the loop runs only once.
+// The log has had capacity for it since the replicas were made, so the loop runs only once.
 fn append<R: Wait>(writer: &mut ReplicaWriter, rt: &R, operation: PendingBatch)
     ensures desk { writer.new.desk ≡ writer.old.desk }
     ensures pending { drop writer.new.behind writer.new.log.items
@@ -217,8 +217,8 @@ fn append<R: Wait>(writer: &mut ReplicaWriter, rt: &R, operation: PendingBatch)
     unreachable!()
 }
 
-// A new reader of the published replica (a copy of the table). The replicas were made with a place
-// for each asker's reader.
+// Makes a new reader of the published replica (a copy of the table). The replicas were made with a
+// place for each asker's reader.
 fn new_reader(writer: &ReplicaWriter) -> Result<ReplicaReader, OpenError>
     ensures view { IfOk result (λ reader. view reader.place ≡ IsNew) }
     ensures table { IfOk result (λ reader. reader.place.table_id ≡ writer.now.desk.place.table_id) }
@@ -265,8 +265,9 @@ fn count_shown<R: Wait>(
 }
 
 impl Replicas {
-    /// Makes two empty replicas (the table's two copies). Only this call takes memory for the
-    /// writer's log of operations. Later the log never has more than two operations.
+    /// Makes two empty replicas (the table's two copies). This call allocates the memory of the
+    /// writer's log of operations. Later the log never has more than two operations, so no other
+    /// call allocates memory for it.
     pub(crate) fn new<R: Wait>(
         rt: &R,
         alloc: Global,
@@ -287,10 +288,10 @@ impl Replicas {
         })
     }
 
-    /// Makes `count` askers, with `room` as the memory for their list. The askers (which answer
-    /// requests) know the published batches. Together they keep at most `trees` trees of lower
-    /// bounds, in equal parts. The call fails only if the replicas (the table's two copies) have no
-    /// place left for a reader.
+    /// Makes `count` askers in the list `room`, which has the capacity for them. The askers (which
+    /// answer requests) know the published batches. Together they keep at most `trees` trees of
+    /// lower bounds, in equal shares. The only error is that the replicas (the table's two copies)
+    /// have no place for another reader.
     pub(crate) fn askers<R: Wait>(
         &mut self,
         rt: &R,
@@ -330,7 +331,7 @@ impl Replicas {
         self.writer.published().known.copy()
     }
 
-    /// How many batches are published.
+    /// The published version: the number of published batches.
     pub(crate) fn version(&self) -> u32
         ensures version { result ≡ length self.now.batches }
         ensures history { IsHistory self.now.batches }
@@ -373,8 +374,8 @@ impl Replicas {
         version
     }
 
-    /// The steps of the journal up to the last step that counts a batch as published. These steps count
-    /// all published batches.
+    /// The steps of the journal, up to the last step that counts a batch as published. These steps
+    /// count all published batches.
     pub(crate) fn steps(&self) -> SeenSteps
         ensures source { result.source ≡ self.now.source }
         ensures count { count_of result.steps ≡ length self.now.batches }

@@ -4,8 +4,8 @@ ghost use Rattle.cspf_journal.specs.Histories.{IsHistory};
 use cspf_journal::Known;
 use std::marker::Model;
 
-/// The batches that a publisher had published when it made this value. From this value askers
-/// (which answer requests) learn of these batches.
+/// The batches that a publisher had published when this value was made. Askers (which answer
+/// requests) learn of these batches from this value.
 #[derive(Drop)]
 pub struct Told {
     known: Known,
@@ -26,14 +26,16 @@ impl Told {
         Told { known }
     }
 
-    /// The batches that were published when this value was made. The journal has recorded them all.
+    /// The batches that were published when this value was made. The journal has recorded all of
+    /// them.
     pub fn known(&self) -> &Known
         ensures { result.now ≡ self.now }
     {
         &self.known
     }
 
-    /// The version that was published when this value was made: how many batches the value has.
+    /// The version that was published when this value was made. It is the number of the value's
+    /// batches.
     pub fn version(&self) -> u32
         ensures version { result ≡ length self.now.batches }
         ensures history { IsHistory self.now.batches }

@@ -1,4 +1,4 @@
--- The lines that are written for answers are the replies to the requests of these answers.
+-- The reply lines that are written for answers are right replies to the requests.
 use Rattle.std.proofs.Common.{◌≡◌, ℕ, ◌+◌, zero, suc, All, Option, Some, List, [], ◌∷◌, ◌++◌, ◌-◌, take, drop, length, slice_get, refl, sym, ap, ◌∙◌, subst, append_assoc, append-nil, arith}
 use Rattle.std.proofs.KnownBytes.{Appends-trans}
 use Rattle.std.proofs.Math.Seq.{take-length}
@@ -19,8 +19,8 @@ use Rattle.cspf_serve.proofs.Begun.{begun_behind, begun_weaker}
 use Rattle.cspf_serve.specs.AnswerLines.{AreAnswerLines}
 use Rattle.cspf_serve.specs.LiveRun.{AreRepliesWithin}
 
--- the lines of some answers, and after them the line of one more answer, are the lines of all these
--- answers
+-- the reply lines of some answers, followed by the reply line of one more answer, are the reply
+-- lines of all these answers
 lines_more : (answers : List Answer) (a : Answer) (lines line : List ℕ) → AreAnswerLines answers lines
     → IsReply a.id a.version (answer_of a.outcome) line → AreAnswerLines (answers ++ a ∷ []) (lines ++ line)
 lines_more [] a lines line before reply = (line, [], reply, rw before (sym (append-nil line)), refl)
@@ -40,8 +40,8 @@ writes_answer answers a old mid new before reply = (
   Appends-trans old mid new before.0 reply.0 before.2 reply.2,
 )
 
--- After the lines of the first `i` answers, the next answer's line is written in part. This is the
--- beginning of the lines of a prefix of the answers.
+-- The lines of the first `i` answers are written, and then a prefix of the next answer's line. The
+-- whole output is a prefix of the lines of the first `count` answers, for some `count`.
 pub answer_begun : (answers : List Answer) (i : ℕ) (a : Answer) (old mid new : Option (List ℕ)) → take (i + 1) answers ≡ take i answers ++ a ∷ []
     → Writes old mid (AreAnswerLines (take i answers)) → HasBegun mid new (IsReply a.id a.version (answer_of a.outcome))
     → HasBegun old new (λ lines. (count : ℕ) × AreAnswerLines (take count answers) lines)
@@ -79,7 +79,7 @@ replies_after batches requests list lines is written =
     (lines_after batches (length list) requests list lines is.count is.each
     (subst (λ (l : List Answer). AreAnswerLines l lines) (sym (take-length list)) written))
 
--- all requests from the index `first` on are answered
+-- all requests are answered from the index `first` on
 pub rest_answered : (batches : List NumberedChanges) (first : ℕ) (requests : List Request) (answers list : List Answer) → list ≡ answers
     → AreAnswersAfter batches (take (length requests - first) (drop first requests)) answers → AreAnswersAfter batches (drop first requests) list
 rest_answered batches first requests answers list same answered =
@@ -88,7 +88,8 @@ rest_answered batches first requests answers list same answered =
     subst (λ (l : List Answer). AreAnswersAfter batches rest l) (sym same)
     (subst (λ (qs : List Request). AreAnswersAfter batches qs answers) asked answered)
 
--- either nothing is written, or the beginning of the replies to a prefix of the requests is written
+-- if a prefix of the answers' lines is written, it is a prefix of right replies to the first
+-- requests
 pub answers_begun : (batches : List NumberedChanges) (requests : List Request) (list : List Answer) (old new : Option (List ℕ)) → AreAnswersAfter batches requests list
     → HasBegun old new (λ lines. (count : ℕ) × AreAnswerLines (take count list) lines)
     → HasBegun old new (λ lines. (count : ℕ) × AreReplies (database_after batches) (length batches) (take count requests) lines)
@@ -116,8 +117,8 @@ pub replies_written : (batches : List NumberedChanges) (requests : List Request)
     → Writes old new (AreAnswerLines list) → Writes old new (AreReplies (database_after batches) (length batches) requests)
 replies_written batches requests list old new is written = (written.0, replies_after batches requests list written.0 is written.1, written.2)
 
--- the askers (which answer requests) that one call of `open` made all have the same journal (the
--- source is its identity)
+-- all askers (which answer requests) that one call of `open` makes are askers of the same journal
+-- (the source is its identity)
 pub sources_of : (source : Book) (askers : List AskerState) → All (λ (a : AskerState). (a.batches ≡ []) × (a.source ≡ source)) askers
     → All (λ (a : AskerState). a.source ≡ source) askers
 sources_of source askers all i d less = (all i d less).1

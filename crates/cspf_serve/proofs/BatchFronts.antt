@@ -1,4 +1,4 @@
--- What a run over a journal and requests has written if it ends by an error.
+-- The lines that a run over a journal and requests wrote before it ended by an error.
 use Rattle.std.proofs.Common.{◌≡◌, ℕ, zero, Bool, Option, Some, None, IfSome, List, [], ◌++◌, take, length, inl, inr, refl, sym, append-nil, Result, Ok, Err, OnErr}
 use Rattle.std.proofs.KnownBytes.{Keeps-refl}
 use Rattle.std.specs.Io.KnownBytes.{Appends}
@@ -20,7 +20,8 @@ use Rattle.cspf_serve.specs.PublishedBatches.{IsUnfitBehind, ArePublishedOrRefus
 use Rattle.cspf_serve.proofs.Begun.{begun_behind, begun_weaker}
 use Rattle.cspf_serve.proofs.BatchLines.{IsPublished, one_unfit, refused_alone}
 
--- all batches are accepted, and the first `count` of the requests are answered
+-- the lines of all versions, followed by the replies to the first `count` requests, are lines that
+-- `IsAcceptedInPart` allows
 accepted_in_part : (batches : List NumberedChanges) (requests : List Request) (count : ℕ) (replies : List ℕ) → AreLawful batches
     → AreReplies (database_after batches) (length batches) (take count requests) replies
     → IsAcceptedInPart batches requests (version_lines batches ++ replies)
@@ -28,7 +29,7 @@ accepted_in_part batches requests count replies lawful answered =
     inl (count, record { lawful = lawful; replies = replies; answered = answered; whole = refl })
 
 module _ (batches published : List NumberedChanges) (requests : List Request) (old mid new : Option (List ℕ)) (lawful : AreLawful published) where
-  -- the beginning of the lines of the versions is the beginning of the lines of a run over these
+  -- if a prefix of the versions' lines is written, it is a prefix of the lines of a run over these
   -- batches
   pub versions_begun : (unfit : Option JudgeLine) → ArePublishedOrRefused batches published unfit → WritesFront old new (version_lines published)
       → HasBegun old new (IsAcceptedInPart batches requests)
@@ -38,16 +39,16 @@ module _ (batches published : List NumberedChanges) (requests : List Request) (o
       let text = judge_line_text line in
       inr (version_lines published ++ text, inr (one_unfit batches published text unfit lawful), front_before old new (version_lines published) text begun)
 
-  -- The lines of the versions are written, and then the beginning of the line of the batch that
-  -- doesn't fit. This is the beginning of the lines of a run over these batches.
+  -- The lines of the versions are written, and then a prefix of the line that refuses the batch
+  -- that doesn't fit. This output is a prefix of the lines of a run over these batches.
   pub unfit_begun : (line : JudgeLine) → ArePublishedOrRefused batches published (Some line) → Appends old mid (version_lines published)
       → WritesFront mid new (judge_line_text line) → HasBegun old new (IsAcceptedInPart batches requests)
   unfit_begun line unfit versions begun =
       let text = judge_line_text line in
       inr (version_lines published ++ text, inr (one_unfit batches published text unfit lawful), front_behind old mid new (version_lines published) text versions begun)
 
--- The lines of all versions are written, and then the beginning of the replies to a prefix of the
--- requests. This is the beginning of the lines of a run over these batches.
+-- The lines of all versions are written, and then a prefix of the replies to the first requests.
+-- This output is a prefix of the lines of a run over these batches.
 pub replies_begun : (batches : List NumberedChanges) (requests : List Request) (old mid new : Option (List ℕ)) → AreLawful batches
     → Appends old mid (version_lines batches)
     → HasBegun mid new (λ lines. (count : ℕ) × AreReplies (database_after batches) (length batches) (take count requests) lines)
@@ -60,12 +61,12 @@ replies_begun batches requests old mid new lawful versions begun =
 
 -- ---- the whole run
 
--- what a run over a journal and requests has written if it ends by an error
+-- what a run over a journal and requests wrote before it ended by an error
 abbrev pub IsBegunRun : Bool → Option (List ℕ) → Option (List ℕ) → Option (List ℕ) → Option (List ℕ) → Type 0
 IsBegunRun accept_torn kept asked old new =
     IfSome kept (λ journal. IfSome asked (λ requests. HasBegun old new (IsBatchRunInPart accept_torn (rows_of journal) (rows_of requests))))
 
--- `IsBegunRun` holds of a run over a journal and requests that has written nothing
+-- `IsBegunRun` holds of a run that wrote nothing
 pub nothing_begun : (accept_torn : Bool) (kept asked old : Option (List ℕ)) → IsBegunRun accept_torn kept asked old old
 nothing_begun accept_torn None asked old = tt
 nothing_begun accept_torn (Some journal) None old = tt
@@ -84,8 +85,7 @@ module _ (accept_torn : Bool) (published : List NumberedChanges) (unfit : Option
         | inr one ↦ inl (inr (read.0, read.1, inr (qs, of_rows, inr (one, refl))))
       ]) (begun read.0 read.2)
 
-  -- if a run over a journal and requests ends by an error while it answers requests, `IsBegunRun`
-  -- holds of it
+  -- if a run ends by an error while it answers requests, `IsBegunRun` holds of the run
   pub batch_begun : (kept asked : Option (List ℕ)) (r : Result ℕ RunError) → IsPublished accept_torn kept published unfit
       → IfSome asked (λ bytes. AreRequestsOf (rows_of bytes) qs)
       → OnErr r ((batches : List NumberedChanges) → ArePublishedOrRefused batches published unfit → HasBegun old new (IsAcceptedInPart batches qs))
@@ -93,8 +93,8 @@ module _ (accept_torn : Bool) (published : List NumberedChanges) (unfit : Option
   batch_begun kept asked (Ok status) read of_rows begun = tt
   batch_begun kept asked (Err e) read of_rows begun = begun_of kept asked read of_rows begun
 
--- if a run ends by an error, and has written at most the beginning of the line that refuses a
--- stream, `IsBegunRun` holds of it
+-- A run ends by an error, and it wrote at most a prefix of the line that refuses a stream. Then
+-- `IsBegunRun` holds of the run.
 pub run_refused_begun : (accept_torn : Bool) (kept asked : Option (List ℕ)) (s : EarlyEnd) (r : Result ℕ RunError) (old new : Option (List ℕ))
     → IfRefused s (λ line. IfSome kept (λ journal. IfSome asked (λ requests. AreStreamsRefused accept_torn (rows_of journal) (rows_of requests) line)))
     → OnErr r (IsRefusalBegun s old new) → OnErr r (IsBegunRun accept_torn kept asked old new)

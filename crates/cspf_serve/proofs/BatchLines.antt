@@ -1,4 +1,4 @@
--- The lines of batches and requests, and what holds if a run over a journal ends early.
+-- The lines that a run over a journal and requests writes, and how such a run ends early.
 use Rattle.std.proofs.Common.{◌≡◌, ℕ, ◌<◌, ◌≤◌, ◌⊎◌, Bool, Option, Some, None, IfSome, List, ◌++◌, length, inl, inr, refl, ap, arith, Result, Ok, Err, IfOk, IfErr}
 use Rattle.std.proofs.KnownBytes.{Appends-trans}
 use Rattle.std.proofs.lemmas.List.{length-map}
@@ -27,12 +27,12 @@ use Rattle.cspf_serve.specs.EarlyEnds.{AreStreamsRefused}
 use Rattle.cspf_serve.specs.PublishedBatches.{IsUnfitBehind, ArePublishedOrRefused, IsAcceptedOrUnfit}
 use Rattle.cspf_serve.specs.RunFaults.{IsStreamFault, IsAnsweringFault, IsStrayInBatchRun, IsBatchFault}
 
--- if `P` holds of the line that refuses a stream and `P` implies `Q`, then `Q` holds of this line
+-- if `P` implies `Q`, and `P` holds of the line that refuses a stream, `Q` also holds of this line
 pub IfRefused-weaker : (s : EarlyEnd) (P Q : List ℕ → Type 0) → ((line : List ℕ) → P line → Q line) → IfRefused s P → IfRefused s Q
 IfRefused-weaker (early_end.Refused line) P Q f refused = f (judge_line_text line) refused
 IfRefused-weaker (early_end.Failed error) P Q f refused = tt
 
--- the batches before the one that doesn't fit are accepted, and that batch is refused
+-- the batches before the batch that doesn't fit are accepted, and that batch is refused
 pub one_unfit : (bs published : List NumberedChanges) (line : List ℕ) → IsUnfitBehind bs published line → AreLawful published
     → IsOneUnfit bs (version_lines published ++ line)
 one_unfit bs published line is lawful = record {
@@ -56,8 +56,8 @@ unfit_written bs published qs line old mid new is lawful versions last = (
   Appends-trans old mid new (version_lines published) line versions last,
 )
 
--- if the lines of all batches are written, and then the replies to the requests, these are the lines
--- of a run in which all batches are accepted
+-- The lines of all batches are written, and then the replies to the requests. These are the lines
+-- of a run in which all batches are accepted.
 pub accepted_written : (bs : List NumberedChanges) (qs : List Request) (d : Database) (old mid new : Option (List ℕ))
     → AreLawful bs → d ≡ database_after bs → Appends old mid (version_lines bs) → Writes mid new (AreReplies d (length bs) qs)
     → Writes old new (λ lines. IsAcceptedOrUnfit bs qs lines 0)
@@ -97,7 +97,8 @@ rows_asked records qs index is within =
     let same = ap length is.asked in
     omega (arith, within, rows, asks, same)
 
--- which batches of a journal were published, if the journal's bytes are known
+-- `published` are the batches of a journal that were published; nothing is stated if the journal's
+-- bytes aren't known
 abbrev pub IsPublished : Bool → Option (List ℕ) → List NumberedChanges → Option JudgeLine → Type 0
 IsPublished accept_torn kept published unfit =
     IfSome kept (λ bytes. (batches : List NumberedChanges) × AreBatchesOf accept_torn (rows_of bytes) batches × ArePublishedOrRefused batches published unfit)
@@ -113,7 +114,8 @@ module _ (accept_torn : Bool) (kept asked : Option (List ℕ)) (published : List
       let is = ran read.0 read.2 in
       (is.0, inr (read.0, read.1, inr (qs, of_rows, is.1)), is.2)
 
-  -- if a run ends with a status, all its batches are accepted, or one of them doesn't fit
+  -- A run ends with a status. It wrote the lines of accepted batches, or of batches of which one
+  -- doesn't fit. These are the lines of a run over the journal and the requests.
   pub batch_ran : (r : Result ℕ RunError)
       → IfOk r (λ status. (batches : List NumberedChanges) → ArePublishedOrRefused batches published unfit
       → Writes old new (λ lines. IsAcceptedOrUnfit batches qs lines status))
@@ -131,8 +133,8 @@ module _ (accept_torn : Bool) (kept asked : Option (List ℕ)) (published : List
   stray_in_run (Some journal) (Some requests) index version read of_rows within above =
       (rows_asked (rows_of requests) qs index of_rows within, (read.0, read.1, above read.0 read.2))
 
-  -- if a run ends by an error while it answers requests, the error is a fault of a stream or of
-  -- answering
+  -- if a run ends by an error while it answers requests, this error is a fault of a stream or of
+  -- the workers
   pub batch_failed : (r : Result ℕ RunError)
       → IfErr r (λ e. IsStreamFault e ⊎ IsAnsweringFault (λ index version. (index < length qs)
       × ((batches : List NumberedChanges) → ArePublishedOrRefused batches published unfit → length batches < version)) e)
@@ -143,7 +145,7 @@ module _ (accept_torn : Bool) (kept asked : Option (List ℕ)) (published : List
   batch_failed (Err e) (inr (inr stray)) =
       inr (inr (inr (stray.0, stray.1, stray.2, stray_in_run kept asked stray.0 stray.1 read of_rows stray.3.0 stray.3.1)))
 
--- if a stream is refused, the refusal is the only line, and the status is 2
+-- if a stream is refused, the line of the refusal is the only line, and the status is 2
 pub refused_alone : (accept_torn : Bool) (journal requests : Records) (line : List ℕ) → AreStreamsRefused accept_torn journal requests line
     → IsBatchRun accept_torn journal requests line 2
 refused_alone accept_torn journal requests line (inl refused) = inl (refused, refl)
@@ -161,7 +163,8 @@ run_refused accept_torn (Some journal) (Some requests) (early_end.Failed error) 
 run_refused accept_torn (Some journal) (Some requests) (early_end.Refused line) (Ok status) old new refused two written =
     (judge_line_text line, rw two (refused_alone accept_torn (rows_of journal) (rows_of requests) (judge_line_text line) refused), written)
 
--- the output is the lines of a run over one stream: the journal's rows and then the requests' rows
+-- the output of a run with the status 0 is the output of a run over one stream: the journal's rows,
+-- followed by the rows of the requests
 pub script_written : AreLinesOfAScript → (accept_torn : Bool) (kept asked old new : Option (List ℕ)) → IsWrittenRun accept_torn kept asked 0 old new
     → IfSome kept (λ journal. IfSome asked (λ requests. IsCleanJournal (rows_of journal) → length (rows_of journal ++ rows_of requests) ≤ 1000000
     → (lines : List ℕ) × (counts : Summary) × IsSolveRun (rows_of journal ++ rows_of requests) lines counts × Appends old new lines))
@@ -171,8 +174,8 @@ script_written law accept_torn (Some journal) (Some requests) old new run = λ c
     let script = law accept_torn (rows_of journal) (rows_of requests) run.0 clean few run.1 in
     (run.0, script.0, script.1, run.2)
 
--- if the status is 0, the output is the lines of a run over one stream: the journal's rows and then
--- the requests' rows
+-- if the result of a run is the status 0, its output is the output of a run over one stream: the
+-- journal's rows, followed by the rows of the requests
 pub script_of_run : AreLinesOfAScript → (accept_torn : Bool) (kept asked old new : Option (List ℕ)) (r : Result ℕ RunError)
     → IfOk r (λ status. IsWrittenRun accept_torn kept asked status old new) → r ≡ Ok 0
     → IfSome kept (λ journal. IfSome asked (λ requests. IsCleanJournal (rows_of journal) → length (rows_of journal ++ rows_of requests) ≤ 1000000

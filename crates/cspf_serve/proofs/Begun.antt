@@ -1,18 +1,19 @@
--- What holds of an output that gets a text and after it other lines, in whole or in part.
+-- A text is written to an output, and after it other lines, in whole or in part.
 use Rattle.std.proofs.Common.{◌≡◌, Option, Some, None, List, [], ◌++◌, ℕ, inl, inr, sym, ◌∙◌, append-nil}
 use Rattle.std.specs.Io.KnownBytes.{Appends, Keeps}
 use Rattle.cspf_judge.proofs.Fronts.{front_behind}
 use Rattle.cspf_judge.specs.EarlyEnds.{HasBegun}
 
--- if a text is written to the output and nothing after it, this text is all that the output has got
+-- if a text is written, and then the output doesn't change, the output has grown by exactly this
+-- text
 kept_behind : (old mid new : Option (List ℕ)) (text : List ℕ) → Appends old mid text → Keeps mid new → Appends old new text
 kept_behind None mid new text written kept = tt
 kept_behind (Some xs) None new text written kept = absurd written
 kept_behind (Some xs) (Some ys) None text written kept = absurd kept
 kept_behind (Some xs) (Some ys) (Some zs) text written kept = kept ∙ written
 
--- If a text is written, and then the beginning of some lines, this is the beginning of one sequence
--- of lines: the text and then those lines.
+-- A text is written, and then a prefix of some lines. The whole output is a prefix of the text
+-- followed by those lines.
 pub begun_behind : (old mid new : Option (List ℕ)) (text : List ℕ) (P Q : List ℕ → Type 0) → Appends old mid text → Q text
     → ((lines : List ℕ) → P lines → Q (text ++ lines)) → HasBegun mid new P → HasBegun old new Q
 begun_behind old mid new text P Q written here more (inl kept) =
@@ -20,8 +21,8 @@ begun_behind old mid new text P Q written here more (inl kept) =
 begun_behind old mid new text P Q written here more (inr (lines, is, begun)) =
     inr (text ++ lines, more lines is, front_behind old mid new text lines written begun)
 
--- if `P` implies `Q`, and the output has got at most the beginning of lines of which `P` holds,
--- this is the beginning of lines of which `Q` holds
+-- Suppose that `P` implies `Q`. If the output is a prefix of lines of which `P` holds, it is a
+-- prefix of lines of which `Q` holds. The same is true if nothing is written.
 pub begun_weaker : (old new : Option (List ℕ)) (P Q : List ℕ → Type 0) → ((lines : List ℕ) → P lines → Q lines) → HasBegun old new P → HasBegun old new Q
 begun_weaker old new P Q f (inl kept) = inl kept
 begun_weaker old new P Q f (inr (lines, is, begun)) = inr (lines, f lines is, begun)

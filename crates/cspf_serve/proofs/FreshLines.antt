@@ -1,6 +1,6 @@
 -- Each reply to a client has at least the version that was published before the request's row was
--- read. One list of the journal's steps (batches recorded or counted as published, and readings of
--- that count) shows this for all clients.
+-- read. This is seen from one list of the journal's steps: batches recorded, batches counted as
+-- published, and clients' readings of that count.
 use Rattle.std.proofs.Common.{◌≡◌, ℕ, suc, ◌+◌, ◌^◌, ◌<◌, ◌≤◌, ◌⊎◌, Bool, List, [], ◌∷◌, ◌++◌, length, length-append, append_assoc, append-nil, codes, Option, Some, IfSome, Result, Ok, Err, MatchResult, inl, inr, refl, sym, ap, subst, ◌∙◌, arith, ⊎_elim}
 use Rattle.std.specs.Fmt.{decimal}
 use Rattle.std.specs.Option.{option_map}
@@ -45,7 +45,7 @@ use Rattle.cspf_serve.proofs.Pairs.{numbered_weaker}
 abbrev Rows : Type 0
 Rows = List (List (List ℕ))
 
--- about a row that gets no answer nothing is stated
+-- nothing is stated about a row that gets no answer
 abbrev Nothing : ℕ → Unit {0} → List (List ℕ) → Unit {0} → Type 0
 Nothing place s fields t = Unit {0}
 
@@ -64,9 +64,9 @@ clients_kept place s t [] lines a = ap (λ (x : SessionState). x.client) a.1
 clients_kept place s t (fields ∷ rows) lines a = clients_kept (suc place) a.1 t rows a.2 a.5 ∙ client_kept place s a.1 (row_of fields) a.0 a.3
 
 module _ (all : KnownSteps) (number : ℕ) (order : AreOrderedFrom 0 0 all.steps) where
-  -- Suppose that a client reads the count of published batches before it answers a row. Then this
-  -- reading is one of the journal's steps. The steps before it count at most as many batches as the
-  -- client knows after the row.
+  -- Suppose that a client reads the count of published batches before it answers a row. This
+  -- reading is one of the journal's steps. After the row, the client knows at least as many batches
+  -- as the steps before the reading count as published.
   read_of : (place : ℕ) (s t : SessionState) → s.client ≡ number → AreFirstSteps all t.steps → ReadsCount place s t → IsReadBefore all.steps number place (length t.known.batches)
   read_of place s t client first reads =
       let up = reads.caught_up in
@@ -175,8 +175,8 @@ module _ (all : KnownSteps) (number : ℕ) (order : AreOrderedFrom 0 0 all.steps
       written = a.written;
     }
 
-  -- All rows, or those before the stream stopped, are answered by lines as `IsFreshLine` describes
-  -- them, and these lines are written.
+  -- All rows, or the rows before the stream stopped, are answered, and their lines are written. The
+  -- lines are as `IsFreshLine` says.
   abbrev Lines : Option Rows → Option (List ℕ) → Option (List ℕ) → Type 0
   Lines rows old new =
       AreAllAnswered (IsAnsweredFresh all.steps number) rows tt tt old new
@@ -205,15 +205,15 @@ fresh_runs W J Q V updates said recorded bytes contents writer journal clients s
     (λ n c s is. served_lines served.steps n run.steps_of_run.journal.order bytes contents run.state.run.accepted c s is)
     1 clients served.clients.items run.clients_served
 
--- the lines that answer a stream of one row are the line of this row
+-- if a stream has one row, the lines that answer the stream are the line of this row
 one_row : (s t : SessionState) (fields : List (List ℕ)) (lines : List ℕ) → AreAnswered IsClientAnswered 1 s (fields ∷ []) lines t
     → (line : List ℕ) × IsClientAnswered 1 s fields line t × (lines ≡ line)
 unfolding AreAnswered
 one_row s t fields lines a =
     (a.0, subst (λ (n : SessionState). IsClientAnswered 1 s fields a.0 n) (sym a.5.1) a.3, a.4 ∙ (ap (λ (m : List ℕ). a.0 ++ m) a.5.0 ∙ append-nil a.0))
 
--- the client reads the count of published batches after the step that counts the batch `b` as
--- published, so 1 batch is counted before this reading
+-- the client reads the count of published batches after the batch `b` is counted, so the steps
+-- before this reading count 1 batch
 behind : (b : NumberedChanges) (before after : List LogStep) (count : ℕ) → read_behind_a_batch b ≡ before ++ Read 1 1 count ∷ after → count_of before ≡ 1
 behind b [] after count is = absurd (cc is)
 behind b (x ∷ []) after count is = absurd (cc is)

@@ -1,4 +1,4 @@
--- The lines of a live run, and the text in its journal.
+-- The lines that a live run writes, and the text that it writes to its journal.
 use Rattle.std.proofs.Common.{◌≡◌, ℕ, ◌+◌, ◌<◌, ◌≤◌, ◌⊎◌, Vec, false, Option, Some, None, IfSome, Result, Ok, Err, IfOk, IfErr, List, [], ◌++◌, take, get_or, length, slice_get, inl, inr, refl, sym, ap, ◌∙◌, subst, append_assoc, arith, true}
 use Rattle.std.proofs.KnownBytes.{Appends-nil, Appends-trans}
 use Rattle.std.proofs.lemmas.List.{length-map, length-take-le}
@@ -45,8 +45,8 @@ use Rattle.cspf_serve.proofs.AnswerLines.{replies_within}
 use Rattle.cspf_serve.proofs.BatchLines.{numbers_of}
 use Rattle.cspf_serve.proofs.PublishedLines.{number_at}
 
--- if the replies, the line that counts the applied batches, and the last line are written, these
--- are the lines of a live run
+-- the replies, the line that counts the applied batches, and the last line are written: these are
+-- the lines of a live run
 pub live_written : (answers : List Answer) (batches : List NumberedChanges) (applied : ℕ) (fault : Option ApplyError) (status : ℕ) (old mid next new : Option (List ℕ))
     → Writes old mid (AreAnswerLines answers) → Appends mid next (applied_line applied)
     → Writes next new (λ line. IsFaultShown (slice_get batches applied) fault line status) → Writes old new (AreLiveLines answers batches applied fault status)
@@ -66,8 +66,8 @@ fits_there : {J : Type 0} (published : List NumberedChanges) (p : PublisherState
     → Fits (database_after p.batches) b → Fits (database_after published) b
 fits_there published p b is fits = subst (λ (bs : List NumberedChanges). Fits (database_after bs) b) is fits
 
--- if a batch with the next number isn't published, the reason is its changes, refused memory, or a
--- fault of the journal
+-- if a batch with the next number isn't published, the reason is that it doesn't fit, refused
+-- memory, or a fault of the journal
 why_not : {J : Type 0} (contents : J → Option (List ℕ)) (published : List NumberedChanges) (p after : PublisherState J) (b : NumberedChanges) (e : ApplyError)
     → p.stopped ≡ false → p.batches ≡ published → b.number ≡ length p.batches + 1 → length p.batches < 1000000 → IsApplyError contents p after b e
     → IsWhyNot published b e × Appends (contents p.journal) (contents after.journal) (begun_text b e)
@@ -83,7 +83,7 @@ why_not contents published p after b (error.Journal written) going is number roo
     let next = why.0 in
     ((fits_there published p b is next.follows.fits, why.2), why.3)
 
--- the journal had no fault before the first batch that was refused
+-- the journal has no fault until the first batch is refused
 still_going : {J : Type 0} (contents : J → Option (List ℕ)) (before between : PublisherState J) (batches : List NumberedChanges)
     → before.stopped ≡ false → AreApplied contents before between batches → between.stopped ≡ false
 still_going {J} contents before between batches fresh is = elim (cases_lt 0 (length batches)) [
@@ -91,8 +91,8 @@ still_going {J} contents before between batches fresh is = elim (cases_lt 0 (len
   | inr none ↦ ap (λ (p : PublisherState J). p.stopped) (is.none (omega arith)) ∙ fresh
 ]
 
--- After batches are applied up to the first that is refused, the last line, the status, and the
--- journal's text after the published batches are as `IsEndOfLiveRun` says.
+-- Batches are applied until one is refused. Then the last line, the status, and the journal's text
+-- after the published batches are as `IsEndOfLiveRun` says.
 ended : {J : Type 0} (contents : J → Option (List ℕ)) (batches : List NumberedChanges) (between after : PublisherState J) (applied : ℕ) (fault : Option ApplyError)
     (last : List ℕ) (status : ℕ) → AreNumberedFrom 1 batches → length batches ≤ 1000000 → applied ≤ length batches
     → between.stopped ≡ false → between.batches ≡ take applied batches → IsEndOfApplying contents between after batches applied fault
@@ -112,8 +112,8 @@ ended contents batches between after applied (Some e) last status numbered few i
     let line : IsFaultShown (Some next) (Some e) last status = subst (λ (b : Option NumberedChanges). IsFaultShown b (Some e) last status) at shown in
     (begun_text next e, inr (next, e, at, why.0, line.0, refl, line.1), why.1)
 
--- if batches are applied, the requests are answered at published versions, and the lines of
--- `AreLiveLines` are written, a live run is as `AreAnsweredLive` says
+-- Batches are applied, the requests are answered at published versions, and the lines of
+-- `AreLiveLines` are written. Then the live run is as `AreAnsweredLive` says.
 pub live_answered : {J : Type 0} (contents : J → Option (List ℕ)) (batches : List NumberedChanges) (requests : List Request) (answers : List Answer)
     (before after : PublisherState J) (applied version : ℕ) (fault : Option ApplyError) (status : ℕ) (old new : Option (List ℕ))
     → AreNumberedFrom 1 batches → length batches ≤ 1000000 → before.batches ≡ [] → before.stopped ≡ false
@@ -151,8 +151,8 @@ live_answered {J} contents batches requests answers before after applied version
 
 -- ---- after an error
 
--- A run may end by an error after it has applied batches. Some run without an error, with a last line
--- and an exit status, writes the same text to its journal after the batches that were published.
+-- A run may end by an error after it has applied batches. Some run without an error writes the same
+-- text to its journal after the published batches.
 recorded_end : {J : Type 0} (contents : J → Option (List ℕ)) (batches : List NumberedChanges) (between after : PublisherState J) (applied : ℕ) (fault : Option ApplyError)
     → AreNumberedFrom 1 batches → length batches ≤ 1000000 → applied ≤ length batches
     → between.stopped ≡ false → between.batches ≡ take applied batches → IsEndOfApplying contents between after batches applied fault
@@ -167,11 +167,11 @@ recorded_end contents batches between after applied (Some e) numbered few inside
     let is_end = ended contents batches between after applied (Some e) line 2 numbered few inside going is end shown in
     (line, 2, is_end.0, is_end.1, is_end.2)
 
--- the text that the journal gets, if a run ends by an error
+-- the text that is written to the journal, if a run ends by an error
 abbrev pub IsHeldAtError : List NumberedChanges → Option (List ℕ) → Option (List ℕ) → Type 0
 IsHeldAtError batches old new = (text : List ℕ) × AreRecordedAtError batches text × Appends old new text
 
--- if batches were applied before the error, the text that the journal got is as
+-- if batches were applied before the error, the text written to the journal is as
 -- `AreRecordedAtError` says
 pub held_applied : {J : Type 0} (contents : J → Option (List ℕ)) (batches : List NumberedChanges) (before after : PublisherState J) (applied : ℕ) (fault : Option ApplyError)
     → AreNumberedFrom 1 batches → length batches ≤ 1000000 → before.batches ≡ [] → before.stopped ≡ false
@@ -186,8 +186,8 @@ held_applied contents batches before after applied fault numbered few fresh goin
       Appends-trans (contents before.journal) (contents up.between.journal) (contents after.journal) (flat_map batch_text (take applied batches)) end.2 first.recorded end.4,
     )
 
--- if the journal is as it was before, or if batches were applied before the error, the text that
--- the journal got is as `AreRecordedAtError` says
+-- if the journal is unchanged, or if batches were applied before the error, the text written to the
+-- journal is as `AreRecordedAtError` says
 pub held_in_part : {J : Type 0} (contents : J → Option (List ℕ)) (batches : List NumberedChanges) (before after : PublisherState J)
     → AreNumberedFrom 1 batches → length batches ≤ 1000000 → before.batches ≡ [] → before.stopped ≡ false
     → IsAppliedInPart contents before after batches → IsHeldAtError batches (contents before.journal) (contents after.journal)
@@ -195,16 +195,16 @@ held_in_part contents batches before after numbered few fresh going (inl same) =
 held_in_part contents batches before after numbered few fresh going (inr part) =
     held_applied contents batches before after part.0 part.1 numbered few fresh going part.2
 
--- what holds in any case also holds if the run ends by an error
+-- a true fact is also true if the run ends by an error
 pub at_error : {X : Type 0} (r : Result ℕ RunError) → X → IfErr r (λ e. X)
 at_error (Ok status) x = tt
 at_error (Err e) x = x
 
--- ---- what the workers returned, and how the run ended
+-- ---- the result of the workers, and the end of the run
 
 module _ {J : Type 0} (contents : J → Option (List ℕ)) (batches : List NumberedChanges) (requests : List Request) (before : PublisherState J)
     (ended : Result ℕ RunError) (journal : J) where
-  -- if the workers returned answers, and the lines of these answers are written, the run is as
+  -- if the workers returned answers, and the lines of these answers are written, the live run is as
   -- `AreAnsweredLive` says
   pub run_answered : (ran : Result (Live J) (ServeError × PublisherState J × Vec AskerState Global)) (askers : List AskerState) (old new : Option (List ℕ))
       → AreNumberedFrom 1 batches → length batches ≤ 1000000 → before.batches ≡ [] → before.stopped ≡ false
@@ -225,8 +225,8 @@ module _ {J : Type 0} (contents : J → Option (List ℕ)) (batches : List Numbe
       numbered few fresh going up refl history answers.count within written)
       lines)
 
-  -- if the run ends by an error, the error is a fault of the lines' writer or of answering the
-  -- requests
+  -- if the run ends by an error, this error is a fault of the writer of the lines, or of the
+  -- workers
   pub run_failed : (ran : Result (Live J) (ServeError × PublisherState J × Vec AskerState Global))
       → IfOk ran (λ live. IfErr ended IsStreamFault) → IfErr ran (λ e. ended ≡ Err (Serve e.0))
       → IfErr ran (λ e. IsFaultOfWorker e.0 ⊎ IsUnaccounted (length requests) (length (e.1).batches) e.0)
@@ -236,7 +236,7 @@ module _ {J : Type 0} (contents : J → Option (List ℕ)) (batches : List Numbe
   run_failed (Err e) failed fault (inr stray) =
       rw fault (inr (inr (stray.0, stray.1, ap Serve stray.2, (stray.3, omega (arith, stray.4)))))
 
-  -- the journal has grown by the texts of the applied batches
+  -- the texts of the applied batches are appended to the journal
   pub run_recorded : (ran : Result (Live J) (ServeError × PublisherState J × Vec AskerState Global))
       → AreNumberedFrom 1 batches → length batches ≤ 1000000 → before.batches ≡ [] → before.stopped ≡ false
       → IfOk ran (λ live. IsAppliedUpTo contents before live.publisher batches live.applied live.fault)
@@ -248,11 +248,11 @@ module _ {J : Type 0} (contents : J → Option (List ℕ)) (batches : List Numbe
   run_recorded (Err e) numbered few fresh going up part same closed =
       rw closed (at_error ended (held_in_part contents batches before e.1 numbered few fresh going part))
 
--- the text that the journal gets, if a run over updates ends by an error
+-- the text that is written to the journal, if a run over updates ends by an error
 abbrev pub IsHeldLive : Option (List ℕ) → Option (List ℕ) → Option (List ℕ) → Type 0
 IsHeldLive updates old new = IfSome updates (λ kept. (text : List ℕ) × IsRecordedAtError (rows_of kept) text × Appends old new text)
 
--- `IsHeldLive` holds of a journal that is as it was before
+-- `IsHeldLive` holds of an unchanged journal
 pub held_as_before : (updates old : Option (List ℕ)) → IsHeldLive updates old old
 held_as_before None old = tt
 held_as_before (Some kept) old = ([], inl refl, Appends-nil old)
@@ -261,8 +261,8 @@ held_of : (updates : List (List (List ℕ))) (bs : List NumberedChanges) (text :
 held_of updates bs text batches (inl none) = inl none
 held_of updates bs text batches (inr some) = inr (bs, batches, some)
 
--- if `bs` are the batches of the updates, and after an error `IsHeldAtError` holds of `bs` and the
--- journal, `IsHeldLive` holds of the updates and the journal
+-- Let `bs` be the batches of the updates. If the journal after an error is as `IsHeldAtError` says
+-- of `bs`, it is as `IsHeldLive` says of the updates.
 pub live_held : (updates : Option (List ℕ)) (bs : List NumberedChanges) (r : Result ℕ RunError) (old new : Option (List ℕ))
     → IfSome updates (λ bytes. AreBatchesOf false (rows_of bytes) bs) → (AreNumberedFrom 1 bs → IfErr r (λ e. IsHeldAtError bs old new))
     → IfErr r (λ e. IsHeldLive updates old new)
@@ -274,14 +274,15 @@ live_held (Some kept) bs (Err e) old new batches held =
 
 -- ---- the whole run
 
--- what holds of a live run, if the bytes of both streams are known
+-- `IsLiveRun` holds of the lines, the journal's text and the status; nothing is stated if the bytes
+-- of a stream aren't known
 abbrev pub IsWrittenLive : Option (List ℕ) → Option (List ℕ) → ℕ → Option (List ℕ) → Option (List ℕ) → Option (List ℕ) → Option (List ℕ) → Type 0
 IsWrittenLive updates requests status old new begun held =
     IfSome updates (λ kept. IfSome requests (λ asked. (lines : List ℕ) × (text : List ℕ) × IsLiveRun (rows_of kept) (rows_of asked) lines text status
     × Appends old new lines × Appends begun held text))
 
--- if both streams are read, and their batches and requests are published and answered as
--- `AreAnsweredLive` says, a live run is as `IsWrittenLive` says
+-- If both streams are read, and their batches and requests are published and answered as
+-- `AreAnsweredLive` says, then the run is as `IsWrittenLive` says.
 pub live_ran : (updates requests : Option (List ℕ)) (bs : List NumberedChanges) (qs : List Request) (r : Result ℕ RunError) (old new begun held : Option (List ℕ))
     → IfSome updates (λ bytes. AreBatchesOf false (rows_of bytes) bs) → IfSome requests (λ bytes. AreRequestsOf (rows_of bytes) qs)
     → (AreNumberedFrom 1 bs → IfOk r (λ status. (lines : List ℕ) × (text : List ℕ) × AreAnsweredLive bs qs lines text status
@@ -294,8 +295,8 @@ live_ran (Some kept) (Some rows) bs qs (Ok status) old new begun held batches as
     let is = ran (numbers_of false (rows_of kept) bs batches) in
     (is.0, is.1, inr (bs, qs, batches, asked, is.2), is.3, is.4)
 
--- if one of the streams is refused, and the run writes the line of this refusal and has the status
--- 2, the run is as `IsWrittenLive` says
+-- If one of the streams is refused, and the run writes the line of this refusal and has the status
+-- 2, then the run is as `IsWrittenLive` says.
 pub live_refused : (updates requests : Option (List ℕ)) (s : EarlyEnd) (r : Result ℕ RunError) (old new held : Option (List ℕ))
     → IfRefused s (λ line. IfSome updates (λ kept. IfSome requests (λ asked. AreInputsRefused (rows_of kept) (rows_of asked) line)))
     → IfOk r (λ status. status ≡ 2) → IfOk r (λ status. IsRefusalWritten s old new)
@@ -307,7 +308,8 @@ live_refused (Some kept) (Some asked) (early_end.Failed error) (Ok status) old n
 live_refused (Some kept) (Some asked) (early_end.Refused line) (Ok status) old new held refused two written =
     (judge_line_text line, [], inl (refused, refl, two), written, Appends-nil held)
 
--- if the error of a live run names a request, this request is one of the stream
+-- if the error of a live run names the index of a request, the stream of requests has a row at this
+-- index
 pub live_fault : (requests : Option (List ℕ)) (qs : List Request) (r : Result ℕ RunError) → IfSome requests (λ bytes. AreRequestsOf (rows_of bytes) qs)
     → IfErr r (IsRunFault (λ index version. (index < length qs) × (0 < version))) → IfErr r (IsLiveFault requests)
 live_fault requests qs (Ok status) asked fault = tt

@@ -1,4 +1,4 @@
--- The lines of requests that are answered in parts.
+-- The replies to requests that are answered in parts.
 use Rattle.std.proofs.Common.{◌≡◌, ℕ, ◌+◌, ◌<◌, ◌≤◌, zero, suc, All, Option, List, [], ◌∷◌, ◌++◌, take, drop, get_or, length, refl, sym, ap, ◌∙◌, append_assoc, take-append-drop, arith}
 use Rattle.std.proofs.KnownBytes.{Appends-trans}
 use Rattle.std.proofs.Math.Seq.{take-add}
@@ -24,7 +24,8 @@ joined d version (q ∷ qs) ps lines more before after = (
   joined d version qs ps before.1 more before.4 after,
 )
 
--- after one more part is answered, the requests before the index `end` are answered
+-- if the requests before the index `first` are answered, and then the part from `first` to `end`,
+-- all requests before `end` are answered
 pub part_written : (d : Database) (version : ℕ) (qs : List Request) (first end : ℕ) (old mid new : Option (List ℕ)) → first ≤ end
     → Writes old mid (AreReplies d version (take first qs)) → Writes mid new (AreReplies d version (drop first (take end qs)))
     → Writes old new (AreReplies d version (take end qs))
@@ -36,7 +37,7 @@ part_written d version qs first end old mid new up before here =
       Appends-trans old mid new before.0 here.0 before.2 here.2,
     )
 
--- the first `m` of the first `end` elements are a prefix of the whole list
+-- the first `m` elements of the first `end` elements are a prefix of the whole list
 taken_of_taken : {A : Type 0} (m end : ℕ) (xs : List A) → (n : ℕ) × (take n xs ≡ take m (take end xs))
 taken_of_taken zero end xs = (zero, refl)
 taken_of_taken (suc m) zero xs = (zero, refl)
@@ -44,16 +45,16 @@ taken_of_taken (suc m) (suc end) [] = (zero, refl)
 taken_of_taken (suc m) (suc end) (x ∷ xs) =
     let rest = taken_of_taken m end xs in (suc rest.0, ap (λ l. x ∷ l) rest.1)
 
--- the requests before a part, and then the first `count` requests of the part, are a prefix of all
--- requests
+-- the requests before a part, followed by the first `count` requests of the part, are a prefix of
+-- all requests
 cut_in_part : (qs : List Request) (first count end : ℕ) → first ≤ end → (n : ℕ) × (take n qs ≡ take first qs ++ take count (drop first (take end qs)))
 cut_in_part qs first count end up =
     let part = take end qs in
     let cut = taken_of_taken (first + count) end qs in
     (cut.0, cut.1 ∙ take-add first count part ∙ ap (λ l. l ++ take count (drop first part)) (take-take first end qs up))
 
--- if the requests before a part are answered, and then a prefix of the part, a prefix of all
--- requests is answered
+-- if the requests before a part are answered, and then some first requests of the part, the
+-- answered requests are a prefix of all requests
 pub part_begun : (d : Database) (version : ℕ) (qs : List Request) (first end : ℕ) (old mid new : Option (List ℕ)) → first ≤ end
     → Writes old mid (AreReplies d version (take first qs))
     → HasBegun mid new (λ lines. (count : ℕ) × AreReplies d version (take count (drop first (take end qs))) lines)
@@ -65,8 +66,8 @@ part_begun d version qs first end old mid new up before begun =
     let cut = cut_in_part qs first is.0 end up in
     (cut.0, rw cut.1 (joined d version (take first qs) (take is.0 (drop first (take end qs))) before.0 lines before.1 is.1))) begun
 
--- the askers (which answer requests) that are handed back still have the same journal (the source
--- is its identity)
+-- the askers (which answer requests) that are returned are still askers of the same journal (the
+-- source is its identity)
 pub sources_kept : (source : Book) (before after : List AskerState) → AreSameAskers before after
     → All (λ (a : AskerState). a.source ≡ source) before → All (λ (a : AskerState). a.source ≡ source) after
 sources_kept source before after same all i d less =

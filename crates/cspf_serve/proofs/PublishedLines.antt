@@ -1,4 +1,5 @@
--- Which batches of a journal are published, batch by batch, and the lines of their versions.
+-- The batches of a journal that are published, one after the other, and the lines of their
+-- versions.
 use Rattle.std.proofs.Common.{◌≡◌, ℕ, zero, suc, ◌+◌, ◌<◌, ◌≤◌, Bool, true, false, Option, Some, None, IfSome, List, [], ◌∷◌, ◌++◌, take, get_or, length, inl, inr, refl, sym, ap, ◌∙◌, subst, append_assoc, append-nil, add-one, arith, Result, Ok, Err, IfOk, IfErr}
 use Rattle.std.proofs.lemmas.Grind.{flat_map-append}
 use Rattle.std.proofs.Math.Seq.{take-suc}
@@ -40,8 +41,8 @@ number_at first [] i d numbered within = absurd (omega arith)
 number_at first (b ∷ bs) zero d numbered within = let is = numbered.0 in omega arith
 number_at first (b ∷ bs) (suc i) d numbered within = let is = number_at (first + 1) bs i d numbered.1 (omega arith) in omega arith
 
--- the lines of the first `made` versions and the line of the next version are the lines of the
--- first `made + 1` versions
+-- the lines of the first `made` versions, followed by the line of the next version, are the lines
+-- of the first `made + 1` versions
 pub version_more : (bs : List NumberedChanges) (made : ℕ) → AreNumberedFrom 1 bs → made < length bs
     → version_lines (take made bs) ++ version_line (made + 1) ≡ version_lines (take (made + 1) bs)
 version_more bs made numbered within =
@@ -49,8 +50,8 @@ version_more bs made numbered within =
     let number : (get_or bs made none).number ≡ made + 1 = number_at 1 bs made none numbered within ∙ omega arith in
     rw (add-one made, take-suc bs made none within, ← add-one made) (simp flat_map-append (rw (number, append-nil (version_line (made + 1))) refl))
 
--- The lines of the first `made` versions are written, and then the beginning of the next version's
--- line. This is the beginning of the lines of all versions.
+-- The lines of the first `made` versions are written, and then a prefix of the next version's line.
+-- This output is a prefix of the lines of all versions.
 pub version_front : (bs : List NumberedChanges) (made : ℕ) (old mid new : Option (List ℕ)) → AreNumberedFrom 1 bs → made < length bs
     → Appends old mid (version_lines (take made bs)) → WritesFront mid new (version_line (made + 1)) → WritesFront old new (version_lines bs)
 version_front bs made old mid new numbered within before begun =
@@ -59,12 +60,12 @@ version_front bs made old mid new numbered within before begun =
     front_in_list (λ (b : NumberedChanges). version_line b.number) bs made (get_or bs made none) none old mid new within refl before
     (subst (λ (n : ℕ). WritesFront mid new (version_line n)) (sym number) begun)
 
--- the number of the last batch is `first` plus the number of batches before it
+-- the last batch has the number `first` plus the count of the batches before it
 last_number : (first : ℕ) (bs : List NumberedChanges) (b : NumberedChanges) → AreNumberedFrom first (bs ++ (b ∷ [])) → b.number ≡ first + length bs
 last_number first [] b numbered = let is = numbered.0 in omega arith
 last_number first (x ∷ bs) b numbered = let is = last_number (first + 1) bs b numbered.1 in omega arith
 
--- a batch with the next number can be refused only for its changes
+-- if a batch with the next number is refused by a line, this batch doesn't fit
 shown_unfit : {W : Type 0} (contents : W → Option (List ℕ)) (p after : PublisherState W) (b : NumberedChanges) (e : ApplyError) (line : List ℕ)
     → b.number ≡ length p.batches + 1 → length p.batches + 1 ≤ 1000000 → IsApplyError contents p after b e → IsOwnFaultLine e b.number line
     → (why : Refusal) × IsRefusal (database_after p.batches) b why × (line ≡ refused_batch_line b.number (refusal.Unfit why))
@@ -75,7 +76,7 @@ shown_unfit contents p after b (error.Refused why) line number room is shown = (
 shown_unfit contents p after b error.Memory line number room is shown = absurd shown
 shown_unfit contents p after b (error.Journal written) line number room is shown = absurd shown
 
--- the batch after the published ones doesn't fit
+-- if the batch after the published batches is refused by a line, it doesn't fit
 pub unfit_here : {W : Type 0} (contents : W → Option (List ℕ)) (p after : PublisherState W) (given : List NumberedChanges) (b : NumberedChanges) (e : ApplyError) (line : List ℕ)
     → AreNumberedFrom 1 (given ++ (b ∷ [])) → length given + 1 ≤ 1000000 → p.batches ≡ given → after.batches ≡ p.batches
     → IsApplyError contents p after b e → IsOwnFaultLine e b.number line → IsUnfitBehind (given ++ (b ∷ [])) after.batches line
@@ -92,7 +93,7 @@ unfit_here contents p after given b e line numbered room published same is shown
       is_line = unfit.2;
     }
 
--- if a batch doesn't fit, a batch that comes after it isn't published either
+-- if a batch doesn't fit, no later batch is published either
 pub unfit_more : (given published : List NumberedChanges) (b : NumberedChanges) (line : List ℕ) → IsUnfitBehind given published line
     → IsUnfitBehind (given ++ (b ∷ [])) published line
 unfit_more given published b line is = record {
@@ -104,22 +105,22 @@ unfit_more given published b line is = record {
   is_line = is.is_line;
 }
 
--- ---- the end of a journal
+-- ---- the whole journal is read
 
 module _ (accept_torn : Bool) (given published : List NumberedChanges) (unfit : Option JudgeLine) (is : ArePublishedOrRefused given published unfit) where
   accepted : (rows : Records) (left : Rest) → (left ≡ rest.Torn → accept_torn ≡ true) → IsJournal rows given left → length rows ≤ 1000000 → AreBatchesOf accept_torn rows given
   accepted rows rest.Clean torn journal few = record { few = few; journal = inl journal }
   accepted rows rest.Torn torn journal few = record { few = few; journal = inr (journal, torn refl) }
 
-  -- The journal that was read has the batches `given`. All of them are published, or only those
-  -- before the first batch that doesn't fit.
+  -- The journal that was read has the batches `given`. All of them are published, or only the
+  -- batches before the first batch that doesn't fit.
   pub journal_read : (all : Option (List (List (List ℕ)))) (left : Rest) → (left ≡ rest.Torn → accept_torn ≡ true)
       → IfSome all (λ rows. IsJournal rows given left × (length rows ≤ 1000000))
       → IfSome all (λ rows. (batches : List NumberedChanges) × AreBatchesOf accept_torn rows batches × ArePublishedOrRefused batches published unfit)
   journal_read None left torn journal = tt
   journal_read (Some rows) left torn journal = (given, accepted rows left torn journal.0 journal.1, is)
 
--- a journal with rows after its batches is refused, unless such rows are accepted
+-- if rows follow the last batch of a journal and `accept_torn` is false, the journal is refused
 pub journal_torn : (accept_torn : Bool) (given : List NumberedChanges) (count : ℕ) (all : Option (List (List (List ℕ)))) (left : Rest) (line : List ℕ)
     → length given ≡ count → IfSome all (λ rows. IsJournal rows given left × (length rows ≤ 1000000))
     → (left ≡ rest.Torn) × (accept_torn ≡ false) × (line ≡ torn_line count) → IfSome all (λ rows. IsJournalRefused accept_torn rows line)
@@ -127,8 +128,8 @@ journal_torn accept_torn given count None left line counted journal is = tt
 journal_torn accept_torn given count (Some rows) left line counted journal is =
     inr (journal.1, is.1, (given, rw is.0 at journal.0, rw counted is.2))
 
--- if reading a journal fails because it has too many rows, this line refuses the journal; other
--- faults of reading have no line
+-- if a journal has too many rows, this line refuses the journal; other faults of reading have no
+-- line
 pub journal_unread : (accept_torn : Bool) (all : Option (List (List (List ℕ)))) (why : ReadError) (line : List ℕ)
     → (why ≡ read_error.TooManyRows → IfSome all (λ rows. 1000000 < length rows)) → IsJournalLine why line → IfSome all (λ rows. IsJournalRefused accept_torn rows line)
 journal_unread accept_torn all read_error.Memory line many is = absurd is
@@ -143,8 +144,9 @@ of_bytes None Holds is = tt
 of_bytes (Some text) Holds is = is
 
 module _ {R : Type 0} (accept_torn : Bool) (rem : R → Option (List ℕ)) (reader : JournalReader R) (bytes : Option (List ℕ)) where
-  -- Suppose that the bytes of a journal are known. If `Holds` is true of any records that the
-  -- journal's reader may have read, it is true of the records in these bytes.
+  -- If the published batches are right for any records that the journal's reader may have read,
+  -- they are right for the records in the journal's bytes. Nothing is stated if these bytes aren't
+  -- known.
   pub read_of_bytes : (published : List NumberedChanges) (r : Result (Option JudgeLine) EarlyEnd) → HasGiven rem (option_map rows_of bytes) reader []
       → IfOk r (λ unfit. (all : Option (List (List (List ℕ)))) → HasGiven rem all reader []
       → IfSome all (λ rows. (batches : List NumberedChanges) × AreBatchesOf accept_torn rows batches × ArePublishedOrRefused batches published unfit))

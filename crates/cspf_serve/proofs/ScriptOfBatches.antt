@@ -1,5 +1,5 @@
--- The rows of a journal, followed by the rows of requests, are one script: a stream that a single
--- run answers.
+-- The rows of a journal, followed by the rows of the requests, are one stream that a single run
+-- answers.
 use Rattle.std.proofs.Common.{◌≡◌, ℕ, ◌+◌, ◌<◌, ◌≤◌, ◌⊎◌, true, false, Bool, List, [], ◌∷◌, ◌++◌, map, take, length, length-append, Result, Ok, inl, inr, refl, sym, ap, subst, ◌∙◌, append_assoc, append-nil, arith}
 use Rattle.std.proofs.lemmas.Bool.{le-ltb}
 use Rattle.std.proofs.lemmas.List.{map-append, length-map, take_all}
@@ -45,9 +45,9 @@ AreAnswered-append s t u (fields ∷ xs) ys l m before after = (
   AreAnswered-append before.1 t u xs ys before.2 m before.5 after,
 )
 
--- The lines answer the rows, if the first row comes in the state `s`. In the state after the rows,
--- `accepted` are the accepted batches. In this state `changes` are the open changes, which no `end`
--- row has closed into a batch yet.
+-- The lines answer the rows, starting from the state `s`. In the state after the rows, `accepted`
+-- are the accepted batches, and `changes` are the open changes: no `end` row has closed them into a
+-- batch yet.
 record IsAfter (s : RunState) (rows : Records) (lines : List ℕ) (accepted : List NumberedChanges) (changes : List Change) : Type 0 where
   after : RunState
   answered : AreRowsAnswered s rows lines after
@@ -58,7 +58,7 @@ none_after : (s : RunState) → IsAfter s [] [] s.accepted s.changes
 unfolding AreRowsAnswered
 none_after s = record { after = s; answered = (refl, refl); accepted_are = refl; changes_are = refl }
 
--- if the first row is answered, and then the other rows, all rows are answered
+-- if the first row is answered, and then the rows after it, all rows are answered
 row_after : (s t : RunState) (fields : List (List ℕ)) (rows : Records) (line lines : List ℕ) (accepted : List NumberedChanges) (changes : List Change)
     → IsRowAnswered (at_next_row s) (row_of fields) line t → IsAfter t rows lines accepted changes → IsAfter s (fields ∷ rows) (line ++ lines) accepted changes
 unfolding AreRowsAnswered
@@ -85,8 +85,8 @@ change_answered s (change.Put link) read is = rw is (refl, refl)
 change_answered s (change.Remove from local) read is = rw is (refl, refl)
 change_answered s (change.Node router transit) read is = rw is (refl, refl)
 
--- the rows of changes have no lines, and after these rows the changes are open: they wait for the
--- `end` row of their batch
+-- The rows of changes have no lines. After these rows the changes are open: they wait for the `end`
+-- row of their batch.
 changes_after : (s : RunState) (cs : List Change) (xs : Records) → map row_of xs ≡ read_rows (map change_row cs) → IsAfter s xs [] s.accepted (s.changes ++ cs)
 changes_after s [] [] are = rw (append-nil s.changes) (none_after s)
 changes_after s [] (x ∷ xs) are = absurd (cc)
@@ -98,7 +98,8 @@ changes_after s (c ∷ cs) (x ∷ xs) are =
     row_after s t x xs [] [] s.accepted (s.changes ++ (c ∷ cs)) (change_answered (at_next_row s) c (row_of x) head)
     (rw (← append_assoc s.changes (c ∷ []) cs) (changes_after t cs xs rest))
 
--- the records `xs` are cut into two parts, which are read as the rows `ys` and the rows `zs`
+-- the records `xs` are split in two: the first part is read as the rows `ys`, and the second part
+-- as the rows `zs`
 record IsCut (xs : Records) (ys zs : List (Result Row RowError)) : Type 0 where
   front : Records
   back : Records
@@ -121,7 +122,8 @@ records_cut (x ∷ xs) (y ∷ ys) zs are =
       second = rest.second;
     }
 
--- the end row of a batch is answered by the line of the batch's version, and the batch is accepted
+-- the `end` row of a batch is answered by the line of the batch's version, and the batch is
+-- accepted
 end_after : (s : RunState) (number count : ℕ) (xs : Records) → IsAccepted (at_next_row s) number count → map row_of xs ≡ Ok (row.End number count) ∷ []
     → IsAfter s xs (version_line number) (s.accepted ++ (open_batch s number ∷ [])) []
 end_after s number count [] accepted are = absurd (cc)
@@ -132,7 +134,7 @@ end_after s number count (x ∷ []) accepted are =
     let here : IsRowAnswered (at_next_row s) (row_of x) (version_line number) t = rw head (inl (accepted, refl, refl)) in
     rw (← append-nil (version_line number)) (row_after s t x [] (version_line number) [] (s.accepted ++ (open_batch s number ∷ [])) [] here (none_after t))
 
--- a batch is accepted if it has the next number and fits
+-- a batch is accepted if it has the next number, and fits the database of the accepted batches
 accepted_next : (s t : RunState) (b : NumberedChanges) → t.accepted ≡ s.accepted → t.changes ≡ b.changes → length s.accepted < 1000000
     → b.number ≡ length s.accepted + 1 → Fits (database_after s.accepted) b → IsAccepted (at_next_row t) b.number (length b.changes)
 accepted_next s t b accepted changes room next fits = record {
@@ -153,8 +155,8 @@ batch_after s b xs none room next fits are =
     let same : first.after.accepted ++ (open_batch first.after b.number ∷ []) ≡ s.accepted ++ (b ∷ []) = rw (first.accepted_are, open_ones) refl in
     rw cut.whole (rows_after s cut.front cut.back [] (version_line b.number) s.accepted (s.accepted ++ (b ∷ [])) (s.changes ++ b.changes) [] first (rw same at second))
 
--- batches that have the next numbers, and of which each fits after those before it, are accepted;
--- each is answered by the line of its version
+-- If batches have the next numbers, and each fits after the batches before it, all of them are
+-- accepted. Each is answered by the line of its version.
 journal_after : OneMoreBatch → (s : RunState) (bs : List NumberedChanges) (xs : Records) → s.changes ≡ [] → AreNumberedFrom (length s.accepted + 1) bs
     → AreLawfulAfter (database_after s.accepted) bs → length s.accepted + length bs ≤ 1000000 → map row_of xs ≡ read_rows (journal_rows bs)
     → IsAfter s xs (version_lines bs) (s.accepted ++ bs) []
@@ -171,7 +173,7 @@ journal_after more s (b ∷ bs) xs none numbers lawful few are =
     let all : first.after.accepted ++ bs ≡ s.accepted ++ (b ∷ bs) = ap (λ a. a ++ bs) first.accepted_are ∙ append_assoc s.accepted (b ∷ []) bs in
     rw cut.whole (rows_after s cut.front cut.back (version_line b.number) (version_lines bs) (s.accepted ++ (b ∷ [])) (s.accepted ++ (b ∷ bs)) [] [] first (rw all at second))
 
--- the rows of requests are answered at the version of the accepted batches
+-- the rows of the requests are answered at the version of the last accepted batch
 requests_after : (s : RunState) (qs : List Request) (xs : Records) (lines : List ℕ) → AreRequests xs qs
     → AreReplies (database_after s.accepted) (length s.accepted) qs lines → IsAfter s xs lines s.accepted s.changes
 requests_after s [] [] lines are replies = rw replies (none_after s)
@@ -185,7 +187,7 @@ requests_after s (q ∷ qs) (x ∷ xs) lines are replies =
     let here : IsRowAnswered (at_next_row s) (row_of x) replies.0 t = rw head (reply.0, reply.1, reply.2, refl) in
     rw replies.3 (row_after s t x xs replies.0 replies.1 s.accepted s.changes here (requests_after t qs xs replies.1 rest replies.4))
 
--- each batch has at least one row
+-- there are at most as many batches as rows, since each batch has at least one row
 few_batches : (bs : List NumberedChanges) → length bs ≤ length (journal_rows bs)
 few_batches [] = omega arith
 few_batches (b ∷ bs) =
@@ -193,8 +195,8 @@ few_batches (b ∷ bs) =
     let changes = map change_row b.changes in
     omega (arith, one, length-append (batch_rows b) (journal_rows bs), length-append changes (row.End b.number (length b.changes) ∷ []))
 
--- Suppose that at most 1,000,000 rows are answered by these lines, and that no change waits for its
--- `end` row after them. Then the rows and the lines are those of a whole run.
+-- At most 1,000,000 rows are answered by these lines, and no change is open after them (waiting for
+-- its `end` row). Then the rows and the lines are the rows and lines of a whole run.
 run_of : (rows : Records) (lines : List ℕ) (accepted : List NumberedChanges) → length rows ≤ 1000000 → IsAfter start rows lines accepted []
     → (summary : Summary) × IsSolveRun rows lines summary
 run_of rows lines accepted few after =
@@ -210,8 +212,8 @@ run_of rows lines accepted few after =
       },
     )
 
--- A journal has no rows after its batches. If its batches are accepted and the requests are
--- answered, one run over a single stream answers the rows of both.
+-- No rows follow the batches of a journal, these batches are accepted, and the requests are
+-- answered. Then one run over a single stream answers the rows of both in the same way.
 accepted_run : OneMoreBatch → (journal requests : Records) (bs : List NumberedChanges) (qs : List Request) (lines : List ℕ) → IsJournal journal bs rest.Clean
     → AreRequests requests qs → AreAccepted bs qs lines → length (journal ++ requests) ≤ 1000000 → (summary : Summary) × IsSolveRun (journal ++ requests) lines summary
 accepted_run more journal requests bs qs lines clean asked accepted few =
@@ -225,7 +227,8 @@ accepted_run more journal requests bs qs lines clean asked accepted few =
     run_of (journal ++ requests) lines first.after.accepted few
     (rw accepted.whole (rows_after start journal requests (version_lines bs) accepted.replies bs first.after.accepted [] [] first (rw first.changes_are at second)))
 
--- if a journal has no rows after its batches, a run takes all batches of the journal
+-- if no rows follow the batches of a journal, the batches that a run publishes are all batches of
+-- the journal
 whole_batches : IsOneJournal → (accept_torn : Bool) (journal : Records) (clean_ones bs : List NumberedChanges) → IsJournal journal clean_ones rest.Clean
     → IsJournal journal bs rest.Clean ⊎ (IsJournal journal bs rest.Torn × (accept_torn ≡ true)) → IsJournal journal bs rest.Clean
 whole_batches one accept_torn journal clean_ones bs clean (inl found) = found

@@ -1,5 +1,4 @@
--- What holds of the clients of a run: before their threads run, after their rows are answered, and
--- of their results.
+-- The clients of a run: before their threads run, after their rows are answered, and their results.
 use Rattle.std.proofs.Common.{◌≡◌, ◌+◌, ◌<◌, ◌⊎◌, ℕ, suc, false, Option, List, [], ◌∷◌, ◌++◌, All, length, Result, Ok, Err, inl, inr, refl, sym, ap, subst, ◌∙◌, arith}
 use Rattle.std.proofs.lemmas.Bool.{cases_lt}
 use Rattle.std.specs.List.{AllZip}
@@ -37,17 +36,17 @@ abbrev Rows : Type 0
 Rows = List (List (List ℕ))
 
 module _ {Q V : Type 0} (bytes : Q → Option (List ℕ)) (contents : V → Option (List ℕ)) (source : Book) where
-  -- if there are as many seats (what the thread of a client needs) as clients, each client has a
-  -- seat
+  -- if there are as many seats as clients, each client has a seat, which has all that the client's
+  -- thread needs
   pub ready_of : (seats : List ClientSeat) (clients : List (Client Q V)) → length seats ≡ length clients → AllZip (λ (s : ClientSeat) (c : Client Q V). Unit {0}) seats clients
   ready_of [] [] long = tt
   ready_of [] (c ∷ clients) long = absurd (omega (arith, long))
   ready_of (s ∷ seats) [] long = absurd (omega (arith, long))
   ready_of (s ∷ seats) (c ∷ clients) long = (tt, ready_of seats clients (omega (arith, long)))
 
-  -- Each client was answered from its seat (what its thread needs). The seats have askers of one
-  -- publisher, and are numbered from `n` on. Then each client was answered by an asker of this
-  -- publisher, and the client's number is its seat's number.
+  -- Each client was answered from its seat, which has all that the client's thread needs. The seats
+  -- have askers of one publisher, and are numbered from `n` on. Then each client was answered by an
+  -- asker of this publisher, and the client's number is the number of its seat.
   pub answered_of : (n : ℕ) (seats : List ClientSeat) (clients : List (Client Q V)) (ran : List (ServingState Q V)) → All (IsSeat source) seats → AreNumberedSeats n seats
       → AreDone (λ (s : ClientSeat) (client : Client Q V) (c : ServingState Q V). IsAnswered bytes contents s.asker.source s.number client c) seats clients ran
       → AreNumberedPairs (IsAnswered bytes contents source) n clients ran
@@ -62,14 +61,14 @@ module _ {Q V : Type 0} (bytes : Q → Option (List ℕ)) (contents : V → Opti
     answered_of (suc n) seats clients ran (All-tail (IsSeat source) s seats each) numbers.1 done.1,
   )
 
-  -- after the clients have run, the batches that they know and the steps that they have seen are
-  -- still those of the publisher's journal (the source is its identity)
+  -- after the clients have run, the batches that they know, and the steps that they have seen, are
+  -- still from the publisher's journal (the source is its identity)
   pub sources_of_run : (clients : List (Client Q V)) (ran : List (ServingState Q V)) → AreNumberedPairs (IsAnswered bytes contents source) 1 clients ran → All (IsOfSource source) ran
   sources_of_run clients ran answered =
       numbered_second (IsAnswered bytes contents source) (IsOfSource source) (λ n c s is. (sym is.forward.known.source ∙ is.source_is, sym is.forward.steps.source ∙ is.steps_source)) 1 clients ran answered
 
-  -- if each client was answered and has its result, all clients were answered as `IsServedClient`
-  -- says
+  -- if each client was answered and has its result, `IsServedClient` holds of each client and its
+  -- result
   served_of : (published : List NumberedChanges) (all : KnownSteps) (clients : List (Client Q V)) (ran : List (ServingState Q V)) (served : List (ServedClient V))
       → AreNumberedPairs (IsAnswered bytes contents source) 1 clients ran → AllZip (IsServedEnd published) ran served → All (λ (a : ServingState Q V). AreFirstSteps all a.state.steps) ran
       → AreServedFrom bytes contents published all 1 clients served
@@ -94,8 +93,8 @@ module _ {Q V : Type 0} (bytes : Q → Option (List ℕ)) (contents : V → Opti
       }) 1 clients ran served answered
       (pairs_with (IsServedEnd published) (λ (a : ServingState Q V). AreFirstSteps all a.state.steps) ran served closed firsts)
 
-  -- if a run's publisher was just opened, and the updates and the clients have ended, the result of
-  -- the run is as `IsServedRun` says
+  -- If the publisher of a run started without batches, and the updates and the clients have ended,
+  -- the result of the run is as `IsServedRun` says.
   pub served_run : {W J : Type 0} (said : W → Option (List ℕ)) (recorded : J → Option (List ℕ)) (updates : Option (List ℕ)) (writer written : W) (first : PublisherState J) (left : KeptUpdates J)
       (clients : List (Client Q V)) (ran : List (ServingState Q V)) (ended : Result (Unit {0}) StreamError) (served : Served W J V)
       → (t : UpdatesState) × KeepsUpdates recorded first left t × IsUpdatesRun ended (option_map rows_of updates) t (said writer) (said written)
@@ -154,8 +153,8 @@ module _ {J V : Type 0} (contents : J → Option (List ℕ)) (first : PublisherS
   pub status_of_clients : ¬ All (λ (c : ServedClient V). c.refused ≡ 0) clients → IsServedStatus t clients 2
   status_of_clients not = inr ((λ all. not all.each), refl)
 
--- When a client ends, it learns of the published batches. Its result has the batches that the
--- client knew before that.
+-- At the end of a run, each client learns of all published batches. The result of a client has the
+-- batches that it knew before that.
 pub closed_of : {Q V : Type 0} (published : List NumberedChanges) (told knew : KnownBatches) (old met : ServingState Q V) (served : ServedClient V)
     → told.batches ≡ published → knew ≡ old.state.known
     → met ≡ record old { state = record old.state { known = met.state.known }; end = met.end }
@@ -180,13 +179,13 @@ closed_of {Q} {V} published told knew old met served batches was others known ha
       ]);
     }
 
--- A seat is what a client's thread needs. If the clients' seats are numbered from `n` on, and a
--- seat with the next number is added at the end, all seats are numbered from `n` on.
+-- if the seats of clients are numbered from `n` on, and a seat with the next number is added at the
+-- end, all seats are numbered from `n` on
 pub seats_more : (n : ℕ) (seats : List ClientSeat) (seat : ClientSeat) → AreNumberedSeats n seats → seat.number ≡ length seats + n → AreNumberedSeats n (seats ++ seat ∷ [])
 seats_more n [] seat all is = (omega (arith, is), tt)
 seats_more n (s ∷ seats) seat all is = (all.0, seats_more (suc n) seats seat all.1 (omega (arith, is)))
 
--- an opened publisher without batches is in the state before the first row of the updates
+-- a publisher that has no batches yet is in the state before the first row of the updates
 pub begins : {J : Type 0} (contents : J → Option (List ℕ)) (p : PublisherState J) (k : KeptUpdates J) → k.sink.publisher ≡ p → p.batches ≡ [] → p.stopped ≡ false
     → AreOpen k.changes [] → IsFresh k → KeepsUpdates contents p k no_updates
 begins {J} contents p k same none going open_none fresh = record {

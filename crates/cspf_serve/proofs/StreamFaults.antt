@@ -1,5 +1,5 @@
--- Errors of reading and writing a run's streams (`JudgeError`) are stream faults of the run. Errors
--- of `open` are faults of opening the run's publisher.
+-- An error of reading or writing a stream (`JudgeError`) is a stream fault of the run. An error of
+-- `open` is a fault of opening the run's publisher.
 use Rattle.std.proofs.Common.{◌≡◌, ◌⊎◌, inl, inr, ap, ◌∙◌}
 use Rattle.cspf_judge.specs.declared.early_end.JudgeError.{JudgeError}
 use Rattle.cspf_judge.specs.declared.early_end.JudgeError.TheVariants as judge_error

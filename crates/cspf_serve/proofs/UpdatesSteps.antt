@@ -1,4 +1,4 @@
--- How the state of a run's updates changes with each row.
+-- The state of a run's updates changes with each row.
 use Rattle.std.proofs.Common.{◌≡◌, ◌≢◌, ℕ, ◌+◌, false, true, Option, List, [], ◌∷◌, ◌++◌, take, length, Result, Ok, Err, inl, inr, refl, sym, ap, subst, ◌∙◌, arith, append-nil}
 use Rattle.std.proofs.KnownBytes.{Appends-trans}
 use Rattle.std.proofs.lemmas.Bool.{false≢true}
@@ -32,11 +32,11 @@ use Rattle.cspf_serve.specs.LiveWords.{refusal_of}
 use Rattle.cspf_serve.specs.Updates.{UpdatesState, AreNowCounted, IsEndUpdate, IsUpdateAnswered, IsUpdateLost, at_next_update}
 use Rattle.cspf_serve.specs.UpdatesStates.{CountedState, KeptUpdates, IsPublished, ArePublished, KeepsUpdates, IsUpdateTaken, IsUpdateFailed, publisher_spec, after_published}
 
--- ---- the changes of a batch are a prefix of the open changes that are kept
+-- ---- the changes of a batch are a prefix of the open changes
 
 module _ {J : Type 0} (contents : J → Option (List ℕ)) (p q : PublisherState J) (b : NumberedChanges) (all : List Change) (front : AreKeptChanges b.changes all) where
-  -- if the batch may come next, its changes are all open changes (those that wait for this `end`
-  -- row)
+  -- if the batch is the next one that may be published, its changes are all of the open changes
+  -- (those that wait for this `end` row)
   all_open : IsNextBatch p b → b.changes ≡ all
   all_open next = kept_all b.changes all front next.follows.fits.short
 
@@ -55,14 +55,14 @@ module _ {J : Type 0} (contents : J → Option (List ℕ)) (p q : PublisherState
 
 -- ---- the answer to a row
 
--- The publisher's batches are those that were accepted. The changes that the code stores are the
--- open changes, which wait for their `end` row.
+-- The publisher's batches are the accepted batches of the state `s`. The changes that the code
+-- keeps are the open changes of `s`, which wait for their `end` row.
 pub record IsOfUpdates {J : Type 0} (contents : J → Option (List ℕ)) (first : PublisherState J) (r : RowsState (CountedState J)) (s : UpdatesState) : Type 0 where
   pub published : ArePublished contents first r.sink s
   pub changes : r.changes ≡ s.run.changes
   pub refused : r.refused ≡ s.run.refused
 
--- a state with the same batches and steps describes the same publisher
+-- if two states have the same batches, steps and text, both describe the same publisher
 still_published : {J : Type 0} (contents : J → Option (List ℕ)) (first : PublisherState J) (c : CountedState J) (s t : UpdatesState) → ArePublished contents first c s
     → t.run.accepted ≡ s.run.accepted → t.stopped ≡ s.stopped → t.text ≡ s.text → t.steps ≡ s.steps → ArePublished contents first c t
 still_published contents first c s t are accepted stopped text steps = record {
@@ -74,7 +74,7 @@ still_published contents first c s t are accepted stopped text steps = record {
 }
 
 module _ {J : Type 0} (contents : J → Option (List ℕ)) (first : PublisherState J) (unfit : RefusedIsUnfit) (r : RowsState (CountedState J)) (s : UpdatesState) (of : IsOfUpdates contents first r s) where
-  -- after a row, the code stores the state `after` of the updates, and `Says` holds of this state
+  -- after a row, the code keeps a state that agrees with `after`, and `Says` holds of `after`
   abbrev Answered : (UpdatesState → Type 0) → RowsState (CountedState J) → Type 0
   Answered Says t = (after : UpdatesState) × IsOfUpdates contents first t after × Says after
 
@@ -121,13 +121,13 @@ module _ {J : Type 0} (contents : J → Option (List ℕ)) (first : PublisherSta
           })),
         )
 
-    -- the end row is answered by the line `said`, and its batch is refused
+    -- the `end` row is answered by the line `said`, and its batch is refused
     abbrev IsEnded : CountedState J → List ℕ → Type 0
     IsEnded p said =
         (after : UpdatesState) × ArePublished contents first p after × IsEndUpdate s.stopped s number count said after × (after.run ≡ after_refused_batch s.run)
 
-    -- if a run over one stream of rows would refuse the batch, the batch is refused by the same
-    -- line in a run over updates and clients
+    -- if a run over one stream of rows would refuse the batch, the run over updates and clients
+    -- refuses it by the same line
     refuses : (p : CountedState J) (why : BatchRefusal) → r.sink.publisher.stopped ≡ false → p ≡ r.sink → (¬ IsAccepted s.run number count) × IsBatchRefusal s.run number count why
         → IsEnded p (refused_batch_line number why)
     refuses p why going same is =
@@ -149,8 +149,8 @@ module _ {J : Type 0} (contents : J → Option (List ℕ)) (first : PublisherSta
     not_right p why same going is =
         refuses p why going same (wrong_end s.run r.sink.publisher.stopped (length r.sink.publisher.batches) number count (length r.changes) why going version (ap length of.changes) is)
 
-    -- if no batch may follow any more, or the end row has the wrong number or the wrong count of
-    -- changes, the batch is refused
+    -- the batch is refused if no further batch may be published, or if the `end` row has a wrong
+    -- number or a wrong count of changes
     wrong : (p : CountedState J) (why : BatchRefusal) → p ≡ r.sink → IsWrongEnd r.sink.publisher.stopped (length r.sink.publisher.batches) number count (length r.changes) why → IsEnded p (refused_batch_line number why)
     wrong p refusal.Stopped same is =
         let stops : s.stopped ≡ true = sym of.published.stopped ∙ is in (
@@ -169,7 +169,7 @@ module _ {J : Type 0} (contents : J → Option (List ℕ)) (first : PublisherSta
     whole : (p : CountedState J) → p.publisher ≡ r.sink.publisher → p.steps ≡ r.sink.steps → p ≡ r.sink
     whole p same steps = λ i. record { publisher = same i; steps = steps i }
 
-    -- if the end row is right but its batch isn't published, the batch is refused
+    -- if the `end` row is right but its batch isn't published, the batch is refused
     unpublished : (p : CountedState J) (why : ApplyError) → IsRightEnd r.sink.publisher.stopped (length r.sink.publisher.batches) number count (length r.changes)
         → IsApplyError contents r.sink.publisher p.publisher (record { number = number; changes = r.changes }) why → p.publisher.batches ≡ r.sink.publisher.batches
         → p.publisher.source ≡ r.sink.publisher.source → p.steps ≡ r.sink.steps → IsEnded p (refused_batch_line number (refusal_of why))
@@ -219,7 +219,7 @@ module _ {J : Type 0} (contents : J → Option (List ℕ)) (first : PublisherSta
           (said, ap (λ (x : RunState). x.accepted) d.3),
         )
 
-  -- the row of a change adds this change to the open changes, which wait for their `end` row
+  -- the row of a change adds the change to the open changes, which wait for their `end` row
   changed : (c : Change) → IsOfUpdates contents first (record r { changes = r.changes ++ c ∷ [] }) (record s { run = after_change_row s.run c })
   changed c = record {
     published = still_published contents first r.sink s (record s { run = after_change_row s.run c }) of.published refl refl refl refl;
@@ -269,7 +269,7 @@ module _ {J : Type 0} (contents : J → Option (List ℕ)) (first : PublisherSta
 
 -- ---- the state that the code keeps
 
--- the state of the updates that the code stores, in the form in which contracts speak of it
+-- the state of the updates that the code keeps, in the form that contracts use
 abbrev pub kept_of : {J : Type 0} → Rows (CountedState J) → KeptUpdates J
 kept_of k = record { sink = k.sink; changes = k.changes; answers = k.answers; refused = k.refused }
 

@@ -1,4 +1,4 @@
--- The rows of updates are answered as the specification says, given the state that the code stores.
+-- The code answers the rows of updates as the specification says.
 use Rattle.std.proofs.Common.{◌≡◌, ℕ, suc, ◌+◌, Bool, true, false, List, [], ◌∷◌, length, Option, Result, Ok, Err, inl, inr, refl, ap, arith}
 use Rattle.cspf_rows.specs.Rows.{row_of}
 use Rattle.cspf_rows.specs.declared.row.Row.{Row}
@@ -19,7 +19,7 @@ use Rattle.cspf_serve.specs.ServedRun.{IsUpdateAnsweredAt, IsUpdateLostAt}
 same_rows : (a b : RunState) → a ≡ b → a.rows ≡ b.rows
 same_rows a b is = ap (λ (x : RunState). x.rows) is
 
--- the answer to an end row doesn't change how many rows were read
+-- the answer to an `end` row doesn't change how many rows were read
 rows_end : (s : RunState) (number count : ℕ) (line : List ℕ) (t : RunState) → IsEndAnswered s number count line t → t.rows ≡ s.rows
 rows_end s number count line t (inl a) = ap (λ (x : RunState). x.rows) a.2
 rows_end s number count line t (inr a) = ap (λ (x : RunState). x.rows) a.4
@@ -57,9 +57,9 @@ abbrev Rows : Type 0
 Rows = List (List (List ℕ))
 
 module _ {J : Type 0} (contents : J → Option (List ℕ)) (first : PublisherState J) where
-  -- The code answers rows one after the other, and at first it keeps the specification's state `s`.
-  -- Then the specification answers these rows by the same lines, and the code ends with the
-  -- specification's state after them.
+  -- The code answers rows one after the other, and starts with a state that agrees with the
+  -- specification's state `s`. Then the specification answers these rows by the same lines, and the
+  -- states after the rows agree, too.
   carried : (place : ℕ) (k k' : KeptUpdates J) (s : UpdatesState) (rows : Rows) (lines : List ℕ) → KeepsUpdates contents first k s → place ≡ s.run.rows + 1
       → AreAnswered (IsUpdateTaken contents) place k rows lines k'
       → (t : UpdatesState) × KeepsUpdates contents first k' t × AreAnswered IsUpdateAnsweredAt place s rows lines t × (place + length rows ≡ t.run.rows + 1)

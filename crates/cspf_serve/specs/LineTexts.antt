@@ -1,5 +1,5 @@
--- Private: the text of each line of a run, except for replies and for the lines that refuse a
--- journal or requests (`JudgeLine`).
+-- Private: the text of each line of a run. Replies, and the lines that refuse a journal or requests
+-- (`JudgeLine`), are defined elsewhere.
 use Rattle.std.specs.Prelude.{ℕ, List}
 use Rattle.cspf_serve.specs.declared.line.Line.{Line}
 use Rattle.cspf_serve.specs.declared.line.Line.TheVariants as line

@@ -1,4 +1,4 @@
--- Private: which batches of a journal are published, and the lines that are written for them.
+-- Private: which batches of a journal are published, and which lines are written for them.
 use Rattle.std.specs.Prelude.{◌≡◌, ℕ, ◌⊎◌, Option, Some, None, List, ◌∷◌, ◌++◌, take}
 use Rattle.cspf_model.specs.declared.refusal.Refusal.{Refusal}
 use Rattle.cspf_model.specs.Numbered.{NumberedChanges}
@@ -11,7 +11,7 @@ use Rattle.cspf_model.specs.declared.request.Request.{Request}
 use Rattle.cspf_stream.specs.Lines.{refused_batch_line}
 use Rattle.cspf_serve.specs.BatchRun.{AreAccepted, IsOneUnfit}
 
--- the batch after the published ones doesn't fit, and the line refuses it
+-- the first batch after the published batches doesn't fit, and the line refuses it
 pub record IsUnfitBehind (batches published : List NumberedChanges) (line : List ℕ) : Type 0 where
   pub batch : NumberedChanges
   pub after : List NumberedChanges
@@ -20,8 +20,8 @@ pub record IsUnfitBehind (batches published : List NumberedChanges) (line : List
   pub refused : IsRefusal (database_after published) batch why
   pub is_line : line ≡ refused_batch_line batch.number (refusal.Unfit why)
 
--- All batches are published, or only those before the first batch that doesn't fit. In the second
--- case the line refuses this batch.
+-- Without a line (`None`), all batches are published. With a line, only the batches before the
+-- first batch that doesn't fit are published, and the line refuses that batch.
 abbrev pub ArePublishedOrRefused : List NumberedChanges → List NumberedChanges → Option JudgeLine → Type 0
 ArePublishedOrRefused batches published None = published ≡ batches
 ArePublishedOrRefused batches published (Some line) = IsUnfitBehind batches published (judge_line_text line)

@@ -1,4 +1,4 @@
--- What holds of every run over updates and clients: how old a reply may be.
+-- Laws of all runs over updates and clients: how old a reply may be.
 use Rattle.std.specs.Prelude.{◌≡◌, ℕ, ◌^◌, ◌<◌, ◌≤◌, ◌⊎◌, Bool, Option, Some, List, [], ◌∷◌, ◌++◌, Result, Ok, Err}
 use Rattle.std.specs.Option.{option_map}
 use Rattle.cspf_journal.specs.declared.log_step.LogStep.{LogStep}
@@ -22,9 +22,9 @@ use Rattle.cspf_serve.specs.NumberedPairs.{AreNumberedPairs}
 use Rattle.cspf_serve.specs.ServedRun.{IsServedClient, IsServedRun}
 use Rattle.cspf_serve.specs.declared.serving.served_run.Served.{Served}
 
--- One of the steps is the client's reading of the count of published batches, and this reading
--- names the row at `place`. The steps before this reading count at most `version` batches as
--- published.
+-- The client reads the count of published batches before it answers its row with the number
+-- `place`. This reading is one of the journal's `steps`. The steps before it count at most
+-- `version` batches as published.
 pub record IsReadBefore (steps : List LogStep) (client place version : ℕ) : Type 0 where
   pub before : List LogStep
   pub count : ℕ
@@ -32,16 +32,17 @@ pub record IsReadBefore (steps : List LogStep) (client place version : ℕ) : Ty
   pub reading : steps ≡ before ++ Read client place count ∷ after
   pub fresh : count_of before ≤ version
 
--- The line is a fresh reply: the version of the answer is at least the count of published batches
--- before the request's row was read.
+-- The line is a fresh reply: the version of the answer is at least the number of batches that were
+-- published before the request's row was read.
 pub record IsFreshReply (steps : List LogStep) (client place : ℕ) (q : Request) (line : List ℕ) : Type 0 where
   pub version : ℕ
   pub answer : Answer
   pub reply : IsReply q.id version answer line
   pub read : IsReadBefore steps client place version
 
--- If the row is a request, its line is a reply whose version is at least the count of published
--- batches before the row was read. About other lines nothing is stated, since they have no version.
+-- If the row is a request, its line is a reply whose version is at least the number of batches that
+-- were published before the row was read. Other lines have no version, so nothing is stated about
+-- them.
 abbrev pub IsFreshLine : List LogStep → ℕ → ℕ → Result Row RowError → List ℕ → Type 0
 IsFreshLine steps client place (Err why) line = Unit {0}
 IsFreshLine steps client place (Ok (row.Put link)) line = Unit {0}
@@ -50,23 +51,24 @@ IsFreshLine steps client place (Ok (row.Node router transit)) line = Unit {0}
 IsFreshLine steps client place (Ok (row.End number count)) line = Unit {0}
 IsFreshLine steps client place (Ok (row.Ask q)) line = IsFreshReply steps client place q line
 
--- The line that answers the row at this place is as `IsFreshLine` says: a reply has at least the
--- version that was published before the row was read. Nothing is stated about the states before and
--- after the row.
+-- The line that answers the row with the number `place` is as `IsFreshLine` says: the version of a
+-- reply is at least the version that was published before the row was read. Nothing is stated about
+-- the client's states before and after the row.
 abbrev pub IsAnsweredFresh : List LogStep → ℕ → AnswersOf (Unit {0})
 IsAnsweredFresh steps client place s fields line t = IsFreshLine steps client place (row_of fields) line
 
--- All rows of a client, or those before its stream stopped, are answered by lines as `IsFreshLine`
--- describes them. Each reply has at least the version that was published before its row was read.
+-- The lines of a client are as `IsFreshLine` says: each reply has at least the version that was
+-- published before its row was read. All rows of the client are answered, or the rows before its
+-- stream stopped.
 abbrev pub HasFreshLines : {Q V : Type 0} → (Q → Option (List ℕ)) → (V → Option (List ℕ)) → List LogStep → ℕ → Client Q V → ServedClient V → Type 0
 HasFreshLines bytes contents steps number client served =
     AreAllAnswered (IsAnsweredFresh steps number) (option_map rows_of (bytes client.requests)) tt tt (contents client.replies) (contents served.replies)
     ⊎ ((why : StreamError) × (left : Option (List (List (List ℕ)))) × (failed : Bool)
     × HasStopped (IsAnsweredFresh steps number) (λ place s fields t. Unit {0}) why (option_map rows_of (bytes client.requests)) left failed tt tt (contents client.replies) (contents served.replies))
 
--- In a run over updates and clients each reply has a version that is at least the count of
--- published batches before its row was read. The list of the journal's steps that the run returns
--- shows this.
+-- In a run over updates and clients, the version of each reply is at least the number of batches
+-- that were published before its row was read. This is seen from the list of the journal's steps
+-- that the run returns.
 abbrev pub ServedRepliesAreFresh : Type 0 → Type 0 → Type 0 → Type 0 → Type 0
 ServedRepliesAreFresh W J Q V =
     (updates : Option (List ℕ)) (said : W → Option (List ℕ)) (recorded : J → Option (List ℕ)) (bytes : Q → Option (List ℕ)) (contents : V → Option (List ℕ))
@@ -74,13 +76,13 @@ ServedRepliesAreFresh W J Q V =
     → IsServedRun updates said recorded bytes contents writer journal clients served
     → AreNumberedPairs (HasFreshLines bytes contents served.steps.steps) 1 clients served.clients.items
 
--- The steps of a journal: a batch is recorded and counted as published, and then client 1 reads the
--- count of published batches before it answers its first row.
+-- Three steps of a journal: a batch is recorded, it is counted as published, and then client 1
+-- reads the count of published batches before it answers its first row.
 abbrev pub read_behind_a_batch : NumberedChanges → List LogStep
 read_behind_a_batch b = Recorded b ∷ Published 1 ∷ Read 1 1 1 ∷ []
 
--- Take a run whose journal has the steps of `read_behind_a_batch`. If client 1 asks one request and
--- its stream ends without an error, its reply isn't at version 0.
+-- An example of the law. The journal has the steps of `read_behind_a_batch`, client 1 asks one
+-- request, and its stream ends without an error. Then its reply isn't at version 0.
 abbrev pub NoReplyIsBehind : Type 0
 NoReplyIsBehind =
     (b : NumberedChanges) (all : KnownSteps) (fields : List (List ℕ)) (q : Request) (client : Client (List ℕ) (List ℕ)) (served : ServedClient (List ℕ)) (answer : Answer)

@@ -1,5 +1,5 @@
--- The result of a run over updates and clients. There is one list of published batches: the updates
--- make it, the journal records it, and all clients are answered from it.
+-- Defines the result of a run over updates and clients. There is one list of published batches: the
+-- updates make it, the journal records it, and all clients are answered from it.
 use Rattle.std.specs.Prelude.{◌≡◌, ℕ, ◌+◌, ◌<◌, ◌≤◌, ◌⊎◌, Bool, Option, Some, List, [], length, All, Result, Err, MatchResult}
 use Rattle.std.specs.Option.{option_map}
 use Rattle.std.specs.Io.KnownBytes.{Appends, Keeps}
@@ -31,16 +31,16 @@ use Rattle.cspf_serve.specs.declared.serving.served_run.ServedError.TheVariants 
 abbrev Rows : Type 0
 Rows = List (List (List ℕ))
 
--- the row at this place is answered; places count from 1
+-- the row with the number `place`, counted from 1, is answered
 abbrev pub IsUpdateAnsweredAt : AnswersOf UpdatesState
 IsUpdateAnsweredAt place s fields line t = (place ≡ s.run.rows + 1) × IsUpdateAnswered (at_next_update s) (row_of fields) line t
 
--- memory is refused at the row at this place; places count from 1
+-- memory is refused at the row with the number `place`, counted from 1
 abbrev pub IsUpdateLostAt : FailsOf UpdatesState
 IsUpdateLostAt place s fields t = (place ≡ s.run.rows + 1) × IsUpdateLost (at_next_update s) (row_of fields) t
 
--- why the line that says how many changes are open (without their `end` row) isn't written: memory
--- for it is refused, or writing fails
+-- The error if the last line isn't written: memory is refused, or writing fails. The last line
+-- counts the open changes (those without their `end` row).
 abbrev pub IsLastLineStopped : StreamError → List ℕ → Option (List ℕ) → Option (List ℕ) → Type 0
 IsLastLineStopped error.Memory line old new = Keeps old new
 IsLastLineStopped error.Read line old new = ⊥
@@ -48,40 +48,41 @@ IsLastLineStopped error.Write line old new = IsLineStopped error.Write line old 
 IsLastLineStopped error.Flush line old new = IsLineStopped error.Flush line old new
 IsLastLineStopped error.TooManyRows line old new = ⊥
 
--- if changes are open (without their `end` row), the line that counts them is written, or writing
--- it fails
+-- The last line is written, or writing it fails. It counts the open changes (those without their
+-- `end` row). If there are none, it is empty.
 abbrev pub IsLastLineSaid : Result (Unit {0}) StreamError → List ℕ → Option (List ℕ) → Option (List ℕ) → Type 0
 IsLastLineSaid said line old new =
     MatchResult said (λ done. Appends old new line) (λ error. IsLastLineStopped error line old new)
 
--- All rows of the updates are answered. `Last` holds of what is written after them: if changes are
--- open (without their `end` row), the line that counts these changes.
+-- All rows of the updates are answered. `Last` holds of the text that is written after the lines of
+-- the rows. This text is the line that counts the open changes (those without their `end` row), if
+-- there are any.
 pub record AreUpdatesAnswered (Last : List ℕ → Option (List ℕ) → Type 0) (all : Option Rows) (t : UpdatesState) (old : Option (List ℕ)) : Type 0 where
   pub mid : Option (List ℕ)
   pub answered : AreAllAnswered IsUpdateAnsweredAt all no_updates t old mid
   pub last : Last (end_line t.run.changes) mid
 
--- The stream of updates stops before all its rows are answered, or the line that counts the open
--- changes (those without their `end` row) isn't written whole.
+-- The updates stop with an error. Not all of their rows are answered, or the line that counts the
+-- open changes (those without their `end` row) isn't written whole.
 abbrev pub AreUpdatesStopped : StreamError → Option Rows → UpdatesState → Option (List ℕ) → Option (List ℕ) → Type 0
 AreUpdatesStopped error all t old new =
     ((left : Option Rows) × (failed : Bool) × HasStopped IsUpdateAnsweredAt IsUpdateLostAt error all left failed no_updates t old new)
     ⊎ AreUpdatesAnswered (λ line mid. IsLastLineStopped error line mid new) all t old
 
--- all rows of the updates are answered, or the stream of updates stops with the error that `ended`
--- names
+-- all rows of the updates are answered, or the updates stop with the error in `ended`
 abbrev pub IsUpdatesRun : Result (Unit {0}) StreamError → Option Rows → UpdatesState → Option (List ℕ) → Option (List ℕ) → Type 0
 IsUpdatesRun ended all t old new =
     MatchResult ended
     (λ done. AreUpdatesAnswered (λ line mid. Appends mid new line) all t old)
     (λ error. AreUpdatesStopped error all t old new)
 
--- The client with this number was answered from the first row of its requests on, until it learnt
--- of all batches that were published in the end. The client's batches are a prefix of the published
--- batches, so each of its replies is the best answer at a published version. A client that knew
--- more batches than were published ends with the error `Ahead`; this was seen in no run. The
--- client's steps are a prefix of all steps of the journal, so these have all its readings of the
--- count of published batches. The result has what the client knew after its last row.
+-- The client with this number was answered from its first row on. At the end it learns of all
+-- published batches. The client's batches are a prefix of the published batches, so each of its
+-- replies is the best answer at a published version. A client that knew more batches than were
+-- published ends with the error `Ahead`. No run has shown this error. The client's steps are a
+-- prefix of all steps of the journal. So the journal's steps have all readings of the count of
+-- published batches by this client. The result has the batches that the client knew after its last
+-- row.
 pub record IsServedClient {Q V : Type 0} (bytes : Q → Option (List ℕ)) (contents : V → Option (List ℕ)) (published : List NumberedChanges) (all : KnownSteps) (number : ℕ) (client : Client Q V) (served : ServedClient V) : Type 0 where
   pub before : ServingState Q V
   pub after : ServingState Q V
@@ -100,12 +101,13 @@ pub record IsServedClient {Q V : Type 0} (bytes : Q → Option (List ℕ)) (cont
       ((served.end ≡ after.end) × BeginsWith published served.known.batches)
       ⊎ ((served.end ≡ Err Ahead) × (length published < length served.known.batches))
 
--- Each client was answered as `IsServedClient` says. The clients are numbered from `number` on.
+-- Each client was answered as `IsServedClient` says. The first client of the list has the number
+-- `number`, the second client has the next number, and so on.
 abbrev pub AreServedFrom : {Q V : Type 0} → (Q → Option (List ℕ)) → (V → Option (List ℕ)) → List NumberedChanges → KnownSteps → ℕ → List (Client Q V) → List (ServedClient V) → Type 0
 AreServedFrom bytes contents published all number clients served =
     AreNumberedPairs (IsServedClient bytes contents published all) number clients served
 
--- `all` has the steps of one journal, from its first step on. These steps record the published
+-- `all` has the steps of one journal, from its first step on. These steps record all published
 -- batches, and count them as published. The list `steps` is a prefix of these steps.
 pub record AreStepsOfRun (published : List NumberedChanges) (steps : List LogStep) (all : KnownSteps) : Type 0 where
   pub journal : AreJournalSteps all.steps
@@ -113,24 +115,23 @@ pub record AreStepsOfRun (published : List NumberedChanges) (steps : List LogSte
   pub counted : length published ≤ count_of all.steps
   pub later : IsPrefix steps all.steps
 
--- no row and no batch of any stream was refused, and no change is still open (without its `end`
--- row)
+-- no row and no batch of any stream was refused, and at the end no change is open (without its
+-- `end` row)
 pub record IsAllAccepted {V : Type 0} (t : UpdatesState) (clients : List (ServedClient V)) : Type 0 where
   pub refused : t.run.refused ≡ 0
   pub none_open : t.run.changes ≡ []
   pub each : All (λ c. c.refused ≡ 0) clients
 
--- the status is 0 if nothing was refused and no change was left open (without its `end` row), and 2
--- otherwise
+-- the status is 0 if nothing was refused and no change is open (without its `end` row) at the end;
+-- otherwise it is 2
 abbrev pub IsServedStatus : {V : Type 0} → UpdatesState → List (ServedClient V) → ℕ → Type 0
 IsServedStatus t clients status =
     (IsAllAccepted t clients × (status ≡ 0)) ⊎ ((¬ IsAllAccepted t clients) × (status ≡ 2))
 
--- The published batches are those that the run over the updates accepted. The journal has grown by
--- the text that this run wrote, and each client was answered from prefixes of these batches. The
--- run hands out one list of the journal's steps. These steps record the batches, count them as
--- published, and have the clients' readings of the count of published batches. The clients are
--- numbered from 1.
+-- The published batches are the accepted batches of the updates. Their texts were appended to the
+-- journal. The answers to each client are computed from prefixes of these batches. The run returns
+-- one list of the journal's steps. These steps record the batches, count them as published, and
+-- have the clients' readings of the count of published batches. The clients are numbered from 1.
 pub record IsServedRun {W J Q V : Type 0} (updates : Option (List ℕ)) (said : W → Option (List ℕ)) (recorded : J → Option (List ℕ)) (bytes : Q → Option (List ℕ)) (contents : V → Option (List ℕ)) (writer : W) (journal : J) (clients : List (Client Q V)) (served : Served W J V) : Type 0 where
   pub state : UpdatesState
   pub updates_run : IsUpdatesRun served.updates (option_map rows_of updates) state (said writer) (said served.said)
@@ -139,7 +140,7 @@ pub record IsServedRun {W J Q V : Type 0} (updates : Option (List ℕ)) (said : 
   pub clients_served : AreServedFrom bytes contents state.run.accepted served.steps 1 clients served.clients.items
   pub status_is : IsServedStatus state served.clients.items served.status
 
--- Why no run began: its publisher wasn't opened, or no thread could be had for one of `count`
+-- Why no run began: its publisher wasn't opened, or the system had no thread for one of the `count`
 -- clients.
 abbrev pub IsServedFault : ℕ → ServedError → Type 0
 IsServedFault count (served_error.Run error) = IsOpeningFault error

@@ -22,19 +22,19 @@ use Rattle.cspf_serve.specs.declared.serving.served_run.ClientSeat.{ClientSeat}
 use Rattle.cspf_serve.specs.declared.serving.served_run.Seats.{Seats}
 use Rattle.cspf_serve.specs.declared.serving.served_run.Served.{Served}
 
--- a seat is what a client's thread needs, and the asker of this seat reads the journal with the
--- identity `source`
+-- A seat has all that the thread of one client needs. The asker of this seat reads the journal with
+-- the identity `source`.
 abbrev pub IsSeat : Book → ClientSeat → Type 0
 IsSeat source seat = seat.asker.source ≡ source
 
--- the clients' seats (what their threads need) are numbered from `n` on
+-- the seats of the clients are numbered from `n` on, in the order of the list
 abbrev pub AreNumberedSeats : ℕ → List ClientSeat → Type 0
 AreNumberedSeats n [] = ⊤
 AreNumberedSeats n (seat ∷ seats) = (seat.number ≡ n) × AreNumberedSeats (suc n) seats
 
--- There are `count` seats of clients (a seat is what a client's thread needs). The seats have
--- askers (which answer requests) of one publisher, and are numbered from 1. There is also memory
--- for the states and the results of as many clients.
+-- There are `count` seats, numbered from 1. A seat has all that the thread of one client needs. The
+-- seats have askers of one publisher, which answer requests. The lists for the states and the
+-- results of the clients are empty, and have capacity for `count` clients.
 pub record AreSeats {Q V : Type 0} (source : Book) (count : ℕ) (made : Seats Q V) : Type 0 where
   pub seats : All (IsSeat source) made.seats.items
   pub numbers : AreNumberedSeats 1 made.seats.items
@@ -44,8 +44,8 @@ pub record AreSeats {Q V : Type 0} (source : Book) (count : ℕ) (made : Seats Q
   pub room : count ≤ vec_capacity made.serving
   pub room_left : count ≤ vec_capacity made.served
 
--- The client with this number was answered by an asker of this publisher's journal (with the
--- identity `source`), from the first row of its requests on.
+-- The client with this number was answered from its first row on, by an asker of the journal with
+-- the identity `source`.
 pub record IsAnswered {Q V : Type 0} (bytes : Q → Option (List ℕ)) (contents : V → Option (List ℕ)) (source : Book) (number : ℕ) (client : Client Q V) (c : ServingState Q V) : Type 0 where
   pub before : ServingState Q V
   pub ready : IsReady before
@@ -57,15 +57,16 @@ pub record IsAnswered {Q V : Type 0} (bytes : Q → Option (List ℕ)) (contents
   pub run : IsClientRun bytes contents before c
   pub forward : HasGoneForward before.state c.state
 
--- The updates of a run were answered. The run's publisher may already have had batches before the
--- first row.
+-- The updates of a run were answered. The publisher of the run may already have published batches
+-- before the first row of the updates.
 abbrev pub IsRunOfUpdates : {W J : Type 0} → (W → Option (List ℕ)) → (J → Option (List ℕ)) → Option (List (List (List ℕ))) → W → KeptUpdates J → Result (Unit {0}) StreamError → W → KeptUpdates J → Type 0
 IsRunOfUpdates {W} {J} said recorded all writer old ended written new =
     (first : PublisherState J) → KeepsUpdates recorded first old no_updates
     → (t : UpdatesState) × KeepsUpdates recorded first new t × IsUpdatesRun ended all t (said writer) (said written)
 
--- The result of a client. The batches that the client knew are a prefix of the published ones, or
--- there are more of them than were published.
+-- The result `served` of a client in the state `c`. The batches that the client knew are a prefix
+-- of the published batches, or the client ends with the error `Ahead`: it knew more batches than
+-- were published.
 pub record IsServedEnd {Q V : Type 0} (published : List NumberedChanges) (c : ServingState Q V) (served : ServedClient V) : Type 0 where
   pub replies : served.replies ≡ c.replies
   pub refused : served.refused ≡ c.state.refused
@@ -75,13 +76,13 @@ pub record IsServedEnd {Q V : Type 0} (published : List NumberedChanges) (c : Se
       ((served.end ≡ c.end) × BeginsWith published served.known.batches)
       ⊎ ((served.end ≡ Err Ahead) × (length published < length served.known.batches))
 
--- the batches that the client knows, and the steps that it has seen, are those of the journal with
--- the identity `source`
+-- the batches that the client knows, and the steps that it has seen, are from the journal with the
+-- identity `source`
 abbrev pub IsOfSource : {Q V : Type 0} → Book → ServingState Q V → Type 0
 IsOfSource source c = (c.state.known.source ≡ source) × (c.state.steps.source ≡ source)
 
--- The result of a run after the updates and all clients have ended. It has one list of all steps of
--- the publisher's journal that were seen.
+-- The result of a run after the updates and all clients have ended. The result has one list of all
+-- steps of the publisher's journal that the publisher or a client has seen.
 pub record IsClosedRun {W J Q V : Type 0} (recorded : J → Option (List ℕ)) (ended : Result (Unit {0}) StreamError) (said : W) (updates : KeptUpdates J) (serving : List (ServingState Q V)) (served : Served W J V) : Type 0 where
   pub ended_is : served.updates ≡ ended
   pub said_is : served.said ≡ said

@@ -1,4 +1,4 @@
--- Private: the state that the code stores for a stream of updates.
+-- Private: the state that the code keeps for a stream of updates.
 use Rattle.std.specs.Prelude.{◌≡◌, ℕ, ◌+◌, ◌≤◌, false, Option, List, [], ◌∷◌, ◌++◌, length}
 use mathlib.Core.List.{IsPrefix}
 use Rattle.cspf_journal.specs.declared.log_step.LogStep.{LogStep}
@@ -23,22 +23,22 @@ use Rattle.cspf_solve.specs.Script.{open_batch, after_batch}
 use Rattle.cspf_serve.specs.LiveWords.{refusal_of}
 use Rattle.cspf_serve.specs.Updates.{UpdatesState, AreNowCounted, IsUpdateAnswered, IsUpdateLost, at_next_update}
 
--- a publisher, and the steps of its journal up to the last step that counts one of its batches as
+-- a publisher, and the steps of its journal, up to the step that counts the last of its batches as
 -- published
 pub record CountedState (J : Type 0) : Type 0 where
   pub publisher : PublisherState J
   pub steps : KnownSteps
 
--- The steps are of the publisher's journal. They record the publisher's batches, and count all of
--- them as published.
+-- The steps are steps of the publisher's journal. They record the publisher's batches, and count
+-- all of these batches as published.
 pub record AreAllCounted {J : Type 0} (p : PublisherState J) (steps : KnownSteps) : Type 0 where
   pub source : steps.source ≡ p.source
   pub recorded : BeginsWith (batches_of steps.steps) p.batches
   pub counted : length p.batches ≤ count_of steps.steps
 
--- What the code stores for the updates of a run: the publisher with its journal's steps, the open
--- changes, and the numbers of answered requests and of refusals. An open change waits for its `end`
--- row.
+-- The state that the code keeps for the updates of a run: the publisher with its journal's steps,
+-- the open changes, and the numbers of answered requests and of refusals. An open change is one
+-- whose `end` row hasn't been read.
 pub record KeptUpdates (J : Type 0) : Type 0 where
   pub sink : CountedState J
   pub changes : OpenChanges
@@ -51,9 +51,9 @@ pub record IsFresh {J : Type 0} (k : KeptUpdates J) : Type 0 where
   pub unasked : k.answers ≡ 0
   pub clean : k.refused ≡ 0
 
--- The publisher still has the journal with which it began (the source is the journal's identity).
--- The published batches are the accepted batches of the state `s`, and the journal has grown by the
--- text of `s`. The journal's steps in `c` begin with the steps of `s`.
+-- The publisher has the same journal as at the start (the source is the journal's identity). Its
+-- batches are the accepted batches of the state `s`, and the text of `s` was appended to the
+-- journal. The steps of `s` are a prefix of the journal's steps in `c`.
 pub record ArePublished {J : Type 0} (contents : J → Option (List ℕ)) (first : PublisherState J) (c : CountedState J) (s : UpdatesState) : Type 0 where
   pub source : c.publisher.source ≡ first.source
   pub batches : c.publisher.batches ≡ s.run.accepted
@@ -61,22 +61,23 @@ pub record ArePublished {J : Type 0} (contents : J → Option (List ℕ)) (first
   pub journal : Appends (contents first.journal) (contents c.publisher.journal) s.text
   pub steps : IsPrefix s.steps c.steps.steps
 
--- `k`, which the code stores, has the publisher and the open changes (without their `end` row) that
--- the state `s` of the specification says. It also has the number of refusals that `s` says.
+-- `k` is the state in the code, and `s` is the state in the specification. Both have the same
+-- published batches, the same open changes (without their `end` row), and the same number of
+-- refusals.
 pub record KeepsUpdates {J : Type 0} (contents : J → Option (List ℕ)) (first : PublisherState J) (k : KeptUpdates J) (s : UpdatesState) : Type 0 where
   pub published : ArePublished contents first k.sink s
   pub changes : AreOpen k.changes s.run.changes
   pub refused : k.refused ≡ s.run.refused
 
--- The batch comes next and is published, and its text is in the journal.
+-- The batch is the next one, it is published, and its text is appended to the journal.
 pub record IsPublished {J : Type 0} (contents : J → Option (List ℕ)) (old new : PublisherState J) (b : NumberedChanges) : Type 0 where
   pub next : IsNextBatch old b
   pub batches : new.batches ≡ old.batches ++ b ∷ []
   pub going : new.stopped ≡ false
   pub recorded : Appends (contents old.journal) (contents new.journal) (batch_text b)
 
--- How a publisher takes batches and answers requests. Each batch that it accepts is published, and
--- a later step of its journal counts the batch as published. Each error of the publisher is a
+-- How a publisher publishes batches and answers requests. Each batch that it accepts is published,
+-- and a later step of its journal counts the batch as published. Each error of the publisher is a
 -- refusal of the batch.
 abbrev pub publisher_spec : {J : Type 0} → (J → Option (List ℕ)) → SinkSpec (CountedState J)
 publisher_spec contents = record {
@@ -91,7 +92,7 @@ publisher_spec contents = record {
       (answer : Answer) × IsBestAnswer (database_after c.publisher.batches) q answer × IsReply q.id (length c.publisher.batches) answer line;
 }
 
--- the state after the batch with this number was published; the journal's steps `steps` count this
+-- the state after the batch with this number is published; the journal's steps `steps` count this
 -- batch as published
 abbrev pub after_published : UpdatesState → ℕ → List LogStep → UpdatesState
 after_published s number steps = record {
@@ -101,13 +102,13 @@ after_published s number steps = record {
   steps = steps;
 }
 
--- the row at this place is answered; places count from 1
+-- the row with the number `place`, counted from 1, is answered
 abbrev pub IsUpdateTaken : {J : Type 0} → (J → Option (List ℕ)) → AnswersOf (KeptUpdates J)
 IsUpdateTaken {J} contents place k fields line k' =
     (first : PublisherState J) (s : UpdatesState) → KeepsUpdates contents first k s → place ≡ s.run.rows + 1
     → (t : UpdatesState) × KeepsUpdates contents first k' t × IsUpdateAnswered (at_next_update s) (row_of fields) line t
 
--- memory is refused at the row at this place; places count from 1
+-- memory is refused at the row with the number `place`, counted from 1
 abbrev pub IsUpdateFailed : {J : Type 0} → (J → Option (List ℕ)) → FailsOf (KeptUpdates J)
 IsUpdateFailed {J} contents place k fields k' =
     (first : PublisherState J) (s : UpdatesState) → KeepsUpdates contents first k s → place ≡ s.run.rows + 1

@@ -9,8 +9,8 @@ use crate::RunError;
 use std::alloc::Global;
 use std::io::{Read, Write};
 
-/// Audits replies against a journal and requests, as `run_audit` of `cspf_judge` does, and returns
-/// the same status: `IsAuditRun`. The errors are `Memory` and `Device`.
+/// Audits replies against a journal and requests. It does the same as `run_audit` of `cspf_judge`,
+/// and returns the same status: `IsAuditRun`. The errors are `Memory` and `Device`.
 #[tactic(auto, using(crate::proofs::StreamFaults::judged))]
 pub fn run_audit<R: Read + Drop, Q: Read + Drop, P: Read + Drop, W: Write>(
     alloc: Global,
@@ -30,9 +30,9 @@ pub fn run_audit<R: Read + Drop, Q: Read + Drop, P: Read + Drop, W: Write>(
     Ok(cspf_judge::run_audit(alloc, journal, requests, replies, writer)?)
 }
 
-/// Writes the batches that make the last database of a journal from an empty one, as `run_snapshot`
-/// of `cspf_judge` does, and returns the same status: `IsSnapshotRun`. The errors are `Memory` and
-/// `Device`.
+/// Writes batches that make the last database of a journal from an empty database. It does the same
+/// as `run_snapshot` of `cspf_judge`, and returns the same status: `IsSnapshotRun`. The errors are
+/// `Memory` and `Device`.
 #[tactic(auto, using(crate::proofs::StreamFaults::judged))]
 pub fn run_snapshot<R: Read + Drop, W: Write>(
     alloc: Global,

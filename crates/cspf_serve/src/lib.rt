@@ -1,17 +1,18 @@
-//! The runs of the program, from the bytes that they read to the bytes that they write. A run reads
-//! a journal and requests, and writes the lines that answer them. Or it reads updates and requests,
-//! and publishes the updates while it answers the requests.
+//! The runs of the program, from the bytes that they read to the bytes that they write. One kind of
+//! run reads a journal and requests, and writes the lines that answer them. Another kind reads
+//! updates and requests, and publishes the updates while it answers the requests.
 //!
 //! `batch` publishes the batches of a journal and then answers requests. `specs/BatchRun.antt`
-//! defines the lines of both. `specs/BatchLaws.antt` says when these are the lines of a run over
-//! one stream of rows. `live` publishes batches while workers answer requests, and writes each
-//! batch to the journal first: `specs/LiveRun.antt` defines the lines and the journal of a live
-//! run. `serving` publishes updates as they come in while clients ask: `specs/Updates.antt` defines
-//! the answers to updates, and `specs/ServedRun.antt` the result of a whole run. `streams` has what
-//! these three share, and `specs/RunFaults.antt` defines the errors that end them.
+//! defines the lines of such a run. `specs/BatchLaws.antt` says when these lines are also the lines
+//! of a run over one stream of rows. `live` publishes batches while workers answer requests, and
+//! writes each batch to the journal first. `specs/LiveRun.antt` defines the lines and the journal
+//! of a live run. `serving` publishes updates as they come in, while clients ask.
+//! `specs/Updates.antt` defines the answers to updates, and `specs/ServedRun.antt` defines the
+//! result of a whole run. `streams` has the code that these three modules share, and
+//! `specs/RunFaults.antt` defines the errors that end a run.
 //!
 //! The run over one stream of rows is in `cspf_solve`, the workers are in `cspf_work`, and audit
-//! and snapshot are in `cspf_judge`. This crate exports their names as well.
+//! and snapshot are in `cspf_judge`. This crate re-exports the names of these crates.
 #![tactic(auto)]
 
 mod batch;

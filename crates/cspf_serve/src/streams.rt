@@ -1,5 +1,5 @@
-//! What all runs with a publisher share: opening the publisher, refusing a stream, the lines of
-//! answers, and the errors.
+//! The code that all runs with a publisher share: opening the publisher, refusing a stream, writing
+//! the lines of answers, and the errors.
 
 mod error;
 pub(crate) mod opening;

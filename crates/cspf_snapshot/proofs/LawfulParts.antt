@@ -1,4 +1,4 @@
--- If the changes of batches are those of a snapshot, each batch fits the database of the batches before it.
+-- If batches have the changes of a snapshot, each batch fits the database of the batches before it.
 use Rattle.std.proofs.Common.{◌≡◌, ℕ, suc, ◌+◌, ◌≤◌, Bool, true, false, cond, List, [], ◌∷◌, ◌++◌, length, map, sym, ap, ◌∙◌, arith}
 use Rattle.std.specs.Ordering.{nat_cmp, eq_by_cmp}
 use Rattle.std.specs.Cmp.{nat_cmp_total}
@@ -16,13 +16,15 @@ use Rattle.cspf_snapshot.proofs.FullBatches.{AreShort}
 use Rattle.cspf_snapshot.proofs.Parts.{IsPartOf, IsOwnChange, AreOwnChanges, part_after, after_changes-append, link_count-le, mark_count-le}
 use Rattle.cspf_snapshot.proofs.RouterCounts.{router_count-le}
 
--- if `P` holds of each item of two joined lists, it holds of each item of the first list
+-- if `P` holds of each element of two concatenated lists, it holds of each element of the first
+-- list
 all_front : {X : Type 0} (P : X → Type 0) (xs ys : List X) → AllByRecursion P (xs ++ ys)
     → AllByRecursion P xs
 all_front P [] ys all = tt
 all_front P (x ∷ xs) ys all = (all.0, all_front P xs ys all.1)
 
--- if `P` holds of each item of two joined lists, it holds of each item of the second list
+-- if `P` holds of each element of two concatenated lists, it holds of each element of the second
+-- list
 all_back : {X : Type 0} (P : X → Type 0) (xs ys : List X) → AllByRecursion P (xs ++ ys)
     → AllByRecursion P ys
 all_back P [] ys all = all
@@ -32,30 +34,30 @@ all_back P (x ∷ xs) ys all = all_back P xs ys all.1
 abbrev HaveOwnChangeKeys : List Change → Type 0
 HaveOwnChangeKeys cs = IsDistinct (eq_by_cmp change_key_cmp) (map key_changed cs)
 
--- if `P` holds of the key of each change of two joined lists, it holds of the key of each change of
--- the first list
+-- if `P` holds of the key of each change of two concatenated lists, it holds of the key of each
+-- change of the first list
 keys_front : (P : ChangeKey → Type 0) (bs cs : List Change)
     → AllByRecursion P (map key_changed (bs ++ cs)) → AllByRecursion P (map key_changed bs)
 keys_front P [] cs all = tt
 keys_front P (b ∷ bs) cs all = (all.0, keys_front P bs cs all.1)
 
--- if no two changes of two joined lists have the same key, no two changes of the first list have
--- the same key
+-- if no two changes of two concatenated lists have the same key, no two changes of the first list
+-- have the same key
 own_front : (bs cs : List Change) → HaveOwnChangeKeys (bs ++ cs) → HaveOwnChangeKeys bs
 unfolding IsDistinct
 own_front [] cs own = tt
 own_front (b ∷ bs) cs own =
     (keys_front (λ k. eq_by_cmp change_key_cmp (key_changed b) k ≡ false) bs cs own.0, own_front bs cs own.1)
 
--- if no two changes of two joined lists have the same key, no two changes of the second list have
--- the same key
+-- if no two changes of two concatenated lists have the same key, no two changes of the second list
+-- have the same key
 own_back : (bs cs : List Change) → HaveOwnChangeKeys (bs ++ cs) → HaveOwnChangeKeys cs
 unfolding IsDistinct
 own_back [] cs own = own
 own_back (b ∷ bs) cs own = own_back bs cs own.1
 
--- if all changes put links or mark routers, `IsPresent` holds of each change, because no change is
--- a removal
+-- if each change puts a link or marks a router, `IsPresent` holds of each change, because no change
+-- is a removal
 all_present : (e d : Database) (cs : List Change) → AreOwnChanges d cs
     → AllByRecursion (IsPresent e) cs
 all_present e d [] own = tt
@@ -63,7 +65,7 @@ all_present e d (Put l ∷ cs) own = (tt, all_present e d cs own.1)
 all_present e d (Remove from local ∷ cs) own = absurd own.0
 all_present e d (Node router transit ∷ cs) own = (tt, all_present e d cs own.1)
 
--- a set made from a list has at most as many numbers as the list
+-- the set of a list's numbers has at most as many numbers as the list has elements
 pub len-from_list-le : (ns : List ℕ) → set.len (set.from_list {R = nat_cmp} ns) ≤ length ns
 len-from_list-le [] = omega (arith, set.len-empty nat_cmp)
 len-from_list-le (n ∷ ns) =
@@ -81,23 +83,23 @@ pub record IsSmall (d : Database) : Type 0 where
   pub routers : router_count d ≤ MOST_ROUTERS
   pub marks : mark_count d ≤ MOST_MARKS
 
--- In this part, all links of the database `e` are in the database `d`. The changes of the batch
--- `b`, and then the changes `cs`, lead from `e` to `d`. All of them put links of `d` or mark
--- routers.
+-- In this module, all links of the database `e` are also in the database `d`. The changes of the
+-- batch `b`, followed by the changes `cs`, turn `e` into `d`. Each of these changes puts a link of
+-- `d` or marks a router.
 module _ (counted : RoutersAreCounted) (d : Database) (small : IsSmall d) (e : Database) (b : NumberedChanges) (cs : List Change) (part : IsPartOf e d) (own : AreOwnChanges d (b.changes ++ cs)) (made : after_changes e (b.changes ++ cs) ≡ d) where
   -- the database after the batch `b`
   abbrev next : Database
   next = after_changes e b.changes
 
-  -- the changes `cs` lead from the database after the batch to the database `d`
+  -- the changes `cs` turn the database after the batch into the database `d`
   made_next : after_changes next cs ≡ d
   made_next = sym (after_changes-append e b.changes cs) ∙ made
 
-  -- the changes of the batch put links of `d` or mark routers
+  -- each change of the batch puts a link of `d` or marks a router
   own_first : AreOwnChanges d b.changes
   own_first = all_front (IsOwnChange d) b.changes cs own
 
-  -- the changes `cs` put links of `d` or mark routers
+  -- each change of `cs` puts a link of `d` or marks a router
   own_others : AreOwnChanges d cs
   own_others = all_back (IsOwnChange d) b.changes cs own
 
@@ -116,9 +118,9 @@ module _ (counted : RoutersAreCounted) (d : Database) (small : IsSmall d) (e : D
     marks = omega (arith, mark_count-le next d cs own_others, ap mark_count made_next, small.marks);
   }
 
--- Let a table have room for `d`, and let all links of `e` be in `d`. Let batches of at most 4,096
--- changes lead from `e` to `d`, and let their changes have different keys and only put links of `d`
--- or mark routers. Then each batch fits the database after the batches before it.
+-- A table can hold the database `d`, and all links of `e` are also in `d`. Batches of at most 4,096
+-- changes turn `e` into `d`. Each of their changes has a different key, and puts a link of `d` or
+-- marks a router. Then each batch fits the database of the batches before it.
 pub lawful_after : RoutersAreCounted → (d : Database) → IsSmall d → (e : Database) (bs : List NumberedChanges)
     → IsPartOf e d → AreOwnChanges d (changes_of bs) → HaveOwnChangeKeys (changes_of bs)
     → AreShort bs → after_changes e (changes_of bs) ≡ d → AreLawfulAfter e bs

@@ -15,8 +15,8 @@ use Rattle.cspf_snapshot.specs.SnapshotLaws.{OneSnapshot}
 use Rattle.cspf_snapshot.proofs.FullBatches.{length-changes_of-lt}
 use Rattle.cspf_snapshot.proofs.RisingLists.{same_rising}
 
--- if two lists have exactly the routers that a database marks, each once and in rising order, the
--- two lists are equal
+-- if two lists have exactly the marked routers of a database, each once and in increasing order,
+-- the two lists are equal
 same_marks : (d : Database) (ms ns : List ℕ) → AreMarksOf d ms → AreMarksOf d ns → ms ≡ ns
 same_marks d ms ns are also =
     same_rising ms ns (sorted_from_strictly_increasing ms are.rising) (sorted_from_strictly_increasing ns also.rising)
@@ -24,14 +24,16 @@ same_marks d ms ns are also =
     ∙ ap (λ s. set.contains s q) (sym are.all ∙ also.all)
     ∙ set.contains-from_list nat_cmp_total ns q)
 
--- if two joined lists are equal and their first parts have the same length, the first parts are equal
+-- if two concatenations are equal and their first lists have the same length, the first lists are
+-- equal
 same_fronts : (front back other rest : List Change) → length front ≡ length other
     → front ++ back ≡ other ++ rest → front ≡ other
 same_fronts front back other rest long e =
     sym (take-append_seam front back) ∙ ap (take (length front)) e
     ∙ ap (λ n. take n (other ++ rest)) long ∙ take-append_seam other rest
 
--- if two joined lists are equal and their first parts have the same length, the second parts are equal
+-- if two concatenations are equal and their first lists have the same length, the second lists are
+-- equal
 same_backs : (front back other rest : List Change) → length front ≡ length other
     → front ++ back ≡ other ++ rest → back ≡ rest
 same_backs front back other rest long e =
@@ -42,14 +44,15 @@ same_backs front back other rest long e =
 one_batch : (b c : NumberedChanges) → b.number ≡ c.number → b.changes ≡ c.changes → b ≡ c
 one_batch b c number changes = λ i. record { number = number i; changes = changes i }
 
--- if there is at least one batch, and all batches but the last are full, there is at least one
--- change
+-- if there is at least one batch, and all batches except the last one are full, there is at least
+-- one change
 some_changes : (b : NumberedChanges) (bs : List NumberedChanges) → AreFullButLast (b ∷ bs)
     → 0 < length (changes_of (b ∷ bs))
 some_changes b bs full = omega (arith, length-changes_of-lt (b ∷ bs) full)
 
--- Two lists of batches are equal if they have the same changes, and the numbers of both count up
--- from `first`. In both lists, each batch but the last has to be full.
+-- Two lists of batches have the same changes in the same order. In both lists, the batches are
+-- numbered consecutively from `first`, and each batch except the last one is full. Then the lists
+-- are equal.
 same_batches : (first : ℕ) (bs cs : List NumberedChanges) → AreFullButLast bs → AreFullButLast cs
     → AreNumberedFrom first bs → AreNumberedFrom first cs → changes_of bs ≡ changes_of cs → bs ≡ cs
 same_batches first [] [] full also numbers others e = refl

@@ -1,5 +1,5 @@
--- If a database `d` has all links of a database `e`, this is still so after changes that put links
--- of `d` or mark routers.
+-- If a database `d` has all links of a database `e`, this is still true after changes to `e` that
+-- put links of `d` or mark routers.
 use Rattle.std.proofs.Common.{◌≡◌, ℕ, ◌+◌, ◌≤◌, Bool, true, false, cond, Option, Some, None, is_some, List, [], ◌∷◌, ◌++◌, sym, ap, refl, ◌∙◌, arith}
 use Rattle.std.specs.Ordering.{eq_by_cmp}
 use Rattle.std.specs.Cmp.{nat_cmp_total}
@@ -27,27 +27,27 @@ IsOwnChange d (Node router transit) = transit ≡ false
 abbrev pub AreOwnChanges : Database → List Change → Type 0
 AreOwnChanges d cs = AllByRecursion (IsOwnChange d) cs
 
--- the database after two joined lists of changes is the database after the second list, applied to
--- the database after the first list
+-- to apply two concatenated lists of changes is to apply the first list, and then to apply the
+-- second list to the result
 pub after_changes-append : (d : Database) (bs cs : List Change)
     → after_changes d (bs ++ cs) ≡ after_changes (after_changes d bs) cs
 after_changes-append d [] cs = refl
 after_changes-append d (b ∷ bs) cs = after_changes-append (after_change d b) bs cs
 
--- the database without links is a part of every database: none of its links is missing there
+-- the database without links is a part of every database
 pub none_is_part : (d : Database) → IsPartOf no_links d
 none_is_part d k l is = absurd (none_some (sym (map.get-empty key_cmp k) ∙ is))
   where
     none_some : ◌≡◌ {A = Option Link} None (Some l) → ⊥
     none_some e = cc
 
--- if all links of `e` are in `d`, and `d` has each link at the link's own key, then `e` has each
--- link at the link's own key
+-- if all links of `e` are in `d`, and each link of `d` is stored at its own key, the same is true
+-- of each link of `e`
 pub part_at_keys : (e d : Database) → IsPartOf e d → AreAtTheirKeys d → AreAtTheirKeys e
 part_at_keys e d part keyed k l is = keyed k l (part k l is)
 
--- if all links of `e` are in `d`, this is still so after a change to `e` that puts a link of `d` or
--- marks a router
+-- if all links of `e` are in `d`, this is still true after a change to `e` that puts a link of `d`
+-- or marks a router
 part_next : (e d : Database) (c : Change) → IsPartOf e d → IsOwnChange d c
     → IsPartOf (after_change e c) d
 part_next e d (Put l) part own k m is =
@@ -58,7 +58,7 @@ part_next e d (Put l) part own k m is =
 part_next e d (Remove from local) part own k m is = absurd own
 part_next e d (Node router transit) part own k m is = part k m is
 
--- if all links of `e` are in `d`, this is still so after changes to `e` that put links of `d` or
+-- if all links of `e` are in `d`, this is still true after changes to `e` that put links of `d` or
 -- mark routers
 pub part_after : (e d : Database) (cs : List Change) → IsPartOf e d → AreOwnChanges d cs
     → IsPartOf (after_changes e cs) d
@@ -66,7 +66,7 @@ part_after e d [] part own = part
 part_after e d (c ∷ cs) part own =
     part_after (after_change e c) d cs (part_next e d c part own.0) own.1
 
--- if a count stays the same or grows by one, it doesn't get smaller
+-- if a count is unchanged or grows by one, it doesn't decrease
 least_of : (b : Bool) (n m : ℕ) → m ≡ cond b n (n + 1) → n ≤ m
 least_of true n m e = omega (arith, e)
 least_of false n m e = omega (arith, e)

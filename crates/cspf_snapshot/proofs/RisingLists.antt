@@ -1,4 +1,4 @@
--- Two strictly rising lists with the same numbers are equal.
+-- Two strictly increasing lists with the same numbers are equal.
 use Rattle.std.proofs.Common.{◌≡◌, ℕ, ◌||◌, ◌&&◌, Bool, true, false, cond, T, Some, None, List, [], ◌∷◌, map, refl, sym, ap, ◌∙◌}
 use Rattle.std.specs.Ordering.{nat_cmp, eq_by_cmp, is_lt}
 use Rattle.std.specs.declared.cmp.Ordering.TheVariants.{Less}
@@ -8,12 +8,12 @@ use Rattle.std.specs.List.Sorted.{IsStrictlySortedBy}
 use Rattle.std.specs.FinMap.{nat_cmp-IsAntisymmetric}
 use Rattle.std.specs.FinMap.Entries.{find, is_sorted, below_all, same_entries}
 
--- the entries of a finite set, one for each number of a list: the number is the entry's key, and
--- the entry's value is empty
+-- The entries of a finite set. There is one entry for each number of a list: its key is the number,
+-- and its value is empty.
 abbrev entries : List ℕ → List (ℕ × Unit {0})
 entries ns = map (λ n. (n, tt)) ns
 
--- a search for a number among the `entries` of a list finds it exactly if the list has this number
+-- a search among the `entries` of a list finds a number exactly if the list has this number
 find-entries : (q : ℕ) (ns : List ℕ)
     → find nat_cmp q (entries ns) ≡ cond (list_any (eq_by_cmp nat_cmp q) ns) (Some tt) None
 find-entries q [] = refl
@@ -25,14 +25,15 @@ both : (a b : Bool) → a ≡ true → T b → T (a && b)
 both true b is h = h
 both false b is h = absurd (cc)
 
--- a number that is below all numbers of a list is below the keys of all `entries` of this list
+-- if a number is less than all numbers of a list, it is less than the keys of all `entries` of this
+-- list
 below_entries : (n : ℕ) (ns : List ℕ) → AllByRecursion (λ m. nat_cmp n m ≡ Less) ns
     → T (below_all nat_cmp n (entries ns))
 below_entries n [] below = tt
 below_entries n (m ∷ ns) below =
     both (is_lt (nat_cmp n m)) (below_all nat_cmp n (entries ns)) (ap is_lt below.0) (below_entries n ns below.1)
 
--- the `entries` of a strictly rising list are sorted by their keys
+-- the `entries` of a strictly increasing list are sorted by their keys
 sorted_entries : (ns : List ℕ) → IsStrictlySortedBy nat_cmp ns → T (is_sorted nat_cmp (entries ns))
 unfolding IsStrictlySortedBy
 sorted_entries [] rising = tt
@@ -48,7 +49,7 @@ numbers-entries : (ns : List ℕ) → map (λ e. e.0) (entries ns) ≡ ns
 numbers-entries [] = refl
 numbers-entries (n ∷ ns) = ap (λ ms. n ∷ ms) (numbers-entries ns)
 
--- two strictly rising lists with the same numbers are equal
+-- two strictly increasing lists with the same numbers are equal
 pub same_rising : (ms ns : List ℕ) → IsStrictlySortedBy nat_cmp ms → IsStrictlySortedBy nat_cmp ns
     → ((q : ℕ) → list_any (eq_by_cmp nat_cmp q) ms ≡ list_any (eq_by_cmp nat_cmp q) ns) → ms ≡ ns
 same_rising ms ns rising also same =

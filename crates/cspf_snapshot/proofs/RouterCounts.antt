@@ -1,5 +1,5 @@
--- If all links of a database are also in another database, the first has at most as many routers as
--- the second.
+-- If all links of a database are also in a second database, the first database has at most as many
+-- routers as the second one.
 use Rattle.std.proofs.Common.{◌≡◌, ℕ, zero, suc, ◌-◌, ◌≤◌, ◌&&◌, ◌||◌, Bool, true, false, not, cond, List, [], ◌∷◌, refl, sym, ap, ◌∙◌, arith}
 use Rattle.std.specs.Ordering.{nat_cmp, eq_by_cmp}
 use Rattle.std.specs.Cmp.{nat_cmp_total}
@@ -18,7 +18,7 @@ Numbers = set.FinSet nat_cmp
 abbrev IsWithin : Numbers → Numbers → Type 0
 IsWithin s t = (q : ℕ) → set.contains s q ≡ true → set.contains t q ≡ true
 
--- a set whose list of numbers is empty is empty
+-- if a set's list of numbers is empty, the set has no numbers
 no_items : (s : Numbers) → set.items s ≡ [] → set.len s ≡ 0
 no_items s none =
     ap set.len (set.same_set nat_cmp_total set.nat_cmp-IsAntisymmetric s set.empty (λ q. set.contains-items s q ∙ ap (list_any (eq_by_cmp nat_cmp q)) none ∙ sym (set.contains-empty nat_cmp q)))
@@ -44,7 +44,7 @@ some_there s q there none =
     off : true ≡ false → ⊥
     off e = cc
 
--- if one of the numbers of a set is removed, the set has one number fewer
+-- removing a number of a set makes the set smaller by one
 len-taken : (s : Numbers) (q : ℕ) → set.contains s q ≡ true → set.len (set.remove s q) ≡ set.len s - 1
 len-taken s q there =
     set.len-remove nat_cmp_total s q ∙ ap (λ b. cond b (set.len s - 1) (set.len s)) there
@@ -54,16 +54,16 @@ both_still : (a b c : Bool) → (b ≡ true → c ≡ true) → (a && b) ≡ tru
 both_still true b c still both = still both
 both_still false b c still both = both
 
--- if each number of a set is in another set, this is still the case after the same number is
--- removed from both sets
+-- if each number of a set is in another set, this is still true after the same number is removed
+-- from both sets
 within_taken : (s t : Numbers) (q : ℕ) → IsWithin s t → IsWithin (set.remove s q) (set.remove t q)
 within_taken s t q within x there =
     set.contains-remove nat_cmp_total t q x
     ∙ both_still (not (eq_by_cmp nat_cmp x q)) (set.contains s x) (set.contains t x) (within x)
     (sym (set.contains-remove nat_cmp_total s q x) ∙ there)
 
--- if each number of a set is in another set, the first set has at most as many numbers as the
--- second
+-- if each number of a set is in a second set, the first set has at most as many numbers as the
+-- second set
 len-le-within : (n : ℕ) (s t : Numbers) → set.len s ≡ n → IsWithin s t → set.len s ≤ set.len t
 len-le-within zero s t is within = omega (arith, is)
 len-le-within (suc n) s t is within =
@@ -72,8 +72,8 @@ len-le-within (suc n) s t is within =
     let rest = len-le-within n (set.remove s one.0) (set.remove t one.0) (omega (arith, less, is)) (within_taken s t one.0 within) in
     omega (arith, less, len-taken t one.0 (within one.0 one.1), some_there t one.0 (within one.0 one.1), rest, is)
 
--- if all links of `e` are in `d`, and `d` has each link at the link's own key, then `e` has at most
--- as many routers as `d`
+-- if all links of `e` are in `d`, and each link of `d` is stored at its own key, then `e` has at
+-- most as many routers as `d`
 pub router_count-le : RoutersAreCounted → (e d : Database) → IsPartOf e d → AreAtTheirKeys d
     → router_count e ≤ router_count d
 router_count-le counted e d part keyed =

@@ -1,4 +1,5 @@
--- The changes that make a database, cut into batches, are its snapshot.
+-- If the changes that make a database are cut into batches, the batches are the snapshot of this
+-- database.
 use Rattle.std.proofs.Common.{◌≡◌, ℕ, ◌+◌, ◌≤◌, List, length, map, sym, ap, subst, ◌∙◌, arith, length-append, Result, Ok, Err, IfOk}
 use Rattle.std.specs.List.{IsDistinct}
 use Rattle.std.specs.FinMap as finite
@@ -22,7 +23,7 @@ use Rattle.cspf_snapshot.proofs.OwnChanges.{own_changes, distinct_making}
 use Rattle.cspf_snapshot.proofs.MadeDatabase.{is_database}
 use Rattle.cspf_snapshot.proofs.LawfulParts.{IsSmall, lawful_after, len-from_list-le}
 
--- `links` has exactly the links of a table whose database is `d`, and `marks` has exactly the
+-- `links` are exactly the links of a table whose database is `d`, and `marks` are exactly the
 -- routers that this table marks as without transit
 pub record AreListsOf (d : Database) (links : List Link) (marks : List ℕ) : Type 0 where
   pub listed : AreLinksOf d links
@@ -34,8 +35,8 @@ pub record AreListsOf (d : Database) (links : List Link) (marks : List ℕ) : Ty
   pub are_marks : AreMarksOf d marks
   pub few_marks : length marks ≤ MOST_MARKS
 
--- In this part, the changes put the links of a table and then mark the routers that the table marks
--- as without transit.
+-- In this module, the changes put the links of a table, and then mark the routers that the table
+-- marks as without transit.
 module _ (d : Database) (links : List Link) (marks : List ℕ) (lists : AreListsOf d links marks) where
   -- the table's database has no more links, routers and marked routers than a table can hold
   is_small : IsSmall d
@@ -59,7 +60,7 @@ module _ (d : Database) (links : List Link) (marks : List ℕ) (lists : AreLists
   on_own_keys =
       distinct_making links marks lists.once (sorted_from_strictly_increasing marks lists.are_marks.rising)
 
-  -- there are as many changes as links and marks together
+  -- the number of changes is the number of links plus the number of marks
   pub length-changes_making : length (changes_making links marks) ≡ length links + length marks
   length-changes_making =
       omega (arith, length-append (map Put links) (map marking marks), length-map links Put, length-map marks marking)
@@ -68,8 +69,8 @@ module _ (d : Database) (links : List Link) (marks : List ℕ) (lists : AreLists
   pub few_changes : length (changes_making links marks) ≤ MOST_LINKS + MOST_MARKS
   few_changes = omega (arith, length-changes_making, lists.most, lists.few_marks)
 
-  -- if batches have these changes, are numbered from 1, and are all full but the last, they are a
-  -- snapshot of the table's database
+  -- batches are a snapshot of the table's database if they have these changes, are numbered from 1,
+  -- and are all full except the last one
   pub is_snapshot : RoutersAreCounted → (batches : List NumberedChanges)
       → changes_of batches ≡ changes_making links marks → AreNumberedFrom 1 batches
       → AreFullButLast batches → IsSnapshot d batches
@@ -87,8 +88,8 @@ module _ (d : Database) (links : List Link) (marks : List ℕ) (lists : AreLists
     database = ap (after_changes no_links) changes ∙ making;
   }
 
--- if three facts about a value imply a fourth, and the value of a result has the three facts, it
--- has the fourth
+-- Three facts about a value imply a fourth fact. If the three facts hold of the value of a result,
+-- the fourth fact also holds of this value.
 pub if_ok_by : {A E : Type 0} (P Q S R : A → Type 0) → ((a : A) → P a → Q a → S a → R a)
     → (r : Result A E) → IfOk r P → IfOk r Q → IfOk r S → IfOk r R
 if_ok_by P Q S R gives (Ok a) p q s = gives a p q s

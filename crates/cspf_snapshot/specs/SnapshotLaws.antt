@@ -1,4 +1,4 @@
--- Law of the batches that make a database.
+-- Defines the law of the snapshots of a database.
 use Rattle.std.specs.Prelude.{◌≡◌, List}
 use Rattle.cspf_model.specs.Numbered.{NumberedChanges}
 use Rattle.cspf_model.specs.Database.{Database}

@@ -7,8 +7,8 @@ ghost use Rattle.cspf_snapshot.specs.Snapshots.{AreFullButLast};
 use cspf_model::{Batch, Change, MOST_CHANGES};
 use std::alloc::{AllocError, Global};
 
-/// Cuts the changes, in order, into batches that are numbered from 1. Each batch but the last has
-/// `MOST_CHANGES` changes.
+/// Cuts the changes, in order, into batches that are numbered from 1. Each batch except the last
+/// one has `MOST_CHANGES` changes.
 pub(crate) fn cut_into_batches(alloc: Global, changes: &[Change]) -> Result<Vec<Batch>, AllocError>
     requires { length changes.now ≤ MOST_LINKS + MOST_MARKS }
     ensures all { IfOk result (λ batches. changes_of batches.items ≡ changes.now) }

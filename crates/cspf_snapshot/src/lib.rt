@@ -1,9 +1,8 @@
-//! From a table to batches and back: the few batches that make a table's database from the empty
-//! database, and the table after the batches of a journal.
+//! Converts a table to batches and back. A snapshot is the few batches that make a table's database
+//! from the empty database. A replay makes the table that the batches of a journal lead to.
 //!
-//! `specs/Snapshots.antt` defines the batches that make a database. `specs/SnapshotLaws.antt` says
-//! that a database has only one such list of batches. `specs/Replays.antt` defines why batches
-//! can't be replayed.
+//! `specs/Snapshots.antt` defines the snapshot of a database. `specs/SnapshotLaws.antt` says that a
+//! database has only one snapshot. `specs/Replays.antt` defines why batches can't be replayed.
 #![tactic(auto)]
 
 mod cutting;

@@ -8,9 +8,10 @@ use cspf_model::{Batch, Change, Link, counted_routers};
 use std::alloc::{AllocError, Global};
 
 /// The batches, numbered from 1, that make the table's database from the empty database. First they
-/// put the links, in order of the routers that the links run from and then of the local addresses.
-/// Then they mark each router that has no transit, in rising order of Router ID. Each batch but the
-/// last has `MOST_CHANGES` changes. The snapshot of an empty table has no batches.
+/// put the links. The links are ordered by the router that the link runs from, and then by the
+/// local address. After the links, the batches mark each router that has no transit, in increasing
+/// order of Router ID. Each batch except the last one has `MOST_CHANGES` changes. The snapshot of
+/// an empty table has no batches.
 pub fn snapshot(alloc: Global, table: &Table) -> Result<Vec<Batch>, AllocError>
     ensures { IfOk result (λ batches. IsSnapshot table.now batches.items) }
 {

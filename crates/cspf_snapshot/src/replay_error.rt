@@ -12,7 +12,7 @@ pub enum ReplayError {
     /// Memory was refused.
     #[error("out of memory")]
     Memory,
-    /// A batch doesn't fit the database of the batches before it. All batches before it fit.
+    /// A batch doesn't fit the database of the batches before it. It is the first such batch.
     #[error("batch {number}: {refusal}")]
     Refused {
         /// The number of this batch.

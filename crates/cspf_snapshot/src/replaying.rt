@@ -7,9 +7,9 @@ use cspf_db::{Table, replay_into};
 use cspf_model::Batch;
 use std::alloc::Global;
 
-/// The table after all batches, applied in order to an empty table. If a batch doesn't fit the
-/// database of the batches before it, the error names the first such batch, and says why it doesn't
-/// fit. The numbers of the batches aren't checked.
+/// Returns the table after all batches are applied, in order, to an empty table. If a batch doesn't
+/// fit the database of the batches before it, the error gives the number of the first such batch,
+/// and the reason. The call doesn't check the numbers of the batches.
 pub fn replay(alloc: Global, batches: &[Batch]) -> Result<Table, ReplayError>
     ensures lawful { OnOk result (AreLawful batches.now) }
     ensures database { IfOk result (λ table. table ≡ database_after batches.now) }

@@ -1,4 +1,4 @@
--- Batches that are applied in order, one more at each step.
+-- Batches are applied in order, one after the other.
 use Rattle.std.proofs.Common.{◌≡◌, ℕ, ◌<◌, List, [], ◌∷◌, ◌++◌, length, take, Option, Some, None, slice_get, refl, sym, ap, ◌∙◌, subst, arith, length-append, append_assoc, append-nil, flat_map, false}
 use Rattle.std.proofs.KnownBytes.{Appends-nil, Appends-trans}
 use Rattle.std.proofs.lemmas.Grind.{flat_map-append}
@@ -36,8 +36,8 @@ applied_more contents p q r bs b source published going recorded is =
       going = λ some. going;
     }
 
--- if the first `n` batches are applied and the next batch is refused, the batches are applied up to
--- the first that is refused
+-- if the first `n` batches are applied and the next batch is refused, `IsAppliedUpTo` holds with
+-- `n` applied batches
 pub applied_refused : {W : Type 0} (contents : W → Option (List ℕ)) (p q r : PublisherState W) (batches : List NumberedChanges) (applied n : ℕ) (b : NumberedChanges) (e : ApplyError)
     → applied ≡ n → n < length batches → slice_get batches n ≡ Some b → r.source ≡ q.source → r.batches ≡ q.batches → IsApplyError contents q r b e
     → AreApplied contents p q (take n batches) → IsAppliedUpTo contents p r batches applied (Some e)
@@ -52,7 +52,7 @@ applied_refused contents p q r batches applied n b e count inside at source same
       stop = (b, ap (slice_get batches) count ∙ at, why);
     }
 
--- if all batches are applied, `IsAppliedUpTo` holds of the whole list, and no batch was refused
+-- if all batches are applied, `IsAppliedUpTo` holds of the whole list, without an error
 pub applied_all : {W : Type 0} (contents : W → Option (List ℕ)) (p q : PublisherState W) (batches : List NumberedChanges) (applied n : ℕ)
     → applied ≡ n → n ≡ length batches → AreApplied contents p q (take n batches) → IsAppliedUpTo contents p q batches applied None
 applied_all contents p q batches applied n count all is =

@@ -1,5 +1,5 @@
--- The replies of a worker stay right while its asker (which computes its answers) learns more
--- batches.
+-- The replies of a worker are still right after its asker (which computes its answers) learns of
+-- more batches.
 use Rattle.std.proofs.Common.{◌≡◌, ℕ, ◌-◌, ◌<◌, ◌≤◌, List, [], ◌∷◌, ◌++◌, length, take, Some, get_or, All, sym, ap, ◌∙◌, subst, arith, length-append, append_assoc, slice_get}
 use Rattle.std.proofs.lemmas.List.{take-append-le}
 use Rattle.std.proofs.lemmas.List.Elements.{All-push}
@@ -29,7 +29,8 @@ knows_through a b c p q = record {
 pub length_begins : (all first : List NumberedChanges) → BeginsWith all first → length first ≤ length all
 length_begins all first p = omega (arith, ap length p.1, length-append first p.0)
 
--- a list and a prefix of it have the same first `n` items, if the prefix has at least `n` items
+-- the first `n` elements of a list are the first `n` elements of each prefix that has at least `n`
+-- elements
 pub take_begins : (n : ℕ) (all first : List NumberedChanges) → BeginsWith all first → n ≤ length first → take n all ≡ take n first
 take_begins n all first p le = ap (take n) p.1 ∙ take-append-le n first p.0 le
 
@@ -58,8 +59,8 @@ done_later requests before known later r p is = record {
 all_done_later : (requests : List Request) (before known later : List NumberedChanges) (done : List Reply) → BeginsWith later known → All (IsDone requests before known) done → All (IsDone requests before later) done
 all_done_later requests before known later done p all k d l = done_later requests before known later (get_or done k d) p (all k d l)
 
--- what a worker has done is still right if its asker (which computes its answers) has learnt more
--- batches and nothing else has changed
+-- if the asker (which computes a worker's answers) has learnt of more batches, and nothing else has
+-- changed, the worker's replies are still right
 pub done_more_known : (requests : List Request) (before : AskerState) (w v : Worker)
     → KnowsNoLess w.asker v.asker → v.done.items ≡ w.done.items → HasDone requests before w → HasDone requests before v
 done_more_known requests before w v knows same is = record {
@@ -68,8 +69,8 @@ done_more_known requests before w v knows same is = record {
   versions = rw same is.versions;
 }
 
--- What a worker has done was right before. It is still right after its asker (which computes its
--- answers) has learnt more batches, and one more request was answered.
+-- The replies of a worker are right. Its asker (which computes its answers) learns of more batches,
+-- and answers one more request correctly. Then all replies are right.
 pub done_next : (requests : List Request) (before : AskerState) (w v : Worker) (q : Request) (r : Reply)
     → KnowsNoLess w.asker v.asker → v.done.items ≡ w.done.items ++ r ∷ []
     → r.index < length requests → slice_get requests r.index ≡ Some q → IsAnswerAfter v.asker.batches q r.answer

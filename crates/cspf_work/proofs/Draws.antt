@@ -1,5 +1,5 @@
--- Workers draw the indexes of requests from a counter. If each worker has drawn until it got a
--- number that is no request's index, each request is answered exactly once.
+-- Workers draw the indexes of requests from a counter. If each worker draws until it gets a number
+-- that isn't the index of a request, each request is answered exactly once.
 use Rattle.std.proofs.Common.{◌≡◌, ℕ, zero, suc, ◌+◌, ◌<◌, ◌≤◌, cond, eqb, List, [], ◌∷◌, ◌++◌, length, map, All, IsNone, Vec, get_or, inl, inr, refl, sym, ap, ◌∙◌, subst, arith, length-append}
 use Rattle.std.specs.Global.{Global}
 use Rattle.std.specs.List.Sorted.{IsStrictlyIncreasing}
@@ -21,7 +21,7 @@ use Rattle.cspf_work.specs.Collected.{IsCollectError, times_in}
 use Rattle.cspf_work.proofs.Filling.{times-append, times-push}
 use Rattle.cspf_work.proofs.Running.{run_drawn, run_inside}
 
--- in a rising list each number is at least its index in the list
+-- in a strictly increasing list, each number is at least its index in the list
 at_least : (xs : List ℕ) → IsStrictlyIncreasing xs → (k : ℕ) → k < length xs → k ≤ get_or xs k 0
 at_least xs rising zero less = omega arith
 at_least xs rising (suc k) less =
@@ -30,19 +30,19 @@ at_least xs rising (suc k) less =
     let same : get_or xs (suc k) 0 ≡ get_or xs (k + 1) 0 = ap (λ n. get_or xs n 0) (let e : suc k ≡ k + 1 = omega arith in e) in
     omega arith
 
--- the numbers of a rising list of `bound + 1` numbers can't all be below `bound`
+-- a strictly increasing list of `bound + 1` numbers has a number that isn't below `bound`
 pub too_many : (xs : List ℕ) (bound : ℕ) → IsStrictlyIncreasing xs → All (λ x. x < bound) xs → length xs ≡ bound + 1 → ⊥
 too_many xs bound rising below long =
     let least = at_least xs rising bound (omega arith) in
     let less = below bound 0 (omega arith) in
     omega arith
 
--- if the index of each reply is below a bound, all numbers in the list of these indexes are below
--- the bound
+-- if the index of each reply is below `bound`, each element of the list of these indexes is below
+-- `bound`
 pub below_indexes : (bound : ℕ) (done : List Reply) → All (λ r. r.index < bound) done → All (λ x. x < bound) (indexes done)
 below_indexes bound done inside = All-map (λ x. x < bound) (λ (r : Reply). r.index) done inside
 
--- a prefix of a rising list is rising
+-- a prefix of a strictly increasing list is strictly increasing
 rising_front : (xs ys : List ℕ) → IsStrictlyIncreasing (xs ++ ys) → IsStrictlyIncreasing xs
 rising_front xs ys rising k less =
     let step = rising k (let long = length-append xs ys in omega arith) in
@@ -50,7 +50,7 @@ rising_front xs ys rising k less =
     let next = get_or_append_left xs ys 0 (k + 1) less in
     omega arith
 
--- a number that is at least a bound isn't in a list whose items are all below the bound
+-- if all elements of a list are below `bound`, no number from `bound` on is in the list
 times-above : (xs : List ℕ) (bound x : ℕ) → All (λ y. y < bound) xs → bound ≤ x → times x xs ≡ 0
 times-above [] bound x below above = refl
 times-above (y ∷ ys) bound x below above =
@@ -59,13 +59,14 @@ times-above (y ∷ ys) bound x below above =
     let step : times x (y ∷ ys) ≡ cond (eqb y x) 1 0 + times x ys = sum_by-cons (λ z. cond (eqb z x) 1 0) y ys in
     grind (arith, nat_tests)
 
--- a worker drew until it got a number that is no request's index, and all its replies are to
--- requests
+-- a worker drew until it got a number that isn't the index of a request, and each of its replies is
+-- to a request
 pub record IsDrawnOut (bound : ℕ) (w : Worker) : Type 0 where
   pub inside : All (λ r. r.index < bound) w.done.items
   pub drawn : HasDrawnAll bound w
 
--- if no worker had a fault, each worker drew until it got a number that is no request's index
+-- if no worker had a fault, each worker drew until it got a number that isn't the index of a
+-- request
 pub drawn_out : (id : CounterId) (requests : List Request) (before : List AskerState) (workers : List Worker) → AreRun id requests before workers
     → All (λ (w : Worker). IsNone w.fault) workers → All (IsDrawnOut (length requests)) workers
 drawn_out id requests before workers run none i d less = record {
@@ -73,7 +74,8 @@ drawn_out id requests before workers run none i d less = record {
   drawn = run_drawn id requests before workers run none i d less;
 }
 
--- a worker answered each request as often as it drew the request's index from the counter
+-- the number of times that a worker answered a request is the number of times that it drew the
+-- request's index
 times-drawn : (bound : ℕ) (w : Worker) → IsDrawnOut bound w → (x : ℕ) → x < bound → times x w.drawer.drawn ≡ times x (indexes w.done.items)
 times-drawn bound w is x less =
     let last = is.drawn.0 in
@@ -98,8 +100,8 @@ times_in-past bound (w ∷ ws) all x past =
     let sum = sum_by-cons (λ (l : Vec Reply Global). times x (indexes l.items)) w.done (map (λ (v : Worker). v.done) ws) in
     omega arith
 
--- the counter's last value `word` is above the last number that each worker drew, and therefore
--- above `bound`
+-- The last value of the counter, `word`, is above each number that a worker drew. The last number
+-- of each worker is at least `bound`. So `word` is above `bound`.
 word_past : (bound word : ℕ) (workers : List Worker) → 0 < length workers → All (IsDrawnOut bound) workers → HoldsEachOnce word (all_drawn workers) → bound < word
 word_past bound word [] some all once = absurd (omega arith)
 word_past bound word (w ∷ ws) some all once =
@@ -111,7 +113,7 @@ word_past bound word (w ∷ ws) some all once =
     let here = once last in
     grind (arith, nat_tests)
 
--- all workers together answered each request once
+-- together the workers answered each request exactly once
 pub drawn_once : (bound word : ℕ) (workers : List Worker) → 0 < length workers → All (IsDrawnOut bound) workers → HoldsEachOnce word (all_drawn workers)
     → (x : ℕ) → times_in x (map (λ (w : Worker). w.done) workers) ≡ once_below bound x
 drawn_once bound word workers some all once x = elim (cases_lt x bound) [
@@ -123,8 +125,8 @@ drawn_once bound word workers some all once x = elim (cases_lt x bound) [
   | inr past ↦ let none = times_in-past bound workers all x past in grind (arith, nat_tests)
 ]
 
--- since each request has exactly one answer, refused memory is the only error of collecting the
--- answers
+-- each request has exactly one answer, so the only error of collecting the answers is refused
+-- memory
 pub only_memory : (bound word : ℕ) (workers : List Worker) (lists : List (Vec Reply Global)) (e : ServeError) → 0 < length workers → All (IsDrawnOut bound) workers
     → HoldsEachOnce word (all_drawn workers) → lists ≡ map (λ w. w.done) workers → IsCollectError bound lists e → e ≡ Memory
 only_memory bound word workers lists e some all once same (inl memory) = memory
@@ -138,7 +140,7 @@ only_memory bound word workers lists e some all once same (inr (inr twice)) =
     let more = twice.2 in
     absurd (grind (arith, nat_tests))
 
--- the indexes of the requests that a worker answered rise in the order of its answers
+-- each worker answered requests in the order of their indexes
 pub rising_lists : (bound : ℕ) (drawn : List (Vec ℕ Global)) (workers : List Worker) → map (λ (v : Vec ℕ Global). v.items) drawn ≡ map (λ (w : Worker). indexes w.done.items) workers
     → All (IsDrawnOut bound) workers → All (λ (d : DrawnNumbers). IsStrictlyIncreasing d.drawn) (map (λ (w : Worker). w.drawer) workers)
     → All (λ (v : Vec ℕ Global). IsStrictlyIncreasing v.items) drawn

@@ -1,4 +1,4 @@
--- In a list of workers, the fault of the first worker that has one.
+-- The fault of the first worker in a list that has a fault.
 use Rattle.std.proofs.Common.{◌≡◌, List, [], ◌∷◌, ◌++◌, Option, Some, None, IfSome, IsNone, refl, ap, ◌∙◌}
 use Rattle.core.specs.Option.{option_or}
 use Rattle.cspf_work.specs.declared.serve_error.ServeError.{ServeError}
@@ -14,14 +14,14 @@ option_or-assoc : (a b c : Option ServeError) → option_or a (option_or b c) �
 option_or-assoc None b c = refl
 option_or-assoc (Some e) b c = refl
 
--- If a worker is added at the end of a list, the first fault is still that of the earlier workers.
--- If the earlier workers have no fault, it is the fault of the new worker.
+-- A worker is added at the end of a list. If an earlier worker has a fault, the first fault is
+-- still the fault of an earlier worker. Otherwise it is the fault of the new worker.
 pub first_fault-push : (ws : List Worker) (w : Worker) → first_fault (ws ++ w ∷ []) ≡ option_or (first_fault ws) w.fault
 first_fault-push [] w = option_or-none w.fault
 first_fault-push (v ∷ ws) w = ap (option_or v.fault) (first_fault-push ws w) ∙ option_or-assoc v.fault (first_fault ws) w.fault
 
--- if each of two optional faults is one that a worker can have, so is the fault that `option_or`
--- takes from the two
+-- if each of two optional faults is one that a worker can have, the same is true of their
+-- `option_or`
 pub fault_of_either : (found next : Option ServeError) → IfSome found IsFaultOfWorker → IfSome next IsFaultOfWorker → IfSome (option_or found next) IsFaultOfWorker
 fault_of_either None next a b = b
 fault_of_either (Some e) next a b = a

@@ -1,4 +1,4 @@
--- How the workers' answers are stored in the places of their requests.
+-- The workers' answers are stored in the slots of their requests.
 use Rattle.std.proofs.Common.{◌≡◌, ◌≢◌, ℕ, zero, suc, ◌+◌, ◌<◌, ◌⊎◌, true, false, cond, eqb, List, [], ◌∷◌, ◌++◌, length, map, Option, Some, None, get_or, All, Vec, inl, inr, refl, sym, ap, ◌∙◌, subst, arith, rules, IsSome, is_some, append-nil, append_assoc, slice_get, slice_set, sum_by, flat_map}
 use Rattle.std.specs.Global.{Global}
 use Rattle.std.specs.Option.{option_map}
@@ -36,15 +36,15 @@ indexes-append (x ∷ xs) ys = ap (λ l. x.index ∷ l) (indexes-append xs ys)
 pub times-append : (x : ℕ) (xs ys : List ℕ) → times x (xs ++ ys) ≡ times x xs + times x ys
 times-append x xs ys = sum_by-append (λ y. cond (eqb y x) 1 0) xs ys
 
--- if the number `y` is added to a list, `y` is in the list once more, and all other numbers are in
--- the list as often as before
+-- the number `y` is added at the end of a list: it is in the list one more time, and each other
+-- number as often as before
 pub times-push : (x : ℕ) (xs : List ℕ) (y : ℕ) → times x (xs ++ y ∷ []) ≡ times x xs + cond (eqb y x) 1 0
 times-push x xs y = sum_by_push (λ z. cond (eqb z x) 1 0) xs y
 
 times-indexes-push : (x : ℕ) (done : List Reply) (r : Reply) → times x (indexes (done ++ r ∷ [])) ≡ times x (indexes done) + cond (eqb r.index x) 1 0
 times-indexes-push x done r = ap (times x) (indexes-append done (r ∷ [])) ∙ times-push x (indexes done) r.index
 
--- if all places are empty, they hold the replies of an empty list
+-- if all slots are empty, the slots have the answers of an empty list of replies
 pub filled_none : (slots : List (Option Answer)) → All (λ slot. slot ≡ None) slots → AreFilled slots []
 filled_none slots none = record {
   placed = λ k d less. absurd (omega arith);
@@ -57,8 +57,8 @@ filled_none slots none = record {
   past = λ x at. refl;
 }
 
--- if the place of a reply is empty and the reply's answer is stored there, the places hold the
--- earlier replies and this one
+-- if the slot of a reply is empty and the reply's answer is stored in it, the slots have the
+-- answers of the earlier replies and of this reply
 pub filled_more : (slots : List (Option Answer)) (done : List Reply) (r : Reply)
     → slice_get slots r.index ≡ Some None → AreFilled slots done → AreFilled (slice_set slots r.index (Some r.answer)) (done ++ r ∷ [])
 filled_more slots done r free is =
@@ -98,7 +98,7 @@ filled_more slots done r free is =
       ];
     }
 
--- if the place of a reply already holds an answer, two replies have this reply's index
+-- if the slot of a reply already has an answer, two replies have this reply's index
 pub filled_twice : (slots : List (Option Answer)) (done : List Reply) (r : Reply) (a : Answer)
     → slice_get slots r.index ≡ Some (Some a) → AreFilled slots done → IsTwice (done ++ r ∷ []) (Twice r.index)
 filled_twice slots done r a at is = (
@@ -118,20 +118,20 @@ twice_more done more e t = (
       omega arith,
 )
 
--- if a test finds an answer in the place of a reply, two replies have this reply's index
+-- if a test finds an answer in the slot of a reply, two replies have this reply's index
 pub put_twice : (slots : List (Option Answer)) (done : List Reply) (r : Reply) (o : Option Answer)
     → o ≡ get_or slots r.index o → r.index < length slots → is_some o ≡ true → AreFilled slots done → IsTwice (done ++ r ∷ []) (Twice r.index)
 put_twice slots done r (Some a) at inside full is = filled_twice slots done r a (slice_get_read slots (length slots) r.index (Some a) refl inside at) is
 put_twice slots done r None at inside full is = absurd (false≢true full)
 
--- if a test finds the place of a reply empty and the reply's answer is stored there, the places
--- hold this reply too
+-- if a test finds the slot of a reply empty and the reply's answer is stored in it, the slots also
+-- have the answer of this reply
 pub put_free : (slots : List (Option Answer)) (done : List Reply) (r : Reply) (o : Option Answer)
     → o ≡ get_or slots r.index o → r.index < length slots → is_some o ≡ false → AreFilled slots done → AreFilled (slice_set slots r.index (Some r.answer)) (done ++ r ∷ [])
 put_free slots done r (Some a) at inside free is = absurd (false≢true (sym free))
 put_free slots done r None at inside free is = filled_more slots done r (slice_get_read slots (length slots) r.index None refl inside at) is
 
--- in `xs ++ y ∷ ys` the item at the index `length xs` is `y`
+-- in `xs ++ y ∷ ys` the element at the index `length xs` is `y`
 pub slice_get-seam : {X : Type 0} (xs : List X) (y : X) (ys : List X) → slice_get (xs ++ y ∷ ys) (length xs) ≡ Some y
 slice_get-seam [] y ys = refl
 slice_get-seam (x ∷ xs) y ys = slice_get-seam xs y ys
@@ -140,7 +140,7 @@ from_some : (o : Option Answer) (a : Answer) → option_map (λ (b : Answer). So
 from_some (Some b) a e = cc e
 from_some None a e = absurd (cc e)
 
--- if each place holds an answer, the list of these answers has each reply's answer at the reply's
+-- if each slot has an answer, the list of these answers has each reply's answer at the reply's
 -- index
 pub filled_placed : (slots : List (Option Answer)) (list : List Answer) (done : List Reply)
     → map (λ a. Some a) list ≡ slots → AreFilled slots done → All (IsPlaced list) done
@@ -158,7 +158,7 @@ slice_get-inside [] x less = absurd (omega arith)
 slice_get-inside (a ∷ rest) zero less = refl
 slice_get-inside (a ∷ rest) (suc x) less = slice_get-inside rest x (omega arith)
 
--- if each place holds an answer, each index has exactly one reply
+-- if each slot has an answer, there is exactly one reply for each index
 pub filled_once : (slots : List (Option Answer)) (list : List Answer) (done : List Reply)
     → map (λ a. Some a) list ≡ slots → AreFilled slots done → (x : ℕ) → times x (indexes done) ≡ once_below (length list) x
 filled_once slots list done same is x =
@@ -176,7 +176,7 @@ filled_once slots list done same is x =
       | inr past ↦ let none = is.past x (at ∙ ap (option_map (λ (b : Answer). Some b)) here) in grind (arith, nat_tests)
     ]
 
--- the replies of all lists, one list after the other
+-- the replies of all lists, in the order of the lists
 abbrev pub replies : List (Vec Reply Global) → List Reply
 replies lists = flat_map (λ (l : Vec Reply Global). l.items) lists
 
@@ -188,13 +188,13 @@ all_back : {X : Type 0} (P : X → Type 0) (xs ys : List X) → All P (xs ++ ys)
 all_back P [] ys all = all
 all_back P (x ∷ xs) ys all = all_back P xs ys (All-tail P x (xs ++ ys) all)
 
--- what holds of all replies holds of the replies of each list
+-- a fact about all replies holds of the replies of each list
 pub all_lists : (P : Reply → Type 0) (lists : List (Vec Reply Global)) → All P (replies lists) → All (λ (l : Vec Reply Global). All P l.items) lists
 all_lists P [] all = All-nil (λ (l : Vec Reply Global). All P l.items)
 all_lists P (l ∷ ls) all =
     All-cons (λ (v : Vec Reply Global). All P v.items) l ls (all_front P l.items (replies ls) all) (all_lists P ls (all_back P l.items (replies ls) all))
 
--- how often an index is in all lists together is the sum of how often it is in each list
+-- the count of an index in all lists together is the sum of its counts in the single lists
 pub times-replies : (x : ℕ) (lists : List (Vec Reply Global)) → times x (indexes (replies lists)) ≡ times_in x lists
 times-replies x [] = refl
 times-replies x (l ∷ ls) =
@@ -202,7 +202,8 @@ times-replies x (l ∷ ls) =
     ∙ ap (λ n. times x (indexes l.items) + n) (times-replies x ls)
     ∙ sym (sum_by-cons (λ (v : Vec Reply Global). times x (indexes v.items)) l ls)
 
--- an index is in the workers' lists of indexes as often as in their lists of replies
+-- the number of times that an index is in the lists of indexes is the number of times that it is in
+-- the lists of replies
 pub times_in-indexes : (x : ℕ) (drawn : List (Vec ℕ Global)) (lists : List (Vec Reply Global))
     → map (λ (v : Vec ℕ Global). v.items) drawn ≡ map (λ (l : Vec Reply Global). indexes l.items) lists
     → sum_by (λ (v : Vec ℕ Global). times x v.items) drawn ≡ times_in x lists
@@ -220,8 +221,8 @@ times_in-indexes x (v ∷ vs) (l ∷ ls) same =
 pub replies-push : (lists : List (Vec Reply Global)) (l : Vec Reply Global) → replies (lists ++ l ∷ []) ≡ replies lists ++ l.items
 replies-push lists l = flat_map-append (λ (v : Vec Reply Global). v.items) lists (l ∷ []) ∙ ap (λ rest. replies lists ++ rest) (append-nil l.items)
 
--- The replies of some of the lists are stored in the places of their requests. If memory is refused
--- then, or two of these replies have the same index, this is an error of collecting the answers.
+-- Lists of replies are stored, and then one more list. If memory is refused, or two of these
+-- replies have the same index, this is an error of collecting the answers.
 pub twice_collected : (count : ℕ) (first rest lists : List (Vec Reply Global)) (l : Vec Reply Global) (e : ServeError)
     → (first ++ l ∷ []) ++ rest ≡ lists → (e ≡ Memory) ⊎ IsTwice (replies first ++ l.items) e → IsCollectError count lists e
 twice_collected count first rest lists l e whole (inl memory) = inl memory
@@ -234,8 +235,8 @@ twice_collected count first rest lists l e whole (inr twice) =
     ap (times_in index) (sym whole) ∙ sum_by-append (λ (v : Vec Reply Global). times index (indexes v.items)) (first ++ l ∷ []) rest in
     inr (inr (index, twice.1, omega arith))
 
--- The replies of all lists are stored in the places of their requests. If memory is refused then,
--- or a place is empty afterwards, this is an error of collecting the answers.
+-- The replies of all lists are stored in the slots of their requests. If memory is refused after
+-- that, or a slot is empty, this is an error of collecting the answers.
 pub missing_collected : (count : ℕ) (slots : List (Option Answer)) (lists : List (Vec Reply Global)) (e : ServeError)
     → length slots ≡ count → AreFilled slots (replies lists) → (e ≡ Memory) ⊎ ((index : ℕ) × (e ≡ Missing index) × (slice_get slots index ≡ Some None)) → IsCollectError count lists e
 missing_collected count slots lists e long is (inl memory) = inl memory
@@ -243,31 +244,31 @@ missing_collected count slots lists e long is (inr missing) =
     let less = slice_get_within slots missing.0 None missing.2 in
     inr (inl (missing.0, missing.1, omega arith, sym (times-replies missing.0 lists) ∙ is.none missing.0 missing.2))
 
--- if the list `all` is `before` and then `left`, and `left` is `x` and then `after`, then `all` is
--- `before`, `x` and `after` in this order
+-- if `all` is `before` followed by `left`, and `left` is `x` followed by `after`, then `all` is
+-- `before`, `x` and `after`, in this order
 pub left_step : {X : Type 0} (before : List X) (x : X) (left after all : List X) → before ++ left ≡ all → left ≡ x ∷ after → (before ++ x ∷ []) ++ after ≡ all
 left_step before x left after all whole next = append_assoc before (x ∷ []) after ∙ ap (λ l. before ++ l) (sym next) ∙ whole
 
--- if the list `all` is `before` and then `left`, and `left` is empty, `all` is `before`
+-- if `all` is `before` followed by `left`, and `left` is empty, `all` is `before`
 pub left_none : {X : Type 0} (before left all : List X) → before ++ left ≡ all → length left ≡ 0 → before ≡ all
 left_none before [] all whole none = sym (append-nil before) ∙ whole
 left_none before (x ∷ left) all whole none = absurd (omega arith)
 
--- what holds of all items holds of `x`, the first of the items `left` that come after the items
--- `before`
+-- a fact about all elements holds of `x`, the first element of `left`, where `left` follows the
+-- elements `before`
 pub left_next : {X : Type 0} (P : X → Type 0) (before : List X) (x : X) (left after all : List X) → before ++ left ≡ all → left ≡ x ∷ after → All P all → P x
 left_next P before x left after all whole next holds =
     let same : before ++ x ∷ after ≡ all = ap (λ l. before ++ l) (sym next) ∙ whole in
     let here : All P (before ++ x ∷ after) = subst (All P) (sym same) holds in
     All-head P x after (all_back P before (x ∷ after) here)
 
--- if one more item is added at the end of a list, one more result is added at the end of the list
--- of the results of `f`
+-- if an element is added at the end of a list, its value under `f` is added at the end of the list
+-- of values
 pub map_push : {X Y : Type 0} (f : X → Y) (xs ys : List X) (x : X) → ys ≡ xs ++ x ∷ [] → map f ys ≡ map f xs ++ f x ∷ []
 map_push f xs ys x pushed = ap (map f) pushed ∙ map-append f xs (x ∷ [])
 
 -- if the error names an index that two of the replies up to `r` have, two replies of the whole list
--- have this index
+-- also have this index
 pub twice_whole : (done before : List Reply) (r : Reply) (after all : List Reply) (e : ServeError)
     → (before ++ r ∷ []) ++ after ≡ all → IsTwice ((done ++ before) ++ r ∷ []) e → IsTwice (done ++ all) e
 twice_whole done before r after all e whole twice =

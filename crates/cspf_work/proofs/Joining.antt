@@ -1,4 +1,4 @@
--- The answers of all workers, collected into one list.
+-- The answers of all workers are collected into one list.
 use Rattle.std.proofs.Common.{◌≡◌, ℕ, zero, suc, ◌<◌, ◌≤◌, List, [], ◌∷◌, length, map, Option, Some, None, get_or, All, Vec, refl, sym, ap, ◌∙◌, subst, arith, slice_get}
 use Rattle.std.specs.Global.{Global}
 use Rattle.std.specs.Option.{option_map}
@@ -58,8 +58,8 @@ map-map : {A B C : Type 0} (f : A → B) (g : B → C) (xs : List A) → map g (
 map-map f g [] = refl
 map-map f g (x ∷ xs) = ap (λ l. g (f x) ∷ l) (map-map f g xs)
 
--- the lists of replies `lists`, the answers `list` and the lists of indexes `drawn` are those that
--- were collected from these workers
+-- the lists of replies `lists`, the answers `list` and the lists of indexes `drawn` were collected
+-- from these workers
 pub record AreCollected (workers : List Worker) (lists : List (Vec Reply Global)) (list : List Answer) (drawn : List (Vec ℕ Global)) : Type 0 where
   pub lists_are : lists ≡ map (λ w. w.done) workers
   pub drawn_are : map (λ v. v.items) drawn ≡ map (λ l. indexes l.items) lists

@@ -1,4 +1,4 @@
--- Answers at the last published version.
+-- All requests are answered at the last published version.
 use Rattle.std.proofs.Common.{◌≡◌, ℕ, ◌≤◌, All, List, take, length, get_or, ap, ◌∙◌, subst, arith, Vec, inl, inr}
 use Rattle.std.proofs.lemmas.Bool.{cases_lt}
 use Rattle.std.proofs.Math.Seq.{take-length}
@@ -17,7 +17,8 @@ use Rattle.cspf_work.proofs.Asked.{begins_through}
 use Rattle.cspf_work.proofs.Running.{at_place}
 use Rattle.cspf_work.proofs.Telling.{no_earlier, within_published}
 
--- answers whose version is the number of published batches are computed from all published batches
+-- if the version of each answer is the number of published batches, all answers are computed from
+-- all published batches
 answers_at_version : (published : List NumberedChanges) (requests : List Request) (list : List Answer) (version : ℕ) → version ≡ length published
     → length list ≡ length requests → All (λ (a : Answer). a.version ≡ version) list → AreAnswersWithin published requests list → AreAnswersAfter published requests list
 answers_at_version published requests list version is count same within = record {
@@ -29,13 +30,13 @@ answers_at_version published requests list version is count same within = record
       subst (λ (bs : List NumberedChanges). IsAnswerAfter bs q a) whole right.answer;
 }
 
--- no answer has a version above the number of published batches
+-- if the version of each answer is the number of published batches, no answer has a later version
 no_later : (published : List NumberedChanges) (list : List Answer) (version : ℕ) → version ≡ length published
     → All (λ (a : Answer). a.version ≡ version) list → All (λ (a : Answer). a.version ≤ length published) list
 no_later published list version is same i d less = let one = same i d less in omega arith
 
--- askers (which compute the workers' answers) that have learnt the published batches still know
--- them later
+-- if askers (which compute the workers' answers) have learnt of the published batches, they still
+-- know these batches later
 pub told_later : (published : List NumberedChanges) (before after : List AskerState) → AreSameAskers before after
     → All (λ (k : AskerState). BeginsWith k.batches published) before → All (λ (k : AskerState). BeginsWith k.batches published) after
 told_later published before after same told i d less =
@@ -46,9 +47,9 @@ told_later published before after same told i d less =
     subst (λ (k : AskerState). BeginsWith k.batches published) (get_or_from_slice_get before i old.0 old.0 old.1) (told i old.0 (omega arith)) in
     begins_through published (old.0).batches (get_or after i d).batches was knows.later
 
--- Suppose that all askers (which compute the workers' answers) had learnt the published batches
--- before the workers began, and each answer has the last version. Then all answers are computed
--- from all published batches.
+-- Before the workers began, all askers (which compute the workers' answers) had learnt of the
+-- published batches. Also, the version of each answer is the last published version. Then all
+-- answers are computed from all published batches.
 pub latest_answers : (published : List NumberedChanges) (requests : List Request) (told after : List AskerState) (list : List Answer) (drawn : List (Vec ℕ Global)) (version : ℕ)
     → version ≡ length published → All (λ (k : AskerState). BeginsWith k.batches published) told → AreSameAskers told after
     → AreAnsweredByWorkers requests told after list drawn → All (λ (a : Answer). (version ≤ a.version) × (a.version ≤ version)) list → AreAnswersAfter published requests list
@@ -57,9 +58,9 @@ latest_answers published requests told after list drawn version is begins same a
     answers_at_version published requests list version is answered.count exact
     (within_published requests told after list drawn published same.count (told_later published told after same begins) (no_later published list version is exact) answered)
 
--- Suppose that all askers (which compute the workers' answers) had learnt the published batches.
--- The error names the first answer whose version isn't the last published one. Then this answer's
--- version is above the published ones.
+-- All askers (which compute the workers' answers) had learnt of the published batches. The error
+-- names the first answer whose version isn't the last published one. The version of this answer is
+-- above the published versions.
 pub later_version : (published : List NumberedChanges) (requests : List Request) (told after : List AskerState) (list : List Answer) (drawn : List (Vec ℕ Global)) (version : ℕ) (e : ServeError)
     → version ≡ length published → All (λ (k : AskerState). BeginsWith k.batches published) told → AreSameAskers told after
     → AreAnsweredByWorkers requests told after list drawn → IsFirstStray list (λ v. (version ≤ v) × (v ≤ version)) e → IsUnaccounted (length requests) (length published) e

@@ -1,4 +1,4 @@
--- What all workers have done, worker by worker.
+-- The work of all workers, described for each worker.
 use Rattle.std.proofs.Common.{◌≡◌, ℕ, zero, suc, ◌<◌, List, [], ◌∷◌, ◌++◌, All, IfSome, IsNone, take, length, map, Option, Some, None, get_or, refl, sym, ap, ◌∙◌, subst, arith, slice_get}
 use Rattle.std.specs.Option.{option_map}
 use Rattle.std.proofs.lemmas.List.{length-map}
@@ -14,13 +14,13 @@ use Rattle.cspf_work.specs.declared.worker.Results.{Results}
 use Rattle.cspf_work.specs.Served.{AreSameAskers, IsFaultOfWorker, KnowsNoLess}
 use Rattle.cspf_work.specs.Working.{HasDrawnAll, IsWorkerRun, AreReady, AreResults, AreRun, AreLeft}
 
--- an index within a list has an item
+-- a list has an element at each index below its length
 pub at_place : {X : Type 0} (xs : List X) (i : ℕ) → i < length xs → (x : X) × (slice_get xs i ≡ Some x)
 at_place [] i less = absurd (omega arith)
 at_place (x ∷ xs) zero less = (x, refl)
 at_place (x ∷ xs) (suc i) less = at_place xs i (omega arith)
 
--- what each worker has done, by the worker's index
+-- the loop of the worker at each index has ended as `IsWorkerRun` says
 abbrev pub AreRunByPlace : CounterId → List Request → List Worker → List Worker → Type 0
 AreRunByPlace counter requests old new = (i : ℕ) (d : Worker) → i < length old → IsWorkerRun counter requests (get_or old i d).asker (get_or new i d)
 
@@ -40,7 +40,7 @@ run_each counter requests old new some same run = record {
   each = λ i known after at there. run_at counter requests old new run i known after (slice_get old i) refl (sym (slice_get-map (λ (w : Worker). w.asker) old i) ∙ at) there;
 }
 
--- if all workers have run, the worker at each index has run
+-- if the loops of all workers have ended, the loop of the worker at each index has ended
 run_of : (counter : CounterId) (requests : List Request) (before : List AskerState) (workers : List Worker) → AreRun counter requests before workers → (i : ℕ) (d : Worker) → i < length workers
     → (known : AskerState) × IsWorkerRun counter requests known (get_or workers i d)
 run_of counter requests before workers run i d less =
@@ -60,13 +60,14 @@ pub run_counters : (counter : CounterId) (requests : List Request) (before : Lis
 run_counters counter requests before workers run =
     All-map (λ (d : DrawnNumbers). d.counter ≡ counter) (λ (w : Worker). w.drawer) workers (λ i d less. (run_of counter requests before workers run i d less).1.counter)
 
--- if no worker has a fault, each worker has drawn from the counter until it got a number that is no
--- request's index
+-- if no worker has a fault, each worker has drawn from the counter until it got a number that isn't
+-- the index of a request
 pub run_drawn : (counter : CounterId) (requests : List Request) (before : List AskerState) (workers : List Worker) → AreRun counter requests before workers
     → All (λ (w : Worker). IsNone w.fault) workers → All (λ (w : Worker). HasDrawnAll (length requests) w) workers
 run_drawn counter requests before workers run none i d less = (run_of counter requests before workers run i d less).1.drawn (none i d less)
 
--- each asker (which computes a worker's answers) knows at least the batches that it knew before
+-- after the work, each asker (which computes a worker's answers) knows at least the batches that it
+-- knew before
 pub run_askers : (counter : CounterId) (requests : List Request) (before : List AskerState) (workers : List Worker) (after : List AskerState)
     → after ≡ map (λ w. w.asker) workers → AreRun counter requests before workers → AreSameAskers before after
 run_askers counter requests before workers after askers run = record {
@@ -79,13 +80,13 @@ run_askers counter requests before workers after askers run = record {
     asker_at i old new (Some w) here at there = subst (λ (k : AskerState). KnowsNoLess old k) (cc there) ((run.each i old w at here).done.asker)
     asker_at i old new None here at there = absurd (cc there)
 
--- if a slice of `n` items is written back to a list, the first `n` items of the list are those of
--- the slice
+-- if a slice of `n` elements replaces the first `n` elements of a list, the list begins with this
+-- slice
 written_back : {X : Type 0} (new rest : List X) (n : ℕ) → n ≡ length new → take n (new ++ rest) ≡ new
 written_back new rest n long = ap (λ m. take m (new ++ rest)) long ∙ take-append_seam new rest
 
--- If workers run while they are lent as a slice, and the slice is then written back to the list of
--- workers, the workers of this list have run.
+-- The list of workers is lent as a slice. If the workers of the slice have run, the workers of the
+-- list have run after the slice is written back.
 pub run_written_back : (counter : CounterId) (requests : List Request) (before : List AskerState) (workers lent new rest : List Worker) (n : ℕ)
     → lent ≡ workers → n ≡ length workers → AreReady counter requests before workers
     → (AreReady counter requests before lent → AreRun counter requests before new) → AreRun counter requests before (take n (new ++ rest))
@@ -94,7 +95,7 @@ run_written_back counter requests before workers lent new rest n same long ready
     let count : n ≡ length new = (let each = of_all.count in let all = ap length ready.askers in let map_long = length-map workers (λ (w : Worker). w.asker) in omega arith) in
     subst (λ (all : List Worker). AreRun counter requests before all) (sym (written_back new rest n count)) of_all
 
--- these are the results of workers that were ready at first and drew from the counter `id`
+-- these are the results of some workers that were ready at the start and drew from the counter `id`
 pub results_of : (own id : CounterId) (requests : List Request) (before : List AskerState) (idle : List Worker) (numbers : List ℕ) (results : Results)
     → own ≡ id → AreReady id requests before idle → AreLeft own requests idle numbers results
     → (workers : List Worker) × AreResults id requests before numbers results workers
@@ -102,8 +103,8 @@ results_of own id requests before idle numbers results same ready run =
     subst (λ (k : CounterId). (workers : List Worker) × AreResults k requests before numbers results workers) same
     (run before (subst (λ (k : CounterId). AreReady k requests before idle) (sym same) ready))
 
--- these are the results of some workers whose askers (which compute their answers) knew some
--- batches at first
+-- these are the results of some workers, for some states of their askers (which compute their
+-- answers) at the start
 pub left_of : (own id : CounterId) (requests : List Request) (before : List AskerState) (idle : List Worker) (numbers : List ℕ) (results : Results)
     → own ≡ id → AreReady id requests before idle → AreLeft own requests idle numbers results
     → (known : List AskerState) × (workers : List Worker) × AreResults id requests known numbers results workers
@@ -111,9 +112,9 @@ left_of own id requests before idle numbers results same ready run =
     let is = results_of own id requests before idle numbers results same ready run in
     (before, is.0, is.1)
 
--- Take workers that are done now, and that were ready when their askers (which compute their
--- answers) knew `before`. If `P` holds of each list `known` for which `AreResults` holds of the
--- workers' results, `P` holds of `before`.
+-- The workers were ready at the start, with askers (which compute their answers) in the states
+-- `before`, and they have ended. If `P` holds of each list `known` for which `AreResults` holds of
+-- the workers' results, then `P` holds of `before`.
 pub of_results : (P : List AskerState → Type 0) (own id : CounterId) (requests : List Request) (before : List AskerState) (idle : List Worker) (numbers : List ℕ) (results : Results)
     → own ≡ id → AreReady id requests before idle → AreLeft own requests idle numbers results
     → ((known : List AskerState) (workers : List Worker) → AreResults id requests known numbers results workers → P known)

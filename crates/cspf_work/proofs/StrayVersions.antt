@@ -1,4 +1,4 @@
--- The error that names the first answer with a version that isn't published.
+-- The error names the first answer whose version isn't published.
 use Rattle.std.proofs.Common.{◌≡◌, ℕ, ◌≤◌, List, length, inl, inr, arith}
 use Rattle.std.proofs.lemmas.Bool.{cases_lt}
 use Rattle.std.proofs.lemmas.Option.{slice_get_within}
@@ -7,7 +7,7 @@ use Rattle.cspf_work.specs.declared.serve_error.ServeError.{ServeError}
 use Rattle.cspf_work.specs.Served.{IsUnaccounted}
 use Rattle.cspf_work.specs.Strays.{IsFirstStray}
 
--- the error names the index of a request, and a version above the published ones
+-- the error gives the index of a request, and a version above the published versions
 pub unaccounted_of : (list : List Answer) (requests published : ℕ) (e : ServeError) → length list ≡ requests
     → IsFirstStray list (λ v. (0 ≤ v) × (v ≤ published)) e → IsUnaccounted requests published e
 unaccounted_of list requests published e count is =

@@ -1,5 +1,5 @@
--- What holds of the workers' answers, if a publisher applied batches meanwhile. Afterwards each
--- asker (which computes a worker's answers) learnt the published batches.
+-- Workers answer requests while a publisher applies batches. Afterwards each asker (which computes
+-- a worker's answers) learns of the published batches. The answers are still right then.
 use Rattle.std.proofs.Common.{◌≡◌, ℕ, zero, suc, ◌+◌, ◌<◌, ◌≤◌, cond, eqb, List, [], ◌∷◌, length, length-append, Option, Some, get_or, All, Vec, inl, inr, refl, sym, ap, ◌∙◌, subst, arith, slice_get, slice_set, sum_by, unwrap_or, option_map}
 use Rattle.std.specs.Global.{Global}
 use Rattle.std.proofs.lemmas.Bool.{cases_Bool, cases_lt, eqb-true, eqb-false}
@@ -34,8 +34,8 @@ served_later requests list before mid after indexes more is = record {
   versions = is.versions;
 }
 
--- answers stay right if the askers (which compute the workers' answers) learn more batches
--- afterwards
+-- if the askers (which compute the workers' answers) learn of more batches after the answers, the
+-- answers are still right
 pub answered_later : (requests : List Request) (before mid after : List AskerState) (list : List Answer) (drawn : List (Vec ℕ Global))
     → length mid ≡ length before → AreSameAskers mid after → AreAnsweredByWorkers requests before mid list drawn → AreAnsweredByWorkers requests before after list drawn
 answered_later requests before mid after list drawn count same is = record {
@@ -65,8 +65,8 @@ served_before requests list before mid after indexes more is = record {
   versions = is.versions;
 }
 
--- Take answers that are right if the askers (which compute the workers' answers) knew `mid` at
--- first. The answers are also right for an earlier state `before` of these askers, in which each
+-- The answers are right for askers (which compute the workers' answers) that knew `mid` at the
+-- start. Then they are also right for an earlier state `before` of these askers, in which each
 -- asker knew no more batches.
 pub answered_before : (requests : List Request) (before mid after : List AskerState) (list : List Answer) (drawn : List (Vec ℕ Global))
     → AreSameAskers before mid → AreAnsweredByWorkers requests mid after list drawn → AreAnsweredByWorkers requests before after list drawn
@@ -91,7 +91,7 @@ same_through before mid after p q = record {
       knows_through old known.0 new (p.each i old known.0 at known.1) (q.each i known.0 new known.1 there);
 }
 
--- if a number is at least once in some lists, one of the lists has it
+-- if some lists together have a number at least once, one of the lists has it
 list_with : (x : ℕ) (lists : List (Vec ℕ Global)) → 0 < sum_by (λ (l : Vec ℕ Global). times x l.items) lists
     → (i : ℕ) × (l : Vec ℕ Global) × (slice_get lists i ≡ Some l) × (0 < times x l.items)
 list_with x [] some = absurd (omega arith)
@@ -106,7 +106,7 @@ list_with x (l ∷ ls) some = elim (cases_lt 0 (times x l.items)) [
 times-cons : (x y : ℕ) (ys : List ℕ) → times x (y ∷ ys) ≡ cond (eqb y x) 1 0 + times x ys
 times-cons x y ys = sum_by-cons (λ z. cond (eqb z x) 1 0) y ys
 
--- if a number is at least once in a list, the list has it at some index
+-- if a list has a number at least once, it has the number at some index
 place_of : (x : ℕ) (xs : List ℕ) → 0 < times x xs → (k : ℕ) × (k < length xs) × (get_or xs k 0 ≡ x)
 place_of x [] some = absurd (omega arith)
 place_of x (y ∷ ys) some = elim (cases_Bool (eqb y x)) [
@@ -120,8 +120,8 @@ place_of x (y ∷ ys) some = elim (cases_Bool (eqb y x)) [
 ]
 
 -- Each request was answered by some worker. The answer is computed from a prefix of the batches
--- that the worker's asker (which computes its answers) knew in the end. The prefix has at least as
--- many batches as the asker knew at first.
+-- that the worker's asker (which computes its answers) knew at the end. The prefix has at least as
+-- many batches as the asker knew at the start.
 served_there : (requests : List Request) (before after : List AskerState) (list : List Answer) (drawn : List (Vec ℕ Global))
     → length after ≡ length before → AreAnsweredByWorkers requests before after list drawn → (i : ℕ) → i < length requests
     → (worker : ℕ) × (old : AskerState) × (new : AskerState) × (slice_get before worker ≡ Some old) × (slice_get after worker ≡ Some new)
@@ -161,16 +161,16 @@ no_earlier requests before after list drawn published count told is i a there =
     let version : version_at list i ≡ a.version = ap (λ (o : Option Answer). unwrap_or (option_map (λ (b : Answer). b.version) o) 0) there in
     omega (arith, later, version, long)
 
--- Let `first` be a prefix of `all` with at least as many batches as the answer's version says. If
--- the answer is computed from a prefix of `all`, it is computed from a prefix of `first`.
+-- An answer is computed from a prefix of `all`, and `first` is a prefix of `all` that isn't shorter
+-- than the answer's version. Then the answer is computed from a prefix of `first`.
 within_front : (all first : List NumberedChanges) (q : Request) (a : Answer) → BeginsWith all first → a.version ≤ length first → IsAnswerWithin all q a → IsAnswerWithin first q a
 within_front all first q a more within is = record {
   version = within;
   answer = subst (λ (bs : List NumberedChanges). IsAnswerAfter bs q a) (take_begins a.version all first more within) is.answer;
 }
 
--- each answer is computed from a prefix of the published batches, if its version isn't above their
--- number
+-- if no answer's version is above the number of published batches, each answer is computed from a
+-- prefix of these batches
 within_published_at : (requests : List Request) (before after : List AskerState) (list : List Answer) (drawn : List (Vec ℕ Global)) (published : List NumberedChanges)
     → length after ≡ length before → All (λ (k : AskerState). BeginsWith k.batches published) after → All (λ (a : Answer). a.version ≤ length published) list
     → AreAnsweredByWorkers requests before after list drawn → (i : ℕ) (q : Request) (a : Answer) → slice_get requests i ≡ Some q → slice_get list i ≡ Some a → IsAnswerWithin published q a
@@ -190,8 +190,8 @@ pub within_published : (requests : List Request) (before after : List AskerState
 within_published requests before after list drawn published count told accounted is =
     record { each = within_published_at requests before after list drawn published count told accounted is }
 
--- the first `n` askers (which compute the workers' answers) have learnt the published batches, and
--- each asker knows at least what it knew before
+-- the first `n` askers (which compute the workers' answers) have learnt of the published batches,
+-- and each asker knows at least the batches that it knew before
 pub record AreTold (published : List NumberedChanges) (before after : List AskerState) (n : ℕ) : Type 0 where
   pub each : (i : ℕ) (d : AskerState) → i < length before → KnowsNoLess (get_or before i d) (get_or after i d)
   pub told : (i : ℕ) (d : AskerState) → i < n → BeginsWith (get_or after i d).batches published
@@ -239,7 +239,7 @@ same_askers before after count each = record {
       (subst (λ (x : AskerState). KnowsNoLess (get_or before i old) x) (get_or_from_slice_get after i new old there) (each i old (slice_get_within before i old at)));
 }
 
--- all askers (which compute the workers' answers) are still bound to the publisher's journal (its
+-- all askers (which compute the workers' answers) still belong to the publisher's journal (its
 -- source)
 pub sources_kept : (source next : Book) (before after : List AskerState) → next ≡ source → All (λ (k : AskerState). k.source ≡ source) before → AreSameAskers before after
     → All (λ (k : AskerState). k.source ≡ next) after

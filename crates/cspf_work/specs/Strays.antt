@@ -4,8 +4,8 @@ use Rattle.cspf_publish.specs.declared.answer.Answer.{Answer}
 use Rattle.cspf_work.specs.declared.serve_error.ServeError.{ServeError}
 use Rattle.cspf_work.specs.declared.serve_error.ServeError.TheVariants.{Unaccounted}
 
--- The error gives the index and the version of the first answer in the list whose version `MayBe`
--- doesn't allow.
+-- The error has the index and the version of the first answer in the list whose version isn't
+-- allowed. `MayBe` says which versions are allowed.
 pub record IsFirstStray (list : List Answer) (MayBe : ℕ → Type 0) (e : ServeError) : Type 0 where
   pub index : ℕ
   pub answer : Answer

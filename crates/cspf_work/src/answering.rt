@@ -12,15 +12,15 @@ use cspf_publish::{Asker, MOST_ASKERS};
 use std::alloc::Global;
 use std::thread::Threads;
 
-/// Answers requests by several workers, each with its own asker (the object that computes a
-/// worker's answers). A worker draws the index of a request from a shared counter and answers the
-/// request, until no index is left. Each index is drawn once, and the indexes that a worker draws
-/// are rising. All workers run at once, each in its own thread. If no thread can be made, they run
-/// one after the other.
+/// Answers requests by several workers. Each worker has an asker, which computes its answers. A
+/// worker draws the index of a request from a shared counter and answers the request, until no
+/// index is left. Each index is drawn once, and the indexes that a worker draws are increasing. All
+/// workers run at once, each in its own thread. If no thread can be made, they run one after the
+/// other.
 ///
-/// All askers (the objects that compute the workers' answers) are returned in order, after an error
-/// too. Each asker knows at least the batches that it knew before. If several workers have faults,
-/// the fault of the first of these workers is returned.
+/// All askers are returned in order, also if there is an error. Each asker knows at least the
+/// batches that it knew before. If several workers have faults, the fault of the first of these
+/// workers is returned.
 pub fn answer_all<G: Gate + Sync, R: Threads + Sync>(
     rt: &R,
     alloc: Global,
@@ -34,7 +34,7 @@ pub fn answer_all<G: Gate + Sync, R: Threads + Sync>(
         askers.items all.askers.items all.list.items all.drawn.items) }
     ensures rising { IfOk result (λ all. All (λ v. IsStrictlyIncreasing v.items) all.drawn.items) }
     ensures askers { IfOk result (λ all. AreSameAskers askers.items all.askers.items) }
-    // Each request's index is drawn from the counter exactly once, by one worker, so each request
+    // Each request's index is drawn from the counter exactly once, by one worker. So each request
     // has exactly one answer.
     ensures error { IfErr result (λ e. IsFaultOfWorker e.0) }
     ensures back { IfErr result (λ e. AreSameAskers askers.items e.1.items) }

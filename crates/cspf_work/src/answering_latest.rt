@@ -12,13 +12,12 @@ use std::alloc::Global;
 use std::io::Write;
 use std::thread::Threads;
 
-/// First each asker (the object that computes a worker's answers) learns the published batches.
-/// Then requests are answered as by `answer_all`, at the last published version. An answer with a
-/// later version is the error `Unaccounted`.
+/// First each asker (the object that computes a worker's answers) learns of the published batches.
+/// Then requests are answered as by `answer_all`, at the last published version. If an answer has a
+/// later version, the call returns the error `Unaccounted`.
 ///
-/// The askers (the objects that compute the workers' answers) are those that `open` made for this
-/// publisher. All of them are returned in order, after an error too, and know the published
-/// batches.
+/// The askers have to be the askers that `open` made for this publisher. All of them are returned
+/// in order, also if there is an error, and know the published batches.
 pub fn answer_latest<W: Write, G: Gate + Sync, R: Threads + Sync>(
     rt: &R,
     alloc: Global,

@@ -1,4 +1,4 @@
-//! Workers answer requests while this thread publishes batches.
+//! Workers answer requests while the calling thread publishes batches.
 
 ghost use Rattle.std.specs.Prelude.{◌⊎◌, ◌<◌, ◌≤◌, ◌≡◌, List, length, All, IfOk, IfErr, vec_len};
 ghost use Rattle.std.specs.List.Sorted.{IsStrictlyIncreasing};
@@ -26,8 +26,8 @@ use std::sync::Wait;
 use std::thread;
 use std::thread::Threads;
 
-/// Applies batches in order, up to the first that is refused. Returns how many were applied, and
-/// why the next batch was refused, if one was.
+/// Applies batches in order, until one is refused or no batch is left. Returns the number of
+/// applied batches, and why the next batch was refused, if it was.
 fn apply_all<W: Write, R: Wait>(
     rt: &R,
     alloc: Global,
@@ -46,7 +46,7 @@ fn apply_all<W: Write, R: Wait>(
     (applied, None)
 }
 
-/// Applies batches in this thread while the workers answer requests.
+/// Applies batches in the calling thread while the workers answer requests.
 fn apply_and_run<W: Write, G: Gate + Sync, R: Threads + Wait + Sync>(
     rt: &R,
     alloc: Global,
@@ -76,8 +76,8 @@ fn apply_and_run<W: Write, G: Gate + Sync, R: Threads + Wait + Sync>(
     thread::join_mut(rt, &mut answer, &mut apply).1
 }
 
-/// The results of the workers, after they have answered all requests and this thread has applied
-/// the batches.
+/// Returns the results of the workers, after they have answered all requests and the calling thread
+/// has applied the batches.
 fn run_beside<W: Write, G: Gate + Sync, R: Threads + Wait + Sync>(
     rt: &R,
     alloc: Global,
@@ -157,16 +157,15 @@ fn run_lent<W: Write, G: Gate + Sync, R: Threads + Wait + Sync>(
     }
 }
 
-/// Answers requests as `answer_all` does, while this thread applies batches in order, up to the
-/// first that is refused. Afterwards each asker (the object that computes a worker's answers)
-/// learns the published batches. An answer with a version that isn't published is the error
-/// `Unaccounted`.
+/// Answers requests as `answer_all` does. Meanwhile the calling thread applies batches in order,
+/// until one is refused or no batch is left. Afterwards each asker (the object that computes a
+/// worker's answers) learns of the published batches. If an answer has a version that isn't
+/// published, the call returns the error `Unaccounted`.
 ///
-/// The askers (the objects that compute the workers' answers) are those that `open` made for this
-/// publisher. After an error too, all askers are returned in order, and so is the publisher. After
-/// an error either nothing has happened, or the batches were applied up to the first that was
-/// refused. In the second case a fault of the journal may have stopped the publisher, and each
-/// asker has learnt the published batches.
+/// The askers have to be the askers that `open` made for this publisher. If there is an error, the
+/// publisher and all askers are returned, too. Then either nothing has happened, or the batches
+/// were applied until one was refused or no batch was left. In the second case a fault of the
+/// journal may have stopped the publisher, and each asker has learnt of the published batches.
 pub fn run_live<W: Write, G: Gate + Sync, R: Threads + Wait + Sync>(
     rt: &R,
     alloc: Global,

@@ -8,7 +8,7 @@ pub struct Answers {
     /// For each worker, the indexes of the requests that it answered, in the order in which it
     /// answered them.
     pub drawn: Vec<Vec<usize>>,
-    /// The askers (the objects that compute the workers' answers), in the order in which the caller
-    /// gave them.
+    /// The askers (the objects that compute the workers' answers), in the order of the caller's
+    /// list.
     pub askers: Vec<Asker>,
 }

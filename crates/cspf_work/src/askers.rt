@@ -5,7 +5,7 @@ ghost use Rattle.cspf_work.specs.Served.{AreSameAskers};
 use cspf_publish::{Asker, Publisher};
 use std::io::Write;
 
-/// Lets each asker (the object that computes a worker's answers) learn the published batches.
+/// Lets each asker (the object that computes a worker's answers) learn of the published batches.
 pub(crate) fn tell_each<W: Write>(publisher: &mut Publisher<W>, askers: &mut Vec<Asker>)
     requires { All (λ a. a.source ≡ publisher.old.source) askers.old.items }
     ensures same { publisher.new ≡ publisher.old }

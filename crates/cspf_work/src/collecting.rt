@@ -12,7 +12,7 @@ use crate::worker::Reply;
 use cspf_publish::Answer;
 use std::alloc::{AllocError, Global};
 
-/// An empty place for the answer of each request.
+/// Makes an empty slot for the answer to each request.
 fn empty_slots(alloc: Global, count: usize) -> Result<Vec<Option<Answer>>, AllocError>
     ensures count { IfOk result (λ slots. vec_len slots ≡ count) }
     ensures none { IfOk result (λ slots. All (λ slot. slot ≡ None) slots.items) }
@@ -24,7 +24,7 @@ fn empty_slots(alloc: Global, count: usize) -> Result<Vec<Option<Answer>>, Alloc
     Ok(slots)
 }
 
-/// Stores the reply's answer in the place of its request.
+/// Stores the reply's answer in the slot of its request.
 fn put(reply: Reply, slots: &mut Vec<Option<Answer>>) -> Result<(), ServeError>
     requires { reply.index < vec_len slots.old }
     ensures count { vec_len slots.new ≡ vec_len slots.old }
@@ -41,7 +41,7 @@ fn put(reply: Reply, slots: &mut Vec<Option<Answer>>) -> Result<(), ServeError>
     Ok(())
 }
 
-/// Stores the answers of a worker in the places of their requests.
+/// Stores the answers of a worker in the slots of their requests.
 fn put_list(list: Vec<Reply>, slots: &mut Vec<Option<Answer>>) -> Result<(), ServeError>
     requires { All (λ r. r.index < vec_len slots.old) list.items }
     ensures count { vec_len slots.new ≡ vec_len slots.old }
@@ -69,8 +69,8 @@ fn indexes_of(alloc: Global, list: &[Reply]) -> Result<Vec<usize>, AllocError>
     Ok(all)
 }
 
-/// Moves a worker's answers into the places of their requests, and adds the requests' indexes to
-/// `drawn`.
+/// Moves a worker's answers into the slots of their requests, and adds the list of the requests'
+/// indexes to `drawn`.
 fn take_over(
     alloc: Global,
     list: Vec<Reply>,
@@ -95,7 +95,7 @@ fn take_over(
     put_list(list, slots)
 }
 
-/// Returns the answers that are in the places of the requests, if each place has an answer.
+/// Returns the answers from the slots of the requests, if each slot has an answer.
 fn answers_of(alloc: Global, slots: Vec<Option<Answer>>) -> Result<Vec<Answer>, ServeError>
     ensures ok { IfOk result (λ list. map (λ a. Some a) list.items ≡ slots.items) }
     ensures error { IfErr result (λ e. (e ≡ ServeError.Memory)
@@ -115,9 +115,9 @@ fn answers_of(alloc: Global, slots: Vec<Option<Answer>>) -> Result<Vec<Answer>, 
     Ok(list)
 }
 
-/// Returns the answers to `count` requests in the order of the requests. For each worker also
-/// returns the indexes of the requests that it answered, in the order in which it answered them. A
-/// request must have exactly one answer.
+/// Returns the answers to `count` requests, in the order of the requests. For each worker, also
+/// returns the indexes of the requests that it answered, in the order in which it answered them.
+/// Each request must have exactly one answer.
 pub(crate) fn collect(
     alloc: Global,
     lists: Vec<Vec<Reply>>,

@@ -1,6 +1,6 @@
-//! The group of workers that answers one call's requests. Each worker draws the indexes of its
-//! requests from a shared counter. Also the memory that is taken before the workers begin, and
-//! their results.
+//! The group of workers that answers the requests of one call. Each worker draws the indexes of its
+//! requests from a shared counter. Also the memory that is allocated before the workers begin, and
+//! the workers' results.
 ghost use Rattle.std.specs.Prelude.{◌≡◌, ◌+◌, ◌<◌, ◌≤◌, [], List, length, map, All, IfOk, IfErr, IfSome, IsNone, vec_len, vec_capacity};
 ghost use Rattle.cspf_model.specs.declared.request.Request.{Request as OneRequest};
 ghost use Rattle.cspf_draw.specs.declared.limits.TheConstants.{MOST_DRAWERS};
@@ -13,8 +13,8 @@ use cspf_draw::{Counter, Drawer, FirstSeat, LastSeat};
 use cspf_publish::Asker;
 use std::alloc::{AllocError, Global};
 
-/// Memory for the results of workers. It is taken before any work begins, so that all askers (the
-/// objects that compute the answers) can be returned after every error.
+/// Memory for the results of workers. It is allocated before any work begins. So all askers (the
+/// objects that compute the answers) can be returned with every error.
 #[derive(Drop)]
 pub(crate) struct Room<'a> {
     pub(crate) askers: Vec<Asker>,
@@ -23,8 +23,8 @@ pub(crate) struct Room<'a> {
 }
 
 /// The workers of one call, the counter from which they draw the indexes of requests, and the
-/// memory for their results. `first` is the counter's first seat, which records the draws that were
-/// given to no worker.
+/// memory for their results. `first` is the counter's first seat. It records the draws that no
+/// worker may make yet.
 #[derive(Drop)]
 pub(crate) struct Crew<'a> {
     pub(crate) counter: &'a Counter,
@@ -86,7 +86,7 @@ fn workers_of<'a>(
     workers
 }
 
-/// Makes an idle worker for each asker (the object that computes a worker's answers). Takes all
+/// Makes an idle worker for each asker (the object that computes a worker's answers). Allocates all
 /// memory that the workers need before their first request. If memory is refused, the askers are
 /// returned.
 pub(crate) fn employ<'a>(
@@ -116,9 +116,9 @@ pub(crate) fn employ<'a>(
     })
 }
 
-/// Splits workers that are done into three lists, and finds the first fault. The lists are their
-/// askers (which computed the answers), their replies, and their drawers (with which they drew from
-/// the counter).
+/// Splits workers that have ended into three lists: their askers (which computed the answers),
+/// their replies, and their drawers (with which they drew from the counter). Also finds the first
+/// fault.
 fn part<'a>(workers: Vec<Worker<'a>>, room: Room<'a>) -> (Results, Vec<Drawer<'a>>)
     requires room { IsRoomFor (vec_len workers) room }
     requires faults { All (λ w. IfSome w.fault IsFaultOfWorker) workers.items }
@@ -155,7 +155,7 @@ fn part<'a>(workers: Vec<Worker<'a>>, room: Room<'a>) -> (Results, Vec<Drawer<'a
     (results, drawers)
 }
 
-/// Returns the results of workers that are done, and the counter's last seat. In proofs this seat
+/// Returns the results of workers that have ended, and the counter's last seat. In proofs this seat
 /// records the numbers that all workers drew.
 pub(crate) fn dismiss(crew: Crew<'_>) -> (Results, LastSeat)
     requires { (requests : List OneRequest) × (before : List AskerState)

@@ -1,5 +1,5 @@
-//! Ends the work: merges the records of what the workers drew, closes the counter, and collects the
-//! answers.
+//! Ends the work: closes the counter, and collects the answers. In proofs the last seat records the
+//! numbers that the workers drew.
 
 ghost use Rattle.std.specs.Prelude.{◌≡◌, ◌⊎◌, List, Some, All, IfOk, IfErr, IsNone};
 ghost use Rattle.std.specs.List.Sorted.{IsStrictlyIncreasing};
@@ -24,8 +24,8 @@ pub(crate) struct Collected {
     pub(crate) drawn: Vec<Vec<usize>>,
 }
 
-/// Closes the counter from which the workers drew. Returns the askers of workers that are done (the
-/// objects that computed their answers), and the answers that are collected from these workers.
+/// Closes the counter from which the workers drew. Returns the workers' askers (the objects that
+/// computed the answers), and the answers collected from the workers.
 pub(crate) fn finish(
     alloc: Global,
     counter: Counter,

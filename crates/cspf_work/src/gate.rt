@@ -1,10 +1,10 @@
 /// A gate: callbacks before and after each request of a worker. All workers share these callbacks.
 pub trait Gate {
-    /// Is called when the worker has drawn the index of this request from the counter, before the
-    /// answer is computed. Indexes count from 0.
+    /// Is called after the worker has drawn the index of this request from the counter, and before
+    /// the answer is computed. Indexes count from 0.
     fn reached(&self, worker: usize, index: usize);
 
-    /// Is called when the worker has the answer to the request with this index.
+    /// Is called after the worker has computed the answer to the request with this index.
     fn answered(&self, worker: usize, index: usize);
 }
 

@@ -5,9 +5,8 @@
 //! draw reads the counter and adds 1 to it in one step.
 //!
 //! `specs/Served.antt` defines which answers are right, and which worker answered which request.
-//! `specs/Applied.antt` defines the state after batches are applied up to the first that is
-//! refused. `specs/AskingErrors.antt` says which error a worker reports if its asker can't compute
-//! an answer.
+//! `specs/Applied.antt` defines the state after batches are applied until one is refused.
+//! `specs/AskingErrors.antt` says which error a worker reports if its asker returns an error.
 #![tactic(auto)]
 
 mod answering;

@@ -44,7 +44,7 @@ pub(crate) fn run_all<G: Gate + Sync, R: Threads + Sync>(
     );
 }
 
-/// The results of the workers, after they have answered all requests.
+/// Returns the results of the workers, after they have answered all requests.
 pub(crate) fn run_workers<G: Gate + Sync, R: Threads + Sync>(
     rt: &R,
     alloc: Global,

@@ -9,9 +9,9 @@ pub(crate) struct Reply {
     pub(crate) answer: Answer,
 }
 
-/// A worker: it draws the indexes of requests from a counter by `drawer`, and computes the answers
-/// by `asker`. `done` has its answers in the order in which it computed them. `fault` is the fault
-/// that stopped the worker, if there was one.
+/// A worker. It draws the indexes of requests from a counter by `drawer`, and computes the answers
+/// by `asker`. `done` has the answers in the order in which the worker computed them. `fault` is
+/// the fault that stopped the worker, if there was one.
 #[derive(Drop)]
 pub(crate) struct Worker<'a> {
     pub(crate) asker: Asker,
@@ -21,7 +21,7 @@ pub(crate) struct Worker<'a> {
 }
 
 /// The results of workers: all askers (the objects that computed the answers), and the answers of
-/// each worker. Also the fault of the first worker that had one, if any had one.
+/// each worker. If workers had faults, `fault` is the fault of the first of these workers.
 #[derive(Drop)]
 pub(crate) struct Results {
     pub(crate) askers: Vec<Asker>,

@@ -29,8 +29,8 @@ fn serve_one<G: Gate>(
     ensures next { OnOk result (indexes worker.new.done.items
         ≡ indexes worker.old.done.items ++ index ∷ []) }
     ensures error { IfErr result IsFaultOfWorker }
-    // If memory is refused, the worker's asker (which computes its answers) may have learnt more
-    // batches.
+    // On `NoEntry` the worker is unchanged. If memory is refused, the worker's asker (which
+    // computes its answers) may have learnt of more batches.
     ensures no_entry { IfErr result (λ e. e ≡ ServeError.NoEntry → worker.new ≡ worker.old) }
 {
     gate.reached(number, index);
@@ -43,7 +43,7 @@ fn serve_one<G: Gate>(
 }
 
 /// Answers the requests whose indexes the worker draws from the counter. The worker stops when it
-/// draws a number that is no request's index, or at its first fault.
+/// draws a number that isn't the index of a request, or at its first fault.
 pub(crate) fn serve<G: Gate>(
     alloc: Global,
     number: usize,

@@ -1,5 +1,5 @@
-//! What the tests share: an assertion, and a reader. The reader gives a text in pieces, or several
-//! times, and may fail after the text.
+//! Helpers for the tests: an assertion, and a reader. The reader returns a text in pieces, or
+//! several times, and may fail after the text.
 
 mod audits;
 mod batches;
@@ -21,12 +21,12 @@ use std::io;
 use std::io::{ErrorKind, Read};
 use std::process::Abort;
 
-/// Stops the test, and prints `text`, if the case doesn't hold.
+/// If the case doesn't hold, prints `text` and stops the test.
 fn assert_case(rt: &impl Abort, text: &[u8], holds: bool) {
     assert!(rt; holds, "{text:?}");
 }
 
-/// A batch of no changes.
+/// A batch without changes.
 fn empty_batch(alloc: Global) -> Batch {
     Batch {
         number: 0,
@@ -39,8 +39,8 @@ fn has_text(alloc: Global, batch: &Batch, text: &[u8]) -> Result<bool, AllocErro
     Ok(batch_text(alloc, batch)?.as_slice() == text)
 }
 
-/// A reader that gives a text `times` times, at most `width` bytes in each read. After the text the
-/// reader ends, or fails if `fails` is set.
+/// A reader that returns a text `times` times. Each read returns at most `width` bytes. After the
+/// text the reader ends, or fails if `fails` is true.
 #[derive(Drop)]
 struct Pieces<'a> {
     text: &'a [u8],
@@ -70,7 +70,7 @@ impl<'a> Read for Pieces<'a> {
     }
 }
 
-/// A reader that gives the text one byte at a time.
+/// A reader that returns the text one byte at a time.
 fn by_bytes(text: &[u8]) -> Pieces<'_> {
     Pieces {
         text,
@@ -81,7 +81,7 @@ fn by_bytes(text: &[u8]) -> Pieces<'_> {
     }
 }
 
-/// A reader that gives the same row `times` times.
+/// A reader that returns the same row `times` times.
 fn repeated(row: &[u8], times: u32) -> Pieces<'_> {
     Pieces {
         text: row,
@@ -92,7 +92,7 @@ fn repeated(row: &[u8], times: u32) -> Pieces<'_> {
     }
 }
 
-/// A reader that gives the text, and fails after its last byte.
+/// A reader that returns the text, and fails after its last byte.
 fn failing(text: &[u8]) -> Pieces<'_> {
     Pieces {
         text,

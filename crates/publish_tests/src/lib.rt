@@ -1,6 +1,6 @@
 //! Tests a publisher and its askers (the objects that compute the answers to requests). The tests
-//! cover which batches are published and refused, the journal and its faults, what askers learn and
-//! answer on other threads, and refused memory.
+//! cover published and refused batches, the journal and its faults, the versions that askers learn
+//! of and their answers on other threads, and refused memory.
 #![tactic(auto)]
 
 #[cfg(test)]

@@ -15,12 +15,12 @@ mod replies;
 use std::alloc::AllocError;
 use std::process::Abort;
 
-// Stops the test if the case doesn't hold, and prints its name and number.
+// If the case doesn't hold, prints its name and number, and stops the test.
 fn assert_case(rt: &impl Abort, name: &str, number: usize, holds: bool) {
     assert!(rt; holds, "{name} {number}");
 }
 
-// Whether memory was given for the text, and it is the wanted text.
+// Whether the text is the wanted text. If memory for the text was refused, the result is false.
 fn is_text(text: Result<String, AllocError>, wanted: &str) -> bool {
     match text {
         Ok(text) => text.as_str() == wanted,

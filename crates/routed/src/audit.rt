@@ -19,7 +19,7 @@ pub const COMMAND: CommandText = CommandText {
     ],
 };
 
-/// What help says below the options.
+/// The help text below the options.
 const HELP: &str = "\
 The journal and the requests are files as in batch, and each request has an id of its own. The replies
 are lines as batch and live write them. Lines that begin with version, applied or batch are

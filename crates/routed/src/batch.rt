@@ -23,7 +23,7 @@ pub const COMMAND: CommandText = CommandText {
     ],
 };
 
-/// What help says below the options.
+/// The help text below the options.
 const HELP: &str = "\
 The journal is a file of put, drop, node and end rows: batches with the numbers 1, 2, 3 and so on.
 The requests are a file of ask rows, which are answered at the last version. Both files are read

@@ -1,5 +1,5 @@
-//! `routed book` places requests of standard input, and counts the bandwidth that they hold. Each line
-//! is written as soon as it is known.
+//! `routed book` places requests of standard input, and counts the bandwidth that their routes
+//! hold. Each line is written as soon as it is known.
 
 use crate::devices::{INPUT, OUTPUT, created, flushed, held_places};
 use crate::noted::Noted;
@@ -18,7 +18,7 @@ pub const COMMAND: CommandText = CommandText {
     options: &[CommandOption::Keep, CommandOption::Explain],
 };
 
-/// What help says below the options.
+/// The help text below the options.
 const HELP: &str = "\
 Rows of standard input: put, drop, node, end and ask as for routed solve, and
   place,id,from,to,hold,bandwidth,exclude_any,include_any,include_all,hops
@@ -61,12 +61,12 @@ Status:
   3  out of memory, a device failed, or the file of --keep exists already; the last line of standard
      error is routed: stopped, and with --explain the line before it says why";
 
-/// Answers the rows of standard input on standard output. With `--keep` the rows that are accepted go
-/// to a new file. Lines that were written before a fault stay written.
+/// Answers the rows of standard input on standard output. With `--keep` the accepted rows are
+/// written to a new file. The lines that were written before a fault remain.
 pub(crate) fn answer(call: &Call<'_, '_>) -> Ran {
     if call.gives(KEEP) {
-        // Other files take the descriptors of closed standard streams, so that the new file isn't
-        // taken for a standard stream.
+        // If standard streams are closed, other files take their descriptors. So the new file isn't
+        // mistaken for a standard stream.
         let _held = held_places(call.rt);
         let mut keep = created(call, KEEP)?;
         let ran = answer_rows(call.rt, &mut keep);

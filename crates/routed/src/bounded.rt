@@ -1,5 +1,5 @@
 //! Reads a client's rows within bounds: no line may be too long, and no line may have a quotation
-//! mark. After a quotation mark a line feed wouldn't end the row.
+//! mark. In a quoted field a line feed wouldn't end the row.
 ghost use Rattle.std.specs.Prelude.{◌≤◌, length};
 
 use std::alloc::{AllocError, Global};
@@ -8,7 +8,7 @@ use std::sync::Arc;
 use std::sync::atomic::{AtomicU8, Ordering};
 use std::{fmt, io};
 
-/// The most bytes of a line, without the line feed or the carriage return that ends it.
+/// The most bytes of a line. The line feed or carriage return that ends the line isn't counted.
 const MOST_LINE_BYTES: usize = 1_048_576;
 
 /// Why no more of a client's rows are read.
@@ -29,8 +29,8 @@ impl fmt::Display for Unfit {
     }
 }
 
-/// Why a reader stopped, or `NO_CAUSE`. The thread that reads the rows sets the cause, and another
-/// thread looks at the cause.
+/// Why a reader stopped, or `NO_CAUSE`. The thread that reads the rows sets this value, and another
+/// thread reads it.
 pub type Cause = Arc<AtomicU8, Global>;
 
 /// The reader didn't stop.
@@ -42,7 +42,7 @@ const LINE: u8 = 1;
 /// The reader stopped at a quotation mark.
 const QUOTE: u8 = 2;
 
-/// Why a reader stopped, if it did.
+/// Why a reader stopped, or `None` if it didn't stop.
 pub(crate) fn unfit_of(cause: &Cause) -> Option<Unfit> {
     match cause.load(Ordering::SeqCst) {
         LINE => Some(Unfit::Line),
@@ -51,18 +51,18 @@ pub(crate) fn unfit_of(cause: &Cause) -> Option<Unfit> {
     }
 }
 
-/// A reader that passes the bytes of rows on. Its reads fail at a quotation mark, and at the byte that
-/// makes a line too long.
+/// A reader that passes on the bytes of rows. Its reads fail at a quotation mark, and at the byte
+/// that makes a line too long.
 #[derive(Drop)]
 pub struct Bounded<R> {
     rows: R,
-    /// How many bytes of the present line were passed on.
+    /// The number of bytes of the current line that were passed on.
     length: usize,
     cause: Cause,
 }
 
 impl<R: Drop> Bounded<R> {
-    /// Returns a reader that has read nothing yet, and the cause by which another thread sees why
+    /// Returns a reader that has read nothing yet, and the value by which another thread sees why
     /// the reader stopped.
     pub(crate) fn new(alloc: Global, rows: R) -> Result<(Bounded<R>, Cause), AllocError> {
         let cause = Arc::new(alloc, AtomicU8::new(NO_CAUSE))?;
@@ -88,8 +88,8 @@ impl<R> Bounded<R> {
         NO_CAUSE
     }
 
-    /// Returns how many of these bytes may be passed on. If one of them may not be passed on, sets
-    /// the cause for which the reader stops.
+    /// Returns the number of these bytes that may be passed on, up to the first byte that may not.
+    /// If there is such a byte, sets the cause for which the reader stops.
     fn take_all(&mut self, bytes: &[u8]) -> usize
         ensures { result ≤ length bytes.now }
     {

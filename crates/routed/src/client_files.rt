@@ -1,5 +1,5 @@
-//! The files of the clients of `serve`: their names, which files are refused before any file is opened,
-//! and how they are opened.
+//! The files of the clients of `serve`: their names, the checks that refuse files before any file
+//! is opened, and the opening of the files.
 ghost use Rattle.std.specs.Prelude.{◌≡◌, ◌<◌, ◌≤◌, length, IfOk, vec_len};
 
 use crate::bounded::{Bounded, Cause};
@@ -14,10 +14,10 @@ use std::io::Write;
 use std::os::unix::fs::MetadataExt;
 use std::{fs, io};
 
-/// A client's file of requests, as `--explain` names it.
+/// The name of a client's file of requests in the lines of `--explain`.
 const REQUESTS: &str = "a client's requests";
 
-/// A client's file of replies, as `--explain` names it.
+/// The name of a client's file of replies in the lines of `--explain`.
 const REPLIES: &str = "a client's replies";
 
 /// The files of a client.
@@ -30,7 +30,8 @@ pub struct ClientNames<'a> {
 }
 
 impl<'a> ClientNames<'a> {
-    /// The files that an argument `IN=OUT` names. Both names are empty if the argument has no `=`.
+    /// Reads the two paths of an argument `IN=OUT`. Both paths are empty if the argument has no
+    /// `=`.
     pub(crate) fn read(word: &'a str) -> ClientNames<'a> {
         match word.split_once('=') {
             Some((requests, replies)) => ClientNames { requests, replies },
@@ -42,8 +43,8 @@ impl<'a> ClientNames<'a> {
     }
 }
 
-/// Refuses a call without clients, with more than `MOST_ASKERS` clients, or with files that can't be
-/// used. It opens no file, so a refusal leaves all files as they are.
+/// Refuses a call without clients, with more than `MOST_ASKERS` clients, or with files that can't
+/// be used. The check opens no file. So all files are unchanged after a refusal.
 pub(crate) fn check_clients(call: &Call<'_, '_>, words: &[&str]) -> Result<(), Stopped>
     ensures { IfOk result (λ _. (0 < length words.now) × (length words.now ≤ MOST_ASKERS)) }
 {
@@ -56,7 +57,7 @@ pub(crate) fn check_clients(call: &Call<'_, '_>, words: &[&str]) -> Result<(), S
     check_empty(call.rt, words)
 }
 
-/// Refuses a client whose argument doesn't give two names.
+/// Refuses a client whose argument doesn't have two paths.
 fn check_names(rt: &HostRuntime, words: &[&str]) -> Result<(), Stopped> {
     for word in words {
         let names = ClientNames::read(word);
@@ -68,7 +69,8 @@ fn check_names(rt: &HostRuntime, words: &[&str]) -> Result<(), Stopped> {
     Ok(())
 }
 
-/// Refuses two names that lead to one file, if the run writes to that file.
+/// Refuses two paths that lead to the same file, if the run writes to that file. Also refuses two
+/// equal paths.
 fn check_shared(call: &Call<'_, '_>, words: &[&str]) -> Result<(), Stopped> {
     let mut all = Vec::new(call.rt.alloc());
     add(call.rt, &mut all, call.value(JOURNAL), true)?;
@@ -78,7 +80,7 @@ fn check_shared(call: &Call<'_, '_>, words: &[&str]) -> Result<(), Stopped> {
     Ok(())
 }
 
-/// Adds the two files of a client to the files that a run names.
+/// Adds the two files of a client to `all`, the files of the run.
 fn add_client<'a>(
     rt: &HostRuntime,
     all: &mut Vec<Named<'a>>,
@@ -88,8 +90,8 @@ fn add_client<'a>(
     add(rt, all, names.replies, true)
 }
 
-/// Adds a file to the files that a run names. The file is refused if it has the same name as an
-/// earlier file, or is the same file and the run writes it (`is_shared`).
+/// Adds a file to `all`, the files of the run. The file is refused if `is_shared` is true of this
+/// file and an earlier one. Then both have the same path, or both are one file that the run writes.
 fn add<'a>(
     rt: &HostRuntime,
     all: &mut Vec<Named<'a>>,
@@ -111,7 +113,7 @@ fn add<'a>(
     }
 }
 
-/// Refuses a file of replies that has bytes already, since the replies would overwrite them.
+/// Refuses a file of replies that already has bytes, since the replies would overwrite these bytes.
 fn check_empty(rt: &HostRuntime, words: &[&str]) -> Result<(), Stopped> {
     for word in words {
         let path = ClientNames::read(word).replies;
@@ -123,8 +125,8 @@ fn check_empty(rt: &HostRuntime, words: &[&str]) -> Result<(), Stopped> {
     Ok(())
 }
 
-/// Where a file is: its device and inode. If the file doesn't exist yet, these are the device and inode
-/// of its folder, and `new` is the file's name there.
+/// The identity of a file: its device and inode. If the file doesn't exist yet, these are the
+/// device and inode of its folder, and `new` is the file's name in the folder.
 #[derive(Clone, Copy)]
 struct Place<'a> {
     device: u64,
@@ -133,8 +135,8 @@ struct Place<'a> {
 }
 
 impl<'a> Place<'a> {
-    /// The device and inode of an existing file or folder, with the name `new`. `None` if the
-    /// system doesn't give them.
+    /// The device and inode of an existing file or folder, together with the name `new`. The result
+    /// is `None` if the system doesn't give the device and inode.
     fn read(rt: &HostRuntime, path: &str, new: Option<&'a str>) -> Option<Place<'a>> {
         match fs::metadata(rt, path) {
             Ok(found) => Some(Place {
@@ -146,14 +148,14 @@ impl<'a> Place<'a> {
         }
     }
 
-    /// Whether both places are the same existing file, or the same new name in one folder.
+    /// Whether both values are the same existing file, or the same new name in the same folder.
     fn is(self, other: Place<'_>) -> bool {
         self.device == other.device && self.inode == other.inode && self.new == other.new
     }
 }
 
-/// The place of the file with this name, or the place where the file will be made. `None` if the
-/// system doesn't give it.
+/// The identity of the file with this path, or of the new file with this path. The result is `None`
+/// if the system doesn't give it.
 fn place_of<'a>(rt: &HostRuntime, path: &'a str) -> Option<Place<'a>> {
     let found = Place::read(rt, path, None);
     if found.is_some() {
@@ -163,7 +165,7 @@ fn place_of<'a>(rt: &HostRuntime, path: &'a str) -> Option<Place<'a>> {
     Place::read(rt, folder, Some(name))
 }
 
-/// The folder of a file, and the file's name in it.
+/// The folder of a file, and the file's name in that folder.
 fn folder_of(path: &str) -> (&str, &str) {
     match path.rsplit_once('/') {
         Some(("", name)) => ("/", name),
@@ -181,7 +183,7 @@ struct Named<'a> {
 }
 
 impl<'a> Named<'a> {
-    /// Whether both files have the same name, or both names lead to one file that the run writes.
+    /// Whether both files have the same path, or both paths lead to one file that the run writes.
     fn is_shared(&self, other: &Named<'a>) -> bool {
         if self.path == other.path {
             return true;
@@ -194,7 +196,7 @@ impl<'a> Named<'a> {
         }
     }
 
-    /// Whether this file is one of the other files in the sense of `is_shared`.
+    /// Whether `is_shared` is true of this file and one of the other files.
     fn is_among(&self, others: &[Named<'a>]) -> bool {
         for other in others {
             if self.is_shared(other) {
@@ -205,7 +207,7 @@ impl<'a> Named<'a> {
     }
 }
 
-/// Whether this path is a plain file with bytes.
+/// Whether this path leads to a plain file that has bytes.
 fn has_bytes(rt: &HostRuntime, path: &str) -> bool {
     match fs::metadata(rt, path) {
         Ok(found) => found.is_file() && found.len() > 0,
@@ -213,8 +215,8 @@ fn has_bytes(rt: &HostRuntime, path: &str) -> bool {
     }
 }
 
-/// A file of replies. The file is closed once the client has ended, so that a pipe's reader sees the
-/// end of the file.
+/// A file of replies. The file is closed after the client has ended. So the reader of a pipe sees
+/// the end of the file.
 #[derive(Drop)]
 pub struct Closing {
     file: Option<File>,
@@ -248,10 +250,10 @@ impl Replies for Closing {
     }
 }
 
-/// What `serve` takes of a client: its two opened files.
+/// The two opened files of a client, as `serve` uses them.
 pub type OpenClient = Client<Bounded<File>, Closing>;
 
-/// The opened file of a client, or an error. With `--explain` the error is written first.
+/// Returns the opened file of a client, or an error. With `--explain` it first writes the error.
 fn opened(
     call: &Call<'_, '_>,
     word: &'static str,

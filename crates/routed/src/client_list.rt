@@ -1,4 +1,5 @@
-//! The clients of `serve`: those of `--client`, and then those of the file of `--clients-from`.
+//! The clients of `serve`: the clients of `--client`, followed by the clients in the file of
+//! `--clients-from`.
 ghost use Rattle.std.specs.Prelude.{◌≡◌, ◌<◌, ◌≤◌, ◌↔◌, ◌++◌, Contains, IfOk, IsOk, IsUtf8, length, map};
 ghost use Rattle.std.specs.Str.Lines.{lines};
 
@@ -14,12 +15,12 @@ use std::io::{ErrorKind, Read};
 /// The most bytes of the file of `--clients-from`.
 const MOST_LIST_BYTES: usize = 1_048_576;
 
-/// Why no lines are read from the file of `--clients-from`.
+/// Why the file of `--clients-from` is refused.
 #[derive(Clone, Copy)]
 pub enum Unlisted {
-    /// It has more than `MOST_LIST_BYTES` bytes.
+    /// The file has more than `MOST_LIST_BYTES` bytes.
     Long,
-    /// It isn't UTF-8, or it has a zero byte, which no name of a file has.
+    /// The file isn't UTF-8, or it has a zero byte. No file name has a zero byte.
     NoText,
 }
 
@@ -32,7 +33,7 @@ impl fmt::Display for Unlisted {
     }
 }
 
-/// Reads the file of `--clients-from`, at most one byte more than `MOST_LIST_BYTES`. Without the
+/// Reads the file of `--clients-from`, but at most `MOST_LIST_BYTES + 1` bytes of it. Without the
 /// option there are no bytes.
 pub(crate) fn list_bytes(call: &Call<'_, '_>) -> Result<Vec<u8>, Stopped> {
     let mut bytes = Vec::new(call.rt.alloc());
@@ -62,7 +63,7 @@ pub(crate) fn list_text<'t>(call: &Call<'_, '_>, bytes: &'t [u8]) -> Result<&'t 
     }
 }
 
-/// The bytes as a text. Refuses bytes that can't be a list of clients.
+/// Returns the bytes as a text. Refuses bytes that can't be a list of clients.
 fn text_in(bytes: &[u8]) -> Result<&str, Unlisted>
     ensures text { IfOk result (λ text. text.now ≡ bytes.now) }
     ensures zero { IfOk result (λ _. ¬ (Contains bytes.now 0)) }
@@ -89,7 +90,8 @@ fn lines_of<'t>(alloc: Global, text: &'t str) -> Result<Vec<&'t str>, AllocError
     text.lines().collect(alloc)
 }
 
-/// The words `IN=OUT` of all clients: those of the command line, and then the lines of the text.
+/// The arguments `IN=OUT` of all clients: the arguments `given` on the command line, followed by
+/// the lines of the text.
 pub(crate) fn client_words<'t>(
     alloc: Global,
     given: &[&'t str],

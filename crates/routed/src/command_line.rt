@@ -1,4 +1,4 @@
-//! The command line: which command it names, and how that command is run.
+//! The command line: the command that it names, and how this command is run.
 
 use crate::devices::{finish, held_places, output};
 use crate::ends::end;
@@ -11,14 +11,14 @@ use std::alloc::{AllocError, Global};
 use std::sync::Wait;
 use std::thread::Threads;
 
-/// What `routed --version` says after the name.
+/// The version that `routed --version` prints after the name.
 const VERSION: &str = "0.9.0";
 
-/// What help says of the program.
+/// The description of the program in its help.
 const ABOUT: &str = "A path computation server over a traffic engineering database";
 
-/// The commands, in the order in which help lists them. No other function names the commands'
-/// texts, because a proof over these texts takes long.
+/// The commands, in the order of the help. No other function names the commands' texts, because a
+/// proof about these texts takes long.
 fn texts() -> &'static [CommandText] {
     &[
         solve::COMMAND,
@@ -40,7 +40,7 @@ fn bare<'a>(alloc: Global) -> Command<'a> {
         .subcommand_required(true)
 }
 
-/// The program as `clap` takes it.
+/// The program in the form that `clap` uses.
 fn program<'a>(alloc: Global) -> Result<Command<'a>, AllocError> {
     let mut program = bare(alloc);
     for text in texts() {
@@ -49,12 +49,12 @@ fn program<'a>(alloc: Global) -> Result<Command<'a>, AllocError> {
     Ok(program)
 }
 
-/// The command that the words of the command line name.
+/// Parses the command line: returns the command that it names, with its arguments.
 pub(crate) fn parse<'a>(alloc: Global, words: &'a [String]) -> Result<ArgMatches<'a>, Error> {
     program(alloc)?.try_get_matches_from(words)
 }
 
-/// Runs the command of an accepted command line, and returns the status.
+/// Runs the command of a command line that was accepted, and returns the status.
 pub(crate) fn obey<'m, T: Threads + Wait + Sync>(
     rt: &'m HostRuntime,
     handle: &T,
@@ -78,8 +78,8 @@ fn run<T: Threads + Wait + Sync>(call: &Call<'_, '_>, handle: &T, text: &Command
         Asked::Book => book::answer(call),
         Asked::Serve => serve::answer(call, handle),
         Asked::Live => {
-            // Other files take the descriptors of closed standard streams, so that the new journal
-            // isn't taken for a standard stream.
+            // If standard streams are closed, other files take their descriptors. So the new
+            // journal isn't mistaken for a standard stream.
             let _held = held_places(call.rt);
             run_buffered(call, handle, Asked::Live)
         }

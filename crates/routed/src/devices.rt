@@ -8,13 +8,13 @@ use std::fs::{File, OpenOptions};
 use std::io;
 use std::io::{BufWriter, Printer, Write};
 
-/// Standard input, as `--explain` names it.
+/// The name of standard input in the lines of `--explain`.
 pub const INPUT: &str = "standard input";
 
-/// Standard output, as `--explain` names it.
+/// The name of standard output in the lines of `--explain`.
 pub const OUTPUT: &str = "standard output";
 
-/// A device whose reader finds no bytes.
+/// A device from which no bytes are read.
 const NOTHING: &str = "/dev/null";
 
 /// Standard output with a buffer.
@@ -31,13 +31,13 @@ pub(crate) fn output<'r>(rt: &'r HostRuntime) -> Result<Output<'r>, Stopped> {
     }
 }
 
-/// An open file without bytes, if the system gives one.
+/// Opens a file without bytes, if the system allows it.
 fn held_place(rt: &HostRuntime) -> Option<File> {
     File::open(rt, NOTHING).ok()
 }
 
-/// Three files that take the descriptors of closed standard streams. A file that is opened later then
-/// gets another descriptor, so it isn't taken for a standard stream.
+/// Three open files. If standard streams are closed, these files take their descriptors. A file
+/// that is opened later then gets another descriptor, so it isn't mistaken for a standard stream.
 #[derive(Drop)]
 pub(crate) struct HeldPlaces {
     _input: Option<File>,
@@ -45,7 +45,7 @@ pub(crate) struct HeldPlaces {
     _error: Option<File>,
 }
 
-/// Opens three files that take the descriptors of closed standard streams.
+/// Opens three files, which take the descriptors of closed standard streams.
 pub(crate) fn held_places(rt: &HostRuntime) -> HeldPlaces {
     HeldPlaces {
         _input: held_place(rt),
@@ -54,7 +54,7 @@ pub(crate) fn held_places(rt: &HostRuntime) -> HeldPlaces {
     }
 }
 
-/// Opens for reading the file that an option gives.
+/// Opens the file that an option gives, for reading.
 pub(crate) fn opened(call: &Call<'_, '_>, option: &'static str) -> Result<Noted<File>, Stopped> {
     match File::open(call.rt, call.value(option)) {
         Ok(file) => Ok(Noted::new(option, file)),
@@ -83,9 +83,9 @@ pub(crate) fn flushed<W: Write>(writer: &mut Noted<W>, ran: Ran) -> Ran {
     }
 }
 
-/// Flushes standard output, and returns the result of the run. If the run stopped because a device
-/// failed, the result may not name this device yet. If a call on standard output failed, the result
-/// then names standard output.
+/// Flushes standard output, and returns the result of the run. The result of a run that stopped may
+/// not name the failed device yet. If a call on standard output failed, standard output is named
+/// then.
 pub(crate) fn finish(out: &mut Output<'_>, ran: Ran) -> Ran {
     match flushed(out, ran) {
         Ok(status) => Ok(status),

@@ -16,8 +16,8 @@ pub(crate) fn say_of<W: fmt::Display>(rt: &HostRuntime, name: &str, what: &W) {
     let _ = eprintln!(rt; "routed: {name}: {what}");
 }
 
-/// Writes a line on standard error about a file. `word` is the file's option or use, and `path` is
-/// its path.
+/// Writes a line on standard error about a file. `word` is the file's option or the use of the
+/// file, and `path` is its path.
 pub(crate) fn say_at<W: fmt::Display>(rt: &HostRuntime, word: &str, path: &str, what: &W) {
     let _ = eprintln!(rt; "routed: {word} {path}: {what}");
 }
@@ -28,8 +28,8 @@ pub(crate) fn stop(rt: &HostRuntime) -> u8 {
     STOPPED
 }
 
-/// Returns the status of a run. With `--explain` it first writes why the run stopped, or which row of
-/// its files is refused. `options` are the command's options.
+/// Returns the status of a run. With `--explain` it first writes why the run stopped, or which row
+/// of the run's files is refused. `options` are the command's options.
 pub(crate) fn end(call: &Call<'_, '_>, ran: Ran, options: &[CommandOption]) -> u8 {
     let explain = call.has(EXPLAIN);
     match ran {

@@ -1,4 +1,5 @@
-//! A new file whose writes fail at the process's limit of file size, as on a full device.
+//! A new file. At the process's limit of file size, a write to this file fails, as on a full
+//! device.
 ghost use Rattle.std.specs.Prelude.{◌≡◌};
 
 use std::io::{ErrorKind, Write};
@@ -7,11 +8,11 @@ use std::{fs, io};
 /// The file in which the system lists the limits of a process (proc(5)).
 const LIMITS: &str = "/proc/self/limits";
 
-/// The text at the start of the line that gives the limit of file size. After it comes the limit in
-/// force, in bytes or `unlimited`.
+/// The text at the start of the line with the limit of file size. The limit follows this text: a
+/// number of bytes, or `unlimited`.
 const FILE_SIZE: &str = "Max file size";
 
-/// The most bytes that a file of this process may have, if the system gives that limit.
+/// The most bytes that a file of this process may have, or `None` if the system doesn't tell.
 fn most_bytes(rt: &HostRuntime) -> Option<u64> {
     match fs::read_to_string(rt, LIMITS) {
         Ok(limits) => limit_in(limits.as_str()),
@@ -19,7 +20,7 @@ fn most_bytes(rt: &HostRuntime) -> Option<u64> {
     }
 }
 
-/// The limit of file size in the text of a process's limits.
+/// Reads the limit of file size from the text of a process's limits.
 fn limit_in(limits: &str) -> Option<u64> {
     for line in limits.lines() {
         if let Some(limit) = line.strip_prefix(FILE_SIZE) {
@@ -29,13 +30,13 @@ fn limit_in(limits: &str) -> Option<u64> {
     None
 }
 
-/// The first number of a text, after spaces.
+/// The number at the start of a text, after any spaces.
 fn first_number(text: &str) -> Option<u64> {
     text.split_whitespace().next()?.parse().ok()
 }
 
-/// A writer to a new file. A write at the limit of file size returns an error. Without this writer, the
-/// system would end the process by a signal.
+/// A writer to a new file. A write at the limit of file size returns an error. Without this writer,
+/// the system would end the process with a signal.
 #[derive(Drop)]
 pub struct Limited<W> {
     file: W,
@@ -43,7 +44,7 @@ pub struct Limited<W> {
 }
 
 impl<W> Limited<W> {
-    /// The writer of a file to which nothing has been written.
+    /// Makes the writer of a file to which nothing was written yet.
     pub(crate) fn new(rt: &HostRuntime, file: W) -> Limited<W>
         ensures { result.file ≡ file }
     {

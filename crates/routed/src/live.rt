@@ -23,7 +23,7 @@ pub const COMMAND: CommandText = CommandText {
     ],
 };
 
-/// What help says below the options.
+/// The help text below the options.
 const HELP: &str = "\
 The updates are a file of put, drop, node and end rows, and the requests a file of ask rows, both
 as in batch. Both are read before the first batch is applied. Each batch is written whole to the new
@@ -55,7 +55,7 @@ Status:
      standard error is routed: stopped, and with --explain the line before it says why";
 
 /// Applies the batches and answers the requests on standard output. The files are opened before the
-/// first row is read, the journal last. A journal that exists already is left as it is.
+/// first row is read. The journal is opened last. If the journal exists already, it isn't changed.
 pub(crate) fn answer<T: Threads + Wait + Sync>(
     call: &Call<'_, '_>,
     handle: &T,
@@ -75,7 +75,7 @@ pub(crate) fn answer<T: Threads + Wait + Sync>(
         &NoGate,
         call.run_options(),
     );
-    // A failed write to the journal refuses a batch, and the run goes on.
+    // If a write to the journal fails, a batch is refused, and the run continues.
     flushed(
         &mut journal,
         ended(ran, updates.fault().or(requests.fault())),

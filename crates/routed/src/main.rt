@@ -1,9 +1,10 @@
-//! `routed` answers route requests over a traffic engineering database. `command_line.rt` reads which
-//! of the seven commands is meant: `solve`, `batch`, `live`, `serve`, `snapshot`, `audit` or `book`.
-//! Each command has a file with its name.
+//! `routed` answers route requests over a traffic engineering database. `command_line.rt` reads the
+//! command line, which names one of the commands `solve`, `batch`, `live`, `serve`, `snapshot`,
+//! `audit` and `book`. Each command has a source file with its name.
 //!
-//! The status is 0 if nothing was refused, 1 if the command line was refused, and 2 if anything else
-//! was refused or a fault was found. The status is 3 if memory was refused or a device failed.
+//! The status is 0 if nothing was refused, 1 if the command line was refused, and 2 if something
+//! else was refused or the audit found a fault. The status is 3 if memory was refused or a device
+//! failed.
 #![tactic(auto)]
 
 mod audit;
@@ -36,8 +37,8 @@ use std::sync::Wait;
 use std::thread::Threads;
 use std::{env, io};
 
-/// Runs the command that the arguments name. If standard error is closed, nobody sees why the arguments
-/// are refused.
+/// Runs the command that the arguments name. If the arguments are refused, writes why on standard
+/// error. A failure of this write is ignored.
 fn run<T: Threads + Wait + Sync>(rt: &HostRuntime, handle: &T, words: &[String]) -> u8 {
     match parse(rt.alloc(), words) {
         Ok(found) => obey(rt, handle, &found),

@@ -1,4 +1,4 @@
-//! Remembers which call on a device failed, so that `--explain` can name the device.
+//! Notes which call on a device failed. So `--explain` can name the device.
 ghost use Rattle.std.specs.Prelude.{◌≡◌};
 
 use std::io::{Read, Write};
@@ -20,8 +20,8 @@ impl fmt::Display for Fault {
     }
 }
 
-/// A reader or a writer that notes the last call that failed. The bytes and the errors of a call are
-/// passed on unchanged.
+/// A reader or a writer that notes the last failed call. It returns the bytes and the errors of
+/// each call unchanged.
 #[derive(Drop)]
 pub struct Noted<D> {
     name: &'static str,

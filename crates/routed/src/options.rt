@@ -6,38 +6,38 @@ use clap::{Arg, ArgAction, ArgMatches, Command, value_parser};
 use cspf_serve::{MOST_ASKERS, MOST_TREE_MEGABYTES, RunOptions, TREE_MEGABYTES, trees_in};
 use std::alloc::{AllocError, Global};
 
-/// The option that names the journal. `live` and `serve` make that file.
+/// The option that gives the journal's path. `live` and `serve` make this file.
 pub const JOURNAL: &str = "journal";
 
-/// The option that names the file of requests.
+/// The option that gives the path of the file of requests.
 pub const REQUESTS: &str = "requests";
 
-/// The option that names the file of batches to apply.
+/// The option that gives the path of the file of batches to apply.
 pub const UPDATES: &str = "updates";
 
-/// The option that names the file of replies.
+/// The option that gives the path of the file of replies.
 pub const REPLIES: &str = "replies";
 
-/// The option that names the file of the rows that `book` accepts.
+/// The option that gives the path of the file of the rows that `book` accepts.
 pub const KEEP: &str = "keep";
 
 /// The flag to skip the rows after the last whole batch.
 pub const ACCEPT_TORN: &str = "accept-torn";
 
-/// The flag to say why a run stops.
+/// The flag with which a run writes why it stops.
 pub const EXPLAIN: &str = "explain";
 
-/// The option that names the two files of a client.
+/// The option that gives the paths of the two files of a client.
 pub const CLIENT: &str = "client";
 
-/// The option that names a file of clients.
+/// The option that gives the path of a file with a list of clients.
 pub const CLIENTS_FROM: &str = "clients-from";
 
 /// The option that gives the number of workers.
 const WORKERS: &str = "workers";
 
-/// The option that bounds the memory of the trees that the search keeps, in megabytes of 2^20
-/// bytes.
+/// The option that limits the memory of the trees that the search keeps. Its value is in megabytes
+/// of 2^20 bytes.
 const TREES: &str = "trees";
 
 /// An option of a command.
@@ -53,7 +53,7 @@ pub enum CommandOption {
     Requests,
     /// The replies.
     Replies,
-    /// The file to make of the accepted rows.
+    /// The new file of the accepted rows.
     Keep,
     /// The two files of each client.
     Clients,
@@ -61,11 +61,11 @@ pub enum CommandOption {
     ClientsFrom,
     /// The number of workers.
     Workers,
-    /// The most megabytes of memory that the trees of the search may take.
+    /// The most megabytes of memory that the trees of the search may use.
     Trees,
     /// Whether to skip the rows after the last whole batch of a journal.
     AcceptTorn,
-    /// Whether to say why a run stops.
+    /// Whether the run writes why it stops.
     Explain,
 }
 
@@ -111,7 +111,7 @@ impl CommandOption {
         }
     }
 
-    /// Whether the option gives a file of rows that may be refused.
+    /// Whether the option gives a file whose rows may be refused.
     pub(crate) fn has_rows(self) -> bool {
         matches!(
             self,
@@ -119,7 +119,7 @@ impl CommandOption {
         )
     }
 
-    /// The option in the form that `clap` takes.
+    /// The option in the form that `clap` uses.
     fn arg<'a>(self, alloc: Global) -> Arg<'a> {
         let arg = named(alloc, self.name(), self.help());
         match self {
@@ -138,19 +138,19 @@ fn named<'a>(alloc: Global, name: &'static str, help: &'static str) -> Arg<'a> {
     Arg::new(alloc, name).long(name).help(help)
 }
 
-/// Makes the option required, and names its value in help.
+/// Makes the option required, and sets the name that help shows for its value.
 fn required<'a>(arg: Arg<'a>, value: &'static str) -> Arg<'a> {
     arg.value_name(value).required(true)
 }
 
-/// The option that takes a number of workers.
+/// Makes the option take a number of workers.
 fn workers<'a>(arg: Arg<'a>) -> Arg<'a> {
     arg.value_name("N")
         .value_parser(value_parser!(u8).range(1..=MOST_ASKERS as i64))
         .default_value("1")
 }
 
-/// The option that takes a number of megabytes.
+/// Makes the option take a number of megabytes.
 fn trees<'a>(arg: Arg<'a>) -> Arg<'a> {
     arg.value_name("MB")
         .value_parser(value_parser!(u16).range(0..=MOST_TREE_MEGABYTES as i64))
@@ -169,7 +169,7 @@ pub enum Asked {
     Book,
 }
 
-/// The texts of help and the options of a command.
+/// The help texts and the options of a command.
 #[derive(Clone, Copy)]
 pub struct CommandText {
     pub asked: Asked,
@@ -180,7 +180,7 @@ pub struct CommandText {
 }
 
 impl CommandText {
-    /// The command in the form that `clap` takes.
+    /// The command in the form that `clap` uses.
     pub(crate) fn command<'a>(&self, alloc: Global) -> Result<Command<'a>, AllocError> {
         let mut command = Command::new(alloc, self.name)
             .about(self.about)
@@ -192,7 +192,8 @@ impl CommandText {
     }
 }
 
-/// A call of a command: the process `rt`, and the arguments `words` after the command's name.
+/// A call of a command: the process `rt`, and the arguments `words`, which follow the command's
+/// name.
 #[derive(Clone, Copy)]
 pub struct Call<'m, 'a> {
     pub rt: &'m HostRuntime,
@@ -200,8 +201,8 @@ pub struct Call<'m, 'a> {
 }
 
 impl<'m, 'a> Call<'m, 'a> {
-    /// The value of an option, or an empty text if the option isn't given. `clap` refuses a command
-    /// line without a required option.
+    /// The value of an option, or an empty text if the option isn't given. A required option is
+    /// always given: `clap` refuses a command line without it.
     pub(crate) fn value(&self, option: &str) -> &'a str {
         self.words.get_str(option).unwrap_or("")
     }
@@ -216,7 +217,7 @@ impl<'m, 'a> Call<'m, 'a> {
         self.words.get_flag(flag)
     }
 
-    /// How many workers answer requests. `clap` refuses a number that is outside 1 to
+    /// The number of workers that answer requests. `clap` refuses a number outside 1 to
     /// `MOST_ASKERS`.
     pub(crate) fn workers(&self) -> usize
         ensures { (0 < result) × (result ≤ MOST_ASKERS) }
@@ -225,12 +226,12 @@ impl<'m, 'a> Call<'m, 'a> {
         count.clamp(1, MOST_ASKERS)
     }
 
-    /// How many trees of the search the run may keep.
+    /// The most trees of the search that the run may keep.
     pub(crate) fn trees(&self) -> usize {
         trees_in(self.words.get_one::<u16>(TREES).unwrap_or(TREE_MEGABYTES))
     }
 
-    /// The options of the run: how many trees of the search the run may keep.
+    /// The options of the run: the most trees of the search that it may keep.
     pub(crate) fn run_options(&self) -> RunOptions {
         RunOptions {
             trees: self.trees(),

@@ -1,4 +1,4 @@
-//! Finds the refused row of a file, for `--explain`. The file is read a second time.
+//! Finds the refused row of a file, for `--explain`. For this the file is read a second time.
 
 use crate::ends::say_at;
 use crate::options::{ACCEPT_TORN, Call, CommandOption, REQUESTS};
@@ -12,15 +12,16 @@ use std::{fmt, fs};
 /// Why a row is refused.
 #[derive(Clone, Copy)]
 enum Why {
-    /// The row can't be read, or a file of this kind may not have such a row.
+    /// The row can't be read, or a row of its kind isn't allowed in this file.
     Row(RowError),
     /// The row ends a batch, but its number isn't the number of the next batch.
     Number { expected: u32 },
     /// The row ends a batch, but its count isn't the number of the batch's changes.
     Count { counted: u32 },
-    /// The row is the last row, and no `end` row follows this many changes.
+    /// The row is the last row of the file, and no `end` row follows the last `changes` changes.
     Unended { changes: u32 },
-    /// Before this row the file already has the most rows that a file may have.
+    /// The file has too many rows: the rows before this row are already the most that a file may
+    /// have.
     TooMany,
 }
 
@@ -49,8 +50,8 @@ impl fmt::Display for RefusedRow {
     }
 }
 
-/// What is known after some rows of a journal or of a file of requests: how many whole batches and
-/// later changes there were, and the first refused row.
+/// The state after some rows of a journal or of a file of requests: the number of whole batches,
+/// the number of changes after them, and the first refused row.
 #[derive(Clone, Copy)]
 struct Progress {
     is_journal: bool,
@@ -61,7 +62,7 @@ struct Progress {
 }
 
 impl Progress {
-    /// Checks the next row, unless an earlier row is refused.
+    /// Checks the next row, if no earlier row is refused.
     fn take(&mut self, row: u32, fields: &ByteRecord) {
         if self.refused.is_none() {
             if let Some(why) = self.refusal(Row::read(fields)) {
@@ -84,7 +85,7 @@ impl Progress {
         }
     }
 
-    /// Counts a batch at its end row, or returns why that row is refused.
+    /// Counts a batch at its `end` row, or returns why the `end` row is refused.
     fn end(&mut self, number: u32, count: u32) -> Option<Why> {
         let expected = self.batches.saturating_add(1);
         if number != expected {
@@ -100,9 +101,8 @@ impl Progress {
         None
     }
 
-    /// The refused row of a file whose last row has the number `row`. If no row was refused so far,
-    /// but changes follow the last `end` row, it is the last row. Otherwise it is the row refused
-    /// so far, if any.
+    /// The refused row of a file whose last row has the number `row`. If a row was refused so far,
+    /// it is that row. Otherwise, if changes follow the last `end` row, it is the last row.
     fn last(&self, row: u32) -> Option<RefusedRow> {
         if self.refused.is_some() || self.changes == 0 {
             return self.refused;
@@ -116,20 +116,22 @@ impl Progress {
     }
 }
 
-/// Whether there is a next row. The result is `None` if the row can't be read.
+/// Reads the next row, and returns whether there is one. The result is `None` if the row can't be
+/// read.
 fn is_next<R: Read>(rows: &mut Reader<R>, fields: &mut ByteRecord) -> Option<bool> {
     rows.read_byte_record(fields).ok()
 }
 
-/// The refused row of a file, which is a journal or a file of requests. The result is `None` if no row
-/// is refused, or if the file can't be read to its end.
+/// The refused row of a journal or of a file of requests. The result is `None` if no row is
+/// refused, or if the file can't be read to its end.
 fn refused_row<R: Read + Drop>(alloc: Global, file: R, is_journal: bool) -> Option<RefusedRow> {
     let mut rows = open_records(alloc, file);
     let mut fields = ByteRecord::new(alloc);
     refused_of(&mut rows, &mut fields, is_journal)
 }
 
-/// The first of these rows that is refused, if any.
+/// Finds the refused row. It is the first refused row, or the first row beyond the limit if a
+/// journal has too many rows.
 fn refused_of<R: Read>(
     rows: &mut Reader<R>,
     fields: &mut ByteRecord,
@@ -146,8 +148,8 @@ fn refused_of<R: Read>(
             return progress.last(row - 1);
         }
         progress.take(row, fields);
-        // After a refused row a journal is still read on. If the journal has too many rows, the
-        // first row that is too many is reported instead.
+        // After a refused row, the rest of a journal is still read. If the journal has too many
+        // rows, the first row beyond the limit is reported instead of the refused row.
         if !is_journal && progress.refused.is_some() {
             return progress.refused;
         }
@@ -169,8 +171,8 @@ fn again(rt: &HostRuntime, path: &str) -> Option<File> {
     File::open(rt, path).ok()
 }
 
-/// Finds the first refused file of a run, and writes which of its rows is refused. `options` are
-/// the options of the command.
+/// Finds the first refused file of a run, and writes which row of this file is refused. `options`
+/// are the options of the command.
 pub(crate) fn explain_rows(call: &Call<'_, '_>, options: &[CommandOption]) {
     for option in options {
         if option.has_rows() && !is_accepted(call, option.name()) {
@@ -179,8 +181,8 @@ pub(crate) fn explain_rows(call: &Call<'_, '_>, options: &[CommandOption]) {
     }
 }
 
-/// Writes which row of an option's file is refused, if any. Returns whether the next file is to be read
-/// as well.
+/// If a row of an option's file is refused, writes which row. Returns whether the next file has to
+/// be read too.
 fn is_accepted(call: &Call<'_, '_>, option: &'static str) -> bool {
     let is_journal = option != REQUESTS;
     if is_journal && call.has(ACCEPT_TORN) {

@@ -30,7 +30,7 @@ pub const COMMAND: CommandText = CommandText {
     ],
 };
 
-/// What help says below the options.
+/// The help text below the options.
 const HELP: &str = "\
 Standard input has put, drop, node, end and ask rows as in solve, and any number of them. Each batch is
 written whole to the new journal, then it takes effect, and then its line is written. There are 1 to
@@ -81,8 +81,9 @@ pub(crate) fn answer<T: Threads + Wait + Sync>(call: &Call<'_, '_>, handle: &T) 
     serve(call, handle, words)
 }
 
-/// Publishes the updates of standard input and answers the clients meanwhile. Each batch is written to
-/// the new journal first. All files are opened before the first row is read, the journal last.
+/// Publishes the updates of standard input, and answers the clients meanwhile. Each batch is first
+/// written to the new journal. All files are opened before the first row is read. The journal is
+/// opened last.
 fn serve<T: Threads + Wait + Sync>(call: &Call<'_, '_>, handle: &T, words: &[&str]) -> Ran
     requires { (0 < length words.now) × (length words.now ≤ MOST_ASKERS) }
 {
@@ -92,8 +93,8 @@ fn serve<T: Threads + Wait + Sync>(call: &Call<'_, '_>, handle: &T, words: &[&st
     flushed(&mut journal, ran)
 }
 
-/// Reads the updates and serves the clients. With `--explain` it writes which clients ended before
-/// their rows did.
+/// Reads the updates and serves the clients. With `--explain` it also writes which clients ended
+/// before their rows ended.
 fn run<T: Threads + Wait + Sync>(
     call: &Call<'_, '_>,
     handle: &T,
@@ -137,7 +138,7 @@ fn run<T: Threads + Wait + Sync>(
     }
 }
 
-/// Writes which clients ended before their rows did, and why.
+/// Writes which clients ended before their rows ended, and why.
 fn explain_ends(rt: &HostRuntime, words: &[&str], clients: &[ServedClient<Closing>]) {
     for index in 0..words.len() {
         if let Some(client) = clients.get(index) {
@@ -146,8 +147,8 @@ fn explain_ends(rt: &HostRuntime, words: &[&str], clients: &[ServedClient<Closin
     }
 }
 
-/// If a client ended before its rows did, writes why: a line was too long, a row had a quotation
-/// mark, or there was an error. An error of a file is written with the file's name.
+/// If a client ended before its rows ended, writes why. A line was too long, a row had a quotation
+/// mark, or there was an error. An error of a file is written with the file's path.
 fn explain_end(rt: &HostRuntime, number: usize, word: &str, client: &ServedClient<Closing>) {
     let Err(error) = client.end else {
         return;
@@ -167,7 +168,7 @@ fn explain_end(rt: &HostRuntime, number: usize, word: &str, client: &ServedClien
     }
 }
 
-/// Writes why a client ended, with the path of the file whose read or write ended it.
+/// Writes why a client ended. `path` is the file whose read or write failed.
 fn say_end<W: fmt::Display>(rt: &HostRuntime, number: usize, path: &str, why: &W) {
     let _ = eprintln!(rt; "routed: client {number}: {path}: {why}");
 }

@@ -1,4 +1,4 @@
-//! `routed snapshot` writes a few batches. These batches make, from an empty database, the database
+//! `routed snapshot` writes a few batches. From an empty database, these batches make the database
 //! after the last batch of a journal.
 
 use crate::devices::{Output, opened};
@@ -19,7 +19,7 @@ pub const COMMAND: CommandText = CommandText {
     ],
 };
 
-/// What help says below the options.
+/// The help text below the options.
 const HELP: &str = "\
 The journal is a file of put, drop, node and end rows: batches with the numbers 1, 2, 3 and so on.
 Standard output gets the rows of at most 5 batches, numbered from 1 on, which make the database of the

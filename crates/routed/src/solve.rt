@@ -16,7 +16,7 @@ pub const COMMAND: CommandText = CommandText {
     options: &[CommandOption::Trees, CommandOption::Explain],
 };
 
-/// What help says below the options of `solve`, and below the options of the program.
+/// The help text below the options of `solve`, and below the options of the program.
 pub const HELP: &str = "\
 Rows of standard input, fields separated by commas:
   put,router,local,neighbor,remote,metric,group,u0,u1,u2,u3,u4,u5,u6,u7
@@ -57,8 +57,8 @@ are answered by
   version 1
   ask 7 v1 route cost=10 hops=1 again=no ero=000c140101080a000c022000";
 
-/// Answers the rows of standard input on standard output. Lines that were written before a fault stay
-/// written.
+/// Answers the rows of standard input on standard output. The lines that were written before a
+/// fault remain.
 pub(crate) fn answer(call: &Call<'_, '_>) -> Ran {
     let rt = call.rt;
     let mut reader = Noted::new(INPUT, rt.reader());

@@ -1,4 +1,4 @@
-//! Why the program stops: what `--explain` writes before the last line of standard error.
+//! Why the program stops. `--explain` writes the reason before the last line of standard error.
 
 use crate::noted::Fault;
 use cspf_book_run::BookError;
@@ -13,7 +13,7 @@ pub enum Stopped {
     Memory,
     /// A call on a file or a stream failed.
     Device(Fault),
-    /// An error of `solve`, or an error of `book` that `solve` has as well.
+    /// An error of `solve`, or an error of `book` that `solve` also has.
     Solve(SolveError),
     /// Another error of `book`.
     Book(BookError),
@@ -23,7 +23,7 @@ pub enum Stopped {
     Run(RunError),
     /// An error of `serve` before it began to read updates.
     Serve(ServedError),
-    /// All lines have been written, and this is the status.
+    /// The reason has been written already, and this is the status.
     Said(u8),
 }
 
@@ -31,7 +31,7 @@ pub enum Stopped {
 pub type Ran = Result<u8, Stopped>;
 
 impl Stopped {
-    /// Why the program stops: this call on this device failed.
+    /// The reason that this call on this device failed.
     pub(crate) fn at(device: &'static str, action: &'static str, error: io::Error) -> Stopped {
         Stopped::Device(Fault {
             device,
@@ -40,9 +40,9 @@ impl Stopped {
         })
     }
 
-    /// Adds the device's name to a reason that is about a device. `read` is the last call that failed
-    /// on the devices that are read, if any. `written` is the last call that failed on the devices that
-    /// are written.
+    /// Adds the failed device to the reason, if a device failed and the reason doesn't name it yet.
+    /// `read` is the last call that failed on the input devices, if any. `written` is the last call
+    /// that failed on the output devices.
     pub(crate) fn by(self, read: Option<Fault>, written: Option<Fault>) -> Stopped {
         let noted = match self {
             Stopped::Run(RunError::Device) => read.or(written),
@@ -59,8 +59,8 @@ impl Stopped {
     }
 }
 
-/// The result of a run of `batch`, `live`, `snapshot` or `audit`. `read` is the last call that
-/// failed on an input of the run, if any.
+/// The result of a run of `batch`, `live`, `snapshot` or `audit`, with the failed device. `read` is
+/// the last call that failed on an input of the run, if any.
 pub(crate) fn ended(ran: Result<u8, RunError>, read: Option<Fault>) -> Ran {
     match ran {
         Ok(status) => Ok(status),

@@ -2,8 +2,8 @@
 //! and then a publisher and its askers. `routed_bench JOURNAL REQUESTS LOAD ROUNDS` times two
 //! searches, `best` and the search by rounds, and then the changes of a table.
 //!
-//! The first LOAD batches of the journal make the network. `runs.rt` and `searches.rt` say what is timed.
-//! `bench/run` makes the files and reads the lines.
+//! The first LOAD batches of the journal make the network. `runs.rt` and `searches.rt` describe the
+//! measurements. `bench/run` makes the files, and reads the printed lines.
 #![tactic(auto)]
 
 mod published;
@@ -72,13 +72,13 @@ fn time<R: AllocGlobal + Clock + Print + Threads + Wait + Sync>(
     }
 }
 
-/// The number that an argument gives.
+/// Reads an argument as a number.
 fn number(word: &str) -> io::Result<usize> {
     word.parse().map_err(|_| refused())
 }
 
-/// Reads the last arguments, LOAD and perhaps ROUNDS: how many batches make the network, and how
-/// many requests the search by rounds answers.
+/// Reads the last arguments, LOAD and perhaps ROUNDS: the number of batches that make the network,
+/// and the number of requests that the search by rounds answers.
 fn numbers(words: &[String]) -> io::Result<(usize, Option<usize>)> {
     match words {
         [load] => Ok((number(load.as_str())?, None)),

@@ -1,4 +1,4 @@
-//! A publisher whose journal keeps nothing, and how long the publisher's batches take.
+//! A publisher whose journal stores nothing, and the measurement of the publisher's batches.
 
 use cspf_model::Batch;
 use cspf_publish::Publisher;
@@ -8,7 +8,7 @@ use std::rt::Clock;
 use std::sync::Wait;
 use std::time::Instant;
 
-/// A journal that keeps no bytes.
+/// A journal that stores no bytes.
 #[derive(Drop)]
 pub(crate) struct Nothing;
 
@@ -22,7 +22,7 @@ impl Write for Nothing {
     }
 }
 
-/// Applies the batches, and returns how many were published.
+/// Applies the batches, and returns the number of published batches.
 pub(crate) fn apply_all<R: AllocGlobal + Wait>(
     rt: &R,
     batches: &[Batch],

@@ -1,9 +1,9 @@
 //! The timed runs of publishers.
 //!
-//! First each batch after those of the network is published and timed. Then 1, 2 and 4 askers at
-//! once ask all requests each, while these batches are published. Last the requests are divided
-//! among 1, 2 and 4 workers, in two ways. In fixed shares, each of n workers asks every nth
-//! request. By draws, each worker draws its next request.
+//! First each batch after the batches of the network is published and timed. Then 1, 2 or 4 askers
+//! run at once, while these batches are published. Each of them asks all requests. Finally the
+//! requests are divided among 1, 2 or 4 workers, in two ways. In fixed shares, each of n workers
+//! asks every nth request. By draws, each worker draws its next request.
 
 use crate::published::{Nothing, apply_all, time_batches};
 use crate::workers::{time_askers, time_draws, time_shares};
@@ -15,7 +15,7 @@ use std::rt::Clock;
 use std::sync::Wait;
 use std::thread::Threads;
 
-/// What one of the timed runs measures.
+/// The kind of a timed run.
 #[derive(Clone, Copy)]
 enum Timed {
     Batches,
@@ -24,7 +24,7 @@ enum Timed {
     Draws,
 }
 
-/// What the runs time, in order, and with how many askers.
+/// The kinds of the timed runs in order, each with its number of askers.
 const ALL: [(Timed, usize); 10] = [
     (Timed::Batches, 1),
     (Timed::Askers, 1),

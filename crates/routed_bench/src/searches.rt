@@ -3,8 +3,8 @@
 //! `best` answers all requests several times, and prints `best ANSWERS COST MICROSECONDS`. COST is
 //! the sum of the routes' costs. The search by rounds answers the first ROUNDS requests, and prints
 //! `rounds ANSWERS COST MICROSECONDS`. `agreed ANSWERS` is the number of these requests on which
-//! both searches agree. Then each batch after those of the network is checked, absorbed and timed:
-//! `absorb CHANGES MICROSECONDS`.
+//! both searches agree. Then each batch after the batches of the network is checked, absorbed and
+//! timed: `absorb CHANGES MICROSECONDS`.
 
 use cspf_db::Table;
 use cspf_model::{Batch, Outcome, Request};
@@ -15,7 +15,7 @@ use std::io::ErrorKind;
 use std::rt::Clock;
 use std::time::Instant;
 
-/// How often `best` answers all requests.
+/// The number of times that `best` answers all requests.
 const TIMES: usize = 5;
 
 /// The cost of the route, or 0 if there is no route.
@@ -51,7 +51,7 @@ fn answer(
     }
 }
 
-/// Answers each request. Returns how many requests are answered, and the sum of the routes' costs.
+/// Answers each request. Returns the number of answered requests, and the sum of the routes' costs.
 fn answer_each(
     alloc: Global,
     table: &Table,
@@ -79,8 +79,8 @@ fn is_agreed(alloc: Global, table: &Table, request: &Request) -> bool {
     }
 }
 
-/// Times all requests. Returns how many are answered, the sum of the routes' costs, and the
-/// microseconds.
+/// Times all requests. Returns the number of answered requests, the sum of the routes' costs, and
+/// the microseconds.
 fn timed<R: AllocGlobal + Clock + Print>(
     rt: &R,
     table: &Table,
@@ -122,7 +122,7 @@ pub(crate) fn time_searches<R: AllocGlobal + Clock + Print>(
     println!(rt; "agreed {}", agreed.count())
 }
 
-/// For each batch, times the check whether it fits, and the making of its changes in the table.
+/// Times each batch: the check whether it fits, and its changes in the table.
 pub(crate) fn time_batches<R: AllocGlobal + Clock + Print>(
     rt: &R,
     table: &mut Table,

@@ -1,5 +1,5 @@
-//! Times askers beside a publisher, workers that each ask a fixed share of the requests, and
-//! workers that draw their requests.
+//! Times askers while a publisher publishes, workers that each ask a fixed share of the requests,
+//! and workers that draw their requests.
 
 ghost use Rattle.std.specs.Prelude.{◌<◌};
 
@@ -15,17 +15,17 @@ use std::thread::Threads;
 use std::time::Instant;
 use std::{io, thread};
 
-/// The most threads that ask beside a publisher.
+/// The most threads that ask requests while a publisher publishes.
 const THREADS: usize = 4;
 
-/// An asker, and how many of its requests were answered.
+/// An asker, and the number of its answered requests.
 #[derive(Drop)]
 struct Seat {
     asker: Asker,
     answers: usize,
 }
 
-/// Makes a seat for each asker: the asker, and a count of its answered requests, which is 0 at
+/// Makes a seat for each asker: the asker, and the number of its answered requests, which is 0 at
 /// first.
 fn seats_of(alloc: Global, askers: Vec<Asker>) -> Result<Vec<Seat>, AllocError> {
     let mut seats = Vec::with_capacity(alloc, askers.len())?;
@@ -35,7 +35,7 @@ fn seats_of(alloc: Global, askers: Vec<Asker>) -> Result<Vec<Seat>, AllocError> 
     Ok(seats)
 }
 
-/// How many requests the askers of all seats have answered.
+/// The number of requests that the askers of all seats have answered.
 fn answers_of(seats: &[Seat]) -> usize {
     let mut answers = 0usize;
     for seat in seats {
@@ -60,8 +60,8 @@ fn ask_all(alloc: Global, requests: &[Request], seat: &mut Seat) {
     ask_share(alloc, 0, 1, requests, seat);
 }
 
-/// Publishes batches while the asker of each seat asks every request. Returns how many batches were
-/// published.
+/// Publishes batches while the asker of each seat asks every request. Returns the number of
+/// published batches.
 fn ask_and_publish<R: AllocGlobal + Threads + Wait + Sync>(
     rt: &R,
     batches: &[Batch],

@@ -1,5 +1,6 @@
-//! Defines what the tests of runs over rows share: scripts (rows of changes, batches and requests),
-//! tables, readers in pieces, and writers that take a given number of bytes.
+//! Defines helpers for the tests of runs over rows: scripts (rows of changes, batches and
+//! requests), tables, readers that return a text in pieces, and writers that accept a given number
+//! of bytes.
 
 mod batches;
 mod clients;
@@ -13,11 +14,11 @@ use std::alloc::{AllocError, Global};
 use std::io;
 use std::io::{ErrorKind, Read, Write};
 
-/// What a byte of a script (rows of changes, batches and requests) stands for. `P` is the row that
-/// sets the link from 1.1.1.1 to 2.2.2.2 (a `put` change), and `Q` the row that sets its reverse,
-/// with no bandwidth. `F` is eight bandwidths of 1000, and `O` eight of 0. `Z` is three masks
-/// without a group, `H` seven hops, and `B` a byte order mark. `X` and `Y` are bytes that aren't
-/// UTF-8, and `N` is the byte 0. `R` is a carriage return, `|` a line feed, and `_` nothing.
+/// The text that a byte of a script (rows of changes, batches and requests) represents. `P` is the
+/// row that sets the link from 1.1.1.1 to 2.2.2.2 (a `put` change), and `Q` the row that sets its
+/// reverse, with no bandwidth. `F` is eight bandwidths of 1000, and `O` eight of 0. `Z` is three
+/// masks without a group, `H` seven hops, and `B` a byte order mark. `X` and `Y` are bytes that
+/// aren't UTF-8, and `N` is the byte 0. `R` is a carriage return, `|` a line feed, and `_` nothing.
 fn spelled(byte: &u8) -> &[u8] {
     match *byte {
         b'P' => {
@@ -39,7 +40,7 @@ fn spelled(byte: &u8) -> &[u8] {
     }
 }
 
-/// The bytes of a script, which is rows of changes, batches and requests in a short spelling.
+/// The bytes of a script, which is given in the short spelling of `spelled`.
 fn bytes_of(alloc: Global, script: &[u8]) -> Result<Vec<u8>, AllocError> {
     let mut bytes = Vec::new(alloc);
     for byte in script {
@@ -48,18 +49,18 @@ fn bytes_of(alloc: Global, script: &[u8]) -> Result<Vec<u8>, AllocError> {
     Ok(bytes)
 }
 
-/// The first field of a line of a table, and the other fields.
+/// Splits a line of a table into its first field and the other fields.
 fn cut(line: &str) -> (&str, &str) {
     line.split_once(" > ").unwrap_or((line, ""))
 }
 
-/// The bytes of the first field of a line of a table, and the other fields.
+/// Splits a line of a table into the bytes of its first field and the other fields.
 fn cut_bytes(alloc: Global, line: &str) -> Result<(Vec<u8>, &str), AllocError> {
     let (field, others) = cut(line);
     Ok((bytes_of(alloc, field.as_bytes())?, others))
 }
 
-/// The numbers of a field, at most four, with one space between two numbers.
+/// The numbers of a field: at most four numbers, separated by single spaces.
 fn numbers_of(field: &str) -> [u32; 4] {
     let mut numbers = [0u32; 4];
     let mut index = 0usize;
@@ -74,8 +75,8 @@ fn numbers_of(field: &str) -> [u32; 4] {
     numbers
 }
 
-/// A reader that gives `rest` and then `left` copies of `text`, at most `width` bytes a read. The
-/// reader fails after `last` bytes.
+/// A reader that returns the bytes of `rest`, and then `left` copies of `text`. Each read returns
+/// at most `width` bytes. The reader fails after `last` bytes.
 #[derive(Drop)]
 struct Pieces<'a> {
     text: &'a [u8],
@@ -85,7 +86,8 @@ struct Pieces<'a> {
     last: usize,
 }
 
-/// A reader that gives the text once, at most `width` bytes a read, and fails after `last` bytes.
+/// A reader that returns the text once. Each read returns at most `width` bytes. The reader fails
+/// after `last` bytes.
 fn in_pieces(text: &[u8], width: usize, last: usize) -> Pieces<'_> {
     Pieces {
         text,
@@ -96,7 +98,7 @@ fn in_pieces(text: &[u8], width: usize, last: usize) -> Pieces<'_> {
     }
 }
 
-/// A reader that gives `left` copies of a row.
+/// A reader that returns `left` copies of a row.
 fn copies(text: &[u8], left: u32) -> Pieces<'_> {
     Pieces {
         text,
@@ -125,7 +127,7 @@ impl<'a> Read for Pieces<'a> {
     }
 }
 
-/// A writer that takes at most `width` bytes a write, and fails once it holds `most` bytes.
+/// A writer that accepts at most `width` bytes in each write. It fails when it has `most` bytes.
 #[derive(Drop)]
 struct Narrow {
     held: Vec<u8>,

@@ -17,16 +17,15 @@ use std::alloc::Global;
 use std::io::Write;
 use std::thread::Threads;
 
-/// Requests are answered in parts of at most this many requests. The lines of a part are written
-/// before the next part is answered.
+/// The most requests in a part. The lines of a part are written before the next part is answered.
 const MOST_AT_ONCE: usize = 32_768;
 
-/// The gate for a part of a list of requests. It passes each request's index in the whole list to
-/// the gate of the run.
+/// The gate for a part of a list of requests. It passes a request's index in the whole list to the
+/// gate of the run.
 #[derive(Drop)]
 struct PartGate<'a, G> {
     gate: &'a G,
-    /// The index of the part's first request in the whole list.
+    /// The index of the first request of the part in the whole list.
     first: usize,
 }
 
@@ -74,8 +73,8 @@ pub(super) fn answer_in_parts<J: Write, W: Write, G: Gate + Sync, T: Threads + S
     Ok(())
 }
 
-/// Answers the requests from `first` on, writes their lines, and hands back the askers, which
-/// answer requests.
+/// Answers the requests from the index `first` on, writes their lines, and returns the askers,
+/// which answer requests.
 #[tactic(auto, using(crate::proofs::StreamFaults::judged))]
 fn answer_from<J: Write, W: Write, G: Gate + Sync, T: Threads + Sync>(
     rt: &T,
@@ -114,9 +113,9 @@ fn answer_from<J: Write, W: Write, G: Gate + Sync, T: Threads + Sync>(
     }
 }
 
-/// Turns the error of a part into the error of the whole list of requests. A request's index in the
-/// part is replaced by its index in the whole list. `first` is the index of the part's first
-/// request.
+/// Converts the error of a part to the error of the whole list of requests. In `Unaccounted` the
+/// index of a request in the part becomes its index in the whole list. `first` is the index of the
+/// first request of the part.
 fn error_of_list(first: usize, error: ServeError) -> ServeError
     ensures { IsErrorOfPart first error result }
 {

@@ -38,16 +38,16 @@ use std::thread::Threads;
 struct Streams<R, Q> {
     journal: R,
     requests: Q,
-    /// Whether rows after the journal's batches are skipped; otherwise they are refused.
+    /// Whether rows after the journal's batches are skipped. If false, such rows are refused.
     accept_torn: bool,
 }
 
-/// Publishes the batches of a journal, one after the other. Then the given number of workers answer
-/// the requests of a stream at the last version: `IsBatchRun`. The workers keep as many trees of
-/// lower bounds as the askers of `open`. One batch at a time is in memory. Both streams are read
-/// before the first line is written. The status is 2 if anything was refused, and 0 otherwise.
-/// After an error the writer has got nothing, or a prefix of the lines of a run without an error,
-/// up to the reply to some request: `IsBatchRunInPart`. The writer isn't flushed.
+/// Publishes the batches of a journal, one after the other. Then `workers` workers answer the
+/// requests of a stream at the last version: `IsBatchRun`. The workers keep as many trees of lower
+/// bounds as the askers of `open`. Only one batch at a time is in memory. Both streams are read
+/// before the first line is written. The status is 2 if anything was refused, and 0 otherwise. If
+/// an error is returned, the writer has a prefix of the lines of a run without an error, perhaps
+/// none of them: `IsBatchRunInPart`. The writer isn't flushed.
 pub fn run_batch<
     R: Read + Drop,
     Q: Read + Drop,
@@ -130,8 +130,8 @@ pub fn run_batch_with<
     ensures error { IfErr result
         (IsBatchFault accept_torn (R.remaining journal) (Q.remaining requests)) }
 {
-    // Law: if nothing is refused, the lines are those of a run over one stream: the journal's rows
-    // and then the requests' rows.
+    // Law: if nothing is refused, the lines are those of a run over one stream: the journal's rows,
+    // followed by the rows of the requests.
     lines_of_a_script();
     let streams = Streams {
         journal,
@@ -174,8 +174,7 @@ fn answer<R: Read + Drop, Q: Read + Drop, W: Write, G: Gate + Sync, T: Threads +
     }
 }
 
-/// Publishes the batches of a journal, and answers requests. The publisher that does both stays the
-/// caller's.
+/// Publishes the batches of a journal, and answers requests. The caller keeps the publisher.
 fn answer_lent<
     T: Threads + Wait + Sync,
     J: Write,
@@ -212,7 +211,7 @@ fn answer_lent<
     }
 }
 
-/// What a run has read from its streams.
+/// The input that a run has read from its streams.
 #[derive(Drop)]
 struct ReadStreams {
     /// The line of the first batch that doesn't fit, if there is one.

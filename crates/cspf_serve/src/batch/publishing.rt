@@ -20,9 +20,9 @@ use std::io::{Read, Write};
 use std::sync::Wait;
 
 /// Publishes the batches of a journal as they are read, with one batch at a time in memory. The
-/// first batch that doesn't fit isn't published, and its line is returned. No later batch is
-/// published either. The journal is read to its end. Rows after the batches are skipped if
-/// `accept_torn` says so, and refused otherwise.
+/// first batch that doesn't fit isn't published, and the line that refuses it is returned. No later
+/// batch is published either. The journal is read to its end. Rows after the batches are skipped if
+/// `accept_torn` is true, and refused otherwise.
 pub(super) fn publish_journal<R: Read + Drop, J: Write, T: Wait>(
     rt: &T,
     alloc: Global,
@@ -83,8 +83,8 @@ fn publish_all<R: Read, J: Write, T: Wait>(
     }
 }
 
-/// Publishes the next batch, or returns its line if it doesn't fit. Does nothing if an earlier
-/// batch didn't fit.
+/// Publishes the next batch. If the batch doesn't fit, returns the line that refuses it. Does
+/// nothing if an earlier batch didn't fit.
 fn publish<J: Write, T: Wait>(
     rt: &T,
     alloc: Global,

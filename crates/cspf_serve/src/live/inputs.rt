@@ -11,7 +11,7 @@ use cspf_model::{Batch, Request};
 use std::alloc::Global;
 use std::io::Read;
 
-/// What a run has read from its two streams.
+/// The input that a run has read from its two streams.
 #[derive(Drop)]
 pub(super) struct Inputs {
     pub(super) batches: Vec<Batch>,

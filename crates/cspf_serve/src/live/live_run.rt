@@ -29,12 +29,12 @@ use std::io::{Read, Write};
 use std::sync::Wait;
 use std::thread::Threads;
 
-/// Publishes the batches of updates to a journal, while the given number of workers answer the
-/// requests of a stream: `IsLiveRun`. The workers keep as many trees of lower bounds as the askers
-/// of `open`. Both streams are read whole before any batch is published. The status is 2 if
-/// anything was refused, and 0 otherwise. The journal's writer is handed back, after an error too.
-/// This writer has got the text of each published batch, and after a fault of the journal also a
-/// prefix of the next batch's text. After an error the contents of the other writer are
+/// Publishes the batches of updates to a journal, while `workers` workers answer the requests of a
+/// stream: `IsLiveRun`. The workers keep as many trees of lower bounds as the askers of `open`.
+/// Both streams are read whole before any batch is published. The status is 2 if anything was
+/// refused, and 0 otherwise. The journal's writer is always returned, also if there is an error.
+/// This writer got the text of each published batch. If the journal failed, it also got a prefix of
+/// the next batch's text. If an error is returned, the contents of the other writer are
 /// unspecified. Neither writer is flushed.
 pub fn run_live_rows<
     R: Read + Drop,
@@ -227,7 +227,7 @@ fn fault_line(batches: &[Batch], applied: u32, fault: Option<ApplyError>) -> Opt
         return None;
     };
     let Some(batch) = batches.get(applied as usize) else {
-        // This doesn't happen: if there is a fault, there is a batch after the applied ones.
+        // This doesn't happen: if there is a fault, a batch follows the applied batches.
         return None;
     };
     let number = batch.number;

@@ -1,5 +1,5 @@
-//! The run of `serve`: this thread answers the updates, and each client has a thread that answers
-//! its requests.
+//! The run of `serve`: the calling thread answers the updates, and each client has a thread that
+//! answers its requests.
 
 ghost use Rattle.std.specs.Prelude.{◌≡◌, ◌≤◌, ◌<◌, ◌↔◌, [], false, All, IfOk, IfErr, IsTrue, List, vec_len, vec_capacity};
 ghost use Rattle.std.specs.List.{AllZip};
@@ -49,8 +49,8 @@ pub enum ServedError {
 
 /// The result of a run over updates and clients.
 pub struct Served<W, J, V> {
-    /// 0 if all rows and batches of all streams were accepted and no change was left open (without
-    /// its `end` row), and 2 otherwise.
+    /// 0 if all rows and batches of all streams were accepted, and no change is open (without its
+    /// `end` row) at the end. Otherwise the status is 2.
     pub status: u8,
     /// How the stream of updates ended.
     pub updates: Result<(), StreamError>,
@@ -60,13 +60,13 @@ pub struct Served<W, J, V> {
     pub journal: J,
     /// The results of the clients, in the order of the clients.
     pub clients: Vec<ServedClient<V>>,
-    /// The steps of the journal that the publisher and all clients have seen: batches recorded or
-    /// counted as published, and readings of that count. These steps take no memory when the
+    /// The steps of the journal that the publisher and all clients have seen. A step records a
+    /// batch, counts a batch as published, or reads that count. These steps use no memory when the
     /// program runs.
     pub steps: SeenSteps,
 }
 
-/// A client's seat: what the thread of the client needs to answer the client's requests.
+/// A client's seat: all that the thread of the client needs to answer the client's requests.
 #[derive(Drop)]
 struct ClientSeat {
     alloc: Global,
@@ -94,8 +94,8 @@ impl<Q: Read + Drop, V: Replies> Doer<Client<Q, V>> for ClientSeat {
     }
 }
 
-/// What is allocated before any client is started: for each client a seat (what its thread needs),
-/// and memory for its state and for its result.
+/// The memory that is allocated before any client starts: a seat for each client (all that its
+/// thread needs), and capacity for the states and the results of the clients.
 #[derive(Drop)]
 struct Seats<Q, V> {
     seats: Vec<ClientSeat>,
@@ -103,8 +103,8 @@ struct Seats<Q, V> {
     served: Vec<ServedClient<V>>,
 }
 
-/// Makes a seat (what the thread of one client needs) for each asker, which answers requests. The
-/// seats are numbered from 1.
+/// Makes a seat for each asker. A seat has all that the thread of one client needs, and the asker
+/// answers the client's requests. The seats are numbered from 1.
 fn seat_all<Q: Drop, V: Drop>(alloc: Global, askers: Vec<Asker>) -> Result<Seats<Q, V>, AllocError>
     ensures { IfOk result (λ made. (source : Book) → All (λ a. a.source ≡ source) askers.items
         → AreSeats source (vec_len askers) made) }
@@ -175,8 +175,8 @@ fn are_accepted<V>(clients: &[ServedClient<V>]) -> bool
     clients.iter().all(|client| client.refused == 0)
 }
 
-/// 0 if no row and no batch of any stream was refused and no change is open (without its `end`
-/// row), and 2 otherwise.
+/// Returns 0 if no row and no batch of any stream was refused and no change is open (without its
+/// `end` row). Otherwise returns 2.
 fn status_of<J: Write, V>(updates: &Updates<J>, clients: &[ServedClient<V>]) -> u8
     ensures { (first : PublisherState J) (t : UpdatesState) → KeepsUpdates J.contents first updates.now t
         → IsServedStatus t clients.now result }
@@ -187,8 +187,8 @@ fn status_of<J: Write, V>(updates: &Updates<J>, clients: &[ServedClient<V>]) -> 
     if are_accepted(clients) { 0 } else { 2 }
 }
 
-/// If changes are open (without their `end` row) at the end of the updates, writes the line that
-/// counts them.
+/// Writes the last line after the updates. It counts the open changes (those without their `end`
+/// row), and is empty if there are none.
 fn say_last<W: Write, J: Write>(
     alloc: Global,
     said: &mut W,
@@ -203,7 +203,7 @@ fn say_last<W: Write, J: Write>(
     }
 }
 
-/// The updates of a run: a stream that this thread answers.
+/// The updates of a run: a stream that the calling thread answers.
 struct Publishing<'a, R, W, J, T> {
     rt: &'a T,
     alloc: Global,
@@ -230,8 +230,8 @@ impl<'a, R: Read, W: Write, J: Write, T: Wait> Meanwhile for Publishing<'a, R, W
     }
 }
 
-/// Answers all rows of the updates. If changes are open then (without their `end` row), writes the
-/// line that counts them.
+/// Answers all rows of the updates. After them, if changes are open (without their `end` row),
+/// writes the line that counts these changes.
 fn answer_updates<R: Read, W: Write, J: Write, T: Wait>(
     rt: &T,
     alloc: Global,
@@ -250,9 +250,9 @@ fn answer_updates<R: Read, W: Write, J: Write, T: Wait>(
     }
 }
 
-/// Opens a publisher over a journal, and makes for each client the seat with what its thread needs.
-/// The publisher and the clients' askers (which answer requests) keep at most `trees` trees of
-/// lower bounds together.
+/// Opens a publisher over a journal, and makes a seat for each client, with all that the client's
+/// thread needs. The publisher and the clients' askers (which answer requests) together keep at
+/// most `trees` trees of lower bounds.
 fn open_seats<J: Write, Q: Drop, V: Drop, T: Wait>(
     rt: &T,
     alloc: Global,
@@ -304,12 +304,11 @@ fn close_run<W, J: Write, Q: Read + Drop, V: Replies + Drop, T: Wait>(
 }
 
 /// Publishes updates as they come in, and writes each batch to the journal first. Each client has
-/// an asker and a thread that answer it, and waits neither for another client nor for the
-/// publisher. The publisher and the askers keep at most `trees` trees of lower bounds together. The
-/// run ends when the updates and all clients have ended: `IsServedRun`.
+/// its own asker and thread, which answer its requests. No client waits for another client or for
+/// the publisher. The publisher and the askers together keep at most `trees` trees of lower bounds.
+/// The run ends when the updates and all clients have ended: `IsServedRun`.
 ///
-/// If an error is returned, nothing was read. The error gives back all inputs except for the
-/// updates.
+/// If an error is returned, nothing was read. The error returns all inputs except the updates.
 pub fn run_serve<
     R: Read + Drop,
     W: Write,

@@ -1,5 +1,5 @@
-//! Answers the rows of the updates, by a publisher that counts each batch as published after it
-//! publishes the batch.
+//! Answers the rows of the updates. The publisher publishes each batch, and then counts it as
+//! published.
 
 ghost use Rattle.std.specs.Prelude.{◌≡◌, ◌<◌, ◌⊎◌, [], List, IsTrue, ◌↔◌, IfOk};
 ghost use Rattle.cspf_model.specs.declared.batch.Change.{Change as Changed};
@@ -20,7 +20,7 @@ use std::io::Write;
 use std::marker::Model;
 use std::sync::Wait;
 
-/// The publisher, and the steps of its journal up to the step that counts the publisher's last
+/// The publisher, and the steps of its journal, up to the step that counts the publisher's last
 /// batch as published.
 pub(super) struct Counted<J> {
     publisher: Publisher<J>,
@@ -38,7 +38,7 @@ impl<J> Model for Counted<J> {
 }
 
 impl<J: Write> Counted<J> {
-    /// The publisher, and the steps that its journal has at this time.
+    /// The publisher, with the steps that its journal has at this time.
     fn new(publisher: Publisher<J>) -> Counted<J>
         ensures { result.publisher ≡ publisher }
     {
@@ -114,8 +114,8 @@ impl<J: Write, R: Wait> Answering<R> for Updates<J> {
 
     ghost fails = { λ fault. IsUpdateFailed J.contents };
 
-    // Each row adds at most 1 to the number of open changes (without their `end` row), of answers
-    // and of refusals.
+    // A row adds at most 1 to each of three numbers: of open changes (without their `end` row), of
+    // answers, and of refusals.
     ghost may_stand = { λ place k. (k.changes.count < place) × (k.answers < place) × (k.refused < place) };
 
     fn answer(
@@ -125,7 +125,8 @@ impl<J: Write, R: Wait> Answering<R> for Updates<J> {
         place: u64,
         fields: &ByteRecord,
     ) -> Result<Vec<u8>, AllocError> {
-        // Law: a batch is refused for at most one reason, and only if it doesn't fit the database.
+        // Law: there is at most one reason to refuse a batch, and there is none if the batch fits
+        // the database.
         one_refusal();
         self.rows.answer(rt, alloc, place, &Row::read(fields))
     }
@@ -144,8 +145,8 @@ impl<J: Write> Updates<J> {
         }
     }
 
-    /// The line that counts the open changes at the end of the updates; it is empty if there are
-    /// none.
+    /// The line that counts the open changes at the end of the updates. It is empty if no changes
+    /// are open.
     pub(crate) fn last_line(&self, alloc: Global) -> Result<Vec<u8>, AllocError>
         ensures { IfOk result (λ line. (all : List Changed) → AreOpen self.now.changes all
             → line.items ≡ end_line all) }
@@ -169,7 +170,7 @@ impl<J: Write> Updates<J> {
         self.rows.sink.steps()
     }
 
-    /// A value by which a client learns of all published batches.
+    /// Returns a value by which a client learns of all published batches.
     pub(super) fn tell(&mut self) -> Told
         ensures batches { result.batches ≡ self.old.sink.publisher.batches }
         ensures source { result.source ≡ self.old.sink.publisher.source }
@@ -178,8 +179,8 @@ impl<J: Write> Updates<J> {
         self.rows.sink.publisher.tell()
     }
 
-    /// Closes the publisher, and returns its journal's writer. The call may wait for clients whose
-    /// request is just being answered.
+    /// Closes the publisher, and returns the writer of its journal. The call may wait for clients
+    /// whose requests are being answered at that time.
     pub(crate) fn close<R: Wait>(self, rt: &R) -> J
         ensures { result ≡ self.sink.publisher.journal }
     {

@@ -17,10 +17,10 @@ pub enum RunError {
     /// Memory was refused.
     #[error("out of memory")]
     Memory,
-    /// A read failed, or a write failed or took no bytes.
+    /// A read failed, or a write failed or accepted no bytes.
     #[error("a read or a write failed")]
     Device,
-    /// The replicas (the two copies of the database's table) have no place left for a reader. This
+    /// The replicas (the two copies of the database's table) have no place for another reader. This
     /// error happens in no run, since `open` makes a place for each reader.
     #[error("no place for a reader")]
     Places,
@@ -54,8 +54,8 @@ impl From<OpenError> for RunError {
     fn from(refused: OpenError) -> RunError {
         match refused {
             OpenError::Memory => RunError::Memory,
-            // Never `Askers`: a run has 1 to 64 workers or clients, which is as many askers as
-            // `open` allows.
+            // `Askers` doesn't happen: a run has 1 to 64 workers or clients, and `open` allows 1 to
+            // 64 askers.
             OpenError::Askers | OpenError::Places => RunError::Places,
         }
     }

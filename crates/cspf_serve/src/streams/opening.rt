@@ -9,8 +9,8 @@ use std::alloc::Global;
 use std::io::Write;
 use std::sync::Wait;
 
-/// Opens a publisher over a journal, with an asker for each worker. The publisher and the askers
-/// (which answer requests) keep at most `trees` trees of lower bounds together.
+/// Opens a publisher over a journal, and an asker for each worker. An asker answers requests. The
+/// publisher and the askers together keep at most `trees` trees of lower bounds.
 #[tactic(auto, using(crate::proofs::AnswerLines::sources_of, crate::proofs::StreamFaults::opening))]
 pub(crate) fn open_for<J: Write, T: Wait>(
     rt: &T,
@@ -25,9 +25,8 @@ pub(crate) fn open_for<J: Write, T: Wait>(
     ensures source { IfOk result (λ opened.
         All (λ a. a.source ≡ opened.0.source) opened.1.items) }
     ensures count { IfOk result (λ opened. vec_len opened.1 ≡ workers) }
-    // The number of askers (which answer requests) is one that `open` allows. So the only errors
-    // are that memory is refused, or that the replicas (the table's two copies) have no place left
-    // for an asker's reader.
+    // `open` allows this number of askers. So there are only two errors: memory is refused, or the
+    // replicas (the two copies of the table) have no place for another reader.
     ensures error { IfErr result (λ e. IsOpeningFault e.0) }
     ensures journal { IfErr result (λ e. e.1 ≡ journal) }
 {

@@ -1,4 +1,4 @@
-//! The faults that an audit finds in lines of replies, and the journals and requests that it
+//! Tests the faults that an audit finds in lines of replies, and the journals and requests that it
 //! refuses.
 
 use super::assert_case;
@@ -18,8 +18,7 @@ put,2.2.2.2,10.0.12.2,1.1.1.1,10.0.12.1,10,0x1,0,0,0,0,0,0,0,0\nend,1,2\n";
 const REQUESTS: &[u8] = b"ask,7,1.1.1.1,2.2.2.2,0,1000,0x0,0x0,0x0,\n\
 ask,8,1.1.1.1,2.2.2.2,0,1000,0x0,0x0,0x0,\n";
 
-/// Whether the audit of these replies finds exactly `good` lines without a fault, and exactly these
-/// faults.
+/// Whether the audit of these replies finds exactly these faults, and `good` lines without a fault.
 fn finds(
     alloc: Global,
     replies: &[u8],
@@ -112,7 +111,7 @@ fn empty_streams(rt: HostRuntime) -> Result<(), Fail> {
     Ok(())
 }
 
-/// The error of an audit of this journal and these requests, if it ends with an error.
+/// The error of an audit of this journal and these requests, or `None` if the audit has no error.
 fn refusal(alloc: Global, journal: &[u8], requests: &[u8]) -> Option<AuditError> {
     audit(alloc, journal, requests, b"hello\n".as_slice()).err()
 }

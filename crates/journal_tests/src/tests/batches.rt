@@ -1,4 +1,5 @@
-//! The batches that a reader of a journal returns one after the other, and the end of the journal.
+//! Tests the batches that a reader of a journal returns one after the other, and the end of the
+//! journal.
 
 ghost use Rattle.std.specs.Prelude.{◌≡◌, true, IfOk};
 ghost use Rattle.cspf_rows.specs.GivenBatches.{CanRead};
@@ -10,16 +11,16 @@ use std::alloc::{AllocError, Global};
 use std::io::Read;
 use std::test::Fail;
 
-/// The texts of three batches: the first has three changes, the second no change, and the third one
-/// change.
+/// The texts of three batches. The first batch has three changes, the second has no change, and the
+/// third has one change.
 const THREE: [&[u8]; 3] = [
     b"drop,1.1.1.1,0.0.0.0\nnode,1.1.1.1,0\ndrop,1.1.1.1,0.0.0.2\nend,1,3\n",
     b"end,2,0\n",
     b"node,2.2.2.2,1\nend,3,1\n",
 ];
 
-/// Texts that come after the batches of `THREE`. With each text the journal is either clean, so no
-/// row follows its batches, or torn, so rows that are in no batch follow them.
+/// Texts that follow the batches of `THREE`. With each text the journal is clean or torn. It is
+/// clean if no row follows its batches, and torn if rows that are in no batch follow them.
 const BEHIND: &[(&[u8], Rest)] = &[
     (b"", Rest::Clean),
     (b"\r\n\n", Rest::Clean),
@@ -66,8 +67,7 @@ fn gives<R: Read>(
 }
 
 /// Whether a reader of a journal returns the three batches of `THREE`, and then the end of the
-/// batches, with `rest` for what follows them. All batches are read into `batch`, whose memory is
-/// used again.
+/// batches with the value `rest`. All batches are read into `batch`, which reuses its memory.
 fn gives_three(
     alloc: Global,
     journal: &mut JournalReader<Pieces<'_>>,
@@ -87,8 +87,8 @@ fn gives_three(
     )
 }
 
-/// Whether a reader of the texts of `THREE` and then the text `behind` returns the three batches,
-/// and then the end of the batches, with `rest` for what follows.
+/// Whether a reader of the texts of `THREE`, followed by the text `behind`, returns the three
+/// batches, and then the end of the batches with the value `rest`.
 fn are_given(alloc: Global, behind: &[u8], rest: Rest) -> Result<bool, AllocError> {
     let text = text_of_three(alloc, behind)?;
     let mut journal = JournalReader::new(alloc, by_bytes(text.as_slice()));

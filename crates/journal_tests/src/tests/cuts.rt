@@ -1,4 +1,4 @@
-//! Rows of the text formats that are cut off after each of their bytes.
+//! Tests rows of the text formats that are cut after each of their bytes.
 
 use super::assert_case;
 use super::rows::is_said;
@@ -6,9 +6,10 @@ use std::alloc::Global;
 use std::process::Abort;
 use std::test::Fail;
 
-/// Rows, each with a list of pairs of a length in bytes and words. A prefix of the row that has
-/// this length or more, but is shorter than the length in the next pair, is refused with these
-/// words. If the words are `read`, such a prefix is read as a row.
+/// Rows. Each row has a list of pairs: a length in bytes, and words. The words of a pair are for
+/// the prefixes of the row that have at least the pair's length and are shorter than the next
+/// pair's length. Such a prefix is refused with these words. If the words are `read`, it is read as
+/// a row.
 const ROWS: &[(&[u8], &[(usize, &str)])] = &[
     (
         b"put,1.1.1.1,10.0.12.1,2.2.2.2,10.0.12.2,10,0x1,1000,1000,1000,1000,1000,1000,1000,1000",
@@ -44,7 +45,7 @@ const ROWS: &[(&[u8], &[(usize, &str)])] = &[
     ),
 ];
 
-/// What reading the first `bytes` bytes of a row gives: the words of the refusal, or `read`.
+/// The result of reading the first `bytes` bytes of a row: the words of the refusal, or `read`.
 /// `words` is the list that this row has in `ROWS`.
 fn words_at(words: &[(usize, &'static str)], bytes: usize) -> &'static str {
     let mut found = "";
@@ -57,7 +58,7 @@ fn words_at(words: &[(usize, &'static str)], bytes: usize) -> &'static str {
 }
 
 /// Asserts that each prefix of the row is refused with the words that the row's list has for this
-/// prefix. If these words are `read`, the prefix has to be read.
+/// prefix. If these words are `read`, the prefix has to be read as a row.
 fn assert_cuts(
     rt: &impl Abort,
     alloc: Global,
@@ -78,12 +79,12 @@ fn rows_cut_at_each_byte(rt: HostRuntime) -> Result<(), Fail> {
     Ok(())
 }
 
-/// A row of 85 bytes that asks for a route. Its hops are an EXPLICIT_ROUTE object of 20 bytes,
-/// spelled after the first 41 bytes.
+/// A row of 85 bytes that asks for a route. Its hops are an EXPLICIT_ROUTE object of 20 bytes, in
+/// hexadecimal digits after the first 41 bytes of the row.
 const OBJECT: &[u8] = b"ask,7,1.1.1.1,2.2.2.2,0,1000,0x1,0x2,0x4,\
 ero:0014140181080a00000008010108040404042000";
 
-/// What reading the first `bytes` bytes of `OBJECT` gives: the words of the refusal, or `read`.
+/// The result of reading the first `bytes` bytes of `OBJECT`: the words of the refusal, or `read`.
 /// `bytes` is at least 41.
 fn words_in_object(bytes: usize) -> &'static str {
     match bytes {

@@ -1,4 +1,4 @@
-//! The reading of a text ends at a refused row, or at the first row above the limit.
+//! Tests that the reading of a text ends at a refused row, or at the first row above the limit.
 
 use super::assert_case;
 use cspf_rows::{MOST_ROWS, ReadError, RequestsError, RowError, read_journal, read_requests};
@@ -6,15 +6,15 @@ use std::alloc::Global;
 use std::io;
 use std::io::Read;
 
-/// How many further rows of the text a reader gives after the last row that should be read.
+/// The number of rows that a reader still returns after the last row that should be read.
 const MORE: u32 = 10;
 
-/// A reader that first gives `row`, `times` times, and then gives `other`, one row in each read.
-/// `begun` is how many rows the reader has begun to give.
+/// A reader that first returns `row` `times` times, and then returns `other`, one row in each read.
+/// `begun` is the number of rows that the reader has begun to return.
 ///
-/// `csv` reads the first byte alone, to look for a byte order mark. It reads again only when its
-/// buffer is empty and no record has ended. A record ends at its line feed, so each further row
-/// takes one read, and there is no read after the last row that was asked for.
+/// `csv` reads the first byte alone, to look for a byte order mark. After that it reads again only
+/// when its buffer is empty and no record has ended. A record ends at its line feed. So each
+/// further row takes one read, and after the last requested row there is no read.
 #[derive(Drop)]
 struct RowByRow<'a> {
     row: &'a [u8],
@@ -56,8 +56,8 @@ impl<'a> Read for RowByRow<'a> {
 
 const ASK: &[u8] = b"ask,8,1.1.1.1,2.2.2.2,0,0,0x0,0x0,0x0,\n";
 
-/// Rows at which the reading of requests ends, each with its error. A row without an error is read,
-/// but isn't an `ask` row.
+/// Rows at which the reading of requests ends, each with its error. A row without an error can be
+/// read, but isn't an `ask` row.
 const LAST: &[(&[u8], Option<RowError>)] = &[
     (b"foo\n", Some(RowError::Kind)),
     (
@@ -76,15 +76,16 @@ fn at_row(error: Option<RowError>, row: u32) -> RequestsError {
     }
 }
 
-/// Whether reading ends with this error at the row `last`, which has the number `place`, counted
-/// from 1, and no row after `last` is read.
+/// Whether reading ends with this error at the row `last`, and no later row is read. The row `last`
+/// has the number `place`, counted from 1.
 fn end_at(alloc: Global, before: u32, last: &[u8], place: u32, error: RequestsError) -> bool {
     let mut rows = RowByRow::new(ASK, before, last);
     let found = read_requests(alloc, &mut rows).err();
     found == Some(error) && rows.begun == place
 }
 
-/// How many requests come before the last row, and the number of the last row, counted from 1.
+/// Pairs: the number of requests before the last row, and the number of the last row, counted from
+/// 1.
 const PLACES: &[(u32, u32)] = &[(0, 1), (1, 2), (300, 301)];
 
 #[test]
@@ -104,8 +105,8 @@ fn requests_end_at_a_row_too_many(rt: HostRuntime) {
     assert_case(&rt, ASK, end_at(rt.alloc(), MOST_ROWS, ASK, place, error));
 }
 
-/// Whether a journal of copies of this row is refused for too many rows, and only one row above the
-/// limit is read.
+/// Whether a journal of copies of this row is refused for too many rows, after only one row above
+/// the limit was read.
 fn has_too_many(alloc: Global, row: &[u8]) -> bool {
     let mut rows = RowByRow::new(row, MOST_ROWS, b"end,1,0\n");
     let found = read_journal(alloc, &mut rows).err();

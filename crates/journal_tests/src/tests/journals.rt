@@ -1,5 +1,5 @@
-//! Tests of journals: the texts of batches, and journals that are read in pieces or that are cut
-//! after each byte. Some reads fail, and some journals have too many rows.
+//! Tests journals: the texts of batches, and journals that are read in pieces or cut after each
+//! byte. Some reads fail, and some journals have too many rows.
 
 use super::{Pieces, assert_case, by_bytes, failing, has_text, repeated};
 use cspf_addr::{Addr, Mask};
@@ -10,7 +10,7 @@ use std::io::Read;
 use std::process::Abort;
 use std::test::Fail;
 
-/// The texts of the journal's batches, one after the other.
+/// The texts of the journal's batches, in one list.
 fn text_of(alloc: Global, journal: &Journal) -> Result<Vec<u8>, AllocError> {
     let mut text = Vec::new(alloc);
     for batch in &journal.batches {
@@ -19,8 +19,8 @@ fn text_of(alloc: Global, journal: &Journal) -> Result<Vec<u8>, AllocError> {
     Ok(text)
 }
 
-/// Whether the journal's batches have these texts, and the journal is clean (no row follows its
-/// batches) exactly if `clean` is set.
+/// Whether the journal's batches have these texts. Also, the journal has to be clean (no row
+/// follows its batches) exactly if `clean` is true.
 fn is_journal<R: Read + Drop>(
     alloc: Global,
     reader: R,
@@ -58,8 +58,8 @@ fn text_of_one_put(rt: HostRuntime) -> Result<(), Fail> {
     Ok(())
 }
 
-/// The text of a batch that puts two links. The first has the greatest bandwidth, and the second
-/// the greatest metric.
+/// The text of a batch that puts two links. The first link has the greatest bandwidth, and the
+/// second link the greatest metric.
 const PUTS: &[u8] = b"put,1.1.1.1,10.0.12.1,2.2.2.2,10.0.12.2,10,0x00000001,\
 1,2,3,4,5,6,7,18446744073709551615\n\
 put,2.2.2.2,10.0.12.2,1.1.1.1,10.0.12.1,4294967295,0xffffff0a,0,0,0,0,0,0,0,0\nend,1,2\n";
@@ -73,10 +73,10 @@ drop,1.1.1.1,0.0.0.3\ndrop,1.1.1.1,0.0.0.4\ndrop,1.1.1.1,0.0.0.5\ndrop,1.1.1.1,0
 drop,1.1.1.1,0.0.0.7\ndrop,1.1.1.1,0.0.0.8\ndrop,1.1.1.1,0.0.0.9\ndrop,1.1.1.1,0.0.0.10\n\
 drop,1.1.1.1,0.0.0.11\nend,3,12\n";
 
-/// What is read of the first bytes of the text `three_batches`. An item `(from, whole, clean)` is
-/// for each cut after `from` bytes or more, but before the `from` of the next item. The batches
-/// that are read then have the first `whole` bytes of the text, and `clean` says whether no row
-/// follows them.
+/// The result of reading the first bytes of the text `three_batches`. An item
+/// `(from, whole, clean)` is for each cut after at least `from` bytes, up to the `from` of the next
+/// item. The batches that are read then have the first `whole` bytes of the text, and `clean` says
+/// whether no row follows them.
 const THREE_BATCHES: [(usize, usize, bool); 7] = [
     (0, 0, true),
     (1, 0, false),
@@ -87,7 +87,7 @@ const THREE_BATCHES: [(usize, usize, bool); 7] = [
     (468, 469, true),
 ];
 
-/// What is read of the first bytes of the text `NODES`. The items mean the same as those of
+/// The result of reading the first bytes of the text `NODES`. The items mean the same as those of
 /// `THREE_BATCHES`.
 const NODE_BATCHES: [(usize, usize, bool); 7] = [
     (0, 0, true),
@@ -99,8 +99,8 @@ const NODE_BATCHES: [(usize, usize, bool); 7] = [
     (114, 115, true),
 ];
 
-/// How many bytes the texts of the whole batches have if a text is cut off after `cut` bytes, and
-/// whether no row follows these batches. `parts` says this in the form of `THREE_BATCHES`.
+/// The number of bytes in the texts of the whole batches when a text is cut after `cut` bytes, and
+/// whether no row follows these batches. `parts` has the form of `THREE_BATCHES`.
 fn whole_part(parts: &[(usize, usize, bool)], cut: usize) -> (usize, bool) {
     let mut found = (0, true);
     for &(from, whole, clean) in parts {
@@ -120,8 +120,8 @@ fn three_batches(alloc: Global) -> Result<Vec<u8>, AllocError> {
     Ok(text)
 }
 
-/// Whether the text's first `cut` bytes are read as `parts` says. `parts` says which batches are
-/// read, and whether no row follows these batches.
+/// Whether the first `cut` bytes of the text are read as `parts` says: which batches are read, and
+/// whether no row follows these batches.
 fn is_cut(
     alloc: Global,
     text: &[u8],
@@ -133,8 +133,8 @@ fn is_cut(
     is_journal(alloc, text.get(..cut).unwrap_or(&[]), batches, clean)
 }
 
-/// Asserts that each prefix of the text is read as `parts` says. `parts` says which batches are
-/// read, and whether no row follows these batches.
+/// Asserts that each prefix of the text is read as `parts` says: which batches are read, and
+/// whether no row follows these batches.
 fn assert_cuts(
     rt: &impl Abort,
     alloc: Global,
@@ -161,7 +161,7 @@ fn nodes_cut_at_each_byte(rt: HostRuntime) -> Result<(), Fail> {
     assert_cuts(&rt, rt.alloc(), NODES, &NODE_BATCHES)
 }
 
-/// Pairs: whether the router 1.1.1.1 has transit, and the text of a batch that says so.
+/// Pairs: whether the router 1.1.1.1 has transit, and the text of a batch that sets this.
 const ONE_NODE: &[(bool, &[u8])] = &[
     (false, b"node,1.1.1.1,0\nend,1,1\n"),
     (true, b"node,1.1.1.1,1\nend,1,1\n"),
@@ -204,14 +204,14 @@ fn a_journal_of_one_node(rt: HostRuntime) -> Result<(), Fail> {
     Ok(())
 }
 
-/// Three batches, each of which says for one router or more whether the router has transit. The
+/// Three batches. Each of them says, for one router or more, whether the router has transit. The
 /// second batch also removes a link.
 const NODES: &[u8] = b"node,1.1.1.1,0\nend,1,1\n\
 node,2.2.2.2,0\ndrop,1.1.1.1,10.0.12.1\nnode,1.1.1.1,1\nend,2,3\n\
 node,255.255.255.255,1\nend,3,1\n";
 
-/// Journals, each with the texts of its whole batches, and with whether the journal is clean. A
-/// journal is clean if no row follows its whole batches.
+/// Journals. Each has the texts of its whole batches, and whether the journal is clean. A journal
+/// is clean if no row follows its whole batches.
 const JOURNALS: &[(&[u8], &[u8], bool)] = &[
     (b"", b"", true),
     (b"end,1,0", b"end,1,0\n", true),
@@ -269,8 +269,8 @@ fn journals_in_pieces(rt: HostRuntime) -> Result<(), Fail> {
 const CHANGES: &[u8] =
     b"drop,1.1.1.1,0.0.0.0\ndrop,1.1.1.1,0.0.0.1\ndrop,1.1.1.1,0.0.0.2\nend,1,3\n";
 
-/// Whether the journal has one batch of three changes, whose memory has room for exactly three
-/// changes.
+/// Whether the journal has one batch of three changes, and the list of changes has capacity for
+/// exactly three changes.
 fn takes_three(journal: &Journal) -> bool {
     match journal.batches.as_slice() {
         [batch] => batch.changes.len() == 3 && batch.changes.capacity() == 3,
@@ -288,7 +288,7 @@ fn changes_take_the_room_they_need(rt: HostRuntime) -> Result<(), Fail> {
 /// A row that is read as a change.
 const CHANGE: &[u8] = b"drop,1.1.1.1,10.0.0.1\n";
 
-/// Whether the journal has no whole batch, but has rows: it is torn.
+/// Whether the journal has rows, but no whole batch: it is torn.
 fn is_torn(journal: &Journal) -> bool {
     journal.batches.is_empty() && journal.rest == Rest::Torn
 }
@@ -313,7 +313,7 @@ fn one_row_more_than_is_read(rt: HostRuntime) {
     }
 }
 
-/// Texts of journals. The read after the last byte of each text fails.
+/// Texts of journals. For each text, the read after its last byte fails.
 const FAILING: &[&[u8]] = &[
     b"end,1,0\nend,2,0\n",
     b"drop,1.1.1.1,0.0.0.0\nend,1,1\ndrop,1.1.1.1,0.0.0.1\nend,2,1\n",

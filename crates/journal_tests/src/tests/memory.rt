@@ -1,4 +1,4 @@
-//! Readers and audits, tested while memory is refused.
+//! Tests readers and audits while memory is refused.
 
 mod audits;
 mod readers;

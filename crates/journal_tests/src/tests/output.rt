@@ -1,4 +1,5 @@
-//! Texts that a writer takes in pieces, and what the writer has taken when a write fails.
+//! Tests texts that a writer accepts in pieces, and the bytes that the writer has when a write
+//! fails.
 
 use super::assert_case;
 use cspf_rows::put_all;
@@ -8,14 +9,14 @@ use std::io::{ErrorKind, Write};
 
 const TEXT: &[u8] = b"version 1\nask 8 v1 none\n";
 
-/// How a write fails: with an error, or by taking no bytes.
+/// How a write fails: with an error, or by accepting no bytes.
 #[derive(Clone, Copy)]
 enum Fault {
     Fail(ErrorKind),
     TakeNone,
 }
 
-/// A writer that takes at most `width` bytes in each write. Once it holds `most` bytes, the next
+/// A writer that accepts at most `width` bytes in each write. When it has `most` bytes, the next
 /// write fails, and all later writes succeed. It counts its writes and flushes.
 #[derive(Drop)]
 struct Faulty {
@@ -55,8 +56,8 @@ impl Write for Faulty {
     }
 }
 
-/// Whether `put_all` returns `wanted` after `writes` writes and no flush, and the writer then holds
-/// the first `most` bytes of the text.
+/// Whether `put_all` returns `wanted` after `writes` writes and no flush. The writer must then have
+/// exactly the first `most` bytes of the text.
 fn is_put(
     alloc: Global,
     width: usize,
@@ -78,7 +79,8 @@ fn is_put(
     found == wanted && is_front && writer.writes == writes && writer.flushes == 0
 }
 
-/// How many bytes each write takes, and how many writes the whole text then needs.
+/// Pairs: the number of bytes that each write accepts, and the number of writes that the whole text
+/// then needs.
 const WIDTHS: &[(usize, usize)] = &[(1, 24), (3, 8), (23, 2), (24, 1), (25, 1)];
 
 #[test]
@@ -101,11 +103,11 @@ const FAULTS: &[Fault] = &[
     Fault::Fail(ErrorKind::BrokenPipe),
 ];
 
-/// Pairs: how many bytes the writer takes before a write fails, and how many writes there are,
-/// including the failing one. Each write takes at most three bytes.
+/// Pairs: the number of bytes that the writer accepts before a write fails, and the number of
+/// writes, including the failing one. Each write accepts at most three bytes.
 const FRONTS: &[(usize, usize)] = &[(0, 1), (3, 2), (7, 4), (21, 8), (23, 9)];
 
-/// After a failed write nothing more is written, though the writer would take more bytes, and
+/// After a failed write nothing more is written, though the writer would accept more bytes. Also,
 /// nothing is flushed.
 #[test]
 fn no_write_behind_a_fault(rt: HostRuntime) {

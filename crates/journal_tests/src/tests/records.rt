@@ -1,4 +1,4 @@
-//! Records of a stream that is read in pieces, and reads that fail.
+//! Tests records of a stream that is read in pieces, and reads that fail.
 
 use super::{Pieces, assert_case};
 use cspf_rows::{RecordError, next_record, open_records};
@@ -6,10 +6,10 @@ use csv::ByteRecord;
 use std::alloc::Global;
 use std::test::Fail;
 
-/// How many rows of a text are read at most. Each text of `TEXTS` has fewer rows.
+/// The most rows of a text that are read. Each text of `TEXTS` has fewer rows.
 const MOST: usize = 5;
 
-/// Texts and their rows. The fields of a row are joined by bars, and each row ends with a
+/// Texts and their rows. The fields of a row are separated by bars, and each row ends with a
 /// semicolon.
 const TEXTS: &[(&[u8], &str)] = &[
     (b"", ""),
@@ -60,7 +60,7 @@ fn add_rows(
     Ok(())
 }
 
-/// Whether a text that is read at most `width` bytes at a time has these rows.
+/// Whether a text has these rows, when it is read at most `width` bytes at a time.
 fn are_rows(alloc: Global, text: &[u8], width: usize, rows: &str) -> Result<bool, Fail> {
     let mut found = String::new(alloc);
     add_rows(alloc, text, width, &mut ByteRecord::new(alloc), &mut found)?;
@@ -77,7 +77,7 @@ fn rows_in_pieces(rt: HostRuntime) -> Result<(), Fail> {
     Ok(())
 }
 
-/// Whether the first row is read, and reading the second fails.
+/// Whether the first row is read, and reading the second row fails.
 fn fails_in_row_2(alloc: Global, reader: Pieces<'_>) -> bool {
     let mut rows = open_records(alloc, reader);
     let mut fields = ByteRecord::new(alloc);

@@ -1,4 +1,4 @@
-//! Requests are read or refused, a stream of requests has too many rows, and readers fail.
+//! Tests requests that are read or refused, a stream with too many requests, and readers that fail.
 
 use super::{Pieces, assert_case, by_bytes, failing, repeated};
 use cspf_model::Request;
@@ -6,7 +6,7 @@ use cspf_rows::{MOST_ROWS, RequestsError, RowError, read_requests};
 use std::alloc::Global;
 use std::test::Fail;
 
-/// Two requests, the second without a line feed.
+/// Two requests. The second one has no line feed.
 const ASKS: &[u8] = b"ask,7,1.1.1.1,2.2.2.2,0,1000,0x0,0x0,0x0,\n\n\
 ask,8,2.2.2.2,1.1.1.1,7,0,0x0,0x0,0x0,";
 
@@ -23,7 +23,7 @@ fn have_numbers(requests: &[Request], wanted: &[(u64, u8, u64)]) -> bool {
     requests.len() == wanted.len()
 }
 
-/// Texts, and how many of the first requests of `WANTED` each has.
+/// Texts. Each has a number: the text has this many of the first requests of `WANTED`.
 const TEXTS: &[(&[u8], usize)] = &[
     (b"\n", 0),
     (b"ask,7,1.1.1.1,2.2.2.2,0,1000,0x0,0x0,0x0,", 1),
@@ -100,7 +100,8 @@ fn requests_are_counted(rt: HostRuntime) -> Result<(), Fail> {
     Ok(())
 }
 
-/// Streams that fail after their last byte, each with the error that reading its requests returns.
+/// Streams whose reader fails after their last byte, each with the error that reading its requests
+/// returns.
 const FAILING: &[(&[u8], RequestsError)] = &[
     (
         b"ask,7,1.1.1.1,2.2.2.2,0,0,0x0,0x0,0x0,\n",

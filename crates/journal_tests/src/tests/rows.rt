@@ -1,5 +1,5 @@
-//! The tests say what each kind of row of the text formats is read as, and with which words rows
-//! are refused.
+//! Tests each kind of row of the text formats: the value as which it is read, or the words with
+//! which it is refused.
 
 use super::assert_case;
 use cspf_addr::{Addr, Mask, parse_hops};
@@ -11,8 +11,8 @@ use std::process::Abort;
 use std::test::Fail;
 
 /// One case in each line: the words with which the row is refused, or `read`, and then the row. `F`
-/// stands for eight bandwidths of 1000, `S` for seven, `Z` for three affinity masks of 0, and `H`
-/// for seven hops.
+/// stands for eight bandwidths of 1000, `S` for seven bandwidths of 1000, `Z` for three affinity
+/// masks of 0, and `H` for seven hops.
 const ROWS: &str = "kind: foo
 kind: foo,1.1.1.1,10.0.0.1
 kind: PUT
@@ -96,8 +96,8 @@ number 3: node,1.1.1.1,
 number 3: node,1.1.1.1,4294967296
 number 3: node,1.1.1.1,18446744073709551617";
 
-/// Cases in the form of `ROWS`, but with only the field of the hops in place of a row. This field
-/// begins with `ero:`, or with a similar text. `U` stands for the digits of a subobject of an
+/// Cases in the form of `ROWS`, with the field of the hops in place of the row. This field begins
+/// with `ero:`, or with a similar text. `U` stands for the digits of a subobject of an
 /// EXPLICIT_ROUTE object.
 const OBJECTS: &str = "hops 1: ero
 hops 1: ERO:
@@ -119,8 +119,8 @@ hops ero prefix-length: ero:000c140101080a000c022100
 read: ero:003c1401UUUUUUU
 read: ero:000C140101080A000C022000";
 
-/// Splits a line of `ROWS` or `OBJECTS` at its first `: `, into the words of the refusal, or
-/// `read`, and the row or field after them.
+/// Splits a line of `ROWS` or `OBJECTS` at its first `: `. The first part is the words of the
+/// refusal, or `read`. The second part is the row or the field.
 fn case(line: &str) -> (&str, &[u8]) {
     let (words, row) = line.split_once(": ").unwrap_or((line, ""));
     (words, row.as_bytes())
@@ -160,8 +160,8 @@ fn text_of(alloc: Global, front: &[u8], row: &[u8]) -> Result<Vec<u8>, AllocErro
     Ok(text)
 }
 
-/// The text that a byte of a row in `ROWS` or `OBJECTS` stands for: a longer text for each of the
-/// letters `F`, `S`, `Z`, `H` and `U`, and otherwise the byte itself.
+/// The text that a byte of a row in `ROWS` or `OBJECTS` stands for. Each of the letters `F`, `S`,
+/// `Z`, `H` and `U` stands for a longer text. Each other byte stands for itself.
 fn spelled(byte: &u8) -> &[u8] {
     match *byte {
         b'F' => b"1000,1000,1000,1000,1000,1000,1000,1000",
@@ -173,8 +173,8 @@ fn spelled(byte: &u8) -> &[u8] {
     }
 }
 
-/// Asserts for each line of `table`: the text `front`, followed by the line's row, is refused with
-/// the line's words. If these words are `read`, this text has to be read.
+/// Asserts for each line of `table` that the text `front`, followed by the line's row, is refused
+/// with the line's words. If these words are `read`, the text has to be read as a row.
 fn assert_table(rt: &impl Abort, alloc: Global, front: &[u8], table: &str) -> Result<(), Fail> {
     for line in table.lines() {
         let (words, row) = case(line);
@@ -210,7 +210,7 @@ const INTERFACE: u32 = 0x0a00_0c01; // 10.0.12.1
 const PUT: &[u8] =
     b"put,1.2.3.4,10.0.12.1,2.2.2.2,10.0.12.2,4294967295,0xA,1,2,3,4,5,6,7,18446744073709551615";
 
-/// What the row `PUT` is read as.
+/// The value as which the row `PUT` is read.
 fn put() -> Result<Row, LinkError> {
     let (from, local) = (Addr::new(ROUTER), Addr::new(INTERFACE));
     let (to, remote) = (Addr::new(0x0202_0202), Addr::new(0x0a00_0c02));
@@ -219,7 +219,7 @@ fn put() -> Result<Row, LinkError> {
     Ok(Row::Put(link))
 }
 
-/// The row that says whether `ROUTER` has transit, so whether routes may pass through this router.
+/// The row that says whether `ROUTER` has transit: whether routes may pass through this router.
 fn node(transit: bool) -> Row {
     let router = Addr::new(ROUTER);
     Row::Node { router, transit }

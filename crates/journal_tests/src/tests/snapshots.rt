@@ -1,4 +1,4 @@
-//! Snapshots of tables, and tables that are made from snapshots.
+//! Tests snapshots of tables, and tables that are made from snapshots.
 
 mod replays;
 mod tables;
@@ -12,7 +12,7 @@ use std::process::Abort;
 use std::test::Fail;
 use tables::{node, put, table_of};
 
-/// Whether the batches are numbered 1, 2 and so on, and have as many changes as `sizes` says.
+/// Whether the batches are numbered 1, 2 and so on, and their numbers of changes are `sizes`.
 fn have_sizes(batches: &[Batch], sizes: &[usize]) -> bool {
     let mut number = 0u32;
     for (batch, size) in batches.iter().zip(sizes) {
@@ -24,7 +24,7 @@ fn have_sizes(batches: &[Batch], sizes: &[usize]) -> bool {
     batches.len() == sizes.len()
 }
 
-/// The changes of all batches, in order, in one list.
+/// The changes of all batches in one list, in order.
 fn changes_of(alloc: Global, batches: &[Batch]) -> Result<Vec<Change>, AllocError> {
     let mut changes = Vec::new(alloc);
     for batch in batches {
@@ -42,8 +42,8 @@ fn make_again(alloc: Global, batches: &[Batch], table: &Table) -> bool {
     }
 }
 
-/// Whether the batches of a table's snapshot have these sizes and these changes. They also have to
-/// make a table with the same links, and the same routers marked as without transit.
+/// Whether the batches of a table's snapshot have these sizes and these changes. The batches also
+/// have to make a table with the same links, and with the same routers marked as without transit.
 fn has_snapshot(
     alloc: Global,
     table: &Table,
@@ -90,8 +90,8 @@ fn links_and_marks(rt: HostRuntime) -> Result<(), Fail> {
     Ok(())
 }
 
-/// Changes in order: those that put `links` links between 1,024 routers, and then those that mark
-/// `marks` routers as without transit.
+/// A list of changes: first the changes that put `links` links between 1,024 routers, and then the
+/// changes that mark `marks` routers as without transit.
 fn full_changes(
     rt: &impl Abort,
     alloc: Global,
@@ -117,7 +117,7 @@ fn reversed(alloc: Global, changes: &[Change]) -> Result<Vec<Change>, AllocError
     Ok(reversed)
 }
 
-/// The table that these changes make from the empty table, if they are applied in reverse order.
+/// The table that these changes make from the empty table when they are applied in reverse order.
 fn table_of_reversed(
     rt: &impl Abort,
     alloc: Global,

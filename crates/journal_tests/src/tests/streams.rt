@@ -1,5 +1,5 @@
-//! The tests of streams share an `Answering` that answers rows, a reader of rows, and a writer of
-//! lines.
+//! Helpers for the tests of streams: an `Answering` that answers rows, a reader of rows, and a
+//! writer of lines.
 
 mod dialogues;
 mod faults;
@@ -21,7 +21,7 @@ use std::io::{ErrorKind, Read, Write};
 /// Answers a refused row with the line of its refusal, and any other row with an empty line.
 #[derive(Drop)]
 struct Refusals {
-    /// How many rows of the stream were refused.
+    /// The number of rows of the stream that were refused.
     refused: u64,
     /// The number of the row at which memory is refused. The first row has the number 1.
     no_memory_at: u64,
@@ -59,14 +59,14 @@ impl Answering<()> for Refusals {
     }
 }
 
-/// What the reader and the writer note while a stream is answered.
+/// The events that the reader and the writer note while a stream is answered.
 #[derive(Drop)]
 struct Events {
-    /// How many bytes were written.
+    /// The number of bytes that were written.
     written: Cell<usize>,
-    /// How many of these bytes were written before the last flush.
+    /// The number of these bytes that were written before the last flush.
     flushed: Cell<usize>,
-    /// How many flushes there were.
+    /// The number of flushes.
     flushes: Cell<u32>,
     /// Whether there was a read before all written bytes were flushed.
     is_late: Cell<bool>,
@@ -81,20 +81,20 @@ fn no_events() -> Events {
     }
 }
 
-/// A reader that gives one row in each read. After the last row the reader ends, or fails if
-/// `fails` is set.
+/// A reader that returns one row in each read. After the last row the reader ends, or fails if
+/// `fails` is true.
 #[derive(Drop)]
 struct Rows<'a> {
     rows: &'a [&'a [u8]],
-    /// How many rows the reader has begun to give.
+    /// The number of rows that the reader has begun to return.
     at: usize,
-    /// The bytes that the reader hasn't given yet of the last row that it began.
+    /// The rest of the last row that the reader began to return.
     rest: &'a [u8],
     fails: bool,
     events: &'a Events,
 }
 
-/// A reader of these rows that has given no row yet.
+/// A reader of these rows that has returned no row yet.
 fn rows_of<'a>(rows: &'a [&'a [u8]], fails: bool, events: &'a Events) -> Rows<'a> {
     Rows {
         rows,
@@ -128,8 +128,8 @@ impl<'a> Read for Rows<'a> {
     }
 }
 
-/// A writer that takes `most` bytes, and no bytes after these. After `most_flushes` flushes each
-/// further flush fails.
+/// A writer that accepts `most` bytes, and then no more. After `most_flushes` flushes each further
+/// flush fails.
 #[derive(Drop)]
 struct Lines<'a> {
     held: Vec<u8>,
@@ -138,7 +138,7 @@ struct Lines<'a> {
     events: &'a Events,
 }
 
-/// A writer that holds no bytes yet.
+/// A writer that has no bytes yet.
 fn lines_of<'a>(alloc: Global, most: usize, most_flushes: u32, events: &'a Events) -> Lines<'a> {
     Lines {
         held: Vec::new(alloc),

@@ -1,13 +1,12 @@
 //! Tests a publisher and eight askers over the Abilene network. An asker is the object that
-//! computes the answers to requests, and each asker is on a thread of its own. The network's
-//! circuits and metrics are those of `examples/abilene.rows`. Circuits fail and are restored while
-//! the askers answer requests. Read `publish_and_ask` first, which starts the threads.
-//! `publish_all` is the work of the publisher's thread, and `ask_all` that of an asker's thread.
+//! computes the answers to requests, and each asker is on its own thread. The network's circuits
+//! and metrics are those of `examples/abilene.rows`. Circuits fail and are restored while the
+//! askers answer requests. Read `publish_and_ask` first, which starts the threads. `publish_all` is
+//! the work of the publisher's thread, and `ask_all` that of an asker's thread.
 //!
-//! The threads wait for each other, so that the askers (which compute the answers) answer requests
-//! at each version while the publisher makes the next one. They wait for a bounded number of turns
-//! of a loop. No assertion depends on the waiting: an asker may end before the first batch is
-//! published.
+//! The threads wait for each other. So the askers answer requests at each version while the
+//! publisher makes the next one. Each wait ends after a bounded number of iterations of a loop. No
+//! assertion depends on the waiting: an asker may end before the first batch is published.
 
 use super::fixtures::{assert_case, batch, is_same, request};
 use cspf_addr::{Addr, Mask};
@@ -24,9 +23,9 @@ use std::test::Fail;
 use std::thread;
 use std::thread::Threads;
 
-/// The circuits. Each has two routers, and one metric for its links in both directions. The routers are
-/// Seattle 1, Sunnyvale 2, Los Angeles 3, Denver 4, Kansas City 5, Houston 6, Chicago 7, Indianapolis 8,
-/// Atlanta 9, Washington 10 and New York 11.
+/// The circuits. Each circuit has two routers, and one metric for its links in both directions. The
+/// routers are Seattle 1, Sunnyvale 2, Los Angeles 3, Denver 4, Kansas City 5, Houston 6, Chicago
+/// 7, Indianapolis 8, Atlanta 9, Washington 10 and New York 11.
 const CIRCUITS: [(u32, u32, u32); 14] = [
     (6, 9, 1176),
     (8, 9, 587),
@@ -44,29 +43,29 @@ const CIRCUITS: [(u32, u32, u32); 14] = [
     (1, 2, 861),
 ];
 
-/// The last version. Version 1 has the whole network. From then on a circuit fails at each even
+/// The last version. Version 1 has the whole network. After that a circuit fails at each even
 /// version, and is restored at the next version.
 const VERSIONS: u32 = 201;
 
 const ASKERS: usize = 8;
 
-/// How many requests each asker (which computes the answers) answers.
+/// The number of requests that each asker (which computes the answers) answers.
 const ASKS: u64 = 12_500;
 
-/// Before each next batch the publisher waits until all askers (which compute the answers) together
-/// have answered this many more requests.
+/// The number of requests between two batches. Before each next batch, the publisher waits until
+/// all askers together have answered this many more requests.
 const ASKS_A_BATCH: u64 = 400;
 
-/// How many requests an asker (which computes the answers) answers before it waits for another
-/// batch.
+/// The number of requests that an asker (which computes the answers) answers before it waits for
+/// another batch.
 const ASKS_IN_A_ROW: u64 = 64;
 
 const SEATTLE: u32 = 0xc6336401; // 198.51.100.1
 
 const NEW_YORK: u32 = 0xc633640b; // 198.51.100.11
 
-/// The least costs from Seattle to New York at some versions, as another program found them. When some
-/// circuits fail, the cost is 706 or 1,133 higher.
+/// The least costs from Seattle to New York at some versions, as another program found them. While
+/// some circuits are down, the cost is 706 or 1,133 higher.
 const COSTS: &[(usize, u64)] = &[
     (1, 4242),
     (6, 4948),
@@ -81,7 +80,7 @@ fn router(number: u32) -> Addr {
     Addr::new(0xc6336400u32.wrapping_add(number))
 }
 
-/// The address 10.from.to.1 of the interface of the first router on the circuit to the second.
+/// The address 10.from.to.1: the interface of the router `from` on its circuit to the router `to`.
 fn interface(from: u32, to: u32) -> Addr {
     Addr::new((from % 256) * 65536 + (to % 256) * 256 + 0x0a000001)
 }
@@ -123,8 +122,8 @@ fn change_of(link: Link, fails: bool) -> Change {
     }
 }
 
-/// The batch with this number. If the number is even, a circuit fails, and if it is odd, the
-/// circuit is restored.
+/// The batch with this number. If the number is even, a circuit fails. If it is odd, the circuit is
+/// restored.
 fn circuit_batch(alloc: Global, number: u32) -> Result<Batch, Fail> {
     let (a, b, metric) = CIRCUITS[(number / 2) as usize % CIRCUITS.len()];
     let fails = number % 2 == 0;
@@ -143,8 +142,8 @@ fn all_batches(alloc: Global) -> Result<Vec<Batch>, Fail> {
     Ok(all)
 }
 
-/// Adds to the list the outcomes that the search finds in a table: without a batch, and then after
-/// each batch.
+/// Adds to the list the outcomes that the search finds in a table: first without batches, and then
+/// after each batch.
 fn add_outcomes(
     alloc: Global,
     table: &mut Table,
@@ -160,7 +159,7 @@ fn add_outcomes(
     Ok(())
 }
 
-/// The outcomes that the search finds in a table: without a batch, and then after each batch.
+/// The outcomes that the search finds in a table: first without batches, and then after each batch.
 fn outcomes_in_order(
     alloc: Global,
     batches: &[Batch],
@@ -188,22 +187,23 @@ enum Fault {
     WrongRoute { version: u32 },
 }
 
-/// What the threads of the publisher and of all askers use together. An asker computes the answers
-/// to requests.
+/// The values that the threads of the publisher and of all askers share. An asker computes the
+/// answers to requests.
 #[derive(Clone, Copy)]
 struct Shared<'a> {
     batches: &'a [Batch],
     request: &'a Request,
     /// The right outcome at each version.
     outcomes: &'a [Outcome],
-    /// How many requests the askers (which compute the answers) have answered, or tried to answer.
+    /// The number of requests that the askers (which compute the answers) have answered, or tried
+    /// to answer.
     asked: &'a AtomicU64,
-    /// How many batches the publisher has published.
+    /// The number of batches that the publisher has published.
     published: &'a AtomicU64,
 }
 
-/// An asker (which computes the answers to requests), the version of its last answer, how many of
-/// its answers were right, and its first fault.
+/// An asker (which computes the answers to requests), the version of its last answer, the number of
+/// its right answers, and its first fault.
 #[derive(Drop)]
 struct Client {
     asker: Asker,
@@ -212,7 +212,7 @@ struct Client {
     fault: Option<Fault>,
 }
 
-/// Waits until the count is at least `least`, for a bounded number of turns.
+/// Waits until the count is at least `least`, but only for a bounded number of iterations.
 fn wait_for(count: &AtomicU64, least: u64) {
     for _ in 0..20_000 {
         if count.load(Ordering::SeqCst) >= least {
@@ -223,8 +223,8 @@ fn wait_for(count: &AtomicU64, least: u64) {
 }
 
 /// Lets the client's asker (which computes the answers) answer the request once, and returns the
-/// version of the answer. An answer is right if its version isn't lower than that of the answer
-/// before. Its outcome must also be the one that the search finds in a table at this version.
+/// version of the answer. A right answer has at least the version of the answer before. Its outcome
+/// is the one that the search finds in a table at its version.
 fn ask_once(alloc: Global, shared: &Shared<'_>, client: &mut Client) -> Result<u32, Fault> {
     let before = client.version;
     match client.asker.ask(alloc, shared.request) {
@@ -243,7 +243,7 @@ fn ask_once(alloc: Global, shared: &Shared<'_>, client: &mut Client) -> Result<u
     }
 }
 
-/// Tries to answer the request until there is memory for the answer, at most a thousand times.
+/// Tries to answer the request until memory isn't refused, at most a thousand times.
 fn ask_again(alloc: Global, shared: &Shared<'_>, client: &mut Client) -> Result<u32, Fault> {
     for _ in 0..1000 {
         let answered = ask_once(alloc, shared, client);
@@ -288,8 +288,8 @@ fn publish_all<W: Write, R: Wait>(
     last
 }
 
-/// Publishes batches on this thread while the askers (which compute the answers) answer requests on
-/// other threads.
+/// Publishes batches on the calling thread while the askers (which compute the answers) answer
+/// requests on other threads.
 fn publish_and_ask<W: Write, R: Threads + Wait + Sync>(
     rt: &R,
     alloc: Global,
@@ -323,8 +323,8 @@ fn clients_of(alloc: Global, askers: Vec<Asker>) -> Result<Vec<Client>, AllocErr
     Ok(clients)
 }
 
-/// Checks that a client's asker (which computes its answers) gave only right answers, and that its
-/// last answer had the last version.
+/// Checks that all answers of a client's asker (which computes its answers) were right, and that
+/// the last answer had the last version.
 fn assert_right<R: Abort>(rt: &R, number: usize, client: &Client) {
     if let Some(fault) = client.fault {
         panic!(rt; "asker {number}: {fault:?}")
@@ -360,7 +360,7 @@ fn ask_last(alloc: Global, shared: &Shared<'_>, clients: &mut [Client]) {
 }
 
 /// Publishes batches while the askers (which compute the answers) answer requests. Afterwards each
-/// asker gives one more answer, with the last version.
+/// asker answers once more, at the last version.
 fn run<R: Threads + Wait + Abort + Sync>(rt: &R, alloc: Global, shared: &Shared<'_>) {
     let (mut publisher, mut clients) = opened(rt, alloc);
     let last = publish_and_ask(rt, alloc, shared, &mut clients, &mut publisher);
@@ -379,8 +379,8 @@ fn assert_costs<R: Abort>(rt: &R, outcomes: &[Outcome]) {
     }
 }
 
-/// Runs a publisher and its askers (which compute the answers). Publishes these batches, lets the
-/// askers answer this request, and compares their answers with these outcomes.
+/// Runs a publisher and its askers (which compute the answers). The publisher publishes these
+/// batches, the askers answer this request, and their answers are compared with these outcomes.
 fn ask_of<R: Threads + Wait + Abort + Sync>(
     rt: &R,
     alloc: Global,

@@ -1,5 +1,5 @@
 //! Tests askers (the objects that compute the answers to requests). Some askers learn of versions,
-//! some don't, and some move to another thread.
+//! some don't, and some are moved to another thread.
 ghost use Rattle.std.specs.Prelude.{◌≡◌, ◌≤◌, length};
 
 use super::fixtures::{
@@ -30,9 +30,9 @@ fn opened_for_two<R: Wait + Abort>(rt: &R, alloc: Global) -> (Publisher<Vec<u8>>
     }
 }
 
-/// Publishes a batch and then an empty one. The asker (which computes the answers) learns of
+/// Publishes a batch and then an empty batch. The asker (which computes the answers) learns of
 /// version 1, then of version 2, then of version 1 again. Returns the versions that the publisher
-/// reports to the asker, and after each report the version that the asker then knows.
+/// reports to the asker, and the version that the asker knows after each report.
 fn told_out_of_order<W: Write, R: Wait>(
     rt: &R,
     alloc: Global,
@@ -53,8 +53,8 @@ fn told_out_of_order<W: Write, R: Wait>(
     (told, (asker.seen(), asker.meet(t3), asker.meet(t2)))
 }
 
-/// Whether an asker (which computes the answers) that has learnt of no version gives the answer
-/// `none` with version 2. It must then know version 2.
+/// Whether an asker (which computes the answers) that has learnt of no version answers `none` at
+/// version 2, and knows version 2 afterwards.
 fn asks_untold(alloc: Global, asker: &mut Asker, request: &Request) -> bool
     ensures { asker.new.source ≡ asker.old.source }
 {
@@ -63,14 +63,14 @@ fn asks_untold(alloc: Global, asker: &mut Asker, request: &Request) -> bool
     before == 0 && is_answered && asker.seen() == 2
 }
 
-/// Whether the asker (which computes the answers) of a closed publisher gets the error `NoEntry`,
-/// or still gives the answer `none` with version 2.
+/// Whether the asker (which computes the answers) of a closed publisher returns the error
+/// `NoEntry`, or still answers `none` at version 2.
 fn is_closed(alloc: Global, asker: &mut Asker, request: &Request) -> bool {
     let closed = asker.ask(alloc, request);
     matches!(closed, Err(AskError::NoEntry)) || says(&closed, request.id, 2, Said::NoRoute)
 }
 
-/// One asker (which computes the answers) learns of versions in and out of order. The other asker
+/// One asker (which computes the answers) learns of versions in and out of order. Another asker
 /// learns of no version, and answers a request.
 fn tells_and_asks<R: Wait + Abort>(rt: &R, alloc: Global, first: &Batch, request: &Request) {
     let (mut publisher, mut asker, mut untold) = opened_for_two(rt, alloc);
@@ -92,7 +92,7 @@ fn told_and_untold(rt: HostRuntime) -> Result<(), Fail> {
 }
 
 /// Lets the asker (which computes the answers) read the count of published batches, and returns
-/// this count. The count is at least what it was at the time of the call.
+/// this count. It is at least the count at the time of the call.
 fn read_after<W: Write>(publisher: &Publisher<W>, asker: &mut Asker) -> u32
     requires { asker.old.source ≡ publisher.now.source }
     ensures source { asker.new.source ≡ asker.old.source }
@@ -109,7 +109,7 @@ fn read_after<W: Write>(publisher: &Publisher<W>, asker: &mut Asker) -> u32
 }
 
 /// Whether an asker (which computes the answers) that has learnt of no version reads `version` as
-/// the count of published batches. The asker must then know this version.
+/// the count of published batches, and knows this version afterwards.
 fn reads<W: Write>(publisher: &Publisher<W>, asker: &mut Asker, version: u32) -> bool
     requires { asker.old.source ≡ publisher.now.source }
     ensures { asker.new.source ≡ asker.old.source }
@@ -119,7 +119,7 @@ fn reads<W: Write>(publisher: &Publisher<W>, asker: &mut Asker, version: u32) ->
 }
 
 /// An asker (which computes the answers) that learns of no version reads the count of published
-/// batches: without a batch, after batch 1, and after batch 2.
+/// batches three times: without batches, after batch 1, and after batch 2.
 fn reads_each_count<R: Wait + Abort>(rt: &R, alloc: Global, first: &Batch) {
     let (mut publisher, mut asker) = opened(rt, alloc, Vec::<u8>::new(alloc));
     let none = reads(&publisher, &mut asker, 0);
@@ -138,8 +138,8 @@ fn caught_up_untold(rt: HostRuntime) -> Result<(), Fail> {
     Ok(())
 }
 
-/// An asker (which computes the answers) answers a request before the reverse of the link is
-/// removed, and afterwards.
+/// An asker (which computes the answers) answers requests before and after the reverse of the link
+/// is removed.
 fn asks_around_a_drop<R: Wait + Abort>(
     rt: &R,
     alloc: Global,
@@ -175,9 +175,9 @@ fn asked_once_the_reverse_is_dropped(rt: HostRuntime) -> Result<(), Fail> {
     Ok(())
 }
 
-/// Moves an asker (which computes the answers) to another thread, where it learns of the version in
-/// `told` and answers the request. Returns the asker, and whether its answer was the route, with
-/// version 1, and it then knew version 1.
+/// Moves an asker (which computes the answers) to another thread. There it learns of the version in
+/// `told` and answers the request. Returns the asker, and whether its answer was the route at
+/// version 1, and it knew version 1 afterwards.
 fn asked_elsewhere<R: Threads>(
     rt: &R,
     alloc: Global,
@@ -205,8 +205,8 @@ fn asked_elsewhere<R: Threads>(
     .0
 }
 
-/// An asker (which computes the answers) moves to another thread, answers a request there, and is
-/// then used on this thread again.
+/// An asker (which computes the answers) is moved to another thread, answers a request there, and
+/// is then used on the calling thread again.
 fn goes_and_comes_back<R: Threads + Wait + Abort>(
     rt: &R,
     alloc: Global,

@@ -1,4 +1,4 @@
-//! Defines what the tests share: the assertion, batches, requests, publishers, a short form of
+//! Defines helpers for the tests: an assertion, batches, requests, publishers, a short form of
 //! answers, and a writer that fails.
 ghost use Rattle.std.specs.Prelude.{◌≡◌};
 
@@ -26,8 +26,8 @@ pub(super) const TEXT: &[u8] = b"put,1.1.1.1,10.0.12.1,2.2.2.2,10.0.12.2,10,0x00
 1000,1000,1000,1000,1000,1000,1000,1000\n\
 put,2.2.2.2,10.0.12.2,1.1.1.1,10.0.12.1,10,0x00000001,0,0,0,0,0,0,0,0\nend,1,2\n";
 
-/// A link of metric 10 from 1.1.1.1 to 2.2.2.2, with 1,000 bytes per second unreserved. The address
-/// of its interface at 1.1.1.1 is 10.0.12.1.
+/// A link of metric 10 from 1.1.1.1 to 2.2.2.2, with 1,000 bytes per second unreserved. Its local
+/// address is 10.0.12.1.
 pub(super) fn only_link() -> Result<Link, LinkError> {
     let (from, local) = (Addr::new(ONE), Addr::new(0x0a000c01));
     let (to, remote) = (Addr::new(TWO), Addr::new(0x0a000c02));
@@ -105,7 +105,7 @@ pub(super) fn opened<W: Write + Drop, R: Wait + Abort>(
 /// The short form of an outcome.
 #[derive(Clone, Copy, PartialEq, Eq)]
 pub(super) enum Said {
-    /// A route, by its cost and its count of links.
+    /// A route with this cost and this number of links.
     Route(u64, usize),
     NoRoute,
     UnknownFrom,
@@ -141,7 +141,7 @@ pub(super) fn says(answer: &Result<Answer, AskError>, id: u64, version: u32, wan
     }
 }
 
-/// Whether an asker (which computes the answers) gives the request an answer with this version and
+/// Whether an asker (which computes the answers) answers the request at this version with this
 /// outcome.
 pub(super) fn is_answered(
     alloc: Global,
@@ -155,7 +155,7 @@ pub(super) fn is_answered(
     says(&asker.ask(alloc, request), request.id, version, wanted)
 }
 
-/// Whether the journal has the text of batch 1 and then `behind`.
+/// Whether the journal has the text of batch 1, followed by the text `behind`.
 pub(super) fn is_text(journal: &[u8], behind: &[u8]) -> bool {
     journal.strip_prefix(TEXT) == Some(behind)
 }
@@ -172,8 +172,8 @@ pub(super) fn request(
     Request::new(id, from, to, 0, bandwidth, any, any, any, Hops::none())
 }
 
-/// A writer that takes at most `width` bytes in each write. Once it holds `most` bytes, one write fails or
-/// takes no bytes. Later writes are taken again.
+/// A writer that accepts at most `width` bytes in each write. When it has `most` bytes, one write
+/// fails or accepts no bytes. Later writes succeed again.
 #[derive(Drop)]
 pub(super) struct Narrow {
     pub held: Vec<u8>,
@@ -182,7 +182,7 @@ pub(super) struct Narrow {
     pub fault: Option<ErrorKind>,
 }
 
-/// A writer that holds no bytes yet.
+/// A writer that has no bytes yet.
 pub(super) fn empty_writer(
     alloc: Global,
     width: usize,

@@ -14,8 +14,8 @@ use std::process::Abort;
 use std::sync::Wait;
 use std::test::Fail;
 
-/// Whether a fault of the writer within the text of batch 1 stops the publisher, and the empty database
-/// stays published.
+/// Whether a fault of the writer within the text of batch 1 stops the publisher, and the empty
+/// database is still published.
 fn stops_at<R: Wait + Abort>(
     rt: &R,
     alloc: Global,
@@ -34,11 +34,12 @@ fn stops_at<R: Wait + Abort>(
     is_stopped && is_answered && TEXT.get(..most) == Some(held.as_slice())
 }
 
-/// How a write to the journal fails: with an error, by an interrupt, or because it takes no bytes.
+/// How a write to the journal fails: with an error, by an interrupt, or because it accepts no
+/// bytes.
 const FAULTS: &[Option<ErrorKind>] = &[Some(ErrorKind::Other), Some(ErrorKind::Interrupted), None];
 
-/// In turn the writer fails at each byte of batch 1's text. Until then each write takes one byte,
-/// or all bytes that fit.
+/// The writer fails at each byte of batch 1's text in turn. Before that, each write accepts one
+/// byte, or all bytes up to the fault.
 fn stop_at_each_byte<R: Wait + Abort>(rt: &R, alloc: Global, first: &Batch, request: &Request) {
     for most in 0..TEXT.len() {
         for fault in FAULTS {
@@ -58,8 +59,8 @@ fn faults_of_the_journal(rt: HostRuntime) -> Result<(), Fail> {
     Ok(())
 }
 
-/// Three versions: the published one, the one that the publisher then reports to the asker (which
-/// computes the answers), and the one that the asker knows after that.
+/// Returns three versions: the published version, the version that the publisher then reports to
+/// the asker (which computes the answers), and the version that the asker knows after this report.
 fn versions<W: Write>(publisher: &mut Publisher<W>, asker: &mut Asker) -> (u32, u32, u32)
     requires { asker.old.source ≡ publisher.old.source }
 {
@@ -79,7 +80,7 @@ fn stops_at_batch_2<R: Wait>(rt: &R, alloc: Global, publisher: &mut Publisher<Na
     failed == Err(ApplyError::Journal { written: 3 }) && again == stopped && next == stopped
 }
 
-/// Whether the publisher's own answer to the request is the route, with version 1.
+/// Whether the publisher itself answers the request with the route, at version 1.
 fn is_answered_here<W: Write>(alloc: Global, publisher: &Publisher<W>, request: &Request) -> bool {
     let own = publisher
         .answer(alloc, request)
@@ -87,7 +88,8 @@ fn is_answered_here<W: Write>(alloc: Global, publisher: &Publisher<W>, request: 
     says(&own, request.id, 1, Said::Route(10, 1))
 }
 
-/// Whether a fault in the text of batch 2 stops the publisher for good, while version 1 stays published.
+/// Whether a fault in the text of batch 2 stops the publisher for good, and version 1 is still
+/// published.
 fn stays_at_version_1<R: Wait>(
     rt: &R,
     alloc: Global,
@@ -107,7 +109,7 @@ fn stays_at_version_1<R: Wait>(
     is_going && is_stopped && is_answered && is_answered_here(alloc, publisher, request)
 }
 
-/// After the fault the journal has the bytes that it took before.
+/// After the fault the journal has the bytes that it accepted before the fault.
 fn stop_at_version_1<R: Wait + Abort>(rt: &R, alloc: Global, first: &Batch, request: &Request) {
     let journal = empty_writer(alloc, 1, 175, Some(ErrorKind::Other));
     let (mut publisher, mut asker) = opened(rt, alloc, journal);
@@ -124,7 +126,7 @@ fn stopped_at_a_version(rt: HostRuntime) -> Result<(), Fail> {
     Ok(())
 }
 
-/// Whether a writer that takes `width` bytes in each write gets the texts of both batches.
+/// Whether a writer that accepts `width` bytes in each write gets the texts of both batches.
 fn is_written<R: Wait + Abort>(
     rt: &R,
     alloc: Global,
@@ -140,7 +142,7 @@ fn is_written<R: Wait + Abort>(
     first == Ok(1) && second == Ok(2) && is_answered && is_text(&held, b"end,2,0\n")
 }
 
-/// A writer that takes one or three bytes in each write gets the texts of both batches.
+/// A writer that accepts one or three bytes in each write gets the texts of both batches.
 #[test]
 fn journal_in_pieces(rt: HostRuntime) -> Result<(), Fail> {
     let (first, request) = batch_and_request(rt.alloc())?;

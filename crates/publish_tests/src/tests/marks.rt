@@ -1,4 +1,5 @@
-//! Tests routers that are marked as carrying no transit, and that stay marked at later versions.
+//! Tests routers that are marked as carrying no transit traffic. The marks remain at later
+//! versions.
 
 use super::fixtures::{
     ONE, Said, TWO, assert_case, back, batch, empty_batch, is_answered, only_link, opened, request,
@@ -15,7 +16,7 @@ use std::test::Fail;
 const THREE: u32 = 0x03030303; // 3.3.3.3
 
 /// The changes that set the link from 1.1.1.1 to 2.2.2.2, a link from 2.2.2.2 to 3.3.3.3, and the
-/// reverses of both.
+/// reverses of both links.
 fn two_links() -> Result<[Change; 4], LinkError> {
     let (link, back) = (only_link()?, back()?);
     let (two, local) = (Addr::new(TWO), Addr::new(0x0a001702));
@@ -38,8 +39,8 @@ fn node_batch(alloc: Global, number: u32, transit: bool) -> Result<Batch, AllocE
 }
 
 /// The batch with this number. Batch 1 adds two links, and batch 2 marks the router between them. A
-/// marked router carries no transit. Batch 5 removes the mark, and the batches 3, 4 and 6 are
-/// empty.
+/// marked router carries no transit traffic. Batch 5 removes the mark, and the batches 3, 4 and 6
+/// are empty.
 fn batch_at(alloc: Global, number: u32) -> Result<Batch, Fail> {
     match number {
         1 => Ok(batch(alloc, 1, &two_links()?)?),
@@ -63,7 +64,7 @@ fn said_at(version: u32) -> Said {
 }
 
 /// An asker (which computes the answers) answers the request after each of the batches. The
-/// publisher writes the batches alternately to its two copies of the database.
+/// publisher writes to its two copies of the database alternately.
 fn ask_after_each<W: Write, R: Wait + Abort>(
     rt: &R,
     alloc: Global,

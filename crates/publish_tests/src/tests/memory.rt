@@ -1,6 +1,6 @@
 //! Tests a publisher and its asker (which computes the answers) while memory is refused. Each call
-//! gives its whole answer, or the error that memory is refused. Once there is memory again, the
-//! call gives its whole answer.
+//! returns its whole answer, or the error that memory is refused. When memory is available again,
+//! the call returns its whole answer.
 ghost use Rattle.std.specs.Prelude.{◌≡◌, IfSome};
 
 use super::fixtures::{
@@ -44,9 +44,9 @@ fn has_memory(alloc: Global) -> bool {
     }
 }
 
-/// A publisher over an empty journal, and its only asker (which computes the answers). The result
-/// is `None` if memory is refused and stays refused. If opening fails, the journal is returned
-/// unchanged.
+/// A publisher over an empty journal, and its only asker (which computes the answers). If opening
+/// fails, the journal has to be returned unchanged, and is opened again. The result is `None` if
+/// memory is still refused.
 fn opened_at_last<R: Wait + Abort>(rt: &R, alloc: Global) -> Option<(Publisher<InPlace>, Asker)>
     ensures { IfSome result (λ opened. opened.1.source ≡ opened.0.source) }
 {
@@ -71,8 +71,8 @@ fn opened_at_last<R: Wait + Abort>(rt: &R, alloc: Global) -> Option<(Publisher<I
     }
 }
 
-/// The publisher's result for a batch. If memory is refused at first and there is memory again, it is the
-/// result of a second try.
+/// The publisher's result for a batch. If memory is refused at first and is then available again,
+/// it is the result of a second attempt.
 fn apply_at_last<W: Write, R: Wait>(
     rt: &R,
     alloc: Global,
@@ -109,8 +109,8 @@ fn is_of_the_link(answer: &Result<Answer, AskError>, link: &Link) -> bool {
     links == [*link].as_slice() && says(answer, 7, 1, Said::Route(10, 1))
 }
 
-/// The answer that the asker computes. If memory is refused at first and there is memory again, it
-/// is the answer at a second try.
+/// The answer that the asker computes. If memory is refused at first and is then available again,
+/// it is the answer of a second attempt.
 fn ask_at_last(alloc: Global, asker: &mut Asker, request: &Request) -> Result<Answer, AskError>
     ensures { asker.new.source ≡ asker.old.source }
 {
@@ -138,7 +138,7 @@ fn is_answered(
 }
 
 /// Whether a publisher publishes a batch, and its asker (which computes the answers) learns of the
-/// version and gives an answer with this version.
+/// version and answers at this version.
 fn answers_after<W: Write, R: Wait>(
     rt: &R,
     alloc: Global,
@@ -164,7 +164,7 @@ fn has_text(journal: &InPlace, version: u32) -> bool {
     journal.text.get(..journal.held) == Some(wanted)
 }
 
-/// Publishes a batch, and lets the asker (which computes the answers) learn of it and answer a
+/// Publishes a batch. The asker (which computes the answers) then learns of the batch and answers a
 /// request. Checks that the journal has the texts of the published batches.
 fn publish_and_answer<R: Wait + Abort>(
     rt: &R,

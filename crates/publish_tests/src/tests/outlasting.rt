@@ -1,5 +1,5 @@
-//! Tests an asker, the object that computes the answers. At each version it answers so often that
-//! it makes a tree of lower bounds for its search. Some batches change only unreserved bandwidths,
+//! Tests an asker, the object that computes the answers. At each version it answers enough requests
+//! to make a tree of lower bounds for its search. Some batches change only unreserved bandwidths,
 //! and each other batch makes a cheaper route.
 
 use super::fixtures::{ONE, Said, TWO, assert_case, batch, is_same, opened, said_by};
@@ -18,12 +18,12 @@ const THREE: u32 = 0x03030303; // 3.3.3.3
 
 const FOUR: u32 = 0x04040404; // 4.4.4.4
 
-/// How many answers an asker (the object that computes them) gives at each version. These are
-/// enough that the asker makes and uses a tree of lower bounds.
+/// The number of answers that an asker (the object that computes them) gives at each version. It is
+/// large enough that the asker makes a tree of lower bounds and uses it.
 const ASKS: usize = 9;
 
-/// The two routers of a circuit, and the address of the first router's interface. The address of the second
-/// router's interface is one higher.
+/// The two routers of a circuit, and the address of the first router's interface. The address of
+/// the second router's interface is higher by one.
 type Circuit = (u32, u32, u32);
 
 const ONE_FOUR: Circuit = (ONE, FOUR, 0x0a000e00);
@@ -55,8 +55,8 @@ fn transit(transit: bool) -> [Change; 1] {
     [Change::Node { router, transit }]
 }
 
-/// A network of five circuits. One circuit is in a group that the request excludes, and 2.2.2.2 has no
-/// transit.
+/// A network of five circuits. One circuit is in a group that the request excludes, and the router
+/// 2.2.2.2 has no transit.
 fn network(alloc: Global) -> Result<Vec<Change>, Fail> {
     let mut all = Vec::from_slice(alloc, &puts(ONE_FOUR, 50, 1, 1000)?)?;
     all.extend_from_slice(&puts(FOUR_THREE, 50, 1, 1000)?)?;
@@ -68,9 +68,9 @@ fn network(alloc: Global) -> Result<Vec<Change>, Fail> {
 }
 
 /// The batch with this number. Batch 1 adds the network, batch 2 takes all bandwidth from a
-/// circuit, and batch 3 restores it. Batch 4 gives 2.2.2.2 transit, batch 5 changes a circuit's
+/// circuit, and batch 3 restores it. Batch 4 gives transit to 2.2.2.2, batch 5 changes a circuit's
 /// group, and batch 6 lowers a metric. Batch 7 adds a new circuit, batch 8 takes all bandwidth from
-/// it, and batch 9 restores it.
+/// this circuit, and batch 9 restores it.
 fn batch_at(alloc: Global, number: u32) -> Result<Batch, Fail> {
     match number {
         1 => Ok(Batch {
@@ -87,7 +87,7 @@ fn batch_at(alloc: Global, number: u32) -> Result<Batch, Fail> {
     }
 }
 
-/// The outcome that is wanted at a version.
+/// The right outcome at a version.
 fn said_at(version: u32) -> Said {
     match version {
         2 => Said::NoRoute,
@@ -99,7 +99,7 @@ fn said_at(version: u32) -> Said {
     }
 }
 
-/// A batch that would make the cheapest route, but also removes a link that isn't there.
+/// A batch that would make the cheapest route, but also removes a link that doesn't exist.
 fn unfit_batch(alloc: Global, number: u32) -> Result<Batch, Fail> {
     let mut changes = Vec::from_slice(alloc, &puts(ONE_THREE, 1, 1, 1000)?)?;
     changes.extend_from_slice(&[Change::Remove {
@@ -124,8 +124,8 @@ fn is_right(answer: &Result<Answer, AskError>, version: u32, outcome: &Outcome) 
     }
 }
 
-/// Whether the search by rounds finds the wanted outcome in the table, and the asker (which
-/// computes the answers) gives the same outcome each time.
+/// Whether the search by rounds finds the right outcome in the table, and the asker (which computes
+/// the answers) returns the same outcome each time.
 fn answers_alike(
     alloc: Global,
     asker: &mut Asker,
@@ -142,7 +142,7 @@ fn answers_alike(
 }
 
 /// Whether the answers of the asker (the object that computes them) are right after a batch, and
-/// stay right after the next batch is refused.
+/// are still right after the next batch is refused.
 fn is_right_after<W: Write, R: Wait>(
     rt: &R,
     alloc: Global,

@@ -1,5 +1,4 @@
-//! Tests batches that are refused, and counts of askers (which compute the answers) that are
-//! refused.
+//! Tests refused batches, and refused numbers of askers (which compute the answers).
 
 use super::fixtures::{apply_empty, assert_case, batch, first_batch, is_text, only_link, opened};
 use cspf_model::{Batch, Change, Refusal};
@@ -11,7 +10,7 @@ use std::process::Abort;
 use std::sync::Wait;
 use std::test::Fail;
 
-/// A batch with this number that removes a link that isn't there.
+/// A batch with this number that removes a link that doesn't exist.
 fn unfit_batch(alloc: Global, number: u32) -> Result<Batch, Fail> {
     let link = only_link()?;
     let absent = Change::Remove {
@@ -21,8 +20,8 @@ fn unfit_batch(alloc: Global, number: u32) -> Result<Batch, Fail> {
     Ok(batch(alloc, number, &[absent])?)
 }
 
-/// Whether a batch is refused for a wrong number or an absent link after two batches were published, and
-/// the version stays the same.
+/// Whether a batch is refused for a wrong number or for a missing link, after two batches were
+/// published. The version must not change.
 fn refuses_batches<W: Write, R: Wait>(
     rt: &R,
     alloc: Global,
@@ -67,8 +66,8 @@ fn open_error<R: Wait>(rt: &R, alloc: Global, askers: usize) -> Option<(OpenErro
     }
 }
 
-/// How many askers (which compute the answers) a publisher is opened with, and the error if this
-/// count is refused. The counts 1 and 64 are accepted, and 0 and 65 are refused.
+/// Pairs: a number of askers (which compute the answers), and the error of opening a publisher with
+/// it, if any. The numbers 1 and 64 are accepted, and 0 and 65 are refused.
 const ASKERS: &[(usize, Option<(OpenError, usize)>)] = &[
     (1, None),
     (64, None),

@@ -1,4 +1,4 @@
-//! Tests the texts as which errors are printed.
+//! Tests the printed texts of errors.
 
 use super::fixtures::assert_case;
 use cspf_model::Refusal;
@@ -13,7 +13,7 @@ fn has_words<D: Display + Copy>(alloc: Global, error: D, words: &str) -> Result<
     Ok(error.to_string(alloc)?.as_str() == words)
 }
 
-/// Each error of a table is printed as the text beside it.
+/// Checks that each error of a table is printed as the text beside it.
 fn have_words<D: Display + Copy, R: Abort>(
     rt: &R,
     alloc: Global,

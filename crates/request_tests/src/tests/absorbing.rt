@@ -1,6 +1,6 @@
-//! What a batch of changes to the database does to four placements on the triangle of routers. The
-//! placements 9, 2 and 7 take the link from 1.1.1.1 to 3.3.3.3. The placement 3 goes through
-//! 2.2.2.2.
+//! Tests the effect of a batch of changes on four placements on the triangle of routers. The routes
+//! of the placements 9, 2 and 7 use the link from 1.1.1.1 to 3.3.3.3. The route of placement 3 goes
+//! through 2.2.2.2.
 
 use super::assert_case;
 use super::networks::Edit::{self, Drop, Node, Put, Turn};
@@ -13,27 +13,27 @@ use std::alloc::Global;
 /// The ids, bandwidths and holding priorities of the four placements.
 const PLACEMENTS: &[(u64, u64, u8)] = &[(9, 300, 5), (3, 800, 0), (2, 300, 5), (7, 300, 6)];
 
-/// A batch, and the ids of the placements that lose their routes by it, in the order in which they
-/// are reported.
+/// A batch, and the ids of the placements that lose their routes by this batch, in the order in
+/// which they are reported.
 type Loss = (&'static [Edit], &'static [u64]);
 
 const LOSSES: &[Loss] = &[
-    // the link from 1.1.1.1 to 3.3.3.3 or its reverse is removed; or the link gets the group 0,
-    // which the requests exclude, or ends at another router or interface
+    // the link from 1.1.1.1 to 3.3.3.3 or its reverse is removed; or the link is put into the group
+    // 0, which the requests exclude; or it is made to end at another router or interface
     (&[Drop(ONE, THREE)], &[7, 2, 9]),
     (&[Drop(THREE, ONE)], &[7, 2, 9]),
     (&[Put(ONE, THREE, 1, [1000; 8])], &[7, 2, 9]),
     (&[Turn(TWO, ONE)], &[7, 2, 9]),
     (&[Turn(THREE, TWO)], &[7, 2, 9]),
-    // 2.2.2.2, through which placement 3 goes, loses transit; or a link from or to 2.2.2.2 is
+    // 2.2.2.2, through which placement 3 goes, loses its transit; or a link from or to 2.2.2.2 is
     // removed
     (&[Node(TWO, false)], &[3]),
     (&[Drop(TWO, ONE)], &[3]),
     (&[Drop(TWO, THREE)], &[3]),
     (&[Drop(THREE, TWO)], &[3]),
-    // No placement loses its route. The link from 1.1.1.1 to 3.3.3.3 gets the group 1, which the
-    // requests don't exclude, and no bandwidth. Or both of these routers are marked as without
-    // transit.
+    // In these two cases no placement loses its route. First, the link from 1.1.1.1 to 3.3.3.3 is
+    // put into the group 1, which the requests don't exclude, and gets no bandwidth. Second, both
+    // of these routers are marked as without transit.
     (&[Put(ONE, THREE, 2, [0; 8])], &[]),
     (&[Node(ONE, false), Node(THREE, false)], &[]),
     // if a batch has several changes of one link or one router, only the last of them counts
@@ -43,14 +43,14 @@ const LOSSES: &[Loss] = &[
     (&[Node(TWO, false), Node(TWO, true)], &[]),
 ];
 
-/// A batch, and where it leaves too little bandwidth. Each pair is a link from 1.1.1.1, given by
-/// the router at its other end, and a priority. At this priority, the placements take more
+/// A batch, and the places where it leaves too little bandwidth. Each pair is a link from 1.1.1.1,
+/// given by the router at its other end, and a priority. At this priority, the placements use more
 /// bandwidth than the link has after the batch.
 type Shortage = (&'static [Edit], &'static [(u32, u8)]);
 
-/// On the link to 3.3.3.3 the placements take 600 bytes per second at priority 5, and 900 at
-/// priorities 6 and 7. On the link to 2.2.2.2 they take 800 bytes per second at each priority, and
-/// on its reverse they take nothing.
+/// On the link to 3.3.3.3 the placements use 600 bytes per second at priority 5, and 900 at
+/// priorities 6 and 7. On the link to 2.2.2.2 they use 800 bytes per second at each priority, and
+/// on its reverse they use nothing.
 const SHORTAGES: &[Shortage] = &[
     (
         &[Put(ONE, THREE, 0, [0, 0, 0, 0, 0, 599, 900, 899])],
@@ -97,7 +97,7 @@ fn loses(alloc: Global, book: &Book, batch: &Batch, ids: &[u64]) -> bool {
     }
 }
 
-/// Whether for each batch exactly the placements that are given with it lose their routes.
+/// Whether exactly the listed placements lose their routes by each batch.
 fn are_losses(alloc: Global, book: &Book, losses: &[Loss]) -> bool {
     for (edits, ids) in losses {
         match batch(alloc, edits) {
@@ -108,8 +108,8 @@ fn are_losses(alloc: Global, book: &Book, losses: &[Loss]) -> bool {
     true
 }
 
-/// Whether `overs` names exactly the links from 1.1.1.1 to the expected routers, each at its
-/// expected priority, in this order.
+/// Whether `overs` has exactly the links from 1.1.1.1 to the expected routers, each at its expected
+/// priority, in this order.
 fn are_overs(overs: &[Over], expected: &[(u32, u8)]) -> bool {
     let mut at = 0usize;
     for over in overs {
@@ -136,8 +136,8 @@ fn is_short(alloc: Global, book: &Book, batch: &Batch, expected: &[(u32, u8)]) -
     }
 }
 
-/// Whether each batch leaves too little bandwidth on exactly the links and at exactly the
-/// priorities that are given with it.
+/// Whether each batch leaves too little bandwidth on exactly the listed links, at exactly the
+/// listed priorities.
 fn are_shortages(alloc: Global, book: &Book, shortages: &[Shortage]) -> bool {
     for (edits, expected) in shortages {
         match batch(alloc, edits) {
@@ -168,7 +168,8 @@ fn over_by_batches(rt: HostRuntime) {
     assert_case(&rt, "over by batches", 0, is);
 }
 
-/// Whether a placement that has lost its route stays in the book, and isn't reported as lost again.
+/// Whether a placement that has lost its route remains in the book, and isn't reported as lost
+/// again.
 fn is_lost_once(alloc: Global, book: &mut Book) -> bool {
     match batch(alloc, &[Drop(THREE, ONE)]) {
         Some(batch) => {

@@ -1,6 +1,6 @@
-//! The cases are worked by hand on small tables. They check which links a request may use, and
-//! which routers a walk may leave. They also check where the legs of a route end, and through which
-//! routers the legs pass.
+//! Tests cases that were worked out by hand on small tables. They check which links a request may
+//! use, and which routers a walk may leave. They also check where the legs of a route may end, and
+//! through which routers the legs may pass.
 
 ghost use Rattle.std.specs.Prelude.{◌≡◌, IfOk, length};
 
@@ -13,8 +13,8 @@ use std::alloc::{AllocError, Global};
 use std::process::Abort;
 use std::test::Fail;
 
-// A link in the groups 1 and 2 (mask 0x6) with 1,000 bytes per second unreserved at all priorities
-// but 7.
+// A link in the groups 1 and 2 (mask 0x6), with 1,000 bytes per second unreserved at all priorities
+// except 7.
 fn link(from: u32, local: u32, to: u32) -> Result<Link, Fail> {
     let (from, local, to, remote) = (
         Addr::new(from),
@@ -26,9 +26,9 @@ fn link(from: u32, local: u32, to: u32) -> Result<Link, Fail> {
     Ok(Link::new(from, local, to, remote, 1, Mask::new(0x6), free)?)
 }
 
-// A link back to the router where `link` begins, from the router and interface where it ends. The
-// link back has another group and no bandwidth. It is the reverse of `link` if `remote` is the
-// local address of `link`.
+// A link in the other direction: from the router and interface where `link` ends to the router
+// where `link` begins. It is in another group and has no bandwidth. If `remote` is the local
+// address of `link`, it is the reverse of `link`.
 fn back(link: &Link, remote: Addr) -> Result<Link, Fail> {
     let group = Mask::new(0x8);
     Ok(Link::new(link.to, link.remote, link.from, remote, 9, group, [0; 8])?)
@@ -46,8 +46,8 @@ fn request(setup: u8, masks: (u32, u32, u32), loose: bool) -> Result<Request, Fa
     Ok(Request::new(5, from, to, setup, 1000, exclude, any, all, hops)?)
 }
 
-// A setup priority, the three affinity masks, and whether a request with them accepts the link of
-// the test `accepted_links`.
+// A setup priority, the three affinity masks, and whether a request with these values accepts the
+// link of the test `accepted_links`.
 const ACCEPTED: &[(u8, (u32, u32, u32), bool)] = &[
     (0, (0, 0, 0), true),
     (7, (0, 0, 0), false),
@@ -76,8 +76,8 @@ fn change(alloc: Global, table: &mut Table, changes: &[Change]) -> Result<(), Al
 }
 
 // Whether `link` and `reverse` are admissible for exactly the right requests. For a request without
-// affinities, `link` has to be admissible exactly if `wanted` is set, and `reverse` mustn't be
-// admissible. For a request that excludes a group of `link`, `link` mustn't be admissible.
+// affinities, `link` has to be admissible exactly if `wanted` is true, and `reverse` must not be
+// admissible. For a request that excludes a group of `link`, `link` must not be admissible.
 fn is_usable(table: &Table, link: &Link, reverse: &Link, wanted: bool) -> Result<bool, Fail> {
     let accepting = request(0, (0, 0, 0), false)?;
     let refusing = request(0, (0x4, 0, 0), false)?;
@@ -86,16 +86,16 @@ fn is_usable(table: &Table, link: &Link, reverse: &Link, wanted: bool) -> Result
     Ok(found == wanted && !others)
 }
 
-// Puts a link, puts and removes its reverse, and puts another link in the reverse's direction.
-// Checks after each change whether the first link is admissible.
+// Puts a link, puts its reverse, removes the reverse, and puts another link in the reverse's
+// direction. Checks after each change whether the first link is admissible.
 fn change_back(rt: &impl Abort, alloc: Global, table: &mut Table) -> Result<(), Fail> {
     let link = link(1, 2, 3)?;
     let (reverse, other) = (back(&link, link.local)?, back(&link, Addr::new(8))?);
     let (from, local) = (reverse.from, reverse.local);
     let steps = [
         (Change::Put(link), false),
-        // the link is admissible, although its reverse has another group and no bandwidth; without
-        // bandwidth the reverse itself isn't admissible
+        // The link is admissible, although its reverse is in another group and has no bandwidth.
+        // The reverse itself isn't admissible, since it has no bandwidth.
         (Change::Put(reverse), true),
         (Change::Remove { from, local }, false),
         // a link back that ends at another interface address of router 1 isn't the reverse of the
@@ -122,8 +122,8 @@ fn two_links() -> Result<[Change; 2], Fail> {
     Ok([Change::Put(first), Change::Put(link(2, 0x0b00_0002, 3)?)])
 }
 
-// Routers. With each: whether the legs 0, 1 and 2 may end at it, and whether leg 1 may pass through
-// it if leg 1 is strict.
+// Routers. Each has flags: whether the legs 0, 1 and 2 may end at the router, and whether leg 1 may
+// pass through it if leg 1 is strict.
 const TARGETS: &[(u32, [bool; 3], bool)] = &[
     (1, [true, false, false], true),
     (2, [false, true, false], true),
@@ -131,8 +131,8 @@ const TARGETS: &[(u32, [bool; 3], bool)] = &[
     (9, [false, false, false], false),
 ];
 
-// Whether the legs 0, 1 and 2 (parts of the route between hops) may end at the router exactly as
-// `targets` says for each of them.
+// Whether `targets` is right for this router. It says of the legs 0, 1 and 2 (parts of the route
+// between hops) whether the leg may end at the router.
 fn is_target(table: &Table, router: Addr, targets: [bool; 3]) -> Result<bool, Fail> {
     let strict = request(7, (0, 0, 0), false)?;
     let first = member(table, router, 0, &strict) == targets[0];
@@ -140,9 +140,9 @@ fn is_target(table: &Table, router: Addr, targets: [bool; 3]) -> Result<bool, Fa
     Ok(first && second && member(table, router, 2, &strict) == targets[2])
 }
 
-// Whether `inside` says correctly in which legs a route may visit the router. In a strict leg 1
-// this has to be allowed exactly if `wanted` is set. In a loose leg 1 and in leg 2 it has to be
-// allowed in any case.
+// Whether `inside` is right about the legs in which a route may visit the router. In a strict leg 1
+// this has to be allowed exactly if `wanted` is true. In a loose leg 1 and in leg 2 it always has
+// to be allowed.
 fn is_inside(table: &Table, router: Addr, wanted: bool) -> Result<bool, Fail> {
     let strict = request(7, (0, 0, 0), false)?;
     let loose = request(7, (0, 0, 0), true)?;
@@ -160,8 +160,8 @@ fn assert_targets(rt: &impl Abort, table: &Table) -> Result<(), Fail> {
     Ok(())
 }
 
-// Only router 2 has an address that the prefix of the hop covers. This is the address of its
-// interface on a link that the request can't use.
+// The prefix of the hop covers an address of router 2, and of no other router. This is the address
+// of router 2's interface on a link that the request can't use.
 #[test]
 fn targets_of_legs(rt: HostRuntime) -> Result<(), Fail> {
     let (there, third) = (two_links()?, Change::Put(link(3, 0x0a00_0003, 1)?));
@@ -178,7 +178,7 @@ fn stub(number: u32) -> Change {
 }
 
 // A router, and whether a walk may leave it after no link, after one link, and after 2^32 - 1
-// links, the greatest number that `may_leave` takes.
+// links, the greatest number that `may_leave` accepts.
 const MAY_LEAVE: &[(u32, [bool; 3])] = &[
     (1, [true, true, true]),
     (2, [true, true, true]),
@@ -186,8 +186,8 @@ const MAY_LEAVE: &[(u32, [bool; 3])] = &[
     (9, [true, false, false]),
 ];
 
-// Whether `may_leave` answers `wanted` for a walk of `links` links at the router. If the table has
-// the router, `may_leave_at` has to give the same answer for the router's index.
+// Whether `may_leave` returns `wanted` for a walk of `links` links that ends at the router. If the
+// table has the router, `may_leave_at` has to return the same for the router's index.
 fn goes_on(table: &Table, router: Addr, links: u32, wanted: bool) -> bool {
     let by_place = match table.place_of(router) {
         Some(place) => may_leave_at(table, place, links) == wanted,
@@ -215,7 +215,7 @@ fn routers_that_walks_go_on_from(rt: HostRuntime) -> Result<(), Fail> {
     Ok(())
 }
 
-// A role says what a route may do at one router in one leg (the part of a route from hop to hop).
+// A role says how a route may visit one router in one leg (the part of a route from hop to hop).
 // Each entry has the role's index in `Roles::states`, whether a link may lead a route to the router
 // in this leg, and whether the leg may end there.
 const ROLES: &[(usize, bool, bool)] = &[
@@ -227,7 +227,7 @@ const ROLES: &[(usize, bool, bool)] = &[
     (1026, true, true),
 ];
 
-// Whether `roles` has at this index a role with these values of `enter` and `target`.
+// Whether `roles` has a role with these values of `enter` and `target` at this index.
 fn has_role(roles: &Roles, at: usize, enter: bool, target: bool) -> bool {
     match roles.states.get(at) {
         Some(role) => role.enter == enter && role.target == target,
@@ -235,7 +235,7 @@ fn has_role(roles: &Roles, at: usize, enter: bool, target: bool) -> bool {
     }
 }
 
-// Whether the leg to the only hop may end only at the router with the index 1.
+// Whether the leg to the only hop may end at the router with the index 1, and at no other router.
 fn ends_at_1(roles: &Roles) -> bool {
     match roles.targets.as_slice() {
         [targets] => targets.as_slice() == [1].as_slice(),
@@ -250,8 +250,8 @@ fn assert_roles(rt: &impl Abort, roles: &Roles) {
     assert_case(rt, "targets", 1, ends_at_1(roles));
 }
 
-// What a route of the request may do at each router in each leg. The result is `None` if the table
-// lacks the head-end or the tail-end.
+// The roles of each router in each leg of a route for this request. The result is `None` if the
+// table doesn't have the head-end or the tail-end.
 fn roles_of(alloc: Global, table: &Table, asked: &Request) -> Result<Option<Roles>, AllocError> {
     match (table.place_of(asked.from), table.place_of(asked.to)) {
         (Some(from), Some(to)) => Ok(Some(find_roles(alloc, table, asked, from, to)?)),
@@ -259,8 +259,8 @@ fn roles_of(alloc: Global, table: &Table, asked: &Request) -> Result<Option<Role
     }
 }
 
-// Only router 2 has an address that the prefix of the strict hop covers. The head-end 1 and the
-// tail-end 3 are marked as without transit.
+// The prefix of the strict hop covers an address of router 2, and of no other router. The head-end
+// 1 and the tail-end 3 are marked as without transit.
 #[test]
 fn roles_in_legs(rt: HostRuntime) -> Result<(), Fail> {
     let (links, asked) = (two_links()?, request(0, (0, 0, 0), false)?);

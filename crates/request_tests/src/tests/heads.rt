@@ -1,10 +1,10 @@
-//! Reply lines that begin with a head, which is the id of their request and their version, and
-//! lines without a head.
+//! Tests reply lines that begin with a head, and lines without a head. A head is the id of the
+//! request and the version.
 
 use super::assert_case;
 use cspf_ero::reply_head;
 
-/// Reply lines, and the id and the version with which each of them begins.
+/// Reply lines. Each has the id and the version with which it begins.
 const HEADS: &[(&[u8], u64, u32)] = &[
     (b"ask 7 v1 none", 7, 1),
     (b"ask 0 v0 ", 0, 0),
@@ -16,8 +16,8 @@ const HEADS: &[(&[u8], u64, u32)] = &[
     ),
 ];
 
-/// The index of the first line of `HEADS` from which `reply_head` doesn't read the line's id and
-/// version, or the number of lines if it reads all.
+/// The index of the first line of `HEADS` whose id and version `reply_head` doesn't read, or the
+/// number of lines if it reads all of them.
 fn count_heads() -> usize {
     for (at, (line, id, version)) in HEADS.iter().enumerate() {
         match reply_head(line) {
@@ -55,7 +55,7 @@ const OTHERS: &[&[u8]] = &[
 ];
 
 /// The index of the first line of `OTHERS` in which `reply_head` finds an id and a version, or the
-/// number of lines if it finds them in none.
+/// number of lines if there is no such line.
 fn count_others() -> usize {
     for (at, line) in OTHERS.iter().enumerate() {
         if reply_head(line).is_some() {

@@ -1,4 +1,4 @@
-//! Lists of hops that are read or refused, and the longest list that is read.
+//! Tests lists of hops that are read or refused, and the longest list that is read.
 
 use super::{assert_case, is_text};
 use cspf_addr::{Addr, Hop, Hops, HopsError, MOST_HOPS, Prefix, PrefixError, parse_hops};
@@ -10,7 +10,7 @@ fn hop(address: u32, length: u8, loose: bool) -> Result<Hop, PrefixError> {
     Ok(Hop { prefix, loose })
 }
 
-// Whether the list has these hops in this order, both one by one (`get`) and as a slice
+// Whether the list has these hops in this order. They are read one by one (`get`), and as a slice
 // (`as_slice`).
 fn are_hops(hops: &Hops, wanted: &[Hop]) -> bool {
     for (at, hop) in wanted.iter().enumerate() {
@@ -30,8 +30,8 @@ fn are_read(text: &[u8], wanted: &[Hop]) -> bool {
     }
 }
 
-// Whether the empty text is read as no hops, the texts of two single hops as `one` and as `other`,
-// and the text of both hops as `both`.
+// Whether four texts are read as the right hops: the empty text as no hops, the texts of two single
+// hops as `one` and as `other`, and the text of both hops as `both`.
 fn are_spelled(one: &[Hop], other: &[Hop], both: &[Hop]) -> bool {
     are_read(b"", &[])
         && are_read(b"10.9.0.1/16s", one)
@@ -39,7 +39,7 @@ fn are_spelled(one: &[Hop], other: &[Hop], both: &[Hop]) -> bool {
         && are_read(b"10.0.0.0/8l 10.9.0.1/16s", both)
 }
 
-// Whether each of the two hops is written as the text that is wanted.
+// Whether each of the two hops is written as the wanted text.
 fn are_written(alloc: Global, strict: Hop, loose: Hop) -> bool {
     is_text(strict.text(alloc), "10.9.0.0/16s") && is_text(loose.text(alloc), "10.0.0.0/8l")
 }
@@ -57,7 +57,7 @@ fn hops_with_a_space_between(rt: HostRuntime) -> Result<(), PrefixError> {
     Ok(())
 }
 
-// Whether the text is refused because its part number `at`, counted from 1, isn't a hop.
+// Whether the text is refused because the part with the number `at`, counted from 1, isn't a hop.
 fn is_bad(text: &[u8], at: usize) -> bool {
     parse_hops(text) == Err(HopsError::BadHop { at })
 }

@@ -1,6 +1,6 @@
-//! Tests of a book of placements while memory is refused: then a request isn't placed, and the book
-//! stays as it was. Once memory is available again, the request is placed. The report of what a
-//! batch does to the placements also fails at first, and is given once there is memory. Accepting a
+//! Tests a book of placements while memory is refused: a request isn't placed, and the book is
+//! unchanged. When memory is available again, the request is placed. The report of the effect of a
+//! batch on the placements also fails at first, and succeeds when memory is available. Accepting a
 //! batch and releasing a placement allocate no memory.
 
 use super::assert_case;
@@ -18,22 +18,21 @@ fn has_memory(alloc: Global) -> bool {
     }
 }
 
-/// Whether exactly 600 bytes per second are taken on the link from 1.1.1.1 to 3.3.3.3, at the
+/// Whether exactly 600 bytes per second are used on the link from 1.1.1.1 to 3.3.3.3, at the
 /// priorities 5 to 7.
 fn is_taken(book: &Book) -> bool {
     left(book, ONE, THREE) == [1000, 1000, 1000, 1000, 1000, 400, 400, 400]
 }
 
-/// Whether two facts hold: `why` says that memory was refused, and the book is as it was before the
-/// request. That is, it has version 1, and the link from 1.1.1.1 to 3.3.3.3 has all its bandwidth
-/// left.
+/// Whether two facts hold: `why` is refused memory, and the book is as it was before the request.
+/// Then it has version 1, and the link from 1.1.1.1 to 3.3.3.3 has all its bandwidth left.
 fn is_unplaced(book: &Book, why: PlaceError) -> bool {
     why == PlaceError::Memory && book.version() == 1 && left(book, ONE, THREE) == [1000; 8]
 }
 
-/// Whether a request for 600 bytes per second is placed, at the latest at the second try. If memory
-/// is refused at the first try, nothing may be placed then, and the second try has to place the
-/// request. The result is also true if memory is still refused before the second try.
+/// Whether a request for 600 bytes per second is placed in the first or second attempt. If memory
+/// is refused in the first attempt, nothing may be placed then, and the second attempt has to place
+/// the request. The result is also true if memory is still refused before the second attempt.
 fn is_placed_at_last(alloc: Global, book: &mut Book) -> bool {
     match placed(alloc, book, 1, 600, b"", 5) {
         Some(Ok(_)) => return is_taken(book),
@@ -54,18 +53,18 @@ fn places_while_memory_is_refused(rt: HostRuntime) {
     assert_case(&rt, "placed without memory", 0, is);
 }
 
-/// How many pairs of a link and a priority the batch leaves with too little bandwidth, and how many
-/// placements lose their routes.
+/// Two numbers: the pairs of a link and a priority that the batch leaves with too little bandwidth,
+/// and the placements that lose their routes.
 fn told(alloc: Global, book: &Book, batch: &Batch) -> Option<(usize, usize)> {
     let over = book.over(alloc, batch).ok()?.len();
     let lost = book.lost(alloc, batch).ok()?.len();
     Some((over, lost))
 }
 
-/// Whether the book reports what the batch does: too little bandwidth at three priorities, and one
-/// placement that loses its route. If memory is refused at the first try, a second try has to
-/// report this. The result is also true if the request isn't placed, or memory is still refused
-/// before the second try.
+/// Whether the book reports the effect of the batch: too little bandwidth at three priorities, and
+/// one placement that loses its route. If memory is refused in the first attempt, a second attempt
+/// has to report this. The result is also true if the request isn't placed, or memory is still
+/// refused before the second attempt.
 fn is_told_at_last(alloc: Global, book: &mut Book, batch: &Batch) -> bool {
     if placed(alloc, book, 1, 600, b"", 5) != Some(Ok(1)) {
         return true;
@@ -77,8 +76,8 @@ fn is_told_at_last(alloc: Global, book: &mut Book, batch: &Batch) -> bool {
 }
 
 /// Tries to place a request, applies the batch, and tries to release the placement. Returns whether
-/// the book accepts the batch, and whether the release succeeds exactly if the request was placed.
-/// In the end, all bandwidth of the batch's link has to be left.
+/// the book accepts the batch, and the release succeeds exactly if the request was placed. At the
+/// end, all bandwidth of the batch's link has to be left.
 fn goes_on(alloc: Global, book: &mut Book, batch: &Batch) -> bool {
     let is_placed = placed(alloc, book, 1, 600, b"", 5) == Some(Ok(1));
     let is_absorbed = is_absorbed(book, batch);

@@ -1,4 +1,4 @@
-//! The tests use a triangle of routers, and batches and requests for it.
+//! Helpers for the tests: a triangle of routers, and batches and requests for it.
 
 use cspf_addr::{Addr, Mask, parse_hops};
 use cspf_book::{Book, PlaceError};
@@ -17,13 +17,13 @@ pub(super) enum Edit {
     /// Puts the link from the first router to the second, in the groups of this mask, with this
     /// unreserved bandwidth at each priority.
     Put(u32, u32, u32, [u64; 8]),
-    /// Puts the link that begins at the interface of 1.1.1.1 to 3.3.3.3, but lets it end at the
-    /// first router given here. Its remote address is that of the interface of 3.3.3.3 that leads
-    /// to the second router given here.
+    /// Puts the link from 1.1.1.1 to 3.3.3.3, but makes it end at the first router given here. Its
+    /// remote address is the address of the interface of 3.3.3.3 that leads to the second router
+    /// given here.
     Turn(u32, u32),
     /// Removes the link from the first router to the second.
     Drop(u32, u32),
-    /// Says whether the router has transit from now on.
+    /// Sets whether the router has transit.
     Node(u32, bool),
 }
 
@@ -31,7 +31,7 @@ use Edit::Put;
 
 const FREE: [u64; 8] = [1000; 8];
 
-/// The links between each two of three routers, in both directions, with 1,000 bytes per second at
+/// The links between every two of three routers, in both directions, with 1,000 bytes per second at
 /// each priority.
 const TRIANGLE: &[Edit] = &[
     Put(ONE, TWO, 0, FREE),
@@ -139,8 +139,8 @@ fn request(id: u64, bandwidth: u64, hops: &[u8]) -> Option<Request> {
     Request::new(id, from, to, 7, bandwidth, Mask::new(1), none, none, hops).ok()
 }
 
-/// Places a request that `request` makes. Returns how many links its route has, 0 if there is no
-/// route, or why the request isn't placed.
+/// Places a request that `request` makes. Returns the number of links in its route, 0 if there is
+/// no route, or why the request isn't placed.
 pub(super) fn placed(
     alloc: Global,
     book: &mut Book,
@@ -165,7 +165,7 @@ pub(super) fn is_released(book: &mut Book, id: u64) -> bool {
     book.version() < MOST_VERSIONS && book.release(id).is_ok()
 }
 
-/// The bandwidth at each priority that the placements leave on the link from the first router to
+/// The bandwidth that the placements leave, at each priority, on the link from the first router to
 /// the second. It is the link's unreserved bandwidth in the book's effective database.
 pub(super) fn left(book: &Book, from: u32, to: u32) -> [u64; 8] {
     match book.effective().find(Addr::new(from), interface(from, to)) {

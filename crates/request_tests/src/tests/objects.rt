@@ -1,5 +1,5 @@
-//! Route objects that are read or refused: whole objects, objects that end too early, and objects
-//! of which one byte is changed.
+//! Tests route objects that are read or refused: whole objects, objects that end too early, and
+//! objects with one changed byte.
 
 use super::assert_case;
 use cspf_addr::parse_hops;
@@ -25,7 +25,7 @@ const OBJECTS: [(&str, &[u8]); 7] = [
     ),
 ];
 
-/// Bytes that are refused, in hexadecimal digits, and the error with which they are refused.
+/// Refused bytes, in hexadecimal digits, each with its error.
 const REFUSED: [(&str, EroError); 21] = [
     ("", EroError::Short),
     ("000c14", EroError::Short),
@@ -69,8 +69,8 @@ const REFUSED: [(&str, EroError); 21] = [
     ),
 ];
 
-/// Whether an object with these digits is read as the hops of this text, by `read_ero` and by
-/// `read_ero_front`.
+/// Whether `read_ero` and `read_ero_front` read the object with these digits as the hops of this
+/// text.
 fn spells(alloc: Global, digits: &str, text: &[u8]) -> Result<bool, Fail> {
     let (object, hops) = (hex::decode(alloc, digits)?, Ok(parse_hops(text)?));
     Ok(read_ero(&object) == hops && read_ero_front(&object, object.len()) == hops)
@@ -100,7 +100,7 @@ fn refusals(rt: HostRuntime) -> Result<(), Fail> {
     Ok(())
 }
 
-/// Whether the object is refused if its last bytes are missing, however many bytes are left of it.
+/// Whether each strict prefix of the object is refused.
 fn is_refused_cut(object: &[u8]) -> bool {
     for size in 0..object.len() {
         let why = if size < 4 {
@@ -124,8 +124,8 @@ fn cut_objects(rt: HostRuntime) -> Result<(), Fail> {
     Ok(())
 }
 
-/// The error with which an object of one strict hop is refused if its byte at the offset `at` is
-/// `byte`. `None` if the object is read.
+/// The error of an object of one strict hop after its byte at the offset `at` is set to `byte`. The
+/// result is `None` if this object is read.
 fn refusal_of_one(at: usize, byte: u8) -> Option<EroError> {
     match (at, byte) {
         (0, 0) | (1, 12) | (2, 20) | (3, 1) | (4, 1 | 129) | (5, 8) | (10, 0..=32) => None,
@@ -182,8 +182,8 @@ fn front_with(at: usize, byte: u8) -> [u8; FIRST_BYTES] {
     bytes
 }
 
-/// From the length and the first `FIRST_BYTES` bytes of a long object alone, `read_ero_front` finds
-/// why the object is refused.
+/// `read_ero_front` finds why a long object is refused. It gets only the length and the first
+/// `FIRST_BYTES` bytes of the object.
 #[test]
 fn first_bytes_of_long_objects(rt: HostRuntime) {
     let same = front_with(3, 1);

@@ -1,5 +1,5 @@
-//! Placements on the triangle: the bandwidth that they take, the bandwidth that is left, and what a
-//! release gives back.
+//! Tests placements on the triangle: the bandwidth that they use, the bandwidth that is left, and
+//! the bandwidth that a release returns.
 
 use super::assert_case;
 use super::networks::{ONE, THREE, TWO, book, interface, is_released, left, placed};
@@ -7,11 +7,11 @@ use cspf_addr::Addr;
 use cspf_book::{Book, PlaceError};
 use std::alloc::Global;
 
-/// A step of a test, with the answer that the book should give.
+/// A step of a test, with the expected answer of the book.
 #[derive(Clone, Copy)]
 enum Step {
     /// Places a request with this id, this bandwidth and this holding priority. The last number is
-    /// how many links the route has, or 0 if there is no route.
+    /// the number of links in the route, or 0 if there is no route.
     Place(u64, u64, u8, usize),
     /// Releases the placement with this id. The flag says whether the book has such a placement.
     Release(u64, bool),
@@ -43,7 +43,7 @@ const THIRD_TAKES_LONGER_WAY: &[Case] = &[
 ];
 
 /// A request that is placed again may use the bandwidth of its earlier placement. If there is too
-/// little bandwidth for the new placement, the earlier one stays.
+/// little bandwidth for the new placement, the earlier placement remains.
 const MOVES_AND_RELEASES: &[Case] = &[
     (
         Place(1, 600, 5, 1),
@@ -73,7 +73,7 @@ const MOVES_AND_RELEASES: &[Case] = &[
     (Release(1, false), [1000; 8]),
 ];
 
-/// Whether the book gives the answer that the step expects.
+/// Whether the book gives the expected answer of this step.
 fn is_answer(alloc: Global, book: &mut Book, step: Step) -> bool {
     match step {
         Place(id, bandwidth, hold, links) => {
@@ -119,9 +119,9 @@ fn moves_and_releases(rt: HostRuntime) {
 }
 
 /// Places 700 bytes per second through 2.2.2.2 at holding priority 4. Returns whether the book
-/// counts the right bandwidths. These are 700 on the first link at priority 4, 0 on this link at
-/// priority 3, and 700 on the second link. The second link is asked for at priority 255, which
-/// stands for priority 7. On the reverse of the first link the book has to count nothing.
+/// counts the right bandwidths. The counts on the first link are 700 at priority 4 and 0 at
+/// priority 3. The count on the second link is 700 at priority 255, which the book treats as
+/// priority 7. The count on the reverse of the first link is 0.
 fn is_counted(alloc: Global, book: &mut Book) -> bool {
     let is_placed = placed(alloc, book, 1, 700, b"2.2.2.2/32s", 4) == Some(Ok(2));
     let first = Addr::new(ONE);

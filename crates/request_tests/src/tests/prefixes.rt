@@ -1,4 +1,4 @@
-//! Prefixes that are read, refused or written, and the addresses that they cover.
+//! Tests prefixes that are read, refused or written, and the addresses that they cover.
 
 use super::{assert_case, is_text};
 use cspf_addr::{Addr, Prefix, PrefixError};
@@ -14,7 +14,8 @@ fn is_read(text: &[u8], address: u32, length: u8) -> bool {
     }
 }
 
-// Whether `all` covers the last of all addresses, and `site` covers 10.9.255.255 but not 10.10.0.0.
+// Whether `all` covers the last address, 255.255.255.255, and `site` covers 10.9.255.255 but not
+// 10.10.0.0.
 fn are_covering(all: Prefix, site: Prefix) -> bool {
     all.covers(Addr::new(u32::MAX))
         && site.covers(Addr::new(0x0a09_ffff))

@@ -1,4 +1,4 @@
-//! Tests of the objects of routes, and of reply lines.
+//! Tests the objects of routes, and reply lines.
 
 ghost use Rattle.std.specs.Prelude.{◌≡◌, [], IfOk};
 
@@ -26,8 +26,9 @@ fn both_ways(link: Link) -> Result<[Change; 2], Fail> {
     Ok([Change::Put(link), Change::Put(back)])
 }
 
-/// The answer to a request from 1.1.1.1 to `to`. If `with_links` is set, the table has links from
-/// 1.1.1.1 to 2.2.2.2 and from 2.2.2.2 to 3.3.3.3, and their reverses. Otherwise it has no link.
+/// The answer to a request from 1.1.1.1 to `to`. If `with_links` is true, the table has links from
+/// 1.1.1.1 to 2.2.2.2 and from 2.2.2.2 to 3.3.3.3, and their reverses. If it is false, the table
+/// has no link.
 fn answered(alloc: Global, with_links: bool, to: u32, bandwidth: u64) -> Result<Outcome, Fail> {
     let mut changes = Vec::new(alloc);
     if with_links {
@@ -72,8 +73,8 @@ fn object_of_a_route(rt: HostRuntime) -> Result<(), Fail> {
     Ok(())
 }
 
-/// A case: whether the table has links; the tail-end and the bandwidth of the request; the id and
-/// the version of the reply; and the line that is wanted.
+/// A case: whether the table has links, the tail-end and the bandwidth of the request, the id and
+/// the version of the reply, and the wanted line.
 type Case = (bool, u32, u64, (u64, u32), &'static [u8]);
 
 const LINES: &[Case] = &[

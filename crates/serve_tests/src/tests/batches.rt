@@ -1,5 +1,5 @@
-//! Tests runs over a journal and requests that are read and written in pieces. In some of these
-//! runs reading the inputs or writing the lines fails.
+//! Tests runs over a journal and requests whose input and output is read and written in pieces. In
+//! some of these runs, reading the inputs or writing the lines fails.
 
 use super::{Narrow, bytes_of, in_pieces};
 use cspf_serve::{NoGate, RunError, run_batch};
@@ -8,8 +8,8 @@ use std::io::{Read, Write};
 use std::sync::Wait;
 use std::thread::Threads;
 
-/// Three batches. The first two add six links and two links (as `put` changes), each with its
-/// reverse. The third sets one link again and removes one link.
+/// Three batches. The first batch adds six links by `put` changes, and the second adds two links.
+/// Each link has its reverse among them. The third batch sets one link again and removes one link.
 const JOURNAL: &[u8] =
     b"put,1.1.1.1,10.0.1.1,3.3.3.3,10.0.1.3,1,0x1,F\nput,1.1.1.1,10.0.2.1,10.9.0.1,10.0.2.2,10,0x1,F\nput,1.1.1.1,10.0.3.1,10.9.0.2,10.0.3.2,2,0x1,F\nput,3.3.3.3,10.0.4.3,10.9.0.1,10.0.4.1,1,0x1,F\nput,10.9.0.1,10.0.5.1,4.4.4.4,10.0.5.4,1,0x1,F\nput,10.9.0.2,10.0.6.2,10.9.0.1,10.0.6.1,3,0x1,F\nput,3.3.3.3,10.0.1.3,1.1.1.1,10.0.1.1,1,0x1,O\nput,10.9.0.1,10.0.2.2,1.1.1.1,10.0.2.1,10,0x1,O\nput,10.9.0.2,10.0.3.2,1.1.1.1,10.0.3.1,2,0x1,O\nput,10.9.0.1,10.0.4.1,3.3.3.3,10.0.4.3,1,0x1,O\nput,4.4.4.4,10.0.5.4,10.9.0.1,10.0.5.1,1,0x1,O\nput,10.9.0.1,10.0.6.1,10.9.0.2,10.0.6.2,3,0x1,O\nend,1,12\nput,2.2.2.2,10.0.7.2,1.1.1.1,10.0.7.1,5,0x2,F\nput,4.4.4.4,10.0.8.4,2.2.2.2,10.0.8.2,5,0x1,F\nput,1.1.1.1,10.0.7.1,2.2.2.2,10.0.7.2,5,0x2,O\nput,2.2.2.2,10.0.8.2,4.4.4.4,10.0.8.4,5,0x1,O\nend,2,4\ndrop,3.3.3.3,10.0.4.3\nput,1.1.1.1,10.0.2.1,10.9.0.1,10.0.2.2,3,0x1,F\nend,3,2\n";
 
@@ -27,8 +27,8 @@ fn inputs(alloc: Global) -> Result<(Vec<u8>, Vec<u8>), AllocError> {
     Ok((journal, bytes_of(alloc, REQUESTS)?))
 }
 
-/// The result of a run over a journal and requests, and what the run's writer holds. The writer
-/// takes at most `width` bytes a write, and `most` bytes in all.
+/// The result of a run over a journal and requests, and the bytes that the run's writer has. The
+/// writer accepts at most `width` bytes in each write, and `most` bytes in all.
 fn run_narrow<R: Read + Drop, Q: Read + Drop, T: Threads + Wait + Sync>(
     rt: &T,
     alloc: Global,
@@ -47,7 +47,7 @@ fn run_narrow<R: Read + Drop, Q: Read + Drop, T: Threads + Wait + Sync>(
     (found, held)
 }
 
-/// Whether a run over the journal and the requests writes `LINES`, if it reads and writes only a
+/// Whether a run over the journal and the requests writes `LINES`, when it reads and writes only a
 /// few bytes at a time.
 fn is_answered_in_pieces<T: Threads + Wait + Sync>(
     rt: &T,
@@ -68,8 +68,8 @@ fn runs_in_pieces(rt: HostRuntime) -> Result<(), AllocError> {
     Ok(())
 }
 
-/// Whether a run writes nothing if reading its journal fails after `kept` bytes, or reading its
-/// requests after `asked` bytes.
+/// Whether a run writes nothing when reading fails: its journal after `kept` bytes, or its requests
+/// after `asked` bytes.
 fn stops_at_a_read<T: Threads + Wait + Sync>(
     rt: &T,
     alloc: Global,
@@ -97,8 +97,8 @@ fn faults_of_the_inputs(rt: HostRuntime) -> Result<(), AllocError> {
     Ok(())
 }
 
-/// Whether a run over a journal and requests fails if its writer takes only `most` bytes, and has
-/// then written a prefix of the lines.
+/// Whether a run over a journal and requests fails when its writer accepts only `most` bytes, and
+/// has written a prefix of the lines by then.
 fn stops_at_a_write<T: Threads + Wait + Sync>(
     rt: &T,
     alloc: Global,
@@ -109,8 +109,8 @@ fn stops_at_a_write<T: Threads + Wait + Sync>(
     found == Err(RunError::Device) && held.len() == most && LINES.starts_with(held.as_slice())
 }
 
-/// Whether a run over a journal with a row after its batches fails, if the writer doesn't take the
-/// whole line of the journal's refusal.
+/// Whether a run fails when the journal has a row after its batches, and the writer doesn't accept
+/// the whole line that refuses the journal.
 fn stops_at_a_torn_line<T: Threads + Wait + Sync>(rt: &T, alloc: Global, requests: &[u8]) -> bool {
     let torn: &[u8] = b"x\n";
     let (found, _held) = run_narrow(rt, alloc, torn, requests, 100, 5);

@@ -1,5 +1,5 @@
-//! Defines what the tests of clients share: a publisher with its batches, and a writer that takes a
-//! given number of bytes.
+//! Defines helpers for the tests of clients: a publisher with its batches, and a writer that
+//! accepts a given number of bytes.
 
 mod closed;
 mod dialogues;
@@ -19,9 +19,9 @@ use std::process::Abort;
 use std::sync::Wait;
 use std::test::Fail;
 
-/// The batch with this number. It sets a link of metric 10 from 1.1.1.1 to 2.2.2.2, with 1,000
-/// bytes per second unreserved. The address of the link's interface at 1.1.1.1 is 10.0.12.1. The
-/// batch also sets the link's reverse, with no bandwidth.
+/// A batch with this number. It sets a link of metric 10 from 1.1.1.1 to 2.2.2.2, with 1,000 bytes
+/// per second unreserved. The link's local address is 10.0.12.1. The batch also sets the link's
+/// reverse, with no bandwidth.
 fn link_batch(alloc: Global, number: u32) -> Result<Batch, Fail> {
     let (from, local) = (Addr::new(0x01010101), Addr::new(0x0a000c01));
     let (to, remote) = (Addr::new(0x02020202), Addr::new(0x0a000c02));
@@ -33,7 +33,7 @@ fn link_batch(alloc: Global, number: u32) -> Result<Batch, Fail> {
     })
 }
 
-/// A publisher without a batch, and a client with these requests. The client's writer takes up to
+/// A publisher without batches, and a client with these requests. The client's writer accepts up to
 /// `most` bytes of replies.
 fn seated<'a, R: Wait + Abort>(
     rt: &R,
@@ -59,12 +59,12 @@ fn seated<'a, R: Wait + Abort>(
     }
 }
 
-/// A writer that takes bytes until it holds `most`, and then fails.
+/// A writer that accepts bytes until it has `most` bytes, and then fails.
 #[derive(Drop)]
 struct Narrow {
     held: Vec<u8>,
     most: usize,
-    /// How often `end` was called.
+    /// The number of calls of `end`.
     ends: usize,
 }
 

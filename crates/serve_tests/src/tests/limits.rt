@@ -1,6 +1,6 @@
-//! Tests runs over rows with as many links, marked routers and changes as are allowed, and with
-//! more. A marked router carries no transit. Also tests the counts that a run returns, long rows,
-//! and the names of refusals.
+//! Tests runs over rows with the most links, marked routers and changes that are allowed, and with
+//! more. A marked router carries no transit traffic. Also tests the counts that a run returns, long
+//! rows, and the texts of refusals.
 
 use super::scripts::is_answered;
 use cspf_model::Refusal;
@@ -8,13 +8,13 @@ use cspf_serve::BatchRefusal;
 use std::alloc::{AllocError, Global};
 use std::fmt::Write;
 
-/// Appends a `put` row, which adds a link or replaces it. The link's local address has this number.
+/// Appends a `put` row, which adds or replaces a link. The number is the link's local address.
 fn put_link(text: &mut String, number: u32) -> Result<(), AllocError> {
     let [a, b, c, d] = number.to_be_bytes();
     write_put(text, [a, b, c, d])
 }
 
-/// Appends a `put` row, which adds a link or replaces it. The link has this local address.
+/// Appends a `put` row, which adds or replaces the link with this local address.
 fn write_put(text: &mut String, [a, b, c, d]: [u8; 4]) -> Result<(), AllocError> {
     write!(
         text,
@@ -22,9 +22,9 @@ fn write_put(text: &mut String, [a, b, c, d]: [u8; 4]) -> Result<(), AllocError>
     )
 }
 
-/// A script (rows of changes, batches and requests) that is made of parts, each of which has two
-/// numbers and a text. A part sets one link for each number from the first one up to the second
-/// one, which is left out. The number is the link's local address. Then the part has its text.
+/// Makes a script (rows of changes, batches and requests) of parts. A part has two numbers and a
+/// text. It sets one link for each number from the first number up to, but without, the second
+/// number. The number is the link's local address. The part's text follows these rows.
 fn script_of(alloc: Global, parts: &[(u32, u32, &str)]) -> Result<String, AllocError> {
     let mut text = String::new(alloc);
     for part in parts {
@@ -43,8 +43,9 @@ fn is_run(alloc: Global, script: &str, lines: &str, counts: [u32; 4]) -> bool {
     is_answered(alloc, script.as_bytes(), all, all, lines.as_bytes(), counts)
 }
 
-/// Parts of a script (rows of changes, batches and requests). One batch is too long, and the next
-/// four batches fill the table. One more link is refused, unless its batch removes a link.
+/// Parts of a script (rows of changes, batches and requests). The first batch has too many changes,
+/// and the next four batches fill the table with links. After them, a batch with one more link is
+/// refused if it doesn't also remove a link.
 const LINKS: [(u32, u32, &str); 7] = [
     (0, 4097, "end,1,4097\n"),
     (0, 4096, "end,1,4096\n"),
@@ -67,14 +68,14 @@ fn as_many_links_as_are_kept(rt: HostRuntime) -> Result<(), AllocError> {
 }
 
 /// Appends a row that marks the router whose address has this number. The router then carries no
-/// transit.
+/// transit traffic.
 fn write_mark(text: &mut String, number: u32) -> Result<(), AllocError> {
     let [a, b, c, d] = number.to_be_bytes();
     write!(text, "node,{a}.{b}.{c}.{d},0\n")
 }
 
-/// The rows of three batches. The first marks as many routers as a table keeps marks of, and the
-/// second marks one more router. The third marks one router in place of another.
+/// The rows of three batches. The first batch marks the most routers that a table may mark, and the
+/// second batch marks one more. The third batch marks one router in place of another.
 fn script_of_marks(alloc: Global) -> Result<String, AllocError> {
     let mut text = String::new(alloc);
     for number in 0..1024 {
@@ -94,8 +95,9 @@ fn as_many_marks_as_are_kept(rt: HostRuntime) -> Result<(), AllocError> {
     Ok(())
 }
 
-/// More changes than a batch may have, in three parts of a script (rows of changes, batches and
-/// requests). The parts have a wrong count, the right count, and no end row.
+/// Three parts of a script (rows of changes, batches and requests), each with more changes than a
+/// batch may have. The `end` row of the first part has a wrong count, the second `end` row has the
+/// right count, and the third part has no `end` row.
 const CHANGES: [(u32, u32, &str); 3] = [
     (0, 5000, "end,1,4097\n"),
     (0, 5000, "end,1,5000\n"),
@@ -121,7 +123,7 @@ fn push_copies(text: &mut String, part: &str, count: u32) -> Result<(), AllocErr
     Ok(())
 }
 
-/// A row of 1,001 fields, a row with a number of a million digits, and an end row.
+/// A row of 1,001 fields, a row with a number of a million digits, and an `end` row.
 fn long_script(alloc: Global) -> Result<String, AllocError> {
     let mut text = String::new(alloc);
     push_copies(&mut text, "end,", 1000)?;

@@ -1,5 +1,5 @@
-//! Tests live runs (batches are applied while workers answer requests) in which writing the lines
-//! or writing the journal fails.
+//! Tests live runs in which writing the lines or writing the journal fails. A live run applies
+//! batches while workers answer requests.
 
 use super::{Narrow, bytes_of, cut, cut_bytes, numbers_of};
 use cspf_serve::{NoGate, RunError, run_live_rows};
@@ -7,17 +7,19 @@ use std::alloc::{AllocError, Global};
 use std::sync::Wait;
 use std::thread::Threads;
 
-/// The text that the journal gets for a batch whose only change is the row `P`, which sets a link.
+/// The text that is written to the journal for a batch whose only change is the row `P`, which sets
+/// a link.
 const TEXT: &[u8] =
     b"put,1.1.1.1,10.0.12.1,2.2.2.2,10.0.12.2,10,0x00000001,1000,1000,1000,1000,1000,1000,1000,1000\nend,1,1\n";
 
-/// The texts that the journal gets for a batch whose only change is the row `P`, and for an empty
-/// batch.
+/// The texts that are written to the journal for a batch whose only change is the row `P`, and for
+/// an empty batch.
 const BOTH: &[u8] =
     b"put,1.1.1.1,10.0.12.1,2.2.2.2,10.0.12.2,10,0x00000001,1000,1000,1000,1000,1000,1000,1000,1000\nend,1,1\nend,2,0\n";
 
-/// Whether a run that gets two batches writes these lines and returns this status. The run's
-/// journal takes `most` bytes, and has to be full of a prefix of the batches' text afterwards.
+/// Whether a run over two batches writes these lines and returns this status. The run's journal
+/// accepts `most` bytes. In the end it has to have exactly the first `most` bytes of the batches'
+/// text.
 fn fills_up<T: Threads + Wait + Sync>(
     rt: &T,
     alloc: Global,
@@ -41,8 +43,8 @@ fn fills_up<T: Threads + Wait + Sync>(
         && BOTH.starts_with(kept.as_slice())
 }
 
-/// One fault per line: how many bytes a journal takes, and then the status and the lines of a run
-/// that gets two batches and this journal.
+/// One fault per line: the number of bytes that a journal accepts, and then the status and the
+/// lines of a run over two batches with this journal.
 const FAULTS: &str = "\
 0 2 > applied 0|batch 1 refused: journal 0|
 5 2 > applied 0|batch 1 refused: journal 5|
@@ -52,7 +54,7 @@ const FAULTS: &str = "\
 110 0 > applied 2|
 ";
 
-/// Whether a run that gets two batches has the fault that this line of the table names.
+/// Whether a run over two batches has the fault in this line of the table.
 fn has_fault<T: Threads + Wait + Sync>(
     rt: &T,
     alloc: Global,
@@ -75,7 +77,7 @@ fn faults_of_the_journal(rt: HostRuntime) -> Result<(), AllocError> {
     Ok(())
 }
 
-/// Gives one batch to a run whose writer of lines takes `most` bytes. Returns whether the run
+/// Runs over one batch, with a writer of lines that accepts `most` bytes. Returns whether the run
 /// fails, has written a prefix of the line, and has the batch in the journal.
 fn keeps_the_journal<T: Threads + Wait + Sync>(
     rt: &T,
@@ -107,8 +109,8 @@ fn keeps_the_journal<T: Threads + Wait + Sync>(
         && b"applied 1\n".starts_with(held.as_slice())
 }
 
-/// However many bytes the writer of lines takes before it fails, its fault ends the run, and the
-/// journal is returned.
+/// A fault of the writer of lines ends the run, and the journal is returned. The number of bytes
+/// that the writer accepts before doesn't matter.
 #[test]
 fn faults_of_the_lines(rt: HostRuntime) -> Result<(), AllocError> {
     let updates = bytes_of(rt.alloc(), b"P\nend,1,1\n")?;

@@ -5,9 +5,9 @@ use super::{Narrow, Pieces, bytes_of, copies, cut, cut_bytes, in_pieces, numbers
 use cspf_serve::{SolveError, Summary, run_solve};
 use std::alloc::{AllocError, Global};
 
-/// One script (rows of changes, batches and requests) per line, unless the line begins with `#`. A
-/// line has the counts of rows, versions, answers and refusals, then the script's rows, and then
-/// the lines that the run over these rows writes.
+/// One script (rows of changes, batches and requests) per line. Lines that begin with `#` are
+/// comments. A line has the counts of rows, versions, answers and refusals, then the script's rows,
+/// and then the lines that the run over these rows writes.
 const RUNS: &str = "\
 # Nothing.
 0 0 0 0 > _ > _
@@ -88,7 +88,7 @@ fn summary_of([rows, version, answers, refused]: [u32; 4], too_many: bool) -> Su
     }
 }
 
-/// The result of a run over rows that are read in pieces, and what the run's writer holds.
+/// The result of a run over rows that are read in pieces, and the bytes that the run's writer has.
 fn run_pieces(
     alloc: Global,
     reader: Pieces<'_>,
@@ -128,9 +128,9 @@ pub(super) fn is_answered(
     }
 }
 
-/// Whether a run over the script (rows of changes, batches and requests) in a line of the table
-/// writes the lines that the table gives. The script is read and the lines are written once whole,
-/// and once in pieces.
+/// Whether a run over the script in a line of the table writes the lines that the table gives. The
+/// script is read whole and the lines are written whole in a first run, and both in pieces in a
+/// second run. A script is rows of changes, batches and requests.
 fn has_line(alloc: Global, line: &str) -> Result<bool, AllocError> {
     let (counts, fields) = cut(line);
     let (script, fields) = cut_bytes(alloc, fields)?;
@@ -160,7 +160,7 @@ const FRONT: &[u8] =
 /// The lines that are written for the rows of `FRONT`.
 const FIRST_LINES: &[u8] = b"version 1\nask 8 v1 none\n";
 
-/// Whether a run over rows writes the lines of all rows of a text, if reading fails after this
+/// Whether a run over rows writes the lines of all rows of a text, when reading fails after this
 /// text.
 fn stops_at_a_read(alloc: Global, text: &[u8]) -> bool {
     let reader = in_pieces(text, 7, text.len());
@@ -168,8 +168,8 @@ fn stops_at_a_read(alloc: Global, text: &[u8]) -> bool {
     found == Err(SolveError::Read) && held.as_slice() == FIRST_LINES
 }
 
-/// Whether a run over rows fails if its writer takes only `most` bytes, and has then written these
-/// bytes.
+/// Whether a run over rows fails when its writer accepts only `most` bytes, and has written exactly
+/// these bytes by then.
 fn stops_at_a_write(alloc: Global, text: &[u8], most: usize) -> bool {
     let reader = in_pieces(text, 100, text.len());
     let (found, held) = run_pieces(alloc, reader, 4, most);
@@ -179,7 +179,7 @@ fn stops_at_a_write(alloc: Global, text: &[u8], most: usize) -> bool {
         && FIRST_LINES.starts_with(held.as_slice())
 }
 
-/// A read fails after some rows, and a write fails before the lines are whole.
+/// A read fails after some rows, or a write fails before the lines are complete.
 #[test]
 fn device_faults(rt: HostRuntime) -> Result<(), AllocError> {
     let text = bytes_of(rt.alloc(), FRONT)?;
@@ -190,7 +190,7 @@ fn device_faults(rt: HostRuntime) -> Result<(), AllocError> {
     Ok(())
 }
 
-/// Whether a run over `left` copies of the row of a change has this summary, and writes this line.
+/// Whether a run over `left` copies of a change's row has this summary, and writes this line.
 fn ends(alloc: Global, left: u32, wanted: Summary, line: &[u8]) -> bool {
     let reader = copies(b"drop,1.1.1.1,10.0.0.1\n", left);
     let (found, held) = run_pieces(alloc, reader, usize::MAX, usize::MAX);

@@ -1,6 +1,6 @@
-//! Tests what workers answer, which worker answers, and in which order they learn of batches and
-//! answer requests. Also tests what workers report to a gate (callbacks before and after each
-//! request). Workers are tested alone and within the runs over rows.
+//! Tests the answers of workers, which worker answers a request, and the order in which workers
+//! learn of batches and answer requests. Also tests the calls of a gate (callbacks before and after
+//! each request). Workers are tested alone and within the runs over rows.
 
 mod alone;
 mod counts;

@@ -1,5 +1,5 @@
-//! An audit while memory is refused returns the whole result, or the error `Memory`. Once there is
-//! memory again, the audit returns the whole result.
+//! Tests an audit while memory is refused: it returns the whole result, or the error `Memory`. When
+//! memory is available again, the audit returns the whole result.
 
 use crate::tests::assert_case;
 use cspf_audit::{AuditError, AuditFault, audit};
@@ -14,7 +14,7 @@ fn has_memory(alloc: Global) -> bool {
     }
 }
 
-/// A journal whose version 1 has a link and its reverse. Version 2 has neither of the two.
+/// A journal. Its version 1 has a link and the link's reverse, and its version 2 has neither.
 const JOURNAL: &[u8] = b"put,1.1.1.1,10.0.12.1,2.2.2.2,10.0.12.2,10,0x1,\
 1000,1000,1000,1000,1000,1000,1000,1000\n\
 put,2.2.2.2,10.0.12.2,1.1.1.1,10.0.12.1,10,0x1,0,0,0,0,0,0,0,0\nend,1,2\n\
@@ -25,8 +25,9 @@ const REQUESTS: &[u8] = b"ask,7,1.1.1.1,2.2.2.2,0,1000,0x0,0x0,0x0,\n\
 ask,8,1.1.1.1,2.2.2.2,0,1000,0x0,0x0,0x0,1.1.1.1/32l\n\
 ask,9,1.1.1.1,2.2.2.2,0,1000,0x0,0x0,0x0,\n";
 
-/// Replies. The first is for version 2, and says `none`. It is wrong, because the database of
-/// version 2 has no routers. The second is for version 1, and is right. The request 9 has no reply.
+/// Replies. The first reply is for version 2, and says `none`. It is wrong, because the database of
+/// version 2 has no routers. The second reply is for version 1, and is right. Request 9 has no
+/// reply.
 const REPLIES: &[u8] = b"ask 8 v2 none\nask 7 v1 \
 route cost=10 hops=1 again=no ero=000c140101080a000c022000\napplied 2\n";
 

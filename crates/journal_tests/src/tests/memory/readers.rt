@@ -1,5 +1,5 @@
-//! Readers while memory is refused: each call returns the whole result, or the error `Memory`. Once
-//! there is memory again, the call returns the whole result.
+//! Tests readers while memory is refused: each call returns the whole result, or the error
+//! `Memory`. When memory is available again, the call returns the whole result.
 
 ghost use Rattle.cspf_rows.specs.GivenBatches.{CanRead};
 
@@ -20,7 +20,7 @@ fn has_memory(alloc: Global) -> bool {
     }
 }
 
-/// A journal of one batch, followed by a row that is cut off.
+/// A journal of one batch, followed by a row that is cut short.
 const TORN: &[u8] = b"put,1.1.1.1,10.0.12.1,2.2.2.2,10.0.12.2,10,0x1,\
 1000,1000,1000,1000,1000,1000,1000,1000\nend,1,1\nput,2.2.2.2,10.0.1";
 
@@ -35,8 +35,8 @@ fn is_read(alloc: Global, link: &Link) -> Result<bool, ReadError> {
     Ok(batch.number == 1 && batch.changes.as_slice() == [Change::Put(*link)].as_slice())
 }
 
-/// Whether the journal is read. If memory is refused, the journal has to be read at a second try,
-/// unless there is still no memory for one byte.
+/// Whether the journal is read. If memory is refused, the journal has to be read in a second
+/// attempt, or there is still no memory for one byte.
 fn is_read_at_last(alloc: Global, link: &Link) -> bool {
     let read = is_read(alloc, link);
     if read == Err(ReadError::Memory) {
@@ -55,8 +55,8 @@ fn journals_while_memory_is_refused(rt: HostRuntime) -> Result<(), Fail> {
     Ok(())
 }
 
-/// Whether a reader of `TORN` returns the batch that puts the link, and then says that no batch is
-/// left, but that rows follow which are in no batch.
+/// Whether a reader of `TORN` returns the batch that puts the link, and then returns the end of the
+/// batches: the journal is torn, since rows that are in no batch follow.
 fn gives(
     journal: &mut JournalReader<&[u8]>,
     batch: &mut Batch,
@@ -73,8 +73,8 @@ fn gives(
     Ok(journal.read_batch(batch)? == JournalStep::End(Rest::Torn))
 }
 
-/// Whether a new reader of `TORN` returns its batch, and then says that no batch is left, but that
-/// rows follow which are in no batch.
+/// Whether a new reader of `TORN` returns the batch of `TORN`, and then the end of the batches: the
+/// journal is torn, since rows that are in no batch follow.
 fn is_given(alloc: Global, link: &Link) -> Result<bool, ReadError> {
     gives(
         &mut JournalReader::new(alloc, TORN),
@@ -84,7 +84,7 @@ fn is_given(alloc: Global, link: &Link) -> Result<bool, ReadError> {
 }
 
 /// Whether a reader returns the batch of `TORN`. If memory is refused, a second reader has to
-/// return this batch, unless there is still no memory for one byte.
+/// return this batch, or there is still no memory for one byte.
 fn is_given_at_last(alloc: Global, link: &Link) -> bool {
     let given = is_given(alloc, link);
     if given == Err(ReadError::Memory) {
@@ -121,8 +121,8 @@ fn are_read(alloc: Global, wanted: &[Request]) -> Result<bool, RequestsError> {
     Ok(read_requests(alloc, ASKS)?.as_slice() == wanted)
 }
 
-/// Whether the requests are read. If memory is refused, the requests have to be read at a second
-/// try, unless there is still no memory for one byte.
+/// Whether the requests are read. If memory is refused, the requests have to be read in a second
+/// attempt, or there is still no memory for one byte.
 fn are_read_at_last(alloc: Global, wanted: &[Request]) -> bool {
     let read = are_read(alloc, wanted);
     if read == Err(RequestsError::Memory) {

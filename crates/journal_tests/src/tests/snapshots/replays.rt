@@ -1,4 +1,4 @@
-//! Tables that are made from the batches of journals.
+//! Tests tables that are made from the batches of journals.
 
 use super::tables::{batches, node, put};
 use crate::tests::assert_case;
@@ -10,7 +10,7 @@ use std::alloc::{AllocError, Global};
 use std::process::Abort;
 use std::test::Fail;
 
-/// A change that removes the link that begins at router 1 and at this interface.
+/// A change that removes a link of router 1: the link with this local address.
 fn remove(local: u32) -> Change {
     Change::Remove {
         from: Addr::new(1),
@@ -18,7 +18,7 @@ fn remove(local: u32) -> Change {
     }
 }
 
-/// Three batches. The second and the third undo some changes of the first.
+/// Three batches. The second and third batches undo some changes of the first batch.
 fn three_batches(rt: &impl Abort, alloc: Global) -> Result<Vec<Batch>, AllocError> {
     let first = [put(rt, 1, 5, 2), put(rt, 1, 6, 2), node(2, false)];
     let second = [remove(5), node(4, false)];
@@ -46,7 +46,7 @@ fn batches_in_order(rt: HostRuntime) -> Result<(), Fail> {
     Ok(())
 }
 
-/// Three batches, the second of which removes a link that isn't there.
+/// Three batches. The second batch removes a link that doesn't exist.
 fn batches_that_do_not_fit(rt: &impl Abort, alloc: Global) -> Result<Vec<Batch>, AllocError> {
     let first = [put(rt, 1, 5, 2)];
     let second = [put(rt, 1, 7, 2), remove(6)];

@@ -1,4 +1,4 @@
-//! Changes, batches, and tables that are made from changes.
+//! Helpers for the tests of snapshots: changes, batches, and tables that are made from changes.
 
 use crate::tests::assert_case;
 use cspf_addr::{Addr, Mask};
@@ -7,7 +7,8 @@ use cspf_model::{Batch, Change, Link, MOST_CHANGES};
 use std::alloc::{AllocError, Global};
 use std::process::Abort;
 
-/// A change that puts the link from the interface `local` of router `from` to router `to`.
+/// A change that puts the link from router `from` to router `to`. The local address of the link is
+/// `local`.
 pub(crate) fn put(rt: &impl Abort, from: u32, local: u32, to: u32) -> Change {
     let (from, to, address) = (Addr::new(from), Addr::new(to), Addr::new(local));
     match Link::new(from, address, to, address, 10, Mask::new(1), [1000; 8]) {

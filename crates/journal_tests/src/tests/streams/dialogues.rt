@@ -1,4 +1,4 @@
-//! Each line is written and flushed before the next row is read.
+//! Tests that each line is written and flushed before the next row is read.
 
 use super::{Refusals, lines_of, no_events, rows_of};
 use crate::tests::assert_case;
@@ -34,8 +34,8 @@ fn is_flushed_in_time(alloc: Global) -> bool {
         && answering.refused == 3
 }
 
-/// The line of each row is written and flushed before the next row is read. For a row with an empty
-/// line nothing is written or flushed.
+/// The line of each row is written and flushed before the next row is read. If the line of a row is
+/// empty, nothing is written or flushed for it.
 #[test]
 fn lines_before_the_next_row(rt: HostRuntime) {
     assert_case(&rt, ANSWERS, is_flushed_in_time(rt.alloc()));

@@ -1,5 +1,4 @@
-//! The tests say what was read and written when a read, the answer to a row, a write or a flush
-//! fails.
+//! Tests what was read and written when a read, the answer to a row, a write or a flush fails.
 
 use super::{Refusals, lines_of, no_events, rows_of};
 use crate::tests::assert_case;
@@ -11,22 +10,22 @@ const ROWS: [&[u8]; 3] = [b"a\n", b"end,1,0\n", b"b\n"];
 
 const ANSWERS: &[u8] = b"row 1 refused: kind\nrow 3 refused: kind\n";
 
-/// A fault of a stream, and what is read and written when it stops the stream.
+/// A fault that stops a stream, and the numbers of bytes written and rows read before it.
 struct Fault {
-    /// How many bytes the writer takes before a write fails.
+    /// The number of bytes that the writer accepts before a write fails.
     most: usize,
-    /// How many flushes the writer makes before one fails.
+    /// The number of flushes that succeed before one fails.
     most_flushes: u32,
     /// The number of the row at which memory is refused, or 0 if it isn't refused. The first row
     /// has the number 1.
     no_memory_at: u64,
     /// The error with which the stream stops. In each case the read after the last row fails.
     error: StreamError,
-    /// How many bytes are written.
+    /// The number of bytes that are written.
     written: usize,
-    /// How many rows of the stream were read.
+    /// The number of rows of the stream that were read.
     read: usize,
-    /// How many rows of the stream were refused.
+    /// The number of rows of the stream that were refused.
     refused: u64,
 }
 
@@ -96,8 +95,8 @@ const FAULTS: [Fault; 7] = [
     },
 ];
 
-/// Whether the stream of `ROWS` stops with the error of `fault`, and as many bytes are written,
-/// rows are read and rows are refused as `fault` says.
+/// Whether the stream of `ROWS` stops with the error of `fault`, and the numbers of written bytes,
+/// read rows and refused rows are those of `fault`.
 fn is_stopped(alloc: Global, fault: &Fault) -> bool {
     let events = no_events();
     let mut reader = rows_of(&ROWS, true, &events);

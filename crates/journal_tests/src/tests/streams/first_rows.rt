@@ -1,4 +1,5 @@
-//! If a stream has a limit on its rows, only the first rows are answered, and nothing is flushed.
+//! Tests a stream with a limit on its rows: only the first rows are answered, and nothing is
+//! flushed.
 
 use super::{Refusals, lines_of, no_events, rows_of};
 use crate::tests::assert_case;

@@ -1,4 +1,4 @@
-//! The lines that answer refused rows, batches and open changes are compared with texts written by
+//! Compares the lines for refused rows, refused batches and open changes with texts written by
 //! hand.
 
 use crate::tests::assert_case;
@@ -41,7 +41,8 @@ fn lines_of_refused_rows(rt: HostRuntime) -> Result<(), AllocError> {
     Ok(())
 }
 
-/// Whether `line` is the line of the row with the number `place` that is refused with this error.
+/// Whether `line` is the line for the row with the number `place`, when this row is refused with
+/// this error.
 fn is_line_of(alloc: Global, place: u64, error: RowError, line: &[u8]) -> Result<bool, AllocError> {
     let found = refused_row(alloc, place, error)?;
     Ok(found.as_slice() == line)
@@ -81,8 +82,8 @@ fn has_text(alloc: Global, line: StreamLine, text: &[u8]) -> Result<bool, AllocE
     Ok(found.as_slice() == text)
 }
 
-/// Open changes, which no `end` row follows: `count` of them, but at most nine. Each of them marks
-/// a router as without transit.
+/// Makes `count` open changes, but at most nine. No `end` row follows them. Each of them marks a
+/// router as without transit.
 fn opened(alloc: Global, count: u32) -> Result<OpenChanges, AllocError> {
     let mut changes = OpenChanges::new(alloc);
     for _ in 0..count {
@@ -96,9 +97,8 @@ fn opened(alloc: Global, count: u32) -> Result<OpenChanges, AllocError> {
     Ok(changes)
 }
 
-/// Whether `text` is the last line of a stream that ends with `count` open changes, which are
-/// changes that no `end` row follows. After these changes are cleared, the last line also has to be
-/// empty.
+/// Whether `text` is the last line of a stream that ends with `count` open changes: changes that no
+/// `end` row follows. After the changes are cleared, the last line also has to be empty.
 fn has_last_line(alloc: Global, count: u32, text: &[u8]) -> Result<bool, AllocError> {
     let mut changes = opened(alloc, count)?;
     let line = changes.last_line(alloc)?;
@@ -107,7 +107,7 @@ fn has_last_line(alloc: Global, count: u32, text: &[u8]) -> Result<bool, AllocEr
     Ok(line.as_slice() == text && cleared.is_empty())
 }
 
-/// The last line says how many changes are open at the end of a stream: those that no `end` row
+/// The last line has the number of open changes at the end of a stream: changes that no `end` row
 /// follows. It is empty if no change is open.
 #[test]
 fn lines_of_open_changes(rt: HostRuntime) -> Result<(), AllocError> {

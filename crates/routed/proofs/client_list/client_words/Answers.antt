@@ -2,7 +2,7 @@ use Rattle.std.proofs.Common.{◌++◌, ◌∙◌, ap, map}
 use Rattle.std.proofs.lemmas.List.{map-append}
 use Rattle.routed.proofs.client_list.client_words.Goals as goal
 
--- the words that are given come first, and the lines of the text after them
+-- the given words come first, and the lines of the text follow them
 pub returns : goal.returns
 returns c =
     ap (map (λ word. word.now)) c.in_ok-extend_from_slice.ensures.items

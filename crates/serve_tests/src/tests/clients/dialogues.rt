@@ -1,5 +1,5 @@
-//! Tests what a client is answered: to requests, to other rows, before the first batch is
-//! published, and when its writer takes too few bytes.
+//! Tests the lines that a client gets: for requests, for other rows, before the first batch is
+//! published, and with a writer that accepts too few bytes.
 
 use super::{is_left, link_batch, served};
 use cspf_client::ClientError;
@@ -17,8 +17,8 @@ const REPLIES: &[u8] = b"ask 7 v1 route cost=10 hops=1 again=no ero=000c14010108
 row 2 refused: kind\nrow 3 refused: fields\nask 9 v1 none\n";
 
 /// Publishes the batch `first`, if the publisher accepts it, and runs a client. Returns whether the
-/// client's writer has the first `most` bytes of these replies. The client must also have ended
-/// with `end`, and `refused` of its rows must have been refused.
+/// client's writer has the first `most` bytes of these replies, the client ended with `end`, and
+/// `refused` of its rows were refused.
 fn is_answered<R: Wait + Abort>(
     rt: &R,
     alloc: Global,
@@ -32,7 +32,7 @@ fn is_answered<R: Wait + Abort>(
     is_left(&left, taken, end, refused)
 }
 
-/// Requests are answered and other rows refused, in order.
+/// Requests are answered and other rows are refused, in the order of the rows.
 #[test]
 fn requests_and_other_rows(rt: HostRuntime) -> Result<(), Fail> {
     let first = link_batch(rt.alloc(), 1)?;
@@ -40,7 +40,7 @@ fn requests_and_other_rows(rt: HostRuntime) -> Result<(), Fail> {
     Ok(())
 }
 
-/// If a batch isn't accepted, version 0 stays published, and version 0 has no routers.
+/// If a batch isn't accepted, version 0 is still the published version. Version 0 has no routers.
 #[test]
 fn version_0(rt: HostRuntime) -> Result<(), Fail> {
     let second = link_batch(rt.alloc(), 2)?;
@@ -50,8 +50,8 @@ ask 9 v0 unknown-from\n";
     Ok(())
 }
 
-/// A client's writer takes only `most` bytes. Exactly these bytes of the replies are written, and
-/// the write that fails ends the client.
+/// A client's writer accepts only `most` bytes. Exactly these bytes of the replies are written. The
+/// write that fails ends the client.
 #[test]
 fn replies_that_are_not_taken(rt: HostRuntime) -> Result<(), Fail> {
     let first = link_batch(rt.alloc(), 1)?;

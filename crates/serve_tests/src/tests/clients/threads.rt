@@ -1,4 +1,4 @@
-//! A client in one thread and its publisher in another.
+//! Tests a client in one thread while its publisher runs in another.
 
 ghost use Rattle.std.specs.Prelude.{◌≡◌};
 ghost use Rattle.cspf_client.specs.ServingStates.{IsReady};
@@ -15,7 +15,7 @@ use std::test::Fail;
 use std::thread;
 use std::thread::Threads;
 
-/// Runs a client in another thread while this thread publishes a batch.
+/// Runs a client in another thread while the calling thread publishes a batch.
 fn run_beside<R: Threads + Wait + Sync>(
     rt: &R,
     alloc: Global,
@@ -62,7 +62,7 @@ row 2 refused: kind\n";
     is_left(left, before, Ok(()), 1) || is_left(left, after, Ok(()), 1)
 }
 
-/// Each row has its line, at whichever version the row was answered.
+/// Each row has its line, whether it was answered at version 0 or at version 1.
 #[test]
 fn client_beside_a_publisher(rt: HostRuntime) -> Result<(), Fail> {
     let first = link_batch(rt.alloc(), 1)?;

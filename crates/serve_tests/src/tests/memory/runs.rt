@@ -1,7 +1,7 @@
-//! Tests runs over rows while memory is refused. Each test passes with ample memory, and also if
-//! any one of its allocations is refused, alone or with all later ones. In each case the run ends
-//! with its whole output and its status, or with the named refusal. Before the run a test allocates
-//! only its writer. If memory for the writer is refused, the test ends.
+//! Tests runs over rows while memory is refused. Each test passes with ample memory. It also passes
+//! if any one of its allocations is refused, alone or with all later allocations. In each case the
+//! run ends with its whole output and its status, or with the named refusal. Before the run a test
+//! allocates only its writer. If memory for the writer is refused, the test ends.
 
 use cspf_serve::{
     Client, ClientError, NoGate, RunError, ServeError, Served, ServedClient, ServedError,
@@ -11,10 +11,11 @@ use std::alloc::Global;
 use std::sync::Wait;
 use std::thread::Threads;
 
-/// More bytes than any run here writes. A writer with this room takes no more memory.
+/// More bytes than any run in this file writes. A writer with this capacity allocates no more
+/// memory.
 const ROOM: usize = 200;
 
-/// A batch that sets the link and its reverse, and then a row that is cut off.
+/// A batch that sets the link and its reverse, and then a row that is cut short.
 const TORN: &[u8] =
     b"put,1.1.1.1,10.0.12.1,2.2.2.2,10.0.12.2,10,0x1,1000,1000,1000,1000,1000,1000,1000,1000\nput,2.2.2.2,10.0.12.2,1.1.1.1,10.0.12.1,10,0x1,0,0,0,0,0,0,0,0\nend,1,2\nput,2.2.2.2,10.0.1";
 
@@ -36,7 +37,7 @@ const LINES_OF_LOOSE_HOP: &[u8] =
     b"version 1\nask 5 v1 route cost=30 hops=3 again=yes ero=001c140101080a000c02200001080a001703200001080a0017022000\n";
 
 /// Whether a run over some rows, with one batch and one request, writes all lines. If memory is
-/// refused, the run has to write a prefix of the lines.
+/// refused, the run has to write a prefix of these lines.
 fn ends_whole_or_refused(alloc: Global, script: &[u8], rows: u32, lines: &[u8]) -> bool {
     let Ok(mut held) = Vec::with_capacity(alloc, ROOM) else {
         return true;
@@ -64,8 +65,8 @@ fn solves_a_loose_hop(rt: HostRuntime) {
     assert!(rt; ends_whole_or_refused(rt.alloc(), LOOSE_HOP, 6, LINES_OF_LOOSE_HOP));
 }
 
-/// Runs two workers over the journal `TORN` and the request. Returns the run's result and what the
-/// run wrote, or `None` if memory for the writer is refused.
+/// Runs two workers over the journal `TORN` and the request. Returns the run's result and the bytes
+/// that the run wrote, or `None` if memory for the writer is refused.
 fn run_torn<T: Threads + Wait + Sync>(
     rt: &T,
     alloc: Global,
@@ -78,7 +79,7 @@ fn run_torn<T: Threads + Wait + Sync>(
     Some((found, held))
 }
 
-/// The journal is refused before the requests are read, so no worker runs short of memory.
+/// The journal is refused before the requests are read. So no worker is refused memory.
 #[test]
 fn refuses_a_torn_journal(rt: HostRuntime) {
     if let Some((found, held)) = run_torn(&rt, rt.alloc(), false) {
@@ -101,7 +102,7 @@ fn accepts_a_torn_journal(rt: HostRuntime) {
 const UPDATES: &[u8] =
     b"put,1.1.1.1,10.0.12.1,2.2.2.2,10.0.12.2,10,0x1,1000,1000,1000,1000,1000,1000,1000,1000\nput,2.2.2.2,10.0.12.2,1.1.1.1,10.0.12.1,10,0x1,0,0,0,0,0,0,0,0\nend,1,2\n";
 
-/// The text that the journal gets for the batch of `UPDATES`.
+/// The text that is written to the journal for the batch of `UPDATES`.
 const JOURNAL: &[u8] =
     b"put,1.1.1.1,10.0.12.1,2.2.2.2,10.0.12.2,10,0x00000001,1000,1000,1000,1000,1000,1000,1000,1000\nput,2.2.2.2,10.0.12.2,1.1.1.1,10.0.12.1,10,0x00000001,0,0,0,0,0,0,0,0\nend,1,2\n";
 
@@ -115,7 +116,7 @@ fn makes_a_snapshot(rt: HostRuntime) {
     }
 }
 
-/// The line of the batch if it is published, and its line if memory is refused for it.
+/// The line for the batch if it is published, and the line if memory is refused for it.
 const PUBLISHED: &[u8] = b"version 1\n";
 
 const UNPUBLISHED: &[u8] = b"batch 1 refused: memory\n";
@@ -127,8 +128,8 @@ const REPLY_BEHIND: &[u8] =
     b"ask 7 v1 route cost=10 hops=1 again=no ero=000c140101080a000c022000\n";
 
 /// Whether the batch is published, and answered by the line of its version. If memory was refused,
-/// the journal has to be empty. Then the batch has the line of its refusal, or the updates ended
-/// without a line.
+/// the journal has to be empty. In that case the batch has the line of its refusal, or the updates
+/// ended without a line.
 fn is_published_or_refused(said: &[u8], journal: &[u8], ended: Result<(), StreamError>) -> bool {
     match ended {
         Ok(()) => {
@@ -138,8 +139,8 @@ fn is_published_or_refused(said: &[u8], journal: &[u8], ended: Result<(), Stream
     }
 }
 
-/// Whether the reply to a client has version 0 or 1, or memory was refused for the client. The
-/// client can always read a copy of the published database.
+/// Whether the reply to a client has version 0 or 1, or memory was refused for the client. No other
+/// error is allowed, since the client can always read a copy of the published database.
 fn is_answered_or_refused(client: &ServedClient<Vec<u8>>) -> bool {
     let replies = client.replies.as_slice();
     match client.end {
@@ -169,7 +170,8 @@ fn is_refused(error: ServedError) -> bool {
     error == ServedError::Run(RunError::Memory) || error == ServedError::NoThread { client: 1 }
 }
 
-/// Whether a run published the batch and answered the client, except where memory was refused.
+/// Whether a run published the batch and answered the client, or failed to do so because memory was
+/// refused.
 fn is_served(served: Served<Vec<u8>, Vec<u8>, Vec<u8>>) -> bool {
     let Served {
         status: _,
@@ -183,8 +185,8 @@ fn is_served(served: Served<Vec<u8>, Vec<u8>, Vec<u8>>) -> bool {
 }
 
 /// Whether a run over the updates and one client publishes the batch and answers the client, as
-/// `is_served` checks. If memory is refused before the run begins, the writers and the client have
-/// to be returned unchanged.
+/// `is_served` checks. If memory is refused before the run begins, the run has to return the
+/// writers and the client unchanged.
 fn serves<T: Threads + Wait + Sync>(
     rt: &T,
     alloc: Global,
@@ -202,7 +204,7 @@ fn serves<T: Threads + Wait + Sync>(
     }
 }
 
-/// What `serves` returns for a run over the updates and one client. The result is `None` if memory
+/// The result of `serves` for a run over the updates and one client. The result is `None` if memory
 /// for a writer or the client is refused.
 fn serves_one<T: Threads + Wait + Sync>(rt: &T, alloc: Global) -> Option<bool> {
     let clients = clients(alloc)?;

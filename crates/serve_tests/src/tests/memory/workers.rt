@@ -1,6 +1,6 @@
 //! Tests workers while memory is refused, as by `rt try --test --fail-alloc N -- memory`. A call
-//! answers in full, or says that memory is refused. After that its askers (which compute the
-//! workers' answers) still answer. If memory is refused before the call, the test ends.
+//! answers all requests, or returns the error that memory is refused. After that its askers (which
+//! compute the workers' answers) still answer. If memory is refused before the call, the test ends.
 ghost use Rattle.std.specs.Prelude.{◌≡◌, ◌≤◌, All, IfOk, length, vec_len};
 
 use crate::tests::workers::fixtures::{both_ways, request};
@@ -12,7 +12,7 @@ use std::process::Abort;
 use std::sync::Wait;
 use std::thread::Threads;
 
-/// The texts of the batches 1 and 2.
+/// The texts of the two batches.
 const TEXTS: &[u8] = b"put,1.1.1.1,10.0.12.1,2.2.2.2,10.0.12.2,10,0x00000001,\
 1000,1000,1000,1000,1000,1000,1000,1000\n\
 put,2.2.2.2,10.0.12.2,1.1.1.1,10.0.12.1,10,0x00000001,0,0,0,0,0,0,0,0\nend,1,2\n\
@@ -20,11 +20,11 @@ put,1.1.1.1,10.0.12.1,2.2.2.2,10.0.12.2,20,0x00000001,\
 1000,1000,1000,1000,1000,1000,1000,1000\n\
 put,2.2.2.2,10.0.12.2,1.1.1.1,10.0.12.1,20,0x00000001,0,0,0,0,0,0,0,0\nend,2,2\n";
 
-/// How many bytes each of the two texts has.
+/// The length of each of the two texts, in bytes.
 const TEXT: usize = 172;
 
-/// The batch with this number, 1 or 2. The batch sets a link with 10 times this number as its
-/// metric, and the link's reverse.
+/// The batch with this number, 1 or 2. The batch sets a link and the link's reverse. The metric is
+/// 10 times the number.
 fn batch<R: Abort>(rt: &R, alloc: Global, number: u32) -> Result<Batch, AllocError> {
     let metric = if number == 1 { 10 } else { 20 };
     let Ok(changes) = both_ways(metric) else {
@@ -36,8 +36,8 @@ fn batch<R: Abort>(rt: &R, alloc: Global, number: u32) -> Result<Batch, AllocErr
     })
 }
 
-/// `count` requests, each with its index as its id. Requests with an even id are from 1.1.1.1, and the
-/// others are from 9.9.9.9.
+/// `count` requests. The id of each request is its index. Requests with an even id are from
+/// 1.1.1.1, and the others are from 9.9.9.9.
 fn requests<R: Abort>(rt: &R, alloc: Global, count: usize) -> Result<Vec<Request>, AllocError>
     ensures { IfOk result (λ all. vec_len all ≤ 1000) }
 {
@@ -58,8 +58,8 @@ fn requests<R: Abort>(rt: &R, alloc: Global, count: usize) -> Result<Vec<Request
 }
 
 /// A publisher that has published no batch, and its two askers (which compute the workers'
-/// answers). The publisher's journal has room for the texts of both batches, so the journal takes
-/// no more memory.
+/// answers). The publisher's journal has capacity for the texts of both batches. So it allocates no
+/// more memory.
 fn opened<R: Wait + Abort>(
     rt: &R,
     alloc: Global,
@@ -95,7 +95,7 @@ fn is_right(index: usize, answer: &Answer) -> bool {
     right && answer.id == index as u64
 }
 
-/// Whether these are the answers to `count` requests, each with a version between `least` and
+/// Whether these are the right answers to `count` requests, each with a version between `least` and
 /// `most`.
 fn are_right(list: &[Answer], count: usize, least: u32, most: u32) -> bool {
     for (index, answer) in list.iter().enumerate() {
@@ -119,8 +119,8 @@ fn are_drawn_once(drawn: &[Vec<usize>], count: usize) -> bool {
     first.len().wrapping_add(second.len()) == count
 }
 
-/// Whether an asker (which computes a worker's answers) gives each request an answer with this
-/// version, or says that memory is refused.
+/// Whether an asker (which computes a worker's answers) answers each request at this version, or
+/// returns the error that memory is refused.
 fn still_answers(alloc: Global, asker: &mut Asker, requests: &[Request], version: u32) -> bool {
     for (index, request) in requests.iter().enumerate() {
         let right = match asker.ask(alloc, request) {
@@ -143,8 +143,8 @@ fn still_answer(alloc: Global, askers: &mut [Asker], requests: &[Request], versi
         && still_answers(alloc, second, requests, version)
 }
 
-/// Whether two workers give all answers, each with this version, or memory is refused. Also returns
-/// the askers, which compute the workers' answers.
+/// Whether two workers answer all requests at this version, or memory is refused. Also returns the
+/// askers, which compute the workers' answers.
 fn answered<R: Threads + Sync>(
     rt: &R,
     alloc: Global,
@@ -205,16 +205,16 @@ fn two_requests(rt: HostRuntime) {
     assert!(rt; answers(&rt, rt.alloc(), 2) != Ok(false));
 }
 
-/// The list of each worker's answers grows while the other worker computes its answers.
+/// Each worker's list of answers grows while the other worker computes its answers.
 #[test]
 fn hundred_requests(rt: HostRuntime) {
     assert!(rt; answers(&rt, rt.alloc(), 100) != Ok(false));
 }
 
-/// Returns whether a live run (batches are applied while workers answer requests) is right. Also
-/// returns the run's publisher, and the askers, which compute the workers' answers. The run is
-/// right if all batches are applied, or all before a batch for which memory was refused. The askers
-/// know the applied batches.
+/// Returns whether a live run is right. Also returns the run's publisher, and the askers, which
+/// compute the workers' answers. The run is right if its answers are right, all batches are applied
+/// (or all batches before one for which memory was refused), and the askers know the applied
+/// batches. A live run applies batches while workers answer requests.
 fn parts_of(
     live: Live<Vec<u8>>,
     count: usize,

@@ -1,4 +1,5 @@
-//! Tests workers alone: what they answer, in which order, and which worker answers.
+//! Tests workers alone: their answers, the order of the answers, and which worker answers a
+//! request.
 ghost use Rattle.std.specs.Prelude.{◌<◌, ◌≤◌, length};
 ghost use Rattle.cspf_publish.specs.declared.limits.TheConstants.{MOST_ASKERS};
 ghost use Rattle.cspf_work.specs.declared.limits.TheConstants.{MOST_REQUESTS};
@@ -14,7 +15,7 @@ use std::sync::Wait;
 use std::test::Fail;
 use std::thread::Threads;
 
-/// What workers answer once the link is published.
+/// The answers of workers after the link is published.
 pub(crate) fn answered_with_a_link<G: Gate + Sync, R: Threads + Wait + Abort + Sync>(
     rt: &R,
     alloc: Global,
@@ -34,8 +35,8 @@ pub(crate) fn answered_with_a_link<G: Gate + Sync, R: Threads + Wait + Abort + S
     answered.ok()
 }
 
-/// Whether `count` workers answered one request each, and computed the answers from the version
-/// that has the link.
+/// Whether `count` workers answered one request each, and computed the answers at the version that
+/// has the link.
 fn is_one_each(answers: &Answers, count: usize) -> bool {
     answers.list.len() == count
         && answers.drawn.len() == count
@@ -59,7 +60,7 @@ fn have_one_each(drawn: &[Vec<usize>]) -> bool {
     drawn.iter().all(|indexes| indexes.len() == 1)
 }
 
-/// Whether as many workers as there are requests answer one request each.
+/// Whether the workers answer one request each, if there are as many workers as requests.
 fn answer_one_each<R: Threads + Wait + Abort + Sync>(
     rt: &R,
     alloc: Global,
@@ -76,8 +77,8 @@ fn answer_one_each<R: Threads + Wait + Abort + Sync>(
     }
 }
 
-/// Whether `count` workers run at once on `count` requests. Before it computes its answer, each
-/// worker waits until the indexes of all requests are drawn from the counter.
+/// Whether `count` workers run at once on `count` requests. Each worker waits before it computes
+/// its answer, until the indexes of all requests are drawn from the counter.
 fn answer_at_once<R: Threads + Wait + Abort + Sync>(
     rt: &R,
     alloc: Global,
@@ -91,19 +92,19 @@ fn answer_at_once<R: Threads + Wait + Abort + Sync>(
     Ok(answer_one_each(rt, alloc, &batch, all.as_slice(), &gate))
 }
 
-/// Two workers run at once, and so do eight.
+/// Two workers run at once, and eight workers do, too.
 #[test]
 fn at_once(rt: HostRuntime) -> Result<(), Fail> {
     assert!(rt; answer_at_once(&rt, rt.alloc(), 2)? && answer_at_once(&rt, rt.alloc(), 8)?);
     Ok(())
 }
 
-/// Which answers of the workers a test expects.
+/// The answers that a test expects from the workers.
 #[derive(Clone, Copy)]
 enum Wanted {
-    /// No answer: three workers have no request.
+    /// No answers, since the three workers have no requests.
     Nothing,
-    /// One answer: one of 64 workers, the most that are allowed, answers the only request.
+    /// One answer, since there is one request. There are 64 workers, the most that are allowed.
     One,
     /// The answers of 64 workers to 1,000 requests, in the order of the requests.
     InOrder,
@@ -130,7 +131,7 @@ fn have_drawn(drawn: &[Vec<usize>], workers: usize, wanted: usize) -> bool {
     drawn.len() == workers && count == wanted
 }
 
-/// Whether workers give the answers that are wanted.
+/// Whether workers return the wanted answers.
 fn gives<R: Threads + Wait + Abort + Sync>(
     rt: &R,
     alloc: Global,
@@ -158,8 +159,8 @@ fn no_requests_and_one(rt: HostRuntime) -> Result<(), Fail> {
     Ok(())
 }
 
-/// 1,000 requests of three kinds: for bandwidth that the link has, for more bandwidth than it has, and
-/// from a router that isn't in the database.
+/// 1,000 requests of three kinds: for bandwidth that the link has, for more bandwidth than the link
+/// has, and from a router that isn't in the database.
 fn requests_of_three_kinds(alloc: Global) -> Result<Vec<Request>, Fail> {
     let mut all = Vec::with_capacity(alloc, 1000)?;
     for index in 0..1000u64 {
@@ -202,7 +203,7 @@ fn in_order(rt: HostRuntime) -> Result<(), Fail> {
 }
 
 /// Whether the answers of two workers have the last version, and the workers' askers (which compute
-/// the answers) then know this version.
+/// the answers) know this version afterwards.
 fn answer_at_the_last<R: Threads + Wait + Abort + Sync>(
     rt: &R,
     alloc: Global,

@@ -1,21 +1,22 @@
 //! Defines a gate (callbacks before and after each request of a worker) that counts requests, and
-//! how a gate waits.
+//! the way in which a gate waits.
 
 use cspf_serve::Gate;
 use std::alloc::{AllocError, Global};
 use std::sync::atomic::{AtomicU64, Ordering};
 use std::thread;
 
-/// How many turns of a loop a gate (callbacks before and after each request) waits before it notes
-/// a fault.
+/// The number of iterations for which a gate (callbacks before and after each request) waits before
+/// it notes a fault.
 const TURNS: u32 = 1_000_000;
 
-/// Counts for each request how often workers draw its index, and how often they get its answer.
+/// Counts, for each request, how often a worker draws its index and how often a worker computes its
+/// answer.
 #[derive(Drop)]
 pub(crate) struct Counts {
     reached: Vec<AtomicU64>,
     answered: Vec<AtomicU64>,
-    /// How many indexes of requests the workers have to draw before they compute the first answer.
+    /// The number of indexes that the workers have to draw before they compute the first answer.
     all: u64,
     came: AtomicU64,
     faults: AtomicU64,
@@ -59,8 +60,8 @@ pub(crate) fn zeros(alloc: Global, count: usize) -> Result<Vec<AtomicU64>, Alloc
     Ok(zeros)
 }
 
-/// Waits until the number in `word` is at least `least`. Notes a fault if the waiting loop takes
-/// too many turns.
+/// Waits until the number in `word` is at least `least`. Notes a fault if the loop has too many
+/// iterations.
 pub(crate) fn wait_for(word: &AtomicU64, least: u64, faults: &AtomicU64) {
     for _ in 0..TURNS {
         if word.load(Ordering::SeqCst) >= least {
@@ -71,7 +72,7 @@ pub(crate) fn wait_for(word: &AtomicU64, least: u64, faults: &AtomicU64) {
     faults.fetch_add(1, Ordering::SeqCst);
 }
 
-/// Lets each worker wait before it computes an answer, until the indexes of all requests are drawn.
+/// Each worker waits before it computes an answer, until the indexes of all requests are drawn.
 impl Gate for Counts {
     fn reached(&self, _worker: usize, index: usize) {
         if index < self.reached.len() {

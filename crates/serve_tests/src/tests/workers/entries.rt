@@ -31,7 +31,7 @@ fn ask_closed<R: Threads + Wait + Abort + Sync>(
     answer_all(rt, alloc, askers, requests, &NoGate)
 }
 
-/// Whether these are three askers (which compute the workers' answers), of which only the first
+/// Whether these are three askers (which compute the workers' answers), and only the first asker
 /// knows a batch.
 fn are_as_told(askers: &[Asker]) -> bool {
     match askers {
@@ -40,8 +40,8 @@ fn are_as_told(askers: &[Asker]) -> bool {
     }
 }
 
-/// Whether the workers can't read a copy of the published database, and their askers (which compute
-/// the answers) are returned unchanged.
+/// Whether the workers fail because they can't read a copy of the published database. Their askers
+/// (which compute the answers) have to be returned unchanged.
 fn have_no_entry<R: Threads + Wait + Abort + Sync>(
     rt: &R,
     alloc: Global,

@@ -1,4 +1,4 @@
-//! Defines what the tests of workers share: a link, batches, requests and publishers.
+//! Defines helpers for the tests of workers: a link, batches, requests and publishers.
 ghost use Rattle.std.specs.Prelude.{◌≡◌, ◌≤◌, All, IfOk, vec_len};
 ghost use Rattle.cspf_work.specs.declared.limits.TheConstants.{MOST_REQUESTS};
 
@@ -11,15 +11,15 @@ use std::process::Abort;
 use std::sync::Wait;
 use std::test::Fail;
 
-/// A link of this metric from 1.1.1.1 to 2.2.2.2, with 1,000 bytes per second unreserved. The
-/// address of its interface at 1.1.1.1 is 10.0.12.1.
+/// A link of this metric from 1.1.1.1 to 2.2.2.2, with 1,000 bytes per second unreserved. Its local
+/// address is 10.0.12.1.
 fn link(metric: u32) -> Result<Link, LinkError> {
     let (from, local) = (Addr::new(0x01010101), Addr::new(0x0a000c01));
     let (to, remote) = (Addr::new(0x02020202), Addr::new(0x0a000c02));
     Link::new(from, local, to, remote, metric, Mask::new(1), [1000; 8])
 }
 
-/// The two changes that set the link of this metric and the link's reverse, which has no bandwidth.
+/// Two changes that set a link of this metric and the link's reverse. The reverse has no bandwidth.
 pub(crate) fn both_ways(metric: u32) -> Result<[Change; 2], LinkError> {
     let link = link(metric)?;
     let (from, local) = (link.to, link.remote);
@@ -52,7 +52,7 @@ pub(crate) fn request(id: u64, from: u32, bandwidth: u64) -> Result<Request, Req
     )
 }
 
-/// The same request `count` times.
+/// A list with the same request `count` times.
 pub(crate) fn requests(alloc: Global, count: usize) -> Result<Vec<Request>, Fail>
     requires { count ≤ MOST_REQUESTS }
     ensures { IfOk result (λ all. vec_len all ≡ count) }

@@ -1,5 +1,5 @@
-//! Tests what workers report to their gate (callbacks before and after each request), and how many
-//! workers run at once.
+//! Tests the calls that workers make of their gate (callbacks before and after each request), and
+//! how many workers run at once.
 
 ghost use Rattle.std.specs.Prelude.{◌<◌, ◌≤◌, length};
 ghost use Rattle.cspf_publish.specs.declared.limits.TheConstants.{MOST_ASKERS};
@@ -19,7 +19,7 @@ use std::sync::atomic::{AtomicU64, Ordering};
 use std::test::Fail;
 use std::thread::Threads;
 
-/// Which kind of run over rows answers the requests.
+/// The kind of run over rows that answers the requests.
 #[derive(Clone, Copy)]
 enum Run {
     /// `run_batch` over an empty journal.
@@ -85,8 +85,8 @@ fn live_run_writes<G: Gate + Sync, T: Threads + Wait + Sync>(
     found == Ok(0) && held.as_slice() == lines && kept.is_empty()
 }
 
-/// Whether a run over `count` requests alone, with this many workers, answers each request with its
-/// line.
+/// Whether a run over `count` requests, without batches and with this many workers, answers each
+/// request with its line.
 fn answers<G: Gate + Sync, T: Threads + Wait + Sync>(
     rt: &T,
     alloc: Global,
@@ -106,8 +106,8 @@ fn answers<G: Gate + Sync, T: Threads + Wait + Sync>(
     })
 }
 
-/// Whether `count` workers answer `count` requests. Before it computes its answer, each worker
-/// waits until the indexes of all requests are drawn from the counter.
+/// Whether `count` workers answer `count` requests. Each worker waits before it computes its
+/// answer, until the indexes of all requests are drawn from the counter.
 fn answers_at_once<T: Threads + Wait + Sync>(
     rt: &T,
     alloc: Global,
@@ -120,8 +120,7 @@ fn answers_at_once<T: Threads + Wait + Sync>(
     Ok(answers(rt, alloc, run, count, count, &gate)? && gate.is_whole())
 }
 
-/// All workers run at once, and they report to the gate (callbacks before and after each request)
-/// that the caller gives.
+/// All workers run at once, and call the caller's gate (callbacks before and after each request).
 #[test]
 fn at_once(rt: HostRuntime) -> Result<(), AllocError> {
     for count in [2, 64] {
@@ -134,13 +133,13 @@ fn at_once(rt: HostRuntime) -> Result<(), AllocError> {
     Ok(())
 }
 
-/// Counts how often the callbacks of the gate are called with each request's index. No worker waits
+/// Counts how often each callback of the gate is called with each request's index. No worker waits
 /// in these callbacks.
 #[derive(Drop)]
 struct Tally {
     reached: Vec<AtomicU64>,
     answered: Vec<AtomicU64>,
-    /// How often a callback of the gate is called with an index that no request has.
+    /// The number of calls with an index that no request has.
     others: AtomicU64,
 }
 
@@ -183,25 +182,25 @@ fn tells_of_each<T: Threads + Wait + Sync>(
     Ok(answers(rt, alloc, Run::Batch, count, 3, &tally)? && tally.is_whole())
 }
 
-/// The run reads its requests in parts, and writes a part's lines before it answers the next part.
-/// There are more requests than one part has. The callbacks of the gate still get each request's
-/// index among all requests.
+/// The run answers its requests in parts, and writes the lines of a part before it answers the next
+/// part. There are more requests than one part has. The callbacks of the gate still get each
+/// request's index among all requests.
 #[test]
 fn what_workers_tell_of_many_rows(rt: HostRuntime) -> Result<(), AllocError> {
     assert!(rt; tells_of_each(&rt, rt.alloc(), 32_768 * 2 + 3)?);
     Ok(())
 }
 
-/// Notes the reports of each worker in order, as hexadecimal digits. The digits 1, 3, 5 and 7 say
-/// that the indexes of the requests 0 to 3 were drawn. The digits 2, 4, 6 and 8 say that these
-/// requests were answered. The worker of request 0 computes its answer after the requests 1 to 3
+/// Notes the gate calls of each worker in order, as hexadecimal digits. The digits 1, 3, 5 and 7
+/// say that the indexes of the requests 0 to 3 were drawn. The digits 2, 4, 6 and 8 say that these
+/// requests were answered. The worker of request 0 waits with its answer until the requests 1 to 3
 /// are answered.
 #[derive(Drop)]
 struct Notes {
     words: Vec<AtomicU64>,
-    /// How many reports came with the number of a worker that doesn't exist.
+    /// The number of calls with the number of a worker that doesn't exist.
     others: AtomicU64,
-    /// How many of the requests 1 to 3 are answered.
+    /// The number of the requests 1 to 3 that are answered.
     answered: AtomicU64,
     faults: AtomicU64,
 }
@@ -253,7 +252,7 @@ impl Gate for Notes {
     }
 }
 
-/// Whether one worker drew the index 0 of a request, and the other worker the indexes 1, 2 and 3.
+/// Whether one worker drew the index 0, and the other worker drew the indexes 1, 2 and 3.
 fn are_zero_and_the_others(drawn: &[Vec<usize>]) -> bool {
     let [first, second] = drawn else {
         return false;

@@ -1,5 +1,5 @@
-//! Tests live runs, in which batches are applied while workers answer requests. The tests look at
-//! which batches are applied, and at the publisher, the answers and the journal afterwards.
+//! Tests live runs, in which batches are applied while workers answer requests. The tests check
+//! which batches are applied, and the publisher, the answers and the journal afterwards.
 ghost use Rattle.std.specs.Prelude.{◌≡◌, ◌<◌, ◌≤◌, length, All, vec_len};
 ghost use Rattle.cspf_publish.specs.declared.limits.TheConstants.{MOST_ASKERS};
 ghost use Rattle.cspf_work.specs.declared.limits.TheConstants.{MOST_REQUESTS};
@@ -18,8 +18,8 @@ use std::sync::atomic::{AtomicU64, Ordering};
 use std::test::Fail;
 use std::thread::Threads;
 
-/// What a live run (batches are applied while workers answer requests) leaves once its publisher is
-/// closed.
+/// The values that a live run returns, after its publisher is closed. A live run applies batches
+/// while workers answer requests.
 #[derive(Drop)]
 pub(crate) struct Closed<W> {
     pub(crate) journal: W,
@@ -66,7 +66,8 @@ pub(crate) fn run_and_close<W: Write + Drop, G: Gate + Sync, R: Threads + Wait +
     }
 }
 
-/// The worker of the second request and the journal's first write wait for each other.
+/// The worker of the second request waits for the journal's first write, and the write waits for
+/// this worker.
 #[derive(Drop)]
 struct Meeting {
     asked: AtomicU64,
@@ -85,7 +86,7 @@ impl Gate for Meeting {
     fn answered(&self, _worker: usize, _index: usize) {}
 }
 
-/// A journal in memory whose first write waits for the second request.
+/// A journal in memory. Its first write waits for the second request.
 #[derive(Drop)]
 struct MeetingJournal<'a> {
     held: Vec<u8>,
@@ -104,7 +105,7 @@ impl<'a> Write for MeetingJournal<'a> {
     }
 }
 
-/// Whether a batch is applied if there are no requests.
+/// Whether a batch is applied when there are no requests.
 fn applies<R: Threads + Wait + Abort + Sync>(rt: &R, alloc: Global, batches: &[Batch]) -> bool {
     let opened = opened(rt, alloc, Vec::<u8>::new(alloc), 1);
     let left = run_and_close(rt, alloc, opened, batches, &[], &NoGate);
@@ -136,8 +137,8 @@ fn is_one_answer(list: &[Answer], version: u32) -> bool {
     }
 }
 
-/// Answers a request while batches are applied to the database of one link. The result is how many
-/// batches are applied, the version at the end, and why a batch is refused, if one is.
+/// Answers a request while batches are applied to the database of one link. Returns the number of
+/// applied batches, the version at the end, and why a batch is refused, if one is.
 fn applied_beside<R: Threads + Wait + Abort + Sync>(
     rt: &R,
     alloc: Global,

@@ -1,5 +1,5 @@
-//! Tests in which order a worker draws a request's index, reports it, and gets the answer. Also,
-//! any number of workers answers all requests.
+//! Tests the order in which a worker draws a request's index, calls the gate, and computes the
+//! answer. Also tests that any number of workers answers all requests.
 
 ghost use Rattle.std.specs.Prelude.{◌<◌, ◌≤◌, length};
 ghost use Rattle.cspf_publish.specs.declared.limits.TheConstants.{MOST_ASKERS};
@@ -21,15 +21,15 @@ use std::sync::atomic::{AtomicU64, Ordering};
 use std::test::Fail;
 use std::thread::Threads;
 
-/// How many bytes the journal gets for a batch of a link and its reverse.
+/// The number of bytes that are written to the journal for a batch of a link and its reverse.
 const TEXT: usize = 172;
 
-/// A gate (callbacks before and after each request) in which each worker waits, before or after it
-/// computes an answer, until the first batch is published. The publisher keeps the first batch back
-/// until a worker waits.
+/// A gate (callbacks before and after each request). In one of its callbacks each worker waits,
+/// before or after it computes an answer, until the first batch is published. The publisher doesn't
+/// publish the first batch until a worker waits.
 #[derive(Drop)]
 struct Order {
-    /// Whether workers wait before they compute an answer, and not after it.
+    /// Whether workers wait before they compute an answer. If false, they wait after it.
     before: bool,
     there: AtomicU64,
     published: AtomicU64,
@@ -105,8 +105,8 @@ fn are_of(list: &[Answer], versions: (u32, u32)) -> bool {
     }
 }
 
-/// Lets one worker wait before or after it computes each of two answers. Returns whether the
-/// answers have these versions.
+/// One worker waits before or after it computes each of two answers. Returns whether the answers
+/// have these versions.
 fn are_held<R: Threads + Wait + Abort + Sync>(
     rt: &R,
     alloc: Global,
@@ -156,7 +156,7 @@ put,1.1.1.1,10.0.12.1,2.2.2.2,10.0.12.2,10,0x1,1000,1000,1000,1000,1000,1000,100
 end,2,1
 ";
 
-/// More requests than workers.
+/// The number of requests. It is larger than the number of workers.
 const COUNT: u32 = 130;
 
 fn request_rows(alloc: Global) -> Result<String, AllocError> {
@@ -181,7 +181,7 @@ fn lines_at_version_1(alloc: Global) -> Result<String, AllocError> {
     Ok(lines)
 }
 
-/// Before it computes an answer, each worker waits until the first of two batches is published.
+/// Each worker waits before it computes an answer, until the first of two batches is published.
 /// Returns the result of the run over the requests, its lines, and whether a worker waited at each
 /// request.
 fn run_held<T: Threads + Wait + Sync>(

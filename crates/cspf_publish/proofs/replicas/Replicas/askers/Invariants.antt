@@ -2,8 +2,8 @@ use Rattle.std.proofs.Common.{◌≡◌, ◌*◌, ◌≤◌, All, vec_len, vec_c
 use Rattle.cspf_publish.specs.AskerStates.{AskerState, known_of}
 use Rattle.cspf_publish.proofs.replicas.Replicas.askers.Given as goal
 
--- the loop has made as many askers (which answer requests) as it counted, each with its part of the
--- trees of lower bounds, and has changed nothing else
+-- the loop has made as many askers (which answer requests) as it counted, each with its share of
+-- the trees of lower bounds, and has changed nothing else
 abbrev pub invariant-loop : goal.invariant-loop
 invariant-loop g l = record {
   same : l.self ≡ l.fn.self;

@@ -5,8 +5,8 @@ use Rattle.cspf_serve.specs.BatchRun.{AreReplies}
 use Rattle.cspf_judge.specs.EarlyEnds.{Writes}
 use Rattle.cspf_serve.proofs.batch.answering.answer_in_parts.Given as goal
 
--- the requests before the index `first` are answered, and all askers, which answer the requests,
--- are handed back
+-- the requests before the index `first` are answered, and all askers (which answer the requests)
+-- were returned
 abbrev pub invariant-loop-first : goal.invariant-loop-first
 invariant-loop-first g l = record {
   within : l.first ≤ length l.requests;

@@ -4,7 +4,8 @@ use Rattle.cspf_rows.specs.GivenBatches.{CanRead, HasGiven, rows_read}
 use Rattle.cspf_serve.specs.PublishedBatches.{ArePublishedOrRefused}
 use Rattle.cspf_serve.proofs.batch.publishing.publish_all.Given as goal
 
--- all batches that were read are published, or only those before the first one that doesn't fit
+-- all batches that were read are published, or only the batches before the first batch that doesn't
+-- fit
 abbrev pub invariant-loop-batch : goal.invariant-loop-batch
 invariant-loop-batch g l = record {
   can : CanRead l.journal;
