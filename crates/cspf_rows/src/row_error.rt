@@ -7,7 +7,8 @@ use cspf_ero::EroError;
 use std::error::Error;
 use std::fmt;
 
-/// Why a record is no row. Fields count from 1: field 1 is the word that names the row's kind.
+/// Why a record is no row. Fields are counted from 1, and field 1 is the word that names the row's
+/// kind.
 #[derive(Clone, Copy, Debug, PartialEq, Eq)]
 pub enum RowError {
     /// The first field names no kind of row.
@@ -33,13 +34,13 @@ pub enum RowError {
     Priority,
     /// The field of the hops spells no hops.
     Hops(HopsFault),
-    /// The link begins and ends at the same router.
+    /// Both endpoints of the link are the same router.
     SelfLink,
     /// The request is from a router to itself.
     SameEnds,
 }
 
-/// Why a field spells no hops, neither as a hop list nor as an EXPLICIT_ROUTE object.
+/// Why a field spells no hops.
 #[derive(Clone, Copy, Debug, PartialEq, Eq)]
 pub enum HopsFault {
     /// The text spells no hop list.
