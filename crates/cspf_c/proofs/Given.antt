@@ -1,4 +1,4 @@
--- What `routed_rows` and `routed_end` do to the session of a handle.
+-- What a call does to the session of a handle, if a session is open.
 use Rattle.std.proofs.Common.{◌≡◌, ◌≢◌, ℕ, List, length, Result, Ok, Err, IfOk, subst}
 use Rattle.std.specs.declared.option.Option.{Option}
 use Rattle.std.specs.declared.option.Option.TheVariants.{None, Some}
