@@ -38,9 +38,9 @@ pub record IsRefusedRow (place : ℕ) (why : RowError) (s : SessionState) (line 
   pub after : t ≡ record s { refused = s.refused + 1 }
 
 -- The request of row `place` is answered with the best answer in the database of the batches that
--- the client then knows. The number of these batches is the version of the reply. They include all
--- batches that the client knew before, and all batches of the count that it read before this answer
--- (`ReadsCount`).
+-- the client then knows. The number of these batches is the version of the reply. These batches
+-- include all batches that the client knew before. There are at least as many of them as the count
+-- that the client read before this answer (`ReadsCount`).
 pub record IsRequestAnswered (place : ℕ) (q : Request) (s : SessionState) (line : List ℕ) (t : SessionState) : Type 0 where
   pub reads : ReadsCount place s t
   pub answer : Answer
@@ -48,8 +48,8 @@ pub record IsRequestAnswered (place : ℕ) (q : Request) (s : SessionState) (lin
   pub reply : IsReply q.id (length t.known.batches) answer line
 
 -- The version of a reply is at least the count of published batches that the client read before
--- this reply. This count is at least the count in each step of the journal that the client had
--- already seen.
+-- this reply. This count is at least the count that follows from the steps of the journal that the
+-- client had already seen (`count_of`).
 abbrev pub RepliesAreFresh : Type 0
 RepliesAreFresh =
     (place : ℕ) (q : Request) (s t : SessionState) (line : List ℕ) (a : IsRequestAnswered place q s line t)

@@ -8,8 +8,8 @@ pub fn clients_go_forward()
 {}
 
 /// Law: replies are fresh. The version of a reply is at least the count of published batches that
-/// the client read before this reply. This count is at least each count that the client had seen
-/// before.
+/// the client read before this reply. This count is at least the count that follows from the steps
+/// of the journal that the client had already seen.
 pub fn replies_are_fresh()
     ensures { RepliesAreFresh }
 {}
