@@ -22,8 +22,8 @@ pub record AreAlike (d e : Database) : Type 0 where
   pub count : link_count e ≡ link_count d
   pub ends : (k : Key) → option_map ends_of_link (link_at e k) ≡ option_map ends_of_link (link_at d k)
 
--- At this key, `d` agrees with the effective database. It has the base's link with the bandwidths
--- that the placements leave, or no link if the base has no link.
+-- At this key, `d` has the base's link with the bandwidths that the placements leave, or no link if
+-- the base has no link. So `d` agrees with the effective database there.
 abbrev pub IsCurrentAt : Database → List Placement → Database → Key → Type 0
 IsCurrentAt base placements d k = link_at d k ≡ option_map (effective_link placements) (link_at base k)
 

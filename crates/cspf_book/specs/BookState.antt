@@ -68,10 +68,10 @@ IsAnswerPlaced old q hold no_route new = new ≡ old
 IsAnswerPlaced old q hold (route walk) new = IsPlacedAlong old q hold walk new
 
 -- Why a request isn't placed. `Full`: the book already has `MOST_PLACEMENTS` placements with other
--- ids. With each other error, the book has fewer (`HasRoomFor`). `Memory`: memory is refused.
--- `Twice`: the best answer is a route that uses a link twice. `TooManyLinks`: the best answer is a
--- route that uses no link twice, but with it the routes of all placements would have more than
--- `MOST_ROUTES_LINKS` links.
+-- ids. The other errors suppose that the book has fewer such placements (`HasRoomFor`). `Memory`:
+-- memory is refused. `Twice`: the best answer is a route that uses a link twice. `TooManyLinks`:
+-- the best answer is a route that uses no link twice, but with it the routes of all placements
+-- would have more than `MOST_ROUTES_LINKS` links.
 abbrev pub IsPlaceError : BookState → Request → PlaceError → Type 0
 IsPlaceError s q Memory = HasRoomFor s q.id
 IsPlaceError s q Full = MOST_PLACEMENTS ≤ length (others q.id s.placements)

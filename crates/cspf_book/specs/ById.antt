@@ -32,8 +32,8 @@ pub record IsIndexIn (versions : List ℕ) (version index : ℕ) : Type 0 where
   pub behind : (k : ℕ) → index ≤ k → k < length versions → version ≤ slice_index versions k
 
 -- `x` lists one version for each placement, in the order of the placements. These versions are
--- strictly increasing, and at most `version`. The map of `x` has the version of each placement by
--- its id. `x` also lists the bits of the routers on each placement's route.
+-- strictly increasing, and at most `version`. The map of `x` maps the id of each placement to the
+-- placement's version. `x` also lists the bits of the routers on each placement's route.
 pub record AreIdsOf (x : Ids) (version : ℕ) (placements : List Placement) : Type 0 where
   pub many : length x.versions.items ≡ length placements
   pub rising : IsRising 0 x.versions.items (version + 1)

@@ -32,7 +32,8 @@ use Rattle.cspf_book_run.specs.KeptStates.{IsRowKept, IsRowNotKept}
 abbrev Rows : Type 0
 Rows = List (List (List ℕ))
 
--- The code answers these rows one after the other, which takes it from the state `k` to the state `k'`.
+-- The code answers these rows one after the other. This takes the code from the state `k` to the
+-- state `k'`.
 pub record IsCarried {K : Type 0} (contents : K → Option (List ℕ)) (place : ℕ) (k k' : KeptRows K) (s : BookRunState) (rows : List (List (List ℕ))) (lines : List ℕ) : Type 0 where
   pub after : BookRunState
   pub kept : KeepsBook k'.rows after

@@ -59,8 +59,8 @@ module _ (k k' : BookRows) where
     ),
   )
 
-  -- If the code finds the best answer to a request, and the book places it, the `place` row is
-  -- answered as `IsPlaceTaken` states.
+  -- If the code finds the best answer to a request, and the book places the request, the `place`
+  -- row is answered as `IsPlaceTaken` states.
   pub place_answered : (q : Request) (hold : ℕ) (answer : Answer) (version : ℕ) (line : List ℕ)
       → k.book.version < 1000000 → HasRoomFor k.book q.id → IsBestAnswer (effective_beside k.book q.id) q answer → IsAnswerPlaced k.book q hold answer k'.book
       → version ≡ k'.book.version → IsPlaceReply q.id version answer line

@@ -1,4 +1,4 @@
-//! The rows of a book: the rows of a database, and the rows `place` and `release`.
+//! The rows of a book: the rows of a database, and the `place` and `release` rows.
 
 ghost use Rattle.std.specs.Prelude.{◌≡◌, ◌≤◌};
 ghost use Rattle.csv.specs.Records.{fields_of};

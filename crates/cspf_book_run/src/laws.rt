@@ -34,9 +34,9 @@ pub fn covered_books()
     ensures exact { BaseLinesAreExact }
     ensures only { OnlyBatchesSayOver }
 {
-    // Two laws. A link that is covered stays covered when a request is placed, a placement is
-    // released or the base changes, or the list `over` has this link. No two addresses have the
-    // same text.
+    // Two laws. A covered link stays covered when a request is placed or a placement is released.
+    // When the base changes, a covered link stays covered, or is in the list `over`. And no two
+    // addresses have the same text.
     cspf_book::covered_links();
     addresses_are_spelled_once();
 }

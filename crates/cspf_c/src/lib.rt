@@ -1,4 +1,5 @@
-//! The solver as a static library for C, which is given rows and returns the lines of `solve`.
+//! The solver as a static library for C. The caller gives rows to the library, and gets the lines
+//! of `solve`.
 //!
 //! A handle is a pointer that C keeps. `routed_open` puts a session into the handle. `routed_rows`
 //! gives rows to the session, and `routed_end` asks the session for its last line. `routed_lines`

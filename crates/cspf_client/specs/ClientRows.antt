@@ -31,8 +31,8 @@ pub record ReadsCount (place : ℕ) (s t : SessionState) : Type 0 where
   pub client : t.client ≡ s.client
   pub refused : t.refused ≡ s.refused
 
--- The row is refused with the words of `why`. In the client's state, only the count of refused rows
--- changes.
+-- The row is refused, and its line has the words for the error `why`. In the client's state, only
+-- the count of refused rows changes.
 pub record IsRefusedRow (place : ℕ) (why : RowError) (s : SessionState) (line : List ℕ) (t : SessionState) : Type 0 where
   pub written : line ≡ refused_row_line place why
   pub after : t ≡ record s { refused = s.refused + 1 }

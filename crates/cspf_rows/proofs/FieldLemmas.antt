@@ -39,7 +39,7 @@ passed : {A : Type 0} (b : Bool) (v n : A) (e : RowError) → cond b (Ok v) (Err
 passed true v n e same = (refl, cc)
 passed false v n e same = absurd (cc)
 
--- a number below 2 is the number of the flag that says whether this number is 1
+-- a number n below 2 is the number of the flag `n == 1`
 small_flag : (n : ℕ) (flag : Bool) → n < 2 → eqb n 1 ≡ flag → n ≡ flag_number flag
 small_flag zero flag small is = rw (← is) refl
 small_flag (suc zero) flag small is = rw (← is) refl

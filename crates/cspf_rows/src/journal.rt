@@ -16,8 +16,8 @@ pub use whole::read_journal;
 pub enum Rest {
     /// No row of the journal follows its last whole batch.
     Clean,
-    /// One row or more follow the last whole batch. These rows don't begin with a whole batch of
-    /// the next number.
+    /// At least one row follows the last whole batch. The rows after this batch don't begin with a
+    /// whole batch of the next number.
     Torn,
 }
 

@@ -132,14 +132,14 @@ AreRowsAnswered s (fields ∷ rows) lines after =
 abbrev pub is_too_many : List (List (List ℕ)) → Bool
 is_too_many rows = nat_lt MOST_ROWS (length rows)
 
--- The last line of a run. If there are too many rows, the line says this. Otherwise it says how
--- many changes are still open, and is empty if no changes are open.
+-- The last line of a run. If there are too many rows, the line reports only this. Otherwise it says
+-- how many changes are still open, and is empty if no changes are open.
 abbrev pub last_line : Bool → List Change → List ℕ
 last_line true changes = too_many_line
 last_line false changes = end_line changes
 
--- How much changes that are still open at the end add to the count of refusals: 1 if there are such
--- changes, and 0 otherwise. If there are too many rows, this is always 0.
+-- The number that is added to the count of refusals at the end of a run: 1 if changes are still
+-- open, and 0 otherwise. If there are too many rows, the number is always 0.
 abbrev pub unended_count : Bool → List Change → ℕ
 unended_count true changes = 0
 unended_count false changes = if nat_lt 0 (length changes) then 1 else 0

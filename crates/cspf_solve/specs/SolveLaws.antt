@@ -18,8 +18,8 @@ abbrev pub StopsAtAPrefix : Type 0
 StopsAtAPrefix = (error : SolveError) (rows : List (List (List ℕ))) (out lines : List ℕ) (summary : Summary)
     → IsOutputAtError error rows out → IsSolveRun rows lines summary → (more : List ℕ) × (lines ≡ out ++ more)
 
--- If rows are answered with `lines`, and then one more row with `line`, the list of all these rows
--- is answered with `lines` followed by `line`.
+-- Let rows be answered with `lines`, and let one more row then be answered with `line`. The list of
+-- all these rows is then answered with `lines` followed by `line`.
 abbrev pub GoesOnByOneRow : Type 0
 GoesOnByOneRow = (s t u : RunState) (rows : List (List (List ℕ))) (fields : List (List ℕ)) (lines line : List ℕ) → AreRowsAnswered s rows lines t
     → IsRowAnswered (at_next_row t) (row_of fields) line u → AreRowsAnswered s (rows ++ (fields ∷ [])) (lines ++ line) u

@@ -13,8 +13,8 @@ use csv::ByteRecord;
 use std::alloc::{AllocError, Global};
 
 /// The state of a run between two rows of its stream. Its memory doesn't grow with the length of
-/// the stream: it has only the database, the open changes, and the trees of lower bounds that the
-/// table keeps.
+/// the stream. The state has only the database, the open changes, and the trees of lower bounds
+/// that the table keeps.
 #[derive(Drop)]
 pub struct Solver {
     /// The database of the accepted batches, and the open changes.
@@ -100,8 +100,8 @@ impl Solver {
         self.rows.answer(&(), alloc, self.read, row)
     }
 
-    /// The last line. If there are too many rows, the line says this. Otherwise it says how many
-    /// changes are still open, and is empty if no changes are open.
+    /// The last line of the run. If there are too many rows, the line reports only this. Otherwise
+    /// it says how many changes are still open, and is empty if no changes are open.
     pub fn last_line(&self, alloc: Global, too_many: bool) -> Result<Vec<u8>, AllocError>
         ensures { IfOk result (λ line. (s : RunState) → KeepsRun self.now s
             → line.items ≡ last_line too_many s.changes) }

@@ -1,5 +1,5 @@
--- Only the first 4,097 open changes are kept. They fit a database as a batch exactly if all open
--- changes fit it.
+-- Only the first 4,097 open changes are kept. These changes fit a database as a batch exactly if
+-- all open changes fit this database as a batch.
 use Rattle.std.proofs.Common.{◌≡◌, ℕ, zero, suc, ◌<◌, ◌≤◌, List, [], ◌∷◌, ◌++◌, take, length, refl, ap, ◌∙◌, sym, subst, arith}
 use Rattle.std.proofs.lemmas.List.{take_all}
 use Rattle.cspf_model.specs.declared.batch.Change.{Change}

@@ -25,8 +25,8 @@ IsLineStoppedAfter flush size error.Write line old new = (size < length line) ×
 IsLineStoppedAfter flush size error.Flush line old new = (flush ≡ true) × (size ≡ length line) × Appends old new line
 IsLineStoppedAfter flush size error.TooManyRows line old new = ⊥
 
--- How the answer to row `place` stops. `before` bytes were written before this row, and `after`
--- bytes in all when its answer stopped.
+-- How the answer to row `place` stops. `before` bytes were written before this row. When its answer
+-- stopped, `after` bytes were written in all.
 abbrev pub IsRowStoppedAfter : {S : Type 0} → AnswersOf S → FailsOf S → Bool → ℕ → ℕ → StreamError → ℕ → List (List ℕ) → S → S → Option (List ℕ) → Option (List ℕ) → Type 0
 IsRowStoppedAfter answers fails flush before after error.Memory place fields s t old new =
     fails place s fields t × known.Keeps old new × (after ≡ before)

@@ -12,8 +12,8 @@ use cspf_model::MOST_VERSIONS;
 use cspf_rows::{Row, RowError};
 use std::alloc::{AllocError, Global};
 
-/// The state between two rows of a stream. Its memory doesn't grow with the number of rows: it has
-/// only the sink and the open changes that are kept.
+/// The state between two rows of a stream. Its memory doesn't grow with the number of rows. The
+/// state has only the sink and the open changes that are kept.
 #[derive(Drop)]
 pub struct Rows<S> {
     /// The sink, which accepts or refuses the batches and answers the requests.
