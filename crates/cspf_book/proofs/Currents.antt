@@ -101,7 +101,7 @@ counted-neither : (b : Bool) (n : ℕ) → cond (b && false) n 0 ≡ 0
 counted-neither true n = refl
 counted-neither false n = refl
 
--- A placement counts nothing on a link that its route doesn't use.
+-- A placement counts no bandwidth on a link that its route doesn't use.
 bandwidth_on-none : (k : Key) (priority : ℕ) (p : Placement) → has_key p.route k ≡ false → bandwidth_on k priority p ≡ 0
 bandwidth_on-none k priority p off =
     ap (λ b. cond (nat_le p.hold priority && b) p.request.bandwidth 0) off

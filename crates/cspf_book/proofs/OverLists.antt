@@ -37,8 +37,9 @@ over_up_to-more placements l n =
     ∙ ap (map (over_at l)) (filter-append (is_over placements l) (range_with_len 0 n) (n ∷ []))
     ∙ map-append (over_at l) (filter (is_over placements l) (range_with_len 0 n)) (filter (is_over placements l) (n ∷ []))
 
--- If the link has less bandwidth at priority n than the placements count on it, `over_up_to` for n
--- + 1 is the list for n, followed by an entry for priority n.
+-- Let a link have less bandwidth at priority n than the placements count on it. Then the list for
+-- the priorities below n + 1 is the list for the priorities below n, followed by an entry for
+-- priority n (`over_up_to`).
 pub over_listed : (placements : List Placement) (l : Link) (n : ℕ) (start list : List Over)
     → slice_index l.free n < counted placements (key_of l) n → list ≡ start ++ over_up_to placements l n
     → list ++ over_at l n ∷ [] ≡ start ++ over_up_to placements l (n + 1)
@@ -48,8 +49,8 @@ over_listed placements l n start list less so_far =
     ∙ ap (λ os. start ++ os)
     (sym (over_up_to-more placements l n ∙ ap (λ b. over_up_to placements l n ++ map (over_at l) (cond b (n ∷ []) [])) (lt-ltb (slice_index l.free n) (counted placements (key_of l) n) less)))
 
--- If the link has at least the bandwidth at priority n that the placements count on it,
--- `over_up_to` for n + 1 is the same list as for n.
+-- Let a link have enough bandwidth at priority n for the placements. Then the list for the
+-- priorities below n + 1 is the same as the list for the priorities below n (`over_up_to`).
 pub over_passed : (placements : List Placement) (l : Link) (n : ℕ) (start list : List Over)
     → counted placements (key_of l) n ≤ slice_index l.free n → list ≡ start ++ over_up_to placements l n
     → list ≡ start ++ over_up_to placements l (n + 1)

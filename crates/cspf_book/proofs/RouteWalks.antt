@@ -53,8 +53,8 @@ both_ends : (a b : Link) (more rest : List Link) → ends_of_link a ≡ ends_of_
     → map ends_of_link (a ∷ more) ≡ map ends_of_link (b ∷ rest)
 both_ends a b more rest first later = λ i. first i ∷ later i
 
--- If a walk that has at least one link already can follow the links of a route, there is a walk
--- along these links.
+-- Let a walk have at least one link. If it can follow the links of a route from `router` on, there
+-- is a walk from `router` along these links (`HasWalkOn`).
 walk_later : (d : Database) (q : Request) (links router : ℕ) (route : List Link) → 0 < links → IsFollowed d q links router route
     → HasWalkOn d q router route
 walk_later d q links router [] some followed =

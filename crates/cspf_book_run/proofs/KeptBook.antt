@@ -256,11 +256,11 @@ module _ (laws : ReadsRows) where
 abbrev bare : BookState → ℕ → ℕ → BookRunState
 bare book batches answers = record { book = book; batches = batches; changes = []; answers = answers; refused = 0 }
 
--- Let n rows lead from the state `s` to the state `t`. `text` goes to `keep`, the writer of
--- accepted rows, for these rows. It is the text of some records, and a run over these records leads
--- from the book of `s` to the book of `t`. The number of records plus the number of open changes of
--- `t` is at most n plus the number of open changes of `s`. Open changes are changes since the last
--- end row.
+-- Let n rows lead from the state `s` to the state `t`, and let `text` go to `keep`, the writer of
+-- accepted rows, for these rows. Then `text` is the text of some records, and a run over these
+-- records leads from the book of `s` to the book of `t`. The number of records plus the number of
+-- open changes of `t` is at most n plus the number of open changes of `s`. Open changes are changes
+-- since the last end row.
 record Remakes (n : ℕ) (s t : BookRunState) (text : List ℕ) : Type 0 where
   records : List (List (List ℕ))
   is : text ≡ flat_map (row_text default_writer) records

@@ -43,9 +43,9 @@ CoversSince s lines t =
     → (IsLinkOf s.book.base l → IsCovered s.book.placements l priority)
     → IsCovered t.book.placements l priority ⊎ ((s.batches < t.batches) × IsSaidOver lines l priority)
 
--- `CoversSince` holds for each state, the rows that are answered from this state on, and the state
--- after them. So a link that is covered stays covered, or its `over` line is written. Other links
--- and earlier lines don't matter.
+-- `CoversSince` holds for each state of a run, the lines of the rows that are answered next, and
+-- the state after these rows. So a covered link stays covered, or its `over` line is among these
+-- lines. Other links and earlier lines don't matter.
 abbrev pub RowsCoverSince : Type 0
 RowsCoverSince =
     (place : ℕ) (s t : BookRunState) (rows : List (List (List ℕ))) (lines : List ℕ)

@@ -1,5 +1,5 @@
 -- The text of the rows that a run accepts, which the run writes to its writer `keep`. A run over
--- this text makes the same book as the run over all rows.
+-- this text ends with the same book as the run over all rows.
 use Rattle.std.specs.Prelude.{◌≡◌, ◌==◌, if◌then◌else◌, ℕ, List, [], take, Result, Ok, Err}
 use Rattle.csv.specs.Writing.{default_writer, row_text}
 use Rattle.cspf_rows.specs.declared.limits.TheConstants.{MOST_ROWS}
@@ -32,7 +32,7 @@ text_of_row s fields (Ok (book_row.Release id)) = row_text default_writer fields
 
 -- The text that goes to the writer `keep` for the row with these fields. `s` is the state before
 -- the row, and `t` is the state after the row. A row is accepted if it makes a new version of the
--- book. This is an end row whose batch is accepted, a `place` row that places a route, or a
+-- book. Such a row is an end row whose batch is accepted, a `place` row that places a route, or a
 -- `release` row that releases a placement. For other rows, the text is empty.
 abbrev pub kept_of : BookRunState → List (List ℕ) → BookRunState → List ℕ
 kept_of s fields t = if t.book.version == s.book.version then [] else text_of_row s fields (book_row_of fields)

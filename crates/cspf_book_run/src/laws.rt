@@ -34,8 +34,8 @@ pub fn covered_books()
     ensures exact { BaseLinesAreExact }
     ensures only { OnlyBatchesSayOver }
 {
-    // Two laws. A covered link stays covered when a request is placed or a placement is released.
-    // When the base changes, a covered link stays covered, or is in the list `over`. And no two
+    // Law: a covered link stays covered when a request is placed or a placement is released. When
+    // the base changes, a covered link stays covered, or is in the list `over`. Law: no two
     // addresses have the same text.
     cspf_book::covered_links();
     addresses_are_spelled_once();
@@ -76,9 +76,8 @@ pub fn worked_covers()
 pub fn kept_is_the_book()
     ensures { KeptIsTheBook }
 {
-    // Three laws. A record is read as a row exactly if the record says this row (`Says`). The
-    // record that is written for a row is read as this row. The text of a mask is read as this
-    // mask.
+    // Law: a record is read as a row exactly if the record says this row (`Says`). Law: the record
+    // that is written for a row is read as this row. Law: the text of a mask is read as this mask.
     rows_are_read();
     rows_are_read_back();
     masks_are_spelled();

@@ -40,8 +40,8 @@ impl<C> Answering<C> for TakenRows {
         _place: u64,
         fields: &ByteRecord,
     ) -> Result<Vec<u8>, AllocError> {
-        // Two laws of runs. If rows are answered, and then one more row, the list of all these rows
-        // is answered. The answer to a row adds at most 1 to each count of a run.
+        // Law: if a run answers some rows and then one more row, it answers the list of all these
+        // rows. Law: the answer to a row adds at most 1 to each count of a run.
         runs_go_on_row_by_row();
         if self.answered >= MOST_ROWS {
             self.too_many = true;

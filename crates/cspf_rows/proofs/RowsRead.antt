@@ -36,8 +36,9 @@ unfolding records_from next_record
 none_left zero = refl
 none_left (suc n) = refl
 
--- Let a text be cut into records with a limit of `n` or of `m` records after the first. If both
--- limits give the same records for each shorter text, they give the same records for this text.
+-- Cut a text into records, with a limit of `n` or of `m` on the records after the first record. If
+-- both limits give the same records for each shorter text, they give the same records for this
+-- text.
 same_after : (n m : ℕ) (xs : List ℕ) (o : Option Read) → IfSome o (IsShorter xs)
     → ((s : State) (ys : List ℕ) → length ys < length xs → records_from default_config n s ys ≡ records_from default_config m s ys)
     → records_next (records_from default_config n) o ≡ records_next (records_from default_config m) o

@@ -43,9 +43,10 @@ IsTaken read next old new taken.Batch =
 IsTaken read next old new taken.Behind =
     EndsBatches next (length old.changes) read × (new.changes ≡ old.changes)
 
--- The records are the records of whole batches, followed by those of open changes. An open change
--- is one whose `end` row hasn't come. `has_ended` says whether a record that is in no batch follows
--- the open changes; any records may come after such a record.
+-- The records consist of three parts: the records of whole batches, the records of open changes,
+-- and the rest. An open change is a change whose `end` row hasn't come. `has_ended` says whether
+-- there is a rest. The rest begins with a record that is in no batch, and any records may follow
+-- this record.
 pub record AreJournalParts (batches : List NumberedChanges) (changes : List Change) (has_ended : Bool)
     (seen : List (List (List ℕ))) : Type 0 where
   pub numbers : AreNumberedFrom 1 batches

@@ -24,7 +24,7 @@ rest_of s bytes = records_from default_config (length bytes + 1) s bytes
 abbrev pub rows_left : {R : Type 0} → (R → Option (List ℕ)) → Reader R → Option (List (List (List ℕ)))
 rows_left rem r = option_map (λ bytes. rest_of (reader_state r) bytes) (source_of rem r)
 
--- The reader has the default settings and hasn't failed. It takes no record as a header, and a
+-- The reader has the default settings and hasn't failed. No record is read as a header, and a
 -- record may have any number of fields.
 pub record IsPlain {R : Type 0} (r : Reader R) : Type 0 where
   pub trim : reader_trim r ≡ trim.None

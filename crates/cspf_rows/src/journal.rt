@@ -36,6 +36,6 @@ pub enum JournalStep {
 pub struct Journal {
     /// The batches, in order.
     pub batches: Vec<Batch>,
-    /// Whether rows that are in no batch follow the last batch.
+    /// Whether rows follow the last batch. Such rows are in no batch.
     pub rest: Rest,
 }

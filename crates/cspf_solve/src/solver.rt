@@ -91,8 +91,8 @@ impl Solver {
             × KeepsRun self.new after × IsRowAnswered (at_next_row s) row.now line.items after) }
         ensures counts { AreWithinOne self.old self.new }
     {
-        // Two laws. The database after some batches and one more batch is the database after the
-        // first batches, changed by the last. A batch that is refused for a reason doesn't fit the
+        // Law: the database after one more batch is the database after the batches before it, with
+        // the changes of this batch made. Law: a batch that is refused for a reason doesn't fit the
         // database.
         absorbing();
         one_refusal();
