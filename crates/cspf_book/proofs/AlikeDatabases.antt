@@ -85,8 +85,8 @@ cond_ends : (t : Bool) (x y o p : Option Link) → option_map ends_of_link x ≡
 cond_ends true x y o p first second = first
 cond_ends false x y o p first second = second
 
--- Two databases that differ only in attributes of their links still do so if, in one of them, a
--- link is replaced by a link with the same key and neighbor.
+-- Let two databases differ only in attributes of their links. This is still true if, in one of
+-- them, a link is replaced by a link with the same key and neighbor.
 pub alike_put : (d e : Database) (m : Link) → AreAlike d e
     → option_map ends_of_link (link_at d (key_of m)) ≡ Some (ends_of_link m) → AreAlike d (after_change e (Put m))
 alike_put d e m alike there = record {
@@ -115,8 +115,8 @@ one_more a b m n p q = λ i. cond (p i) (q i) (q i + 1)
 one_less : (a b : Bool) (m n : ℕ) → a ≡ b → m ≡ n → cond a (m - 1) m ≡ cond b (n - 1) n
 one_less a b m n p q = λ i. cond (p i) (q i - 1) (q i)
 
--- Two databases that differ only in attributes of their links still do so after the same change is
--- made in both.
+-- Let two databases differ only in attributes of their links. This is still true after the same
+-- change is made in both.
 alike_change : (d e : Database) (c : Change) → AreAlike d e → AreAlike (after_change d c) (after_change e c)
 alike_change d e (Put l) alike = record {
   marks = alike.marks;
@@ -146,8 +146,8 @@ alike_change d e (Node router transit) alike = record {
   ends = alike.ends;
 }
 
--- Two databases that differ only in attributes of their links still do so after the same changes
--- are made in both.
+-- Let two databases differ only in attributes of their links. This is still true after the same
+-- changes are made in both.
 pub alike_changes : (d e : Database) (cs : List Change) → AreAlike d e → AreAlike (after_changes d cs) (after_changes e cs)
 alike_changes d e [] alike = alike
 alike_changes d e (c ∷ cs) alike =

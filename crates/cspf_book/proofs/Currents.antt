@@ -140,17 +140,17 @@ module _ (base : Database) (placements : List Placement) (old new : Database) (k
         | false ↦ λ off. elsewhere (sym (same_key_test k key) ∙ off)
       ] refl)
 
-  -- Let `key` be the key of the link at index i. If `old` agrees with the effective database at
-  -- each key, except at the keys of the links from index i on, `new` agrees with it at each key,
+  -- Let `key` be the key of the link at index i. Let `old` agree with the effective database,
+  -- except at the keys of the links from index i on. Then `new` agrees with the effective database,
   -- except at the keys of the links from index i + 1 on.
   pub current_step : (links : List Link) (i : ℕ) (d : Link) → i < length links → key_of (get_or links i d) ≡ key → IsCurrentBut base placements old (drop i links)
       → IsCurrentBut base placements new (drop (i + 1) links)
   current_step links i d within is current k off =
       current_there k (λ apart. current k (at_drop_more (λ ls. has_key ls k) links i d within ∙ neither_holds _ _ (ap (λ (j : Key). nat_eq j.0 k.0 && nat_eq j.1 k.1) is ∙ apart) off))
 
-  -- Let the change at index i set a link with the key `key` (`Put`). If `old` agrees with the
-  -- effective database at each key, except at keys that this change or later changes set, `new`
-  -- agrees with it at each key, except at keys that later changes set.
+  -- Let the change at index i set a link with the key `key` (`Put`). Let `old` agree with the
+  -- effective database, except at keys that the changes from index i on set. Then `new` agrees with
+  -- the effective database, except at keys that the changes from index i + 1 on set.
   pub current_put : (changes : List Change) (i : ℕ) (d : Change) (l : Link) → i < length changes → get_or changes i d ≡ Put l → key_of l ≡ key
       → IsCurrentButPut base placements old (drop i changes) → IsCurrentButPut base placements new (drop (i + 1) changes)
   current_put changes i d l within is its current k off =
@@ -165,9 +165,9 @@ puts_none (Put l) other k = absurd (other l refl)
 puts_none (Remove from local) other k = refl
 puts_none (Node router transit) other k = refl
 
--- The change at index i sets no link. If the database agrees with the effective database at each
--- key that no change from index i on sets, it also agrees with it at each key that no change from
--- index i + 1 on sets.
+-- Let the change at index i set no link, and let `d` agree with the effective database, except at
+-- keys that the changes from index i on set. Then `d` agrees with the effective database, except at
+-- keys that the changes from index i + 1 on set.
 pub current_past : (base : Database) (placements : List Placement) (d : Database) (changes : List Change) (i : ℕ) (c : Change) → i < length changes
     → ((k : Key) → puts_key k (get_or changes i c) ≡ false) → IsCurrentButPut base placements d (drop i changes)
     → IsCurrentButPut base placements d (drop (i + 1) changes)

@@ -25,10 +25,10 @@ use std::alloc::Global;
 use std::io::{Read, Write};
 
 /// Reads a stream of rows for a book, and writes the lines that answer each row before it reads the
-/// next row. The lines of a row are one write, if the writer accepts all their bytes at once.
-/// `IsBookScript` defines these lines and the refusals. At most 1,000,000 rows are answered. The
-/// text of an accepted row is written to `keep` before the row's lines are written. `IsKeptText`
-/// defines this text. The function also returns `keep`.
+/// next row. The lines of a row are written in one write, if the writer accepts all their bytes at
+/// once. `IsBookScript` defines these lines and the refusals. At most 1,000,000 rows are answered.
+/// The text of an accepted row is written to `keep` before the row's lines are written.
+/// `IsKeptText` defines this text. The function also returns `keep`.
 ///
 /// After an error, the lines that answer a prefix of the rows are written. `Read` means that a read
 /// failed. `Write` means that a write of lines failed or wrote no byte. A part of the next row's

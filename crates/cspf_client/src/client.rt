@@ -34,10 +34,10 @@ pub struct Client<Q, V> {
 #[derive(Drop)]
 pub struct ServingClient<Q, V> {
     session: Session,
-    /// The stream of requests, until the client runs. Only then is a reader made for it, because a
-    /// reader has a buffer that would otherwise be moved together with the client. The stream is
-    /// dropped once it has ended, so that the program that writes the requests doesn't wait for a
-    /// reader.
+    /// The stream of requests, until the client runs. Its `Reader` is made only when the client
+    /// runs, because the buffer of a `Reader` would otherwise be moved together with the client.
+    /// The stream is dropped once it has ended, so that the program that writes the requests isn't
+    /// left waiting.
     requests: Option<Q>,
     replies: V,
     end: Result<(), ClientError>,

@@ -18,10 +18,10 @@ use std::alloc::{AllocError, Global};
 use std::io::{Read, Write};
 
 /// Reads a stream of rows, and writes the line that answers each row before it reads the next row.
-/// A line is one write, if the writer accepts all its bytes at once. `IsScript` defines the lines,
-/// and when a row or a batch is refused. At most 1,000,000 rows are answered. Memory is needed only
-/// for the longest row, the database, the open changes and the trees of lower bounds, of which
-/// `RunOptions::new` allows a fixed number.
+/// A line is written in one write, if the writer accepts all its bytes at once. `IsScript` defines
+/// the lines, and when a row or a batch is refused. At most 1,000,000 rows are answered. Memory is
+/// needed only for the longest row, the database, the open changes and the trees of lower bounds.
+/// `RunOptions::new` limits the number of these trees.
 ///
 /// After an error, the lines of a prefix of the rows are written. The error `Read` means that a
 /// read failed. The error `Write` means that a write failed or wrote no byte. A part of the next

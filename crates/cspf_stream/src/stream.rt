@@ -25,9 +25,9 @@ struct Manner {
 }
 
 /// Answers all rows that the reader hasn't read yet, in order. The line of a row is written and
-/// flushed before the next row is read. A line is one write, if the writer accepts all its bytes at
-/// once. An empty line isn't written. Memory is needed only for the longest row and for the
-/// answers.
+/// flushed before the next row is read. A line is written in one write, if the writer accepts all
+/// its bytes at once. An empty line isn't written. Memory is needed only for the longest row and
+/// for the answers.
 ///
 /// If the result is an error, no row was read after the row at which the stream stopped. The lines
 /// of all rows before this row are written. `IsStreamStopped` defines the rest of the state.
