@@ -129,7 +129,8 @@ impl Book {
 
     /// Lists the links that the batch sets (`Put`), each with the priorities at which the
     /// placements count more bandwidth than the link then has. The entries are in the order of the
-    /// batch, and for one link from priority 0 to 7. The call doesn't check whether the batch fits.
+    /// batch. The entries of one link go from priority 0 to 7. The call doesn't check whether the
+    /// batch fits.
     pub fn over(&self, alloc: Global, batch: &Batch) -> Result<Vec<Over>, AllocError>
         ensures { IfOk result (λ list. list.items ≡ over self.now.placements batch.now.changes) }
     {

@@ -113,7 +113,8 @@ impl Counts {
         Ok(())
     }
 
-    /// Removes the entry of each of these links on which no bandwidth is counted at any priority.
+    /// For each of these links, removes the entry of its key if no bandwidth is counted there at
+    /// any priority.
     pub(crate) fn forget(&mut self, links: &[Link])
         ensures { HasSameSums self.old self.new }
     {

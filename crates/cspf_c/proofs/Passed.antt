@@ -1,5 +1,6 @@
 -- How a call passes its arguments to a generic function. The type parameters of this function are a
--- session and the allocator of the session's box. Assumes `Logic`.
+-- session and the allocator of the session's box. The lemmas assume the laws of the program logic
+-- (`Logic`).
 use Rattle.std.proofs.Common.{[], ◌∷◌, refl}
 use seplogic.Ra.Ura.{Ura}
 use types.Logic.{Logic}

@@ -1,5 +1,5 @@
--- The machine values of a handle and of a box, and the session that a handle holds. Assumes
--- `Logic`.
+-- The machine values of a handle and of a box, and the session that a handle holds. The lemmas
+-- assume the laws of the program logic (`Logic`).
 use Rattle.std.proofs.Common.{◌≡◌, ℕ, List, [], ◌∷◌, refl, sym, ap, ◌∙◌, lit<}
 use Prim.Native.Nat.{zero}
 use seplogic.Ra.Ura.{Ura}

@@ -243,8 +243,9 @@ put_refused texts fields =
     two_steps _ _ _ (number_read texts fields 14) (number_read texts fields 15) (λ u6 is_u6 u7 is_u7.
     put_ends texts fields _ _ is_from is_to)))))))
 
--- `row_of_two` refuses a record with the error of the first of its two fields. If this field is
--- read as a value, `row_of_two` refuses the record exactly with the error of the second field.
+-- If the first of two fields is refused, `row_of_two` refuses the record with the same error. If
+-- the first field is read as a value, `row_of_two` refuses the record exactly with the error of the
+-- second field.
 two_refused : {A B : Type 0} {first : Result A RowError} {second : Result B RowError} (make : A → B → Row) {One Two : Type 0} {NotOne NotTwo : RowError → Type 0}
     → IsSortRead first One NotOne → IsSortRead second Two NotTwo → (e : RowError) → (row_of_two first second make ≡ Err e) ↔ (NotOne e ⊎ (One × (NotTwo e ⊎ (Two × ⊥))))
 two_refused make one two = two_steps _ _ _ one two (λ x is_x y is_y. read_whole (make x y))
