@@ -66,7 +66,7 @@ pub marked-after_changes : (d : Database) (cs : List Change) (q : ℕ)
 marked-after_changes d cs q =
     ap (λ bs. set.contains (after_changes d bs).marks q) (sym (reverse-reverse cs)) ∙ marked-after_reversed d (reverse cs) q
 
--- If there are changes with a link's key, the last of them decides which link is at this key.
+-- The last change with a link's key decides which link is at this key after the changes.
 pub link_by_last : (d : Database) (cs : List Change) (k : Key) (c : Change) → Some c ≡ last_on (link_key k) cs
     → link_left c ≡ link_at (after_changes d cs) k
 link_by_last d cs k c is =

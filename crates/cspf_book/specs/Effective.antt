@@ -8,8 +8,8 @@ use Rattle.cspf_book.specs.Placements.{counted}
 
 -- The effective bandwidth of a link at a priority, in short its figure. `free` has the link's
 -- unreserved bandwidths in the base, and `held` is the bandwidth that the placements count at each
--- priority. The difference of the two is left at a priority, or 0 if the placements count more than
--- the link has. The figure is the least bandwidth that is left at this priority or at a more
+-- priority. At a priority, the difference of the two is left, or 0 if the placements count more
+-- than the link has. The figure is the least bandwidth that is left at this priority or at a more
 -- important priority.
 abbrev pub figure : List ℕ → (ℕ → ℕ) → ℕ → ℕ
 figure free held zero = slice_index free zero - held zero

@@ -37,7 +37,7 @@ IsAnswerRefused room unknown_to why = ⊥
 IsAnswerRefused room no_route why = ⊥
 IsAnswerRefused room (route walk) why = IsWalkRefused room walk why
 
--- Why no placement is offered for a request, although it has a walk. Memory is refused, or the best
+-- Why the search for a placement of a request ends with an error. Memory is refused, or the best
 -- answer is a walk that uses a link twice or has more than `room` links.
 abbrev pub IsOfferRefused : Database → Request → ℕ → PlaceError → Type 0
 IsOfferRefused d q room Memory = Unit {0}

@@ -87,9 +87,9 @@ pub extern "C" fn routed_rows(
     code
 }
 
-/// Replaces the lines that the session holds by the last line of a run over all rows that the
-/// session was given. Sets `size` to the number of bytes of this line. `size` is unchanged if the
-/// call doesn't return `ANSWERED`.
+/// Replaces the session's lines with the last line of a run over all rows that the session was
+/// given. Sets `size` to the number of bytes of this line. `size` is unchanged if the call doesn't
+/// return `ANSWERED`.
 #[unsafe(no_mangle)]
 pub extern "C" fn routed_end(alloc: Global, handle: &mut Handle, size: &mut usize) -> u32
     ensures called { IsCalled (IsEnded size.new) result handle.old.value handle.new.value }

@@ -28,9 +28,9 @@ abbrev pub unread_rows : {Q : Type 0} → (Q → Option (List ℕ)) → Option Q
 unread_rows bytes None = None
 unread_rows bytes (Some requests) = option_map rows_of (bytes requests)
 
--- A client learns of the batches `told`, which are all published batches. Afterwards it knows
--- exactly these batches. Otherwise it knew more batches before; then it learns nothing, and ends
--- with the error `Ahead`.
+-- A client learns of the batches `told`, which are all published batches. Either it then knows
+-- exactly these batches. Or it already knew more batches: then it learns nothing, and ends with the
+-- error `Ahead`.
 abbrev pub HasMet : {Q V : Type 0} → KnownBatches → ServingState Q V → ServingState Q V → Type 0
 HasMet told old new =
     ((new.state.known ≡ told) × (new.end ≡ old.end))

@@ -52,7 +52,7 @@ front_decoded count digits bytes found within =
     ∙ (decode_of-even (take (2 * count) digits) (omega arith)
     ∙ decode_pairs-take 0 count digits bytes (sym (decode_of-even digits parts.0) ∙ found))
 
--- if a text isn't an even number of hexadecimal digits, it is refused as `Hex`
+-- a text that doesn't consist of an even number of hexadecimal digits is refused as `Hex`
 pub not_pairs : (digits : List ℕ) → ((length digits % 2 ≡ 0) × AllPass is_hex_digit digits → ⊥) → hex_hops_of digits ≡ Err fault.Hex
 unfolding hex_hops_of
 not_pairs digits other = refused (decode_of digits) refl

@@ -68,9 +68,9 @@ first_two b o bs os xs ys e =
 abbrev pub HasNoBatch : ℕ → List (Result Row RowError) → Type 0
 HasNoBatch number xs = (batch : NumberedChanges) (rest : List (Result Row RowError)) → batch.number ≡ number → xs ≢ read_rows (batch_rows batch) ++ rest
 
--- Let rows be those of the batches `bs` followed by `xs`, and also those of the batches `os`
--- followed by `ys`. If `xs` doesn't begin with a whole batch of the next number, `ys` has at least
--- as many rows as `xs`.
+-- Let the rows of the batches `bs` followed by `xs` be the same list as the rows of the batches
+-- `os` followed by `ys`. If `xs` doesn't begin with a whole batch of the next number, `xs` has at
+-- most as many rows as `ys`.
 pub longest_prefix : (first : ℕ) (bs os : List NumberedChanges) (xs ys : List (Result Row RowError)) → AreNumberedFrom first bs → AreNumberedFrom first os
     → read_rows (journal_rows bs) ++ xs ≡ read_rows (journal_rows os) ++ ys → HasNoBatch (first + length bs) xs → length xs ≤ length ys
 longest_prefix first [] [] xs ys numbers others e none = omega (arith, ap length e)

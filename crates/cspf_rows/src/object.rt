@@ -50,7 +50,7 @@ fn decode_first_bytes(digits: &[u8], front: &mut [u8])
     prove!(decoded.is_ok());
 }
 
-/// Whether the text is an even number of hexadecimal digits.
+/// Whether the text consists of an even number of hexadecimal digits.
 fn are_pairs(digits: &[u8]) -> bool
     ensures { IsTrue result ↔ ((length digits.now % 2 ≡ 0) × AllPass is_hex_digit digits.now) }
 {

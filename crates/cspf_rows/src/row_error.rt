@@ -13,7 +13,7 @@ use std::fmt;
 pub enum RowError {
     /// The first field names no kind of row.
     Kind,
-    /// The record doesn't have the number of fields of its kind.
+    /// The number of fields is wrong for a row of this kind.
     Fields,
     /// A field isn't a number in its range.
     Number {
@@ -45,7 +45,7 @@ pub enum RowError {
 pub enum HopsFault {
     /// The text spells no hop list.
     Text(HopsError),
-    /// The text after `ero:` isn't an even number of hexadecimal digits.
+    /// The text after `ero:` doesn't consist of an even number of hexadecimal digits.
     Hex,
     /// The bytes after `ero:` aren't an EXPLICIT_ROUTE object that spells hops.
     Ero(EroError),

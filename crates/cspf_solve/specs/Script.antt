@@ -27,7 +27,7 @@ pub record RunState : Type 0 where
   pub rows : ℕ
   -- the batches that were accepted, in order
   pub accepted : List NumberedChanges
-  -- the open changes, after which no `end` row has come yet
+  -- the open changes: the changes since the last `end` row
   pub changes : List Change
   -- how many requests were answered
   pub answers : ℕ
