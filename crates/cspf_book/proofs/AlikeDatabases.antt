@@ -54,8 +54,8 @@ alike_keyed d e alike keyed k m is =
     let other = alike_some (link_at d k) (link_at e k) m (sym (alike.ends k)) is in
     sym (ap (λ (x : Key × ℕ). x.0) other.2) ∙ keyed k other.0 other.1
 
--- If two databases have links at the same keys, and the two links at a key run to the same router,
--- each router of the first is a router of the second.
+-- Let two databases have links at the same keys, and let the two links at a key run to the same
+-- router. Then each router of the first database is a router of the second.
 router_too : (d e : Database) → ((k : Key) → option_map ends_of_link (link_at e k) ≡ option_map ends_of_link (link_at d k))
     → (router : ℕ) → IsRouterOf d router → IsRouterOf e router
 router_too d e ends router (l, is, at_end) =

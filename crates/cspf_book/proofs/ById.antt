@@ -233,8 +233,8 @@ pub index_behind : (x : Ids) (version : ℕ) (ps : List Placement) (id : ℕ) �
 index_behind x version ps id are none =
     are.many ∙ sym (version_absent x.versions.items ps id are.many (sym (are.at id) ∙ none))
 
--- If a placement of the next version replaces the placement with the same id, `z` has the versions
--- and the bits of the new list of placements.
+-- Let a placement of the next version replace the placement with the same id. Then `z` has the
+-- versions and the bits of the new list of placements.
 pub ids_placed : (x y z : Ids) (version index id bits : ℕ) (ps : List Placement) (p : Placement) → AreIdsOf x version ps → HaveDistinctIds ps
     → index ≡ index_of_id id ps → id_of p ≡ id → y.versions.items ≡ x.versions.items → y.bits.items ≡ x.bits.items → bits ≡ bits_of p
     → HasEntered x y id (version + 1) → HasReplaced y z index (version + 1) bits → AreIdsOf z (version + 1) (remove ps index ++ p ∷ [])

@@ -56,9 +56,9 @@ room_on base placements q k (m ∷ walk) all has l is =
       | false ↦ λ _ later. room_on base placements q k walk all.1 later l is
     ] refl has
 
--- Let the placements count at most a link's bandwidth. If the bandwidth of a new placement on the
--- link is at most the effective bandwidth that the other placements leave, the link's bandwidth is
--- still enough with this placement.
+-- Let the placements count at most a link's bandwidth. Let the bandwidth of a new placement be at
+-- most the effective bandwidth that the other placements leave. Then the link's bandwidth is still
+-- enough with the new placement.
 within : (counts has : Bool) (bandwidth figure free held all sum : ℕ) → (has ≡ true → bandwidth ≤ figure) → figure ≤ free - held
     → held ≤ all → all ≤ free → sum ≡ held + cond (counts && has) bandwidth 0 → sum ≤ free
 within true true bandwidth figure free held all sum room le less covered e = let fits = room refl in omega (arith, fits)

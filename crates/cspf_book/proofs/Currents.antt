@@ -69,7 +69,7 @@ alike_effective base placements = record {
   ends = λ k. ap (option_map ends_of_link) (effective_at base placements k) ∙ ends_kept placements (link_at base k);
 }
 
--- If a database differs from the base only in attributes of its links, and agrees with the
+-- Let a database differ from the base only in attributes of its links. If it agrees with the
 -- effective database at each key, it is the effective database.
 pub current_whole : (base : Database) (placements : List Placement) (d : Database) → AreAlike base d
     → ((k : Key) → IsCurrentAt base placements d k) → d ≡ effective base placements
@@ -165,9 +165,9 @@ puts_none (Put l) other k = absurd (other l refl)
 puts_none (Remove from local) other k = refl
 puts_none (Node router transit) other k = refl
 
--- Let the change at index i set no link, and let `d` agree with the effective database, except at
--- keys that the changes from index i on set. Then `d` agrees with the effective database, except at
--- keys that the changes from index i + 1 on set.
+-- Let the change at index i set no link. Let `d` agree with the effective database, except at keys
+-- that the changes from index i on set. Then `d` agrees with it, except at keys that the changes
+-- from index i + 1 on set.
 pub current_past : (base : Database) (placements : List Placement) (d : Database) (changes : List Change) (i : ℕ) (c : Change) → i < length changes
     → ((k : Key) → puts_key k (get_or changes i c) ≡ false) → IsCurrentButPut base placements d (drop i changes)
     → IsCurrentButPut base placements d (drop (i + 1) changes)
@@ -241,8 +241,8 @@ pub alike_current : (base : Database) (placements : List Placement) (d : Databas
     → AreAlike base d
 alike_current base placements d is = rw is (alike_effective base placements)
 
--- Let `d` be the effective database of all placements. If the placement at an index is removed from
--- their list, `d` still agrees with the new effective database at each key that isn't on the route
+-- Let `d` be the effective database of all placements, and remove the placement at an index from
+-- their list. Then `d` agrees with the new effective database at each key that isn't on the route
 -- of this placement.
 pub current_aside : (base : Database) (placements : List Placement) (at : ℕ) (p : Placement) (d : Database) → AreAtTheirKeys base
     → at < length placements → d ≡ effective base placements
@@ -250,8 +250,8 @@ pub current_aside : (base : Database) (placements : List Placement) (at : ℕ) (
 current_aside base placements at p d keyed within is k off =
     current_along base placements (remove placements at) d k keyed (counted-remove placements at p k within off) (current_at_all base placements d is k)
 
--- Let `d` be the effective database without the placement at an index. If this placement is counted
--- again, `d` still agrees with the new effective database at each key that isn't on the route of
+-- Let `d` be the effective database without the placement at an index, and add this placement
+-- again. Then `d` agrees with the new effective database at each key that isn't on the route of
 -- this placement.
 pub current_back : (base : Database) (placements : List Placement) (at : ℕ) (p : Placement) (d : Database) → AreAtTheirKeys base
     → at < length placements → d ≡ effective base (remove placements at)
@@ -259,9 +259,8 @@ pub current_back : (base : Database) (placements : List Placement) (at : ℕ) (p
 current_back base placements at p d keyed within is k off =
     current_along base (remove placements at) placements d k keyed (λ q. sym (counted-remove placements at p k within off q)) (current_at_all base (remove placements at) d is k)
 
--- Let `d` be the effective database of some placements. If a placement is added to their list, `d`
--- still agrees with the new effective database at each key that isn't on the route of this
--- placement.
+-- Let `d` be the effective database of some placements, and add a placement to their list. Then `d`
+-- agrees with the new effective database at each key that isn't on the route of this placement.
 pub current_with : (base : Database) (placements : List Placement) (p : Placement) (d : Database) → AreAtTheirKeys base
     → d ≡ effective base placements → IsCurrentBut base (placements ++ p ∷ []) d p.route
 current_with base placements p d keyed is k off =

@@ -10,8 +10,8 @@ use Rattle.cspf_model.proofs.Databases.Keys.{keys_total}
 use Rattle.cspf_book.specs.Effective.{effective_link}
 use Rattle.cspf_book.specs.Laws.{HasEffectiveLinks}
 
--- If a function is applied to the links of all entries, a lookup at a key gives the function's
--- result for the link that it gave before.
+-- Apply a function to the links of all entries. A lookup at a key then gives the function's result
+-- for the link that was there before.
 find-mapped : (f : Link → Link) (es : List (Key × Link)) (k : Key)
     → find key_cmp k (map (λ e. (e.0, f e.1)) es) ≡ option_map f (find key_cmp k es)
 find-mapped f [] k = refl

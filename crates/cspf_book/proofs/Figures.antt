@@ -1,4 +1,4 @@
--- The figures of links. The figure of a link at a priority is its effective bandwidth there: the
+-- The figures of links. The figure of a link at a priority is its effective bandwidth. This is the
 -- least bandwidth that the placements leave at this priority or at a more important one.
 use Rattle.std.proofs.Common.{◌≡◌, ℕ, zero, suc, ◌+◌, ◌-◌, ◌<◌, ◌≤◌, List, [], slice_index, refl, ◌∙◌, arith}
 use Rattle.cspf_model.specs.declared.link.Link.{Link}
@@ -53,8 +53,8 @@ pub figure-le-left : (free : List ℕ) (held : ℕ → ℕ) (p : ℕ) → figure
 figure-le-left free held zero = omega arith
 figure-le-left free held (suc p) = omega arith
 
--- If no bandwidth is counted on a link, its effective bandwidth at priority p is the least of the
--- link's bandwidths at the priorities 0 to p.
+-- Let no bandwidth be counted on a link. Its effective bandwidth at priority p is then the least of
+-- its bandwidths at the priorities 0 to p.
 figure-nothing : (free : List ℕ) (held : ℕ → ℕ) → ((p : ℕ) → held p ≡ 0) → (p : ℕ) → figure free held p ≡ least_up_to free p
 figure-nothing free held none zero = let e = none 0 in omega (arith, e)
 figure-nothing free held none (suc p) =

@@ -17,8 +17,8 @@ use Rattle.cspf_book.specs.Kept.{no_sums, sums_at, sum_at, HasKeys, KeepsKeys, I
 use Rattle.cspf_book.proofs.Covered.{counted-others}
 use Rattle.cspf_book.proofs.KeyTests.{same_tests, same_key_test}
 
--- One of the first i + 1 links has a key exactly if one of the first i links has the key, or the
--- link at index i has it.
+-- One of the first i + 1 links has a key exactly if one of the first i links or the link at index i
+-- has this key.
 has_key-more : (links : List Link) (i : ℕ) (d : Link) (k : Key) → i < length links
     → has_key (take (i + 1) links) k ≡ (has_key (take i links) k || eq_by_cmp key_cmp (key_of (get_or links i d)) k)
 has_key-more links i d k within =
@@ -33,8 +33,8 @@ has_key-more links i d k within =
     turned : (j : Key) → (nat_eq j.0 k.0 && nat_eq j.1 k.1) ≡ eq_by_cmp key_cmp j k
     turned j = sym (same_key_test k j) ∙ (eq_by_cmp_equiv keys_total).symm k j
 
--- Let two tests never both hold. The bandwidth that counts if one of them holds is the sum of the
--- bandwidth that counts if the first holds and the bandwidth that counts if the second holds.
+-- Let two tests never both hold. A bandwidth that counts if one of them holds is then a sum: the
+-- bandwidth if the first holds, plus the bandwidth if the second holds.
 at_either : (h a b : Bool) (n : ℕ) → (b ≡ true → a ≡ false) → cond (h && (a || b)) n 0 ≡ cond (h && a) n 0 + cond (h && b) n 0
 at_either true true true n apart = absurd (let off = apart refl in cc)
 at_either true true false n apart = omega arith
@@ -48,9 +48,9 @@ module _ (links : List Link) (i : ℕ) (l : Link) (key : Key) (hold bandwidth : 
   more_at : (k : Key) → has_key (take (i + 1) links) k ≡ (has_key (take i links) k || eq_by_cmp key_cmp key k)
   more_at k = has_key-more links i l k within ∙ ap (λ j. has_key (take i links) k || eq_by_cmp key_cmp j k) its
 
-  -- Let none of the first i links have this key. Then the bandwidth that is counted on the first i
-  -- + 1 links is the sum of the bandwidth on the first i links and the bandwidth at `key` alone.
-  -- This holds at each key and priority.
+  -- Let none of the first i links have this key. At each key and priority, the bandwidth for the
+  -- first i + 1 links is then a sum: the bandwidth for the first i links, plus the bandwidth for
+  -- `key` alone.
   split : has_key (take i links) key ≡ false → (k : Key) (p : ℕ)
       → cond (nat_le hold p && has_key (take (i + 1) links) k) bandwidth 0
       ≡ cond (nat_le hold p && has_key (take i links) k) bandwidth 0 + cond (nat_le hold p && eq_by_cmp key_cmp key k) bandwidth 0
@@ -210,13 +210,13 @@ is_counted c placements at p within is = record {
   at = λ k q small. omega (arith, is.at k q small, sum_by-remove (bandwidth_on k q) placements at p within);
 }
 
--- If a sum is at most 2 ^ 64 times a version and doesn't grow, it is at most 2 ^ 64 times the next
--- version.
+-- Let a sum be at most 2 ^ 64 times a version. If it doesn't grow, it is at most 2 ^ 64 times the
+-- next version.
 pub small_after : (version n m : ℕ) → n ≤ version * 2 ^ 64 → m ≤ n → m ≤ (version + 1) * 2 ^ 64
 small_after version n m small less = omega arith
 
--- If a sum is at most 2 ^ 64 times a version and grows by at most a bandwidth below 2 ^ 64, it is
--- at most 2 ^ 64 times the next version.
+-- Let a sum be at most 2 ^ 64 times a version. If it grows by less than 2 ^ 64, it is at most 2 ^
+-- 64 times the next version.
 pub small_with : (version n m bandwidth : ℕ) → n ≤ version * 2 ^ 64 → bandwidth < 2 ^ 64 → m ≤ n + bandwidth → m ≤ (version + 1) * 2 ^ 64
 small_with version n m bandwidth small narrow more = omega arith
 
@@ -232,8 +232,8 @@ counted_least (r ∷ rs) k p q least =
     same : bandwidth_on k q r ≡ bandwidth_on k p r
     same = ap (λ b. cond (b && has_key r.route k) r.request.bandwidth 0) test
 
--- If placements count no more than the placements of a book, and the version of the book is below
--- 1,000,000, their sums are below 2 ^ 127.
+-- Let the version of a book be below 1,000,000. The sums of placements that count no more than the
+-- book's placements are below 2 ^ 127.
 pub sums_small : (c d : Counts) (placements rest : List Placement) (version : ℕ) → HasSameSums c d → IsCountOf c rest
     → ((k : Key) (p : ℕ) → counted rest k p ≤ counted placements k p)
     → ((k : Key) (p : ℕ) → counted placements k p ≤ version * 2 ^ 64) → version < 1000000 → AreSmall d

@@ -116,8 +116,8 @@ module _ (before after : Database) (placements : List Placement) (i : ℕ) (p : 
   whole : take (i + 1) placements ≡ take i placements ++ p ∷ []
   whole = take_more placements i p within ∙ ap (λ (r : Placement). take i placements ++ r ∷ []) (sym is)
 
-  -- If `p` loses its route, the ranks for the first i + 1 placements are the ranks for the first i
-  -- placements, followed by the rank of `p`.
+  -- If `p` loses its route, the rank of `p` is appended to the ranks for the first i placements.
+  -- This gives the ranks for the first i + 1 placements.
   pub ranks_more : (ranks new : List (ℕ × ℕ)) → IsLost before after p → new ≡ ranks ++ order_rank p ∷ []
       → AreRanksOfLost before after (take i placements) ranks → AreRanksOfLost before after (take (i + 1) placements) new
   ranks_more ranks new lost are old =

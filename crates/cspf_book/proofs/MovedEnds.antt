@@ -36,8 +36,8 @@ record SharesEnds (d e : Database) : Type 0 where
 abbrev taken_by : (ChangeKey → Bool) → List Change → List Change
 taken_by P cs = filter (λ c. P (key_changed c)) cs
 
--- Filter changes by a test of their keys. Then the last change with a key is the same as before if
--- the key passes the test, and otherwise there is no change with this key.
+-- Filter changes by a test of their keys. If a key passes the test, the last change with this key
+-- is the same as before. Otherwise no change with this key is left.
 last_of-filter : (P : ChangeKey → Bool) (k : ChangeKey) (cs : List Change)
     → find (on_key k) (filter (λ c. P (key_changed c)) cs) ≡ cond (P k) (find (on_key k) cs) None
 last_of-filter P k [] = sym (either (P k) None)

@@ -103,8 +103,8 @@ module _ (base old : Database) (k : Key) (keyed : AreAtTheirKeys base) (alike : 
       ap (λ j. option_map ends_of_link (link_at base j)) (ap (λ (e : Key × ℕ). e.0) ends ∙ keyed k l is)
       ∙ ap (option_map ends_of_link) is ∙ ap Some (sym ends)
 
-  -- If the link `m` has the key and the neighbor of the base's link `l`, `old` has a link with the
-  -- key and the neighbor of `m`.
+  -- Let the link `m` have the same key and neighbor as the base's link `l`. Then `old` has a link
+  -- with this key and neighbor.
   pub ends_there_too : link_at base k ≡ Some l → ends_of_link m ≡ ends_of_link l
       → option_map ends_of_link (link_at old (key_of m)) ≡ Some (ends_of_link m)
   ends_there_too is ends = alike.ends (key_of m) ∙ ends_there is ends
@@ -121,8 +121,8 @@ key_of-effective_link placements l = refl
 -- This module states which links a database has after the base's link at the key `k`, with its
 -- effective bandwidths, was put into it.
 module _ (base old : Database) (placements : List Placement) (k : Key) (keyed : AreAtTheirKeys base) (alike : AreAlike base old) where
-  -- If the base's link at the key `k` is put into `old` with its effective bandwidths, the result
-  -- has this link at `k`, and the links of `old` at all other keys.
+  -- Put the base's link at the key `k` into `old`, with its effective bandwidths. The resulting
+  -- database has this link at `k`, and the links of `old` at all other keys.
   pub at_put : (l : Link) (new : Database) → link_at base k ≡ Some l → new ≡ after_change old (Put (effective_link placements l)) → (q : Key)
       → link_at new q ≡ cond (eq_by_cmp key_cmp q k) (option_map (effective_link placements) (link_at base q)) (link_at old q)
   at_put l new is put q =

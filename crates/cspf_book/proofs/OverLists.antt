@@ -37,9 +37,8 @@ over_up_to-more placements l n =
     ∙ ap (map (over_at l)) (filter-append (is_over placements l) (range_with_len 0 n) (n ∷ []))
     ∙ map-append (over_at l) (filter (is_over placements l) (range_with_len 0 n)) (filter (is_over placements l) (n ∷ []))
 
--- Let a link have less bandwidth at priority n than the placements count on it. Then the list for
--- the priorities below n + 1 is the list for the priorities below n, followed by an entry for
--- priority n (`over_up_to`).
+-- Let a link have less bandwidth at priority n than the placements count on it. Then `over_up_to`
+-- lists the same entries for n + 1 as for n, followed by an entry for priority n.
 pub over_listed : (placements : List Placement) (l : Link) (n : ℕ) (start list : List Over)
     → slice_index l.free n < counted placements (key_of l) n → list ≡ start ++ over_up_to placements l n
     → list ++ over_at l n ∷ [] ≡ start ++ over_up_to placements l (n + 1)
@@ -49,8 +48,8 @@ over_listed placements l n start list less so_far =
     ∙ ap (λ os. start ++ os)
     (sym (over_up_to-more placements l n ∙ ap (λ b. over_up_to placements l n ++ map (over_at l) (cond b (n ∷ []) [])) (lt-ltb (slice_index l.free n) (counted placements (key_of l) n) less)))
 
--- Let a link have enough bandwidth at priority n for the placements. Then the list for the
--- priorities below n + 1 is the same as the list for the priorities below n (`over_up_to`).
+-- Let a link have enough bandwidth at priority n for the placements. Then `over_up_to` lists the
+-- same entries for n + 1 as for n.
 pub over_passed : (placements : List Placement) (l : Link) (n : ℕ) (start list : List Over)
     → counted placements (key_of l) n ≤ slice_index l.free n → list ≡ start ++ over_up_to placements l n
     → list ≡ start ++ over_up_to placements l (n + 1)
@@ -117,9 +116,9 @@ over_or_kept d placements (c ∷ cs) l priority small passes is =
       | inr later ↦ inr (Contains-append_right (over_by placements c) (over placements cs) (over_at l priority) later)
     ]
 
--- For each link of the base after changes, and each priority, one of three claims is true. The base
--- had the same link before, or the placements count at most the link's bandwidth, or the list
--- `over` has an entry for the link and this priority.
+-- Take a link of the base after changes, and a priority. The base had the same link before the
+-- changes, or the link is covered (`IsCovered`), or the list `over` has an entry for the link and
+-- this priority.
 pub absorbing_covered : AbsorbingKeepsCovered
 absorbing_covered base placements changes l priority is small =
     elim (cases_lt (slice_index l.free priority) (counted placements (key_of l) priority)) [

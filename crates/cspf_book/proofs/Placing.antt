@@ -10,8 +10,8 @@ use Rattle.cspf_book.specs.Placements.{others}
 use Rattle.cspf_book.specs.BookState.{BookState, effective_beside, IsAnswerPlaced, IsPlaceError, HasRoomFor, links_placed}
 use Rattle.cspf_book.specs.Offers.{IsOffered, IsOfferRefused}
 
--- If a placement is offered for an answer to a request, it is a placement of this request, and its
--- route has at most `room` links.
+-- A placement that is offered for an answer to a request is a placement of this request. Its route
+-- has at most `room` links.
 pub offered_of : (q : Request) (hold room : ℕ) (a : Answer) (p : Placement) → IsOffered q hold room a (Some p)
     → (p.request ≡ q) × (length p.route ≤ room)
 offered_of q hold room unknown_from p off = absurd off

@@ -110,8 +110,8 @@ apart_bits all bits router cs apart has is =
     ∙ sym (and_assoc (four_bits router) all bits) in
     false≢true (sym (ap has_quarters own ∙ quarters_lost (bit_and all bits) (four_bits router) apart) ∙ four_quarters router))
 
--- If the changes affect no router whose bits the placement has, they affect neither the head-end
--- nor the neighbor of a link on the placement's route.
+-- Let the changes affect no router whose bits the placement has. Then they affect neither the
+-- head-end nor the neighbor of a link on the placement's route.
 pub off_route : (cs : List Change) (p : Placement) → ((router : ℕ) → IsAmong (bits_of p) router → changes_router cs router ≡ false)
     → (changes_router cs p.request.from ≡ false) × AllByRecursion (λ l. changes_router cs l.to ≡ false) p.route
 off_route cs p off = (
@@ -119,8 +119,8 @@ off_route cs p off = (
   off_links cs (four_bits p.request.from) p.route off,
 )
 
--- If a placement and its bits are removed from their lists, at the same index, the list of bits
--- still has the bits of the placements.
+-- Remove a placement and its bits from their lists, at the same index. Then the list of bits still
+-- has the bits of the placements.
 pub bits-remove : (ps : List Placement) (index : ℕ) → remove (map bits_of ps) index ≡ map bits_of (remove ps index)
 bits-remove [] zero = refl
 bits-remove [] (suc index) = refl

@@ -22,8 +22,7 @@ len-from_list-le (n ∷ ns) =
     one_more false m = omega arith
 
 -- Let each link of a database be at the link's own key. The database is within a table's limits
--- (`IsWithinLimits`) if the lengths of its lists of links and marks, and its number of routers, are
--- within these limits.
+-- (`IsWithinLimits`) if its numbers of links, marks and routers are within these limits.
 pub limits_of : (d : Database) (rows : List Link) (marks : List ℕ) → length rows ≤ MOST_LINKS → rows ≡ links_of d
     → router_count d ≤ MOST_ROUTERS → AreAtTheirKeys d → d.marks ≡ set.from_list marks → length marks ≤ MOST_MARKS
     → IsWithinLimits d

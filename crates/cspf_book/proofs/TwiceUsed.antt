@@ -19,8 +19,8 @@ none_has : (k : Key) (links : List Link) → AllByRecursion (λ y. eq_by_cmp key
 none_has k [] all = refl
 none_has k (l ∷ ls) all = or_from _ _ (sym (same_key_test k (key_of l)) ∙ all.0) (none_has k ls all.1)
 
--- In this module, `l` is the link at index i. The lemmas are for the two cases that its key differs
--- from the keys of all later links, and that it equals one of these keys.
+-- In this module, `l` is the link at index i. One lemma is for a key of `l` that no later link has,
+-- and the other for a key that a later link has.
 module _ (links : List Link) (i : ℕ) (within : i < length links) (l : Link) (is : l ≡ slice_index_or links i l)
     (whole : HaveOwnKeys (drop i links) ↔ HaveOwnKeys links) where
   behind : HaveOwnKeys (drop i links) ≡ HaveOwnKeys (l ∷ drop (i + 1) links)

@@ -91,8 +91,8 @@ untouched_followed d cs q links router (l ∷ ls) here off old = (
   untouched_followed d cs q (links + 1) l.to ls off.0 off.1 old.1,
 )
 
--- If no change affects a router whose bits the placement has, and the database admits the
--- placement's route, the database also admits this route after the changes.
+-- Let no change affect a router whose bits the placement has. If the database admits the
+-- placement's route, it also admits this route after the changes.
 pub untouched_admits : (d : Database) (cs : List Change) (p : Placement) → ((router : ℕ) → IsAmong (bits_of p) router → changes_router cs router ≡ false)
     → AdmitsRoute d p → AdmitsRoute (after_changes d cs) p
 untouched_admits d cs p off admits =

@@ -70,7 +70,7 @@ IsAnswerPlaced old q hold (route walk) new = IsPlacedAlong old q hold walk new
 -- Why a request isn't placed. `Full`: the book already has `MOST_PLACEMENTS` placements with other
 -- ids. The other errors suppose that the book has fewer such placements (`HasRoomFor`). `Memory`:
 -- memory is refused. `Twice`: the best answer is a route that uses a link twice. `TooManyLinks`:
--- the best answer is a route that uses no link twice, but with it the routes of all placements
+-- the best answer is a route that uses no link twice. With this route, the routes of all placements
 -- would have more than `MOST_ROUTES_LINKS` links.
 abbrev pub IsPlaceError : BookState → Request → PlaceError → Type 0
 IsPlaceError s q Memory = HasRoomFor s q.id

@@ -60,9 +60,9 @@ ReleasingKeepsCovered =
     (placements : List Placement) (id : ℕ) (l : Link) (priority : ℕ)
     → IsCovered placements l priority → IsCovered (others id placements) l priority
 
--- For each link of the base after changes, and each priority, one of three claims is true. The base
--- had the same link before the changes, or the link is covered (`IsCovered`), or the list `over`
--- has the link with this priority.
+-- Take a link of the base after changes, and a priority. The base had the same link before the
+-- changes, or the link is covered (`IsCovered`), or the list `over` has the link with this
+-- priority.
 abbrev pub AbsorbingKeepsCovered : Type 0
 AbsorbingKeepsCovered =
     (base : Database) (placements : List Placement) (changes : List Change) (l : Link) (priority : ℕ)

@@ -25,8 +25,9 @@ pub record IsLost (before after : Database) (p : Placement) : Type 0 where
   pub admitted : AdmitsRoute before p
   pub broken : ¬ AdmitsRoute after p
 
--- `p` precedes `r` in the list of lost placements: the holding priority of `p` is less important
--- (greater), or the holding priorities are equal and `p` has the lower id.
+-- `p` precedes `r` in the list of lost placements if the holding priority of `p` is less important
+-- (a greater number). If the holding priorities are equal, `p` precedes `r` if `p` has the lower
+-- id.
 abbrev pub ComesBefore : Placement → Placement → Type 0
 ComesBefore p r = (r.hold < p.hold) ⊎ ((r.hold ≡ p.hold) × (id_of p < id_of r))
 

@@ -14,8 +14,8 @@ have_other_ends None after = true
 have_other_ends (Some l) None = true
 have_other_ends (Some l) (Some m) = not (nat_eq l.to m.to) || not (nat_eq l.remote m.remote)
 
--- The changes move the far end of the link at this key. This is also said if there is no link at
--- the key before the changes, or none after them, and for each change of a router's mark.
+-- The changes move the far end of the link at this key. `moves_at` is also true if the link is
+-- missing before or after the changes. It is always true for the mark of a router.
 abbrev pub moves_at : Database → List Change → ℕ → Option ℕ → Bool
 moves_at d changes router None = true
 moves_at d changes router (Some local) =

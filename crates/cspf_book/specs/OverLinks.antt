@@ -28,8 +28,8 @@ over_at l priority = record { from = l.from; local = l.local; priority = priorit
 abbrev pub over_on : List Placement → Link → List Over
 over_on placements l = map (over_at l) (filter (is_over placements l) priorities)
 
--- The entries for the link that a change sets (`Put`): one for each priority at which the link has
--- less bandwidth than the placements count on it. Other changes have no entries.
+-- The entries for the link that a change sets (`Put`). There is one for each priority at which the
+-- link has less bandwidth than the placements count on it. Other changes have no entries.
 abbrev pub over_by : List Placement → Change → List Over
 over_by placements (Put l) = over_on placements l
 over_by placements (Remove from local) = []

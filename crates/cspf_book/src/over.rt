@@ -41,8 +41,8 @@ fn list_over(list: &mut Vec<Over>, counts: &Counts, link: &Link) -> Result<(), A
     Ok(())
 }
 
-/// For each link that the changes set (`Put`), lists the priorities at which the link has less
-/// unreserved bandwidth than the placements count on its key.
+/// For each link that the changes set (`Put`), lists the priorities at which the placements count
+/// more bandwidth than the link has.
 pub(crate) fn find_over(
     alloc: Global,
     counts: &Counts,

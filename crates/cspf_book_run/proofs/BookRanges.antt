@@ -159,8 +159,7 @@ placing_small old new q hold (route walk) seven best is range small = (is.base, 
 
 -- ---- rows
 
--- A state is in range if three parts of it are: the base, the changes since the last end row, and
--- the sums of counted bandwidth.
+-- A state is in range if the base, the open changes and the sums of counted bandwidth are in range.
 made : (t : BookRunState) → AreLinksInRange t.book.base → AllByRecursion IsChangeInRange t.changes → AreSumsSmall t.book.placements → IsBookInRange t
 made t base changes sums = record { base = base; changes = changes; sums = sums }
 

@@ -235,8 +235,8 @@ module _ (laws : ReadsRows) where
         (changes_taken cs (suc p) (after_open_change s c) range.1),
   )
 
-  -- The end row of an accepted batch gets the same lines in a run over the texts of accepted rows
-  -- as in the run that wrote these texts.
+  -- Take the end row of an accepted batch. A run over the texts of accepted rows answers it with
+  -- the same lines as the run that wrote these texts.
   end_taken : (p : ℕ) (s : BookRunState) (number count : ℕ) (line : List ℕ) → number < 2 ^ 32 → length s.changes < 2 ^ 32 → IsBaseAccepted s number count → AreBaseLines s number line
       → (answers : ℕ) → let from : BookRunState = record { book = s.book; batches = s.batches; changes = s.changes; answers = answers; refused = 0 } in
       book_answers p from (end_fields number (length s.changes)) line (after_base_batch from)
@@ -256,11 +256,11 @@ module _ (laws : ReadsRows) where
 abbrev bare : BookState → ℕ → ℕ → BookRunState
 bare book batches answers = record { book = book; batches = batches; changes = []; answers = answers; refused = 0 }
 
--- Let n rows lead from the state `s` to the state `t`, and let `text` go to `keep`, the writer of
--- accepted rows, for these rows. Then `text` is the text of some records, and a run over these
--- records leads from the book of `s` to the book of `t`. The number of records plus the number of
--- open changes of `t` is at most n plus the number of open changes of `s`. Open changes are changes
--- since the last end row.
+-- Let n rows lead from the state `s` to the state `t`, and let `text` have the texts of their
+-- accepted rows. Then `text` is the text of some records, and a run over these records leads from
+-- the book of `s` to the book of `t`. The number of records plus the number of open changes of `t`
+-- is at most n plus the number of open changes of `s`. Open changes are changes since the last end
+-- row.
 record Remakes (n : ℕ) (s t : BookRunState) (text : List ℕ) : Type 0 where
   records : List (List (List ℕ))
   is : text ≡ flat_map (row_text default_writer) records

@@ -1,5 +1,5 @@
--- The text that goes to `keep`, the writer of accepted rows, for a row: the row's text if the row
--- changes the version, and otherwise nothing.
+-- The text that goes to `keep`, the writer of accepted rows, for a row. It is the row's text if the
+-- row changes the version, and otherwise empty.
 use Rattle.std.proofs.Common.{◌≡◌, ◌==◌, ℕ, ◌+◌, ◌≤◌, Bool, true, false, cond, List, [], length, Result, Ok, Err, inl, inr, refl, sym, ap, subst, ◌∙◌, eq-eqb, arith}
 use Rattle.std.proofs.lemmas.Bool.{cases_Bool, false≢true}
 use Rattle.std.proofs.lemmas.List.{take_all}
@@ -24,8 +24,8 @@ use Rattle.cspf_book_run.specs.KeptStates.{IsTextOfStep, IsTextOfRow, IsRenumber
 stays : (s t : BookRunState) (P : Type 0) → t.book ≡ s.book → (t.book.version == s.book.version) ≡ false → P
 stays s t P book other = absurd (false≢true (sym other ∙ eq-eqb t.book.version s.book.version (ap (λ (b : BookState). b.version) book)))
 
--- If a row of the base makes a new version of the book, the text that the code makes for the writer
--- `keep` is `text_of_step` of the row.
+-- Let a row of the base make a new version of the book. The text that the code makes for the writer
+-- `keep` is then `text_of_step` of this row.
 step_text : (s t : BookRunState) (row : Step) (line text : List ℕ) → IsBookStepAnswered s row line t → (t.book.version == s.book.version) ≡ false → IsTextOfStep s row text
     → text ≡ text_of_step s row
 step_text s t (step.Change c) line text a other is = is

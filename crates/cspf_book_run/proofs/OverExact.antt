@@ -1,5 +1,5 @@
--- The `over` lines of a base batch are exactly the lines of the links that its changes set with too
--- little bandwidth for the placements.
+-- The `over` lines of a base batch are exactly the lines of the links that the batch sets with too
+-- little bandwidth.
 use Rattle.std.proofs.Common.{◌≡◌, ◌⊎◌, ℕ, zero, suc, ◌+◌, ◌<◌, true, false, cond, Some, None, List, [], ◌∷◌, ◌++◌, map, filter, slice_index, inl, inr, refl, sym, ap, subst, ◌∙◌, append_assoc, append-nil, lit<, arith}
 use Rattle.std.proofs.lemmas.Bool.{ltb-true}
 use Rattle.std.proofs.lemmas.List.Elements.{All-contains, All-from_recursion, Contains-append_cases, Contains-append_left, Contains-append_right}
@@ -56,8 +56,8 @@ module _ (placements : List Placement) where
         | false ↦ λ _ has. kept m y ps all.1 has
       ] refl there
 
-  -- the changes set this link, and the entry `y` is for this link and a priority at which the link
-  -- has less bandwidth than the placements count
+  -- The changes set this link, and the entry `y` is for this link and some priority. At this
+  -- priority, the link has less bandwidth than the placements count.
   abbrev IsEntry : List Change → Over → Link → Type 0
   IsEntry changes y m = Contains changes (Put m) × (p : ℕ) × IsShortAt m y p
 

@@ -213,8 +213,8 @@ found (y ∷ os) tail skips x (b ∷ before) after same =
     let more = found os tail skips x skipped.0 after skipped.1 in
     (more.0, (suc more.1.0, omega (arith, more.1.1), more.1.2), more.2)
 
--- If an `over` line is found in the lines of a base batch, it has the words of one of the `over`
--- lines that the batch wrote.
+-- Let an `over` line be found in the lines of a base batch. Then the batch wrote an `over` line
+-- with the same words.
 pub named_among : (os : List Over) (ids : List ℕ) (number version : ℕ) (x : Over) (before after : List ℕ)
     → flat_map over_line os ++ flat_map lost_line ids ++ base_line number version ≡ before ++ over_line x ++ after
     → (y : Over) × Contains os y × (words y ≡ words x)

@@ -35,8 +35,8 @@ IsSaidOver lines l priority =
 
 -- The claim for a state `s`, a later state `t`, and the lines that are written between them.
 -- Suppose that a link of the base in `t` is covered in `s`, or isn't in the base in `s`. Then the
--- link is covered in `t`, or two things happened in between: a base batch was accepted, and the
--- `over` line of the link was written. An `over` line reports too little bandwidth.
+-- link is covered in `t`, or its `over` line was written in between and a base batch was accepted.
+-- An `over` line reports too little bandwidth.
 abbrev pub CoversSince : BookRunState → List ℕ → BookRunState → Type 0
 CoversSince s lines t =
     (l : Link) (priority : ℕ) → IsLinkOf t.book.base l → priority < 8
@@ -57,8 +57,9 @@ abbrev pub IsPutShort : BookRunState → Link → ℕ → Type 0
 IsPutShort s l priority =
     (m : Link) × Contains s.changes (Put m) × (key_of m ≡ key_of l) × (slice_index m.free priority < counted s.book.placements (key_of m) priority)
 
--- These lines include the `over` line of a link and a priority exactly if a change since the last
--- end row sets the link with too little bandwidth (`IsPutShort`).
+-- These lines have the `over` line of a link and a priority exactly if one of the changes sets this
+-- link with too little bandwidth (`IsPutShort`). The changes are the changes since the last end
+-- row.
 abbrev pub SaysOverExactly : BookRunState → List ℕ → Type 0
 SaysOverExactly s lines =
     (l : Link) (priority : ℕ) → l.from < 2 ^ 32 → l.local < 2 ^ 32 → priority < 8 → IsSaidOver lines l priority ↔ IsPutShort s l priority

@@ -9,8 +9,8 @@ use Rattle.cspf_book_run.specs.declared.book_row.BookRow.TheVariants as book_row
 use Rattle.cspf_book_run.specs.declared.book_rows.BookRows.{BookRows}
 use Rattle.cspf_book_run.specs.BookScript.{BookRunState, IsBookRowAnswered}
 
--- What is true of each row that is read: in a `place` row, the setup priority is 7 and the holding
--- priority is at most 7.
+-- A claim that is true of each row that is read. In a `place` row, the setup priority is 7 and the
+-- holding priority is at most 7.
 abbrev pub IsReadable : BookRow → Type 0
 IsReadable (book_row.Base row) = Unit {0}
 IsReadable (book_row.Place q hold) = (q.setup ≡ 7) × (hold < 8)

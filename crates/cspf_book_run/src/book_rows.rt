@@ -1,5 +1,5 @@
-//! The state of a run of a book: the book, the changes since the last end row (the open changes),
-//! and the counts of the run. Each row is answered from this state.
+//! The state of a run of a book: the book, the open changes, and the counts of the run. The open
+//! changes are the changes since the last end row. Each row is answered from this state.
 
 ghost use Rattle.std.specs.Prelude.{◌≡◌, ◌+◌, ◌<◌, ◌≤◌, [], length, IfOk, OnOk};
 ghost use Rattle.csv.specs.Records.{fields_of};

@@ -26,8 +26,8 @@ pub fn one_reply_of_books()
 /// the placements count at most its unreserved bandwidth at this priority. At the start, each link
 /// is covered. Suppose that a link is covered in some state, or isn't in the base in this state.
 /// After any further rows, the link is covered, or the lines of these rows include its `over` line.
-/// A base batch has the `over` line of a link and a priority exactly if it sets the link with less
-/// bandwidth at this priority than the placements count. No other row has an `over` line.
+/// A base batch has the `over` line of a link and a priority exactly if it sets this link with too
+/// little bandwidth at this priority. No other row has an `over` line.
 pub fn covered_books()
     ensures start { IsBookCovered book_start.book }
     ensures since { RowsCoverSince }

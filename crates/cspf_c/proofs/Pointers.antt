@@ -104,8 +104,8 @@ abbrev room : Ty
 room = bare (lone Opened.mir)
 
 module _ {M : Type 1} {𝓤 : Ura M} {𝓛 : Logic 𝓤} {K : Type 0} {Γ : List (Item 𝓤)} {G : Goal 𝓤 𝓛.H} where
-  -- A proof about a handle's pointer has two cases. The pointer is null and the handle has no
-  -- session, or the pointer is to the first byte of a block that has the session.
+  -- A proof about a handle's pointer has two cases. Either the pointer is null, and the handle has
+  -- no session. Or the pointer is to the first byte of a block that has the session.
   pub what_is_held : K → (p : Ptr) (value : Option Opened.Denot) → (value ≡ None → p ≡ null_ptr → Seq K 𝓛 Γ G)
       → ((x : Opened.Denot) (b : ℕ) → value ≡ Some x → p ≡ block_ptr b 0 → Seq K 𝓛 (‵ (box_owns may_free Opened (block_ptr b 0) x) ∷ Γ) G) → Seq K 𝓛 (‵ (holds Opened p value) ∷ Γ) G
   what_is_held t p None none some = feq_l t (λ e. none refl e)

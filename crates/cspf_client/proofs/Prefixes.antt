@@ -49,8 +49,7 @@ HasGoneForward-trans s t u p q = record {
   steps = AreFirstSteps-trans s.steps t.steps u.steps p.steps q.steps;
 }
 
--- what a client knew and had seen before it read the count of published batches is a prefix of what
--- it knows and has seen afterwards
+-- a client goes forward when it reads the count of published batches (`HasGoneForward`)
 pub HasGoneForward-count : (place : ℕ) (s t : SessionState) → ReadsCount place s t → HasGoneForward s t
 HasGoneForward-count place s t reads =
     let up = reads.caught_up in record {

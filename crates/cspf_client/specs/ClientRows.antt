@@ -74,9 +74,9 @@ IsClientAnswered place s fields line t = IsClientRowAnswered place s (row_of fie
 abbrev pub IsRefusalMissing : AskError → SessionState → SessionState → Type 0
 IsRefusalMissing fault s t = (fault ≡ ask_error.Memory) × (t ≡ s)
 
--- The request of row `place` isn't answered, because of this fault. If the client couldn't enter
--- the published replica, which is a copy of the table, it has learnt of no further batch since it
--- read the count.
+-- The request of row `place` isn't answered, because of this fault. The fault `NoEntry` means that
+-- the client couldn't enter the published replica, which is a copy of the table. The client has
+-- then learnt of no further batch since it read the count.
 pub record IsRequestUnanswered (place : ℕ) (fault : AskError) (s t : SessionState) : Type 0 where
   pub reads : ReadsCount place s t
   pub entry : fault ≡ ask_error.NoEntry → t.known ≡ reads.mid

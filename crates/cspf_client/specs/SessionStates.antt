@@ -4,8 +4,8 @@ use mathlib.Core.List.{IsPrefix}
 use Rattle.cspf_publish.specs.JournalSteps.{KnownSteps}
 use Rattle.cspf_publish.specs.KnownBatches.{KnownBatches, AreFirstOf}
 
--- A client's state: its number, the batches that it knows, the steps of the journal that it has
--- seen, and how many of its rows were refused.
+-- The state of a client: its number, the batches that it knows, the steps of the journal that it
+-- has seen, and its count of refused rows.
 pub record SessionState : Type 0 where
   pub client : ℕ
   pub known : KnownBatches

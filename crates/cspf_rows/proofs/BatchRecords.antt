@@ -119,8 +119,8 @@ journal_text-lines : (batches : List NumberedChanges) → journal_text batches �
 journal_text-lines [] = refl
 journal_text-lines (b ∷ bs) = rw (flat_map-append record_line (batch_records b) (flat_map batch_records bs)) (ap (λ more. batch_text b ++ more) (journal_text-lines bs))
 
--- If a text begins with a line whose first three bytes aren't a byte order mark, no byte is skipped
--- at the start of the text.
+-- Let the first three bytes of a line not be a byte order mark. Then no byte is skipped at the
+-- start of a text that begins with this line.
 no_mark_line : (a b c : ℕ) (x : List ℕ) (xs : List (List ℕ)) (tail : List ℕ) → is_bom a b c ≡ false
     → strip_bom (record_line ((a ∷ b ∷ c ∷ x) ∷ xs) ++ tail) ≡ record_line ((a ∷ b ∷ c ∷ x) ∷ xs) ++ tail
 unfolding strip_bom

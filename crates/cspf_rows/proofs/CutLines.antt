@@ -62,8 +62,8 @@ lines_enough : (rs : List (List (List ℕ))) → length rs ≤ length (flat_map 
 lines_enough [] = omega arith
 lines_enough (r ∷ rs) = omega (arith, line_text-some r (flat_map record_line rs), lines_enough rs)
 
--- the lines of records that need no quotes are cut into these records, if the text of the lines
--- doesn't begin with a byte order mark
+-- Let no field of the records need quotes. If the text of their lines doesn't begin with a byte
+-- order mark, it is cut into these records.
 pub rows_of-lines : (rs : List (List (List ℕ))) → AreUnquotedRecords rs → strip_bom (flat_map record_line rs) ≡ flat_map record_line rs → rows_of (flat_map record_line rs) ≡ rs
 unfolding rows_of
 rows_of-lines rs h no_mark = rw no_mark (cut_lines _ rs (omega (arith, lines_enough rs)) h)

@@ -33,8 +33,8 @@ found : {A : Type 0} (o : Option A) (e : RowError) (x : A) → ok_or o e ≡ Ok 
 found None e x same = absurd (cc)
 found (Some y) e x same = cc
 
--- if a test chooses between the value `v` and an error, and the result is the value `n`, the test
--- was true and `n` is `v`
+-- Let a test choose between the value `v` and an error. If the result is the value `n`, the test
+-- was true and `n` is `v`.
 passed : {A : Type 0} (b : Bool) (v n : A) (e : RowError) → cond b (Ok v) (Err e) ≡ Ok n → (b ≡ true) × (v ≡ n)
 passed true v n e same = (refl, cc)
 passed false v n e same = absurd (cc)

@@ -61,8 +61,8 @@ module _ {R : Type 0} (rem : R → Option (List ℕ)) (all : Option (List (List 
   read_change next b c one h same is =
       rw is.2 (read_next b.changes (b.changes ++ (is.0 ∷ [])) false false bs one h (same ∙ h.count) (λ seen parts. parts_change bs b.changes seen fields parts is.0 is.1))
 
-  -- if the row is the `end` row of the open changes, the reader `new`, after this row, has read one
-  -- more whole batch and no open change
+  -- Let the row be the `end` row of the open changes. Then the reader `new`, after this row, has
+  -- read one more whole batch and no open change.
   pub read_batch : (b c : NumberedChanges) → ReadsOne rem old new fields → HasRead rem all old bs b.changes false → new.count ≡ old.count + 1
       → IsTaken (row_of fields) new.count b c taken.Batch → HasRead rem all new (bs ++ (c ∷ [])) [] false
   read_batch b c one h more is =
@@ -71,8 +71,8 @@ module _ {R : Type 0} (rem : R → Option (List ℕ)) (all : Option (List (List 
       read_next b.changes [] false false (bs ++ (c ∷ [])) one h (omega (arith, length-append bs (c ∷ [])))
       (λ seen parts. parts_batch bs b.changes seen fields parts c number is.2 (rw (is.2, is.1) is.0))
 
-  -- if the row is neither a change nor the `end` row of the open changes, the reader `new`, after
-  -- this row, has read a row that is in no batch
+  -- Let the row be neither a change nor the `end` row of the open changes. Then the reader `new`,
+  -- after this row, has read a row that is in no batch.
   pub read_end : (b c : NumberedChanges) → ReadsOne rem old new fields → HasRead rem all old bs b.changes false → new.count ≡ old.count
       → IsTaken (row_of fields) (new.count + 1) b c taken.Behind → HasRead rem all new bs b.changes true
   read_end b c one h same is =
@@ -80,8 +80,8 @@ module _ {R : Type 0} (rem : R → Option (List ℕ)) (all : Option (List (List 
       let next : new.count + 1 ≡ 1 + length bs = omega arith in
       read_next b.changes b.changes false true bs one h (same ∙ h.count) (λ seen parts. parts_end bs b.changes seen fields parts (rw next at is.0))
 
-  -- if the reader `old` has already read a row that is in no batch, one more row doesn't change the
-  -- whole batches and the open changes
+  -- Let the reader `old` have read a row that is in no batch. Then one more row changes neither the
+  -- whole batches nor the open changes.
   pub read_behind : (cs : List Change) → ReadsOne rem old new fields → HasRead rem all old bs cs true → new.count ≡ old.count → HasRead rem all new bs cs true
   read_behind cs one h same = read_next cs cs true true bs one h (same ∙ h.count) (λ seen parts. parts_behind bs cs seen fields parts)
 
@@ -114,7 +114,7 @@ module _ {R : Type 0} (rem : R → Option (List ℕ)) (all : Option (List (List 
   read_rest cs rest.Clean clean torn h few takes = read_clean cs (clean refl) h few takes
   read_rest cs rest.Torn clean torn h few takes = read_open cs (torn refl) h few takes
 
-  -- If no row is left, and the reader has read a row that is in no batch, the stream is a torn
+  -- Let the reader have read a row that is in no batch. If no row is left, the stream is a torn
   -- journal of the whole batches.
   pub read_torn : (cs : List Change) → HasRead rem all old bs cs true → old.rows ≤ 1000000
       → Takes (rows_left rem old.records) (rows_left rem new.records) false fields → IfSome all (λ rows. IsJournal rows bs rest.Torn × (length rows ≤ 1000000))

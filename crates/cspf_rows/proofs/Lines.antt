@@ -28,8 +28,8 @@ line_of_three old x a b = rw (line_text-cons x (a ∷ b ∷ [])) (simp (append_a
 line_text-append : (old x : List ℕ) (xs ys : List (List ℕ)) → ((old ++ (x ++ fields_after xs)) ++ fields_after ys) ++ (10 ∷ []) ≡ old ++ record_line (x ∷ (xs ++ ys))
 line_text-append old x xs ys = simp (line_text-cons, flat_map-append, append_assoc)
 
--- If `put`, the attributes of a link, the bandwidths of the link and a line feed are appended, this
--- appends the line of the link.
+-- Appending `put`, the attributes of a link, its bandwidths and a line feed appends the line of
+-- this link.
 pub line_text-put : (old mid new : List ℕ) (link : Link) → mid ≡ old ++ (codes "put" ++ fields_after (attributes link))
     → new ≡ mid ++ fields_after (map decimal link.free) → new ++ (10 ∷ []) ≡ old ++ record_line (put_fields link (mask_text link.group))
 line_text-put old mid new link a b = rw (b, a) (line_text-append old (codes "put") (attributes link) (map decimal link.free))

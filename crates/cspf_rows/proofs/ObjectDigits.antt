@@ -67,8 +67,8 @@ pairs_decoded digits pairs =
     let (bytes, found) = decode_of-digits digits pairs.0 pairs.1 in
     (bytes, found, (decode_of-ok digits bytes found).2)
 
--- if `count` is the smaller of 64 and the size of an object, the first `count` bytes of the object
--- are the same as its first 64 bytes
+-- Let `count` be the smaller of 64 and the size of an object. The first `count` bytes of the object
+-- are then its first 64 bytes.
 pub front_taken : (size count : ℕ) (bytes : List ℕ) → length bytes ≡ size → count ≡ min size 64 → take 64 bytes ≡ take count bytes
 front_taken size count bytes same least =
     elim (cases_lt 64 (length bytes)) [
@@ -91,8 +91,8 @@ hex_hops_of-pairs digits read pairs each =
     let (bytes, found, size) = pairs_decoded digits pairs in
     ap object_hops_of found ∙ sym (ap (λ r. result_map_both (λ (hops : List Hop). hops) fault.Ero r) (each bytes found))
 
--- if decoded bytes are written to the start of a buffer with room for `count` bytes, the buffer
--- begins with the first `count` of these bytes
+-- Let a buffer have room for `count` bytes. If decoded bytes are written to its start, the buffer
+-- begins with the first `count` of these bytes.
 pub front_placed : (count : ℕ) (bytes front place back : List ℕ) → count ≤ length place → count ≤ length bytes → front ≡ take (length (take count place)) bytes
     → take count (front ++ back) ≡ take count bytes
 front_placed count bytes front place back room within written =

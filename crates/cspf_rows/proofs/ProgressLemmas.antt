@@ -1,5 +1,5 @@
--- What is true of the records that were read from a stream, first after one more record is read,
--- and then at the end of the stream.
+-- What is true of the records that were read from a stream, after one more record is read, and at
+-- the end of the stream.
 use Rattle.std.proofs.Common.{◌≡◌, ℕ, ◌+◌, ◌<◌, true, false, List, [], ◌∷◌, ◌++◌, length, Option, Some, None, IfSome, refl, sym, ap, ◌∙◌, append_assoc, append-nil, arith}
 use Rattle.std.proofs.lemmas.List.{length-append}
 use Rattle.cspf_rows.specs.Records.{Takes}

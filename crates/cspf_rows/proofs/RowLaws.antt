@@ -207,8 +207,8 @@ said-ask_row_of texts fields r count kind read =
     } in
     subst (Says fields) made.1 said
 
--- if a test chooses between the result `x` and an error, and the outcome is a row, the test was
--- true and `x` is this row
+-- Let a test choose between the result `x` and an error. If the outcome is a row, the test was true
+-- and `x` is this row.
 passed_row : (b : Bool) (x : Result Row RowError) (e : RowError) (r : Row) → cond b x (Err e) ≡ Ok r → (b ≡ true) × (x ≡ Ok r)
 passed_row true x e r read = (refl, read)
 passed_row false x e r read = absurd (cc)

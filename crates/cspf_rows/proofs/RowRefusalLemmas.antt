@@ -58,8 +58,8 @@ first_error : {A B : Type 0} (r : Result A RowError) (f : A → Result B RowErro
 first_error (Ok x) f e same = inr (x, refl, same)
 first_error (Err found) f e same = inl (cc)
 
--- if a test chooses between a value and the error `why`, and the result is an error, this error is
--- `why`
+-- Let a test choose between a value and the error `why`. If the result is an error, this error is
+-- `why`.
 limit_error : {A : Type 0} (b : Bool) (n : A) (why e : RowError) → cond b (Ok n) (Err why) ≡ Err e → e ≡ why
 limit_error true n why e same = absurd (cc)
 limit_error false n why e same = cc

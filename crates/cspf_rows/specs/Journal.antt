@@ -39,8 +39,8 @@ abbrev pub IsRest : List (List (List ℕ)) → Rest → Type 0
 IsRest left rest.Clean = left ≡ []
 IsRest left rest.Torn = left ≢ []
 
--- The batches of a journal are those of the longest prefix of its records that consists of whole
--- batches with the numbers 1, 2, 3 and so on. A batch of a journal need not fit a database.
+-- The batches of a journal are numbered 1, 2, 3 and so on. They are the longest prefix of the
+-- journal's records that consists of whole batches. A batch of a journal need not fit a database.
 pub record IsJournal (records : List (List (List ℕ))) (batches : List NumberedChanges) (rest : Rest) : Type 0 where
   pub left : List (List (List ℕ))
   pub begins : BeginsWithBatches records batches left

@@ -27,8 +27,8 @@ EndsBatches number count (Ok (row.End n k)) = ¬ ((n ≡ number) × (k ≡ count
 EndsBatches number count (Ok (row.Ask request)) = Unit {0}
 EndsBatches number count (Err error) = Unit {0}
 
--- either there are no rows, or the first row is neither a change nor the `end` row of the batch
--- with this number and this many changes
+-- There are no rows, or the first row doesn't belong to the batch with this number and this many
+-- changes. Such a row is neither a change nor the `end` row of this batch.
 abbrev pub AreBehind : ℕ → ℕ → List (Result Row RowError) → Type 0
 AreBehind number count [] = Unit {0}
 AreBehind number count (row ∷ rows) = EndsBatches number count row

@@ -59,8 +59,8 @@ SpellsSort mask text = (n : ℕ) × SpellsMask text n
 SpellsSort hops text = (list : List Hop) × SpellsHops text list
 
 -- Why a text spells no hops. A text that doesn't begin with `ero:` is refused because it isn't a
--- hop list. A text that begins with `ero:` has one of two faults: the digits after `ero:` don't
--- decode to bytes, or these bytes aren't an EXPLICIT_ROUTE object that spells hops.
+-- hop list. A text that begins with `ero:` has one of two faults. Either the digits after `ero:`
+-- don't decode to bytes, or these bytes aren't an EXPLICIT_ROUTE object that spells hops.
 abbrev pub IsHopsFault : List ℕ → HopsFault → Type 0
 IsHopsFault text (fault.Text why) = ((rest : List ℕ) → text ≢ codes "ero:" ++ rest) × (hops_of text ≡ Err why)
 IsHopsFault text fault.Hex = (digits : List ℕ) × (text ≡ codes "ero:" ++ digits) × ((bytes : List ℕ) → decode_of digits ≢ Ok bytes)
@@ -102,8 +102,8 @@ AreFieldsRefused kind place (sort ∷ sorts) fields e =
     IsFieldRefused sort place (field fields place) e
     ⊎ (SpellsSort sort (field fields place) × AreFieldsRefused kind (place + 1) sorts fields e)
 
--- a record of this kind is refused with the error `e`: for its number of fields, for one of its
--- fields, or because its two endpoints are the same router
+-- A record of this kind is refused with the error `e`. The reason is its number of fields, one of
+-- its fields, or that its two endpoints are the same router.
 abbrev pub IsRefusedAs : Kind → List (List ℕ) → RowError → Type 0
 IsRefusedAs kind fields e =
     ((e ≡ error.Fields) × (length fields ≢ 1 + length (sorts_of kind)))

@@ -34,8 +34,8 @@ abbrev pub request_with : (request : RequestFields) → request.setup < 8 → re
 request_with request below apart =
     record { id = request.id; from = request.from; to = request.to; setup = request.setup; bandwidth = request.bandwidth; exclude_any = request.exclude_any; include_any = request.include_any; include_all = request.include_all; hops = request.hops; priority = below; two_ends = apart }
 
--- the row that asks for this request, or a refusal if the setup priority isn't below 8, or if
--- head-end and tail-end are the same router
+-- The row that asks for this request. The request is refused if its setup priority isn't below 8,
+-- or if head-end and tail-end are the same router.
 abbrev pub ask_between : (request : RequestFields) → Dec (request.setup < 8) → Dec (request.from ≡ request.to) → Result Row RowError
 ask_between request (no above) ends = Err error.Priority
 ask_between request (yes below) (yes same) = Err error.SameEnds

@@ -109,8 +109,8 @@ pub counted_run : (all : Option (List (List (List ℕ)))) (old new : Option (Lis
 counted_run all old new solver bytes false run = counted_rows solver run.state run.done run.out run.answered run.past.1 run.kept
 counted_run all old new solver bytes true run = counted_rows solver run.state run.done run.out run.answered (omega (arith, run.past.1)) run.kept
 
--- the rows `done` that a run has answered are the first 1,000,000 rows, or all rows if there are
--- fewer; `too_many` says whether more rows follow
+-- The rows `done` that a run has answered are the first 1,000,000 rows, or all rows if there are
+-- fewer. `too_many` says whether more rows follow.
 pub rows_read : (too_many : Bool) (count : ℕ) (rows done rest : List (List (List ℕ))) → rows ≡ done ++ rest → length done ≡ count → IsPast too_many count rest
     → (take 1000000 rows ≡ done) × (is_too_many rows ≡ too_many)
 rows_read false count rows done rest split same past =

@@ -17,8 +17,8 @@ use Rattle.cspf_solve.specs.SolverStates.{KeepsRun}
 use Rattle.cspf_solve.specs.TableSinks.{table_spec}
 use Rattle.cspf_solve.proofs.BatchRefusals.{wrong_end, unfit_end}
 
--- The state `r` of the solver's rows agrees with the state `s` of the run: both have the same
--- database, version, open changes and counts of answers and refusals.
+-- The state `r` of the solver's rows agrees with the state `s` of the run. Both have the same
+-- database, version and open changes, and the same counts of answers and refusals.
 pub record IsOfRun (r : RowsState TableSink) (s : RunState) : Type 0 where
   pub table : r.sink.table.database ≡ database_after s.accepted
   pub version : r.sink.version ≡ length s.accepted

@@ -21,8 +21,8 @@ pub record IsBegunByRows (rows : List (List (List ℕ))) (out : List ℕ) : Type
   pub after : RunState
   pub first : AreFirstAnswered rows done rest out after
 
--- the text that a run writes after the lines that answer the rows `done`: the line that answers the
--- next row, or the last line of the run
+-- `text` is the text that a run writes after the lines of the rows `done`: the line of the next
+-- row, or the last line of the run
 abbrev pub IsNextText : List (List (List ℕ)) → RunState → List (List (List ℕ)) → List ℕ → Type 0
 IsNextText done s [] text = text ≡ end_line s.changes
 IsNextText done s (fields ∷ rest) text =

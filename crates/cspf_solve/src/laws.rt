@@ -27,7 +27,7 @@ pub fn stops_at_a_prefix()
 }
 
 /// Law: a run answers its rows one by one. If a run answers some rows and then one more row, it
-/// answers the list of all these rows, and the line of the last row follows the other lines. The
+/// answers the list of all these rows. The line of the last row then follows the other lines. The
 /// answer to a row adds at most 1 to each count of the run.
 pub fn runs_go_on_row_by_row()
     ensures more { GoesOnByOneRow }

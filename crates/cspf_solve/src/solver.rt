@@ -34,8 +34,8 @@ impl Answering<()> for Solver {
 
     ghost fails = { λ fault place old fields new. Unit {0} };
 
-    // The answer to a row adds at most 1 to each count of the solver, so each count stays below the
-    // number of the next row.
+    // Each count of the solver is below the number of the next row, because the answer to a row
+    // adds at most 1 to each count.
     ghost may_stand = { λ place solver. AreBelow place solver };
 
     fn answer(

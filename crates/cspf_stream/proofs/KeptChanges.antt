@@ -66,8 +66,8 @@ fits_kept d number kept all front fits =
 longer : (kept all : List Change) → kept ≡ take 4097 all → 4096 < length kept → 4096 < length all
 longer kept all front long = omega (arith, length-take-most 4097 all, ap length front)
 
--- If the first 4,097 open changes are refused as a batch for a reason, all open changes are refused
--- as a batch for the same reason.
+-- Let the first 4,097 open changes be refused as a batch. Then all open changes are refused as a
+-- batch for the same reason.
 pub refusal_whole : (d : Database) (number : ℕ) (kept all : List Change) (why : Refusal) → kept ≡ take 4097 all
     → IsRefusal d (record { number = number; changes = kept }) why → IsRefusal d (record { number = number; changes = all }) why
 refusal_whole d number kept all unfit.TooLong front h = longer kept all front h

@@ -78,8 +78,8 @@ IsRowStop answers fails flush before after (stop.Stream why) place fields s t ol
 IsRowStop answers fails flush before after (stop.Answer fault) place fields s t old new =
     IsRowStoppedAfter answers (fails fault) flush before after error.Memory place fields s t old new
 
--- how a stream stops if at most `limit` of its rows are answered: with an error of the stream, or
--- because the answer to a row fails with a fault
+-- How a stream stops if at most `limit` of its rows are answered. It stops with an error of the
+-- stream, or because the answer to a row fails with a fault.
 abbrev pub IsStoppedAfter : {S F : Type 0} → AnswersOf S → (F → FailsOf S) → ℕ → Bool → ℕ → StreamStop F → Option (List (List (List ℕ))) → Option (List (List (List ℕ))) → Bool → S → S → Option (List ℕ) → Option (List ℕ) → Type 0
 IsStoppedAfter answers fails limit flush bytes (stop.Stream why) all left failed s t old new =
     HasStoppedAfter answers NeverFails limit flush bytes why all left failed s t old new

@@ -14,16 +14,16 @@ use Rattle.cspf_stream.specs.declared.rows.Rows.{Rows}
 use Rattle.cspf_stream.specs.declared.step.Step.{Step}
 use Rattle.cspf_stream.specs.declared.step.Step.TheVariants as step
 
--- the state between two rows of a stream: the sink, the open changes, how many requests were
--- answered, and how many rows and batches were refused
+-- The state between two rows of a stream: the sink, the open changes, and two counts. `answers`
+-- counts answered requests, and `refused` counts refused rows and batches.
 pub record RowsState (S : Type 0) : Type 0 where
   pub sink : S
   pub changes : List Change
   pub answers : ℕ
   pub refused : ℕ
 
--- The value `rows` of the code stores the state `s`: it has the same sink and the same counts, and
--- keeps the first of the open changes.
+-- The code's value `rows` stores the state `s`. It has the same sink and the same counts, and keeps
+-- the first of the open changes.
 pub record KeepsRows {S : Type 0} (rows : Rows S) (s : RowsState S) : Type 0 where
   pub sink : rows.sink ≡ s.sink
   pub changes : AreOpen rows.changes s.changes

@@ -9,8 +9,9 @@ use Rattle.cspf_stream.specs.declared.error.StreamError.TheVariants as error
 use Rattle.cspf_stream.specs.declared.error.StreamStop.{StreamStop}
 use Rattle.cspf_stream.specs.declared.error.StreamStop.TheVariants as stop
 
--- a relation for rows whose answer fails with a certain fault, such as refused memory; it relates
--- the row's number, the state before the row, the row's fields, and the state after the failure
+-- A relation for rows whose answer fails with a certain fault, such as refused memory. It is
+-- between the row's number, the state before the row, the row's fields, and the state after the
+-- failure.
 abbrev pub FailsOf : Type 0 → Type 1
 FailsOf S = ℕ → S → List (List ℕ) → S → Type 0
 
@@ -44,8 +45,9 @@ pub record StopsBetween {S : Type 0} (answers : AnswersOf S) (all : Option (List
   pub written : Appends old new lines
 
 -- A prefix of the rows is answered, and their lines are written. The stream stops at the next row,
--- and no row after this row was read. `Stops` describes how it stops: it relates the answered rows,
--- their lines, the fields of the next row, and the state and the writer before the next row.
+-- and no row after this row was read. The relation `Stops` describes how the stream stops. It is
+-- between the answered rows, their lines, the fields of the next row, and the state and the writer
+-- before the next row.
 pub record StopsAtRow {S : Type 0} (answers : AnswersOf S) (Stops : List (List (List ℕ)) → List ℕ → List (List ℕ) → S → Option (List ℕ) → Type 0) (all left : Option (List (List (List ℕ)))) (s : S) (old : Option (List ℕ)) : Type 0 where
   pub done : List (List (List ℕ))
   pub fields : List (List ℕ)

@@ -17,8 +17,8 @@ pub trait Answering<C> {
     /// fields, its line, and the state after the row.
     ghost answers: { ℕ → Self → List (List ℕ) → List ℕ → Self → Type 0 };
 
-    /// A relation between the fault with which the answer to a row fails, the row's number, the
-    /// state before the row, the row's fields, and the state after the fault.
+    /// A relation for rows whose answer fails. It is between the fault, the row's number, the state
+    /// before the row, the row's fields, and the state after the fault.
     ghost fails: { Self.Fault → ℕ → Self → List (List ℕ) → Self → Type 0 };
 
     /// An invariant of the state before the row with this number. It may state, for example, that a

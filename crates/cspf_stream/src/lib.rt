@@ -8,9 +8,10 @@
 //! `Rows` answers each row with the help of a `Sink`, which accepts or refuses batches and answers
 //! requests. `specs/RowsTaken.antt` defines these answers, and `specs/Sinks.antt` defines a sink.
 //!
-//! This crate also has what all programs that answer rows share: the steps that rows ask for, the
-//! open changes (`specs/OpenChanges.antt`), the reasons why a batch is refused, and the text of
-//! each line except replies (`specs/Lines.antt`, `specs/RefusedRows.antt`).
+//! This crate also has the parts that all programs that answer rows share. These are the steps that
+//! rows ask for, the open changes (`specs/OpenChanges.antt`), and the reasons why a batch is
+//! refused. Another part is the text of each line except replies (`specs/Lines.antt`,
+//! `specs/RefusedRows.antt`).
 #![tactic(auto)]
 
 mod answering;

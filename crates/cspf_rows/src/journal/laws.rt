@@ -3,7 +3,7 @@ ghost use Rattle.cspf_rows.specs.JournalLaws.{AreTextsCut, AreJournalsReadBack, 
 use crate::laws::rows_are_read_back;
 use cspf_addr::masks_are_spelled;
 
-/// Law: the text of a list of batches is cut into exactly the records of these batches, and is read
+/// Law: the text of a list of batches is cut into exactly the records of these batches. It is read
 /// as a clean journal of exactly these batches. The batches have to be numbered 1, 2, 3 and so on,
 /// and to have at most `MOST_ROWS` rows together.
 pub fn journals_are_read_back()
@@ -15,7 +15,7 @@ pub fn journals_are_read_back()
 }
 
 /// Law: a journal has only one reading. If the same records are read as two lists of batches, the
-/// two lists are the same, and both readings are clean, or both are torn.
+/// two lists are the same. Both readings are clean, or both are torn.
 pub fn journals_are_one()
     ensures { IsOneJournal }
 {}

@@ -72,7 +72,7 @@ fn add(change: Change, batch: &mut Batch) -> Result<Taken, AllocError>
     Ok(Taken::Change)
 }
 
-/// Whether an `end` row with this number and this count ends the batch: the number has to be
+/// Whether an `end` row with this number and this count ends the batch. The number has to be
 /// `next`, and the batch has to have `count` changes.
 fn is_whole(batch: &Batch, next: u32, number: u32, count: u32) -> bool
     ensures { IsTrue result ↔ ((number ≡ next) × (count ≡ length batch.now.changes)) }
