@@ -77,8 +77,9 @@ alike_routers d e alike keyed =
     (λ t. (routers_counted d keyed r).1 (router_too e d (λ k. sym (alike.ends k)) r ((routers_counted e (alike_keyed d e alike keyed) r).0 t)))
     (λ t. (routers_counted e (alike_keyed d e alike keyed) r).1 (router_too d e alike.ends r ((routers_counted d keyed r).0 t)))))
 
--- Let `x` and `y` have the same key and neighbor, and also `o` and `p`. Then the choice between `x`
--- and `o` and the choice between `y` and `p`, by the same test, have the same key and neighbor.
+-- Let `x` and `y` have the same key and neighbor, and also `o` and `p`. Let one test choose between
+-- `x` and `o`, and also between `y` and `p`. Then the two chosen links have the same key and
+-- neighbor.
 cond_ends : (t : Bool) (x y o p : Option Link) → option_map ends_of_link x ≡ option_map ends_of_link y
     → option_map ends_of_link o ≡ option_map ends_of_link p
     → option_map ends_of_link (cond t x o) ≡ option_map ends_of_link (cond t y p)

@@ -86,7 +86,8 @@ same_held before after k l key same =
     (fun_ext (λ p. ap (λ q. counted before q p) key ∙ same p ∙ ap (λ q. counted after q p) (sym key)))
 
 -- Let two lists of placements count the same bandwidth at a key. If a database agrees at this key
--- with the effective database of the first list, it also agrees with that of the second list.
+-- with the effective database of the first list, it also agrees with the effective database of the
+-- second list.
 pub current_along : (base : Database) (before after : List Placement) (d : Database) (k : Key) → AreAtTheirKeys base
     → ((p : ℕ) → counted before k p ≡ counted after k p) → IsCurrentAt base before d k → IsCurrentAt base after d k
 current_along base before after d k keyed same current = current ∙ mapped (link_at base k) refl

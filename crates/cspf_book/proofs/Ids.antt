@@ -114,7 +114,7 @@ index_of-all id [] at behind within before = omega arith
 index_of-all id (p ∷ ps) at behind within before =
     sym (position_or_len_is (λ q. nat_eq (id_of q) id) (p ∷ ps) at p within (λ k h. before k p h) (λ h. absurd (omega arith)))
 
--- If the placement at index `at` has the id, and no placement before it has the id, `at` is the index of the id.
+-- If the placement at index `at` is the first placement with an id, `at` is the index of this id.
 pub index_of-found : (id : ℕ) (placements : List Placement) (at : ℕ) (p : Placement) → at ≤ length placements
     → ((k : ℕ) (d : Placement) → k < at → nat_eq (id_of (get_or placements k d)) id ≡ false)
     → p ≡ get_or placements at p → id_of p ≡ id → at ≡ index_of_id id placements

@@ -101,7 +101,7 @@ untouched_admits d cs p off admits =
     (untouched_followed d cs (without_bandwidth p.request) 0 p.request.from p.route parts.0 parts.1 ((admits_followed d p).1 admits))
 
 -- Let the database admit the route now. After the changes, a walk can follow the whole route
--- exactly if, from `router` on, it can follow the links from index `i` on. `near` says whether a
+-- exactly if a walk from `router` can follow the links from index `i` on. `near` says whether a
 -- change affects `router`.
 pub record IsFollowedUpTo (d : Database) (cs : List Change) (p : Placement) (i router : ℕ) (near : Bool) : Type 0 where
   pub changed : near ≡ changes_router cs router

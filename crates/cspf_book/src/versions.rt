@@ -86,8 +86,8 @@ impl Ids {
         replace_bits(&mut self.bits, at, bits);
     }
 
-    /// Removes the version of this id from the map by ids, and the version and the bits at index
-    /// `at` from their lists.
+    /// Removes the version of this id from the map by ids. Also removes the version and the bits at
+    /// index `at` from their lists.
     pub(crate) fn forget(&mut self, id: u64, at: usize)
         requires versions { at < length self.old.versions.items }
         requires bits { at < length self.old.bits.items }

@@ -428,8 +428,7 @@ module _ (all : Option (List (List (List ℕ)))) (w : Written) (new : Option (Li
   not_read (Ok summary) P cut = tt
   not_read (Err error) P cut = λ e. absurd (end_not_read (last_line too_many run.state.changes) w.after new bytes error (cut run.state run.kept) e)
 
--- If a run stops before its first row, it has written no lines, and no text to `keep`, the writer
--- of accepted rows.
+-- A run that stops before its first row has written no lines, and no text of accepted rows.
 pub halted_at_start : (bytes old keep : Option (List ℕ))
     → IfSome bytes (λ text. (out : List ℕ) × (kept : List ℕ) × IsBookBegun (rows_of text) out kept × Appends old old out × Appends keep keep kept)
 halted_at_start None old keep = tt

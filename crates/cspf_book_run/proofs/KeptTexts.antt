@@ -63,8 +63,8 @@ enough_bytes : (rs : List (List (List ℕ))) → length rs ≤ length (flat_map 
 enough_bytes [] = omega arith
 enough_bytes (r ∷ rs) = omega (arith, some_bytes r (flat_map (row_text default_writer) rs), enough_bytes rs)
 
--- A text doesn't begin with a byte order mark if it begins with a row whose first three bytes
--- aren't a byte order mark.
+-- Let the first three bytes of a row not be a byte order mark. Then a text that begins with this
+-- row has no byte order mark at its start.
 no_mark_text : (a b c : ℕ) (word second : List ℕ) (others : List (List ℕ)) (tail : List ℕ) → is_bom a b c ≡ false
     → field_text default_writer (a ∷ b ∷ c ∷ word) ≡ a ∷ b ∷ c ∷ word
     → strip_bom (row_text default_writer ((a ∷ b ∷ c ∷ word) ∷ second ∷ others) ++ tail) ≡ row_text default_writer ((a ∷ b ∷ c ∷ word) ∷ second ∷ others) ++ tail

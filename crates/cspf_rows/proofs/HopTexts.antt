@@ -18,7 +18,7 @@ record BeginsWithDigit (text : List ℕ) : Type 0 where
   digit : digit_value first < 10
 
 -- `number_of` gives a number only for a text that passes all its tests. So if it gives a number,
--- the test `first` was true, which is that the first byte of the text is a digit.
+-- the test `first` was true: the first byte of the text is a digit.
 first_passed : (plain first others small : Bool) (v n : ℕ) → cond ((plain && (first && others)) && small) (Some v) None ≡ Some n → first ≡ true
 first_passed true true others small v n read = refl
 first_passed true false others small v n read = absurd (cc)

@@ -30,8 +30,7 @@ bytes_digits [] small = refl
 bytes_digits (byte ∷ bytes) small =
     rw (are_alike-at 16 (byte / 16) refl (omega (arith, small.0)), are_alike-at 16 (byte % 16) refl (omega arith), bytes_digits bytes small.1) refl
 
--- A comma, `0x` and the digits that `hex` writes for a mask are the same as a comma and the text of
--- this mask.
+-- A comma, `0x` and the digits that `hex` writes for a mask are a comma and the text of this mask.
 pub mask_digits : (bits : ℕ) (old mid new digits : List ℕ) → digits ≡ encode_lower (to_be_bytes w32 bits) → mid ≡ old ++ codes ",0x"
     → new ≡ mid ++ digits → new ≡ old ++ (44 ∷ mask_text bits)
 unfolding mask_text
