@@ -62,8 +62,8 @@ uint32_t routed_open(routed_handle *handle);
  * They may have any number of rows, including 0. A line feed or a carriage return ends a row, and the
  * end of the bytes ends the last row. An empty line is no row, and a byte order mark at the start of
  * the bytes is skipped. So each row has to be given in one call, even if a quoted field of the row
- * has a line end. Rows are counted through all calls of a session. The first 1,000,000 rows of a
- * session are answered. Rows after these get no line, and routed_end then gives the line
+ * contains a line break. Rows are counted through all calls of a session. The first 1,000,000 rows of
+ * a session are answered. Later rows get no line, and routed_end then gives the line
  * `too many rows`.
  *
  * If the code is ROUTED_ANSWERED, the session holds the lines of these rows instead of its earlier

@@ -9,8 +9,8 @@ use Rattle.cspf_stream.specs.declared.open_changes.OpenChanges.{OpenChanges}
 abbrev pub AreKeptChanges : List Change → List Change → Type 0
 AreKeptChanges kept all = kept ≡ take KEPT_CHANGES all
 
--- `kept` stores only the first of all open changes: at most one change more than a batch may have.
--- Its `count` is the number of all open changes.
+-- `kept` stores only the first open changes: at most one change more than a batch may have. Its
+-- `count` is the number of all open changes.
 pub record AreOpen (kept : OpenChanges) (all : List Change) : Type 0 where
   pub changes : AreKeptChanges kept.batch.changes all
   pub count : kept.count ≡ length all

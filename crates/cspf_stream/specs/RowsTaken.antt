@@ -23,7 +23,7 @@ pub record RowsState (S : Type 0) : Type 0 where
   pub refused : ℕ
 
 -- The code's value `rows` stores the state `s`. It has the same sink and the same counts, and keeps
--- the first of the open changes.
+-- the first open changes (`AreOpen`).
 pub record KeepsRows {S : Type 0} (rows : Rows S) (s : RowsState S) : Type 0 where
   pub sink : rows.sink ≡ s.sink
   pub changes : AreOpen rows.changes s.changes

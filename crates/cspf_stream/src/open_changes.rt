@@ -10,11 +10,11 @@ use crate::limits::KEPT_CHANGES;
 use cspf_model::{Batch, Change};
 use std::alloc::{AllocError, Global};
 
-/// The changes of a stream since its last `end` row. Only the first of these changes are kept: at
-/// most one change more than a batch may have.
+/// The changes of a stream since its last `end` row. Only the first changes are kept: at most one
+/// change more than a batch may have.
 #[derive(Drop)]
 pub struct OpenChanges {
-    /// The first of the open changes, as a batch. The number of this batch has no meaning.
+    /// The kept changes, as a batch. The number of this batch has no meaning.
     pub batch: Batch,
     /// How many changes are open.
     pub count: u64,
