@@ -17,14 +17,13 @@ use Rattle.cspf_book.specs.Placements.{ends_of_link}
 use Rattle.cspf_book.specs.Alike.{AreAlike}
 use Rattle.cspf_book.proofs.KeyTests.{same_tests}
 
--- the content of an option that isn't `None`
+-- an option that isn't `None` has a value
 some_of : {A : Type 0} (o : Option A) → IsSome o → (x : A) × (o ≡ Some x)
 some_of (Some x) h = (x, refl)
 some_of None h = absurd (cc)
 
--- Take two optional links that differ at most in attributes: neither is a link, or both have the
--- same key and run to the same router. If the second is the link `l`, the first is a link with the
--- key of `l` that runs to the same router.
+-- Let two optional links have the same `ends_of_link` (key and neighbor), or both be `None`. If the
+-- second is the link `l`, the first is a link with the key and the neighbor of `l`.
 pub alike_some : (o p : Option Link) (l : Link) → option_map ends_of_link o ≡ option_map ends_of_link p → p ≡ Some l
     → (m : Link) × (o ≡ Some m) × (ends_of_link m ≡ ends_of_link l)
 alike_some (Some m) p l same is =
@@ -35,7 +34,8 @@ alike_some None p l same is = absurd (none_some (same ∙ ap (option_map ends_of
     none_some : ◌≡◌ {A = Option (Key × ℕ)} None (Some (ends_of_link l)) → ⊥
     none_some e = cc
 
--- If two optional links differ at most in attributes of a link, both are `Some` or both are `None`.
+-- If two optional links have the same `ends_of_link` (key and neighbor), both are `Some` or both
+-- are `None`.
 pub alike_is_some : (o p : Option Link) → option_map ends_of_link o ≡ option_map ends_of_link p → is_some o ≡ is_some p
 alike_is_some o p same = mapped o ∙ ap is_some same ∙ sym (mapped p)
   where
@@ -43,18 +43,19 @@ alike_is_some o p same = mapped o ∙ ap is_some same ∙ sym (mapped p)
     mapped (Some x) = refl
     mapped None = refl
 
--- `AreAlike` holds between a database and itself
+-- a database differs from itself at most in attributes of its links (`AreAlike`)
 pub alike_itself : (d : Database) → AreAlike d d
 alike_itself d = record { marks = refl; count = refl; ends = λ k. refl }
 
--- Take two databases that differ only in attributes of their links. If each link of the first is at
--- its own key, so is each link of the second.
+-- Let two databases differ only in attributes of their links. If each link of the first is at the
+-- link's own key, this is also true of the second.
 pub alike_keyed : (d e : Database) → AreAlike d e → AreAtTheirKeys d → AreAtTheirKeys e
 alike_keyed d e alike keyed k m is =
     let other = alike_some (link_at d k) (link_at e k) m (sym (alike.ends k)) is in
     sym (ap (λ (x : Key × ℕ). x.0) other.2) ∙ keyed k other.0 other.1
 
--- If two databases have links at the same keys and to the same routers, a router of one is a router of the other.
+-- Let two databases have links at the same keys, and let the two links at a key run to the same
+-- router. Then each router of the first database is a router of the second.
 router_too : (d e : Database) → ((k : Key) → option_map ends_of_link (link_at e k) ≡ option_map ends_of_link (link_at d k))
     → (router : ℕ) → IsRouterOf d router → IsRouterOf e router
 router_too d e ends router (l, is, at_end) =
@@ -76,17 +77,17 @@ alike_routers d e alike keyed =
     (λ t. (routers_counted d keyed r).1 (router_too e d (λ k. sym (alike.ends k)) r ((routers_counted e (alike_keyed d e alike keyed) r).0 t)))
     (λ t. (routers_counted e (alike_keyed d e alike keyed) r).1 (router_too d e alike.ends r ((routers_counted d keyed r).0 t)))))
 
--- Two optional links are alike if they differ at most in attributes of a link. Let `x` be alike to
--- `y`, and `o` alike to `p`. A test that chooses between `x` and `o` chooses a link that is alike
--- to what it chooses between `y` and `p`.
+-- Let `x` and `y` have the same key and neighbor, and also `o` and `p`. Let one test choose between
+-- `x` and `o`, and also between `y` and `p`. Then the two chosen links have the same key and
+-- neighbor.
 cond_ends : (t : Bool) (x y o p : Option Link) → option_map ends_of_link x ≡ option_map ends_of_link y
     → option_map ends_of_link o ≡ option_map ends_of_link p
     → option_map ends_of_link (cond t x o) ≡ option_map ends_of_link (cond t y p)
 cond_ends true x y o p first second = first
 cond_ends false x y o p first second = second
 
--- Two databases differ only in attributes of their links. This still holds if, in one of them, a
--- link is replaced by a link with the same key that runs to the same router.
+-- Let two databases differ only in attributes of their links. This is still true if, in one of
+-- them, a link is replaced by a link with the same key and neighbor.
 pub alike_put : (d e : Database) (m : Link) → AreAlike d e
     → option_map ends_of_link (link_at d (key_of m)) ≡ Some (ends_of_link m) → AreAlike d (after_change e (Put m))
 alike_put d e m alike there = record {
@@ -108,15 +109,15 @@ alike_put d e m alike there = record {
     at k true tie = sym there ∙ ap (λ q. option_map ends_of_link (link_at d q)) (sym (keys_same k (key_of m) tie))
     at k false off = alike.ends k
 
--- If both of two equal numbers grow by one, or neither does, they stay equal.
+-- Two equal numbers stay equal if both of them grow by one, or neither does.
 one_more : (a b : Bool) (m n : ℕ) → a ≡ b → m ≡ n → cond a m (m + 1) ≡ cond b n (n + 1)
 one_more a b m n p q = λ i. cond (p i) (q i) (q i + 1)
 
 one_less : (a b : Bool) (m n : ℕ) → a ≡ b → m ≡ n → cond a (m - 1) m ≡ cond b (n - 1) n
 one_less a b m n p q = λ i. cond (p i) (q i - 1) (q i)
 
--- If the same change is made in two databases that differ only in attributes of their links, they
--- still differ only in such attributes.
+-- Let two databases differ only in attributes of their links. This is still true after the same
+-- change is made in both.
 alike_change : (d e : Database) (c : Change) → AreAlike d e → AreAlike (after_change d c) (after_change e c)
 alike_change d e (Put l) alike = record {
   marks = alike.marks;
@@ -146,23 +147,23 @@ alike_change d e (Node router transit) alike = record {
   ends = alike.ends;
 }
 
--- If the same changes are made in two databases that differ only in attributes of their links, they
--- still differ only in such attributes.
+-- Let two databases differ only in attributes of their links. This is still true after the same
+-- changes are made in both.
 pub alike_changes : (d e : Database) (cs : List Change) → AreAlike d e → AreAlike (after_changes d cs) (after_changes e cs)
 alike_changes d e [] alike = alike
 alike_changes d e (c ∷ cs) alike =
     alike_changes (after_change d c) (after_change e c) cs (alike_change d e c alike)
 
--- Two databases differ only in attributes of their links. If a change removes a link that the first
--- has, the second has a link at this key, too.
+-- Let two databases differ only in attributes of their links. If a change removes a link that the
+-- first database has, the second database has a link at the same key.
 present_too : (d e : Database) (c : Change) → AreAlike d e → IsPresent d c → IsPresent e c
 present_too d e (Put l) alike present = tt
 present_too d e (Node router transit) alike present = tt
 present_too d e (Remove from local) alike present =
     alike_is_some (link_at e (from, local)) (link_at d (from, local)) (alike.ends (from, local)) ∙ present
 
--- Two databases differ only in attributes of their links. A batch that fits the first also fits the
--- second.
+-- Let two databases differ only in attributes of their links. A batch that fits the first also fits
+-- the second.
 pub alike_fits : (d e : Database) (b : NumberedChanges) → AreAlike d e → AreAtTheirKeys (after_changes d b.changes)
     → Fits d b → Fits e b
 alike_fits d e b alike keyed fits =

@@ -1,5 +1,5 @@
--- The versions in which placements were placed, and how they give the index of the placement with
--- an id.
+-- How the index of the placement with an id is found from the versions in which the placements were
+-- placed. Versions rise if they are strictly increasing.
 use Rattle.std.proofs.Common.{◌≡◌, ℕ, zero, suc, ◌+◌, ◌<◌, ◌≤◌, ◌++◌, Bool, true, false, cond, not, Option, Some, None, List, [], ◌∷◌, length, map, nat_eq, remove, slice_index, refl, sym, ap, subst, ◌∙◌, eqb-true, eq-eqb, ltb, ltb-true, ltb-false, inl, inr, arith}
 use Rattle.std.specs.List.{AllByRecursion}
 use Rattle.std.specs.List.Sorted.{IsNonDecreasing, IsPartitionPoint}
@@ -18,12 +18,13 @@ use Rattle.cspf_book.specs.Inside.{HaveDistinctIds}
 use Rattle.cspf_book.specs.ById.{IsRising, version_of, entered, IsIndexIn, AreIdsOf, HasSameIds, HasEntered, HasReplaced, HasForgotten}
 use Rattle.cspf_book.proofs.RouterBits.{bits-remove}
 
--- Two tests of whether two ids are the same give the same result.
+-- The comparison of two ids by `nat_cmp` and the test `nat_eq` agree on whether the two ids are
+-- equal.
 pub same_test : (a b : ℕ) → eq_by_cmp nat_cmp a b ≡ nat_eq a b
 same_test a b = grind (arith, nat_tests)
 
--- If an index splits the versions into those below a version and those at or above it, `IsIndexIn`
--- holds of the index.
+-- If all versions before an index are below a version, and all others are at or above it,
+-- `IsIndexIn` holds for the index.
 pub index_by_split : (vs : List ℕ) (version index : ℕ)
     → IsPartitionPoint (λ (v : ℕ). ltb v version ≡ true) (λ (v : ℕ). ltb v version ≡ false) vs index → IsIndexIn vs version index
 index_by_split vs version index split = record {
@@ -31,36 +32,36 @@ index_by_split vs version index split = record {
   behind = λ k from within. ltb-false _ version (split.1 k 0 from within);
 }
 
--- If rising versions are at least a number, they are at least each lower number, too.
+-- A lower bound of rising versions may be replaced by a lower number.
 rising_lower : (low least high : ℕ) (vs : List ℕ) → least ≤ low → IsRising low vs high → IsRising least vs high
 rising_lower low least high [] le rises = omega arith
 rising_lower low least high (v ∷ vs) le rises = (omega (arith, rises.0), rises.1)
 
--- If rising versions are below a number, they are below each higher number, too.
+-- An upper bound of rising versions may be replaced by a greater number.
 pub rising_higher : (low high most : ℕ) (vs : List ℕ) → high ≤ most → IsRising low vs high → IsRising low vs most
 rising_higher low high most [] le rises = omega arith
 rising_higher low high most (v ∷ vs) le rises = (rises.0, rising_higher (v + 1) high most vs le rises.1)
 
--- If one of several rising versions is removed, the others still rise.
+-- Rising versions still rise if one of them is removed.
 rising-remove : (low high at : ℕ) (vs : List ℕ) → IsRising low vs high → IsRising low (remove vs at) high
 rising-remove low high zero [] rises = rises
 rising-remove low high (suc at) [] rises = rises
 rising-remove low high zero (v ∷ vs) rises = rising_lower (v + 1) low high vs (omega (arith, rises.0)) rises.1
 rising-remove low high (suc at) (v ∷ vs) rises = (rises.0, rising-remove (v + 1) high at vs rises.1)
 
--- If versions rise and are below `high`, they also rise with `high` at their end.
+-- If rising versions are below `high`, they still rise with `high` appended.
 rising-push : (low high : ℕ) (vs : List ℕ) → IsRising low vs high → IsRising low (vs ++ high ∷ []) (high + 1)
 rising-push low high [] rises = (rises, omega arith)
 rising-push low high (v ∷ vs) rises = (rises.0, rising-push (v + 1) high vs rises.1)
 
--- Each of several versions that rise from `low` on is at least `low`.
+-- Each of the versions that rise from `low` on is at least `low`.
 rising_least : (low high k : ℕ) (vs : List ℕ) → IsRising low vs high → k < length vs → low ≤ slice_index vs k
 rising_least low high k [] rises within = absurd (omega arith)
 rising_least low high zero (v ∷ vs) rises within = rises.0
 rising_least low high (suc k) (v ∷ vs) rises within =
     let later = rising_least (v + 1) high k vs rises.1 (omega arith) in omega (arith, later, rises.0)
 
--- Of two versions in a rising list, the version at the lower index is lower.
+-- In a rising list of versions, a version at a lower index is lower.
 rising_at : (low high i j : ℕ) (vs : List ℕ) → IsRising low vs high → i < j → j < length vs → slice_index vs i < slice_index vs j
 rising_at low high i j [] rises first within = absurd (omega arith)
 rising_at low high i zero (v ∷ vs) rises first within = absurd (omega arith)
@@ -68,7 +69,7 @@ rising_at low high zero (suc j) (v ∷ vs) rises first within =
     let later = rising_least (v + 1) high j vs rises.1 (omega arith) in omega (arith, later)
 rising_at low high (suc i) (suc j) (v ∷ vs) rises first within = rising_at (v + 1) high i j vs rises.1 (omega arith) (omega arith)
 
--- In a rising list of versions, the version at an index is at most the version at this or a later
+-- In a rising list of versions, the version at an index is at most each version at this or a later
 -- index.
 rising_up_to : (low high i j : ℕ) (vs : List ℕ) → IsRising low vs high → i ≤ j → j < length vs → slice_index vs i ≤ slice_index vs j
 rising_up_to low high i j [] rises first within = absurd (omega arith)
@@ -83,7 +84,7 @@ rising_sorted : (low high : ℕ) (vs : List ℕ) → IsRising low vs high → Is
 rising_sorted low high vs rises =
     IsNonDecreasingBy-from_default (λ (v : ℕ). v) vs 0 (λ i j first within. rising_up_to low high i j vs rises first within)
 
--- If no placement has the id, no version is found for the id.
+-- If no placement has an id, no version is found for this id.
 no_version : (vs : List ℕ) (ps : List Placement) (id : ℕ) → AllByRecursion (λ y. nat_eq id y ≡ false) (map id_of ps) → version_of vs ps id ≡ None
 no_version [] ps id none = refl
 no_version (v ∷ vs) [] id none = refl
@@ -105,7 +106,7 @@ version_found (w ∷ ws) (p ∷ ps) id v is =
     later : (m n : ℕ) → m ≡ suc n → slice_index (w ∷ ws) m ≡ slice_index ws n
     later m n e = rw e refl
 
--- If each placement has a version, and no version is found for an id, no placement has the id.
+-- Let each placement have a version. If no version is found for an id, no placement has this id.
 pub version_absent : (vs : List ℕ) (ps : List Placement) (id : ℕ) → length vs ≡ length ps → version_of vs ps id ≡ None
     → index_of_id id ps ≡ length ps
 version_absent [] [] id many none = refl
@@ -117,8 +118,8 @@ version_absent (v ∷ vs) (p ∷ ps) id many none =
       | false ↦ λ e. let rest = version_absent vs ps id (omega arith) e in omega (arith, rest)
     ] none
 
--- If the placement of an id is removed together with its version, no version is found for this id.
--- For each other id the same version is found as before.
+-- If the placement with an id and its version are removed from their lists, no version is found for
+-- this id. For each other id, the same version is found as before.
 version_of-remove : (vs : List ℕ) (ps : List Placement) (id q : ℕ) → length vs ≡ length ps → HaveDistinctIds ps
     → version_of (remove vs (index_of_id id ps)) (remove ps (index_of_id id ps)) q ≡ cond (nat_eq id q) None (version_of vs ps q)
 version_of-remove [] [] id q many own = sym (either (nat_eq id q) None)
@@ -155,9 +156,9 @@ version_of-remove (v ∷ vs) (p ∷ ps) id q many own =
     later : (m n : ℕ) → m ≡ suc n → version_of (remove (v ∷ vs) m) (remove (p ∷ ps) m) q ≡ cond (nat_eq (id_of p) q) (Some v) (version_of (remove vs n) (remove ps n) q)
     later m n e = rw e refl
 
--- No version is found for the id of a placement. If the placement and its version are added at the
--- ends of the two lists, this version is found for its id. For each other id the same version is
--- found as before.
+-- Let no version be found for the id of a placement. If this placement and a version are appended
+-- to the two lists, the version is found for this id. For each other id, the same version is found
+-- as before.
 version_of-push : (vs : List ℕ) (ps : List Placement) (v : ℕ) (p : Placement) (q : ℕ) → length vs ≡ length ps → version_of vs ps (id_of p) ≡ None
     → version_of (vs ++ v ∷ []) (ps ++ p ∷ []) q ≡ cond (nat_eq (id_of p) q) (Some v) (version_of vs ps q)
 version_of-push [] [] v p q many none = refl
@@ -177,8 +178,8 @@ version_of-push (w ∷ ws) (r ∷ rs) v p q many none =
     turned true false x apart = refl
     turned false b x apart = refl
 
--- If two lists have the same length, removing the element at one index from both leaves lists of
--- the same length.
+-- If the element at the same index is removed from two lists of the same length, the lists that are
+-- left have the same length.
 same_length-remove : (vs : List ℕ) (ps : List Placement) (index : ℕ) → length vs ≡ length ps → length (remove vs index) ≡ length (remove ps index)
 same_length-remove [] [] zero many = refl
 same_length-remove [] [] (suc index) many = refl
@@ -198,8 +199,8 @@ ids_same x y version ps are same = record {
   bits = same.bits ∙ are.bits;
 }
 
--- If `x` has the versions of the placements, and none of them is above `version`, this is also true
--- with the next version in place of `version`.
+-- If `x` has the versions of the placements at the version `version`, it also has them at the next
+-- version.
 pub ids_later : (x : Ids) (version : ℕ) (ps : List Placement) → AreIdsOf x version ps → AreIdsOf x (version + 1) ps
 ids_later x version ps are = record {
   many = are.many;
@@ -208,7 +209,8 @@ ids_later x version ps are = record {
   bits = are.bits;
 }
 
--- The index of an id's version in the list of versions is the index of the placement with this id.
+-- Let `v` be the version that the map has for an id. The index of `v` in the list of versions is
+-- the index of the placement with this id.
 pub index_by_version : (x : Ids) (version : ℕ) (ps : List Placement) (id v index : ℕ) → AreIdsOf x version ps → entered x id ≡ Some v
     → (IsNonDecreasing x.versions.items → IsIndexIn x.versions.items v index) → index ≡ index_of_id id ps
 index_by_version x version ps id v index are is found =
@@ -231,7 +233,7 @@ pub index_behind : (x : Ids) (version : ℕ) (ps : List Placement) (id : ℕ) �
 index_behind x version ps id are none =
     are.many ∙ sym (version_absent x.versions.items ps id are.many (sym (are.at id) ∙ none))
 
--- A placement replaces the placement with the same id, and gets the next version. Then `z` has the
+-- Let a placement of the next version replace the placement with the same id. Then `z` has the
 -- versions and the bits of the new list of placements.
 pub ids_placed : (x y z : Ids) (version index id bits : ℕ) (ps : List Placement) (p : Placement) → AreIdsOf x version ps → HaveDistinctIds ps
     → index ≡ index_of_id id ps → id_of p ≡ id → y.versions.items ≡ x.versions.items → y.bits.items ≡ x.bits.items → bits ≡ bits_of p
@@ -265,7 +267,7 @@ ids_placed x y z version index id bits ps p are own at its same kept with entry 
     twice true o = refl
     twice false o = refl
 
--- If the placement of an id, its version and its bits are removed, `y` has the versions and the
+-- If the placement with an id, its version and its bits are removed, `y` has the versions and the
 -- bits of the other placements.
 pub ids_forgotten : (x y : Ids) (version index id : ℕ) (ps : List Placement) → AreIdsOf x version ps → HaveDistinctIds ps
     → index ≡ index_of_id id ps → HasForgotten x y id index → AreIdsOf y (version + 1) (remove ps index)

@@ -1,4 +1,4 @@
--- Changes that are looked up by their keys and their routers.
+-- How changes are entered into the map and the set by which they are looked up.
 use Rattle.std.proofs.Common.{◌≡◌, ℕ, ◌+◌, ◌<◌, ◌||◌, ◌++◌, Bool, true, false, cond, Some, List, [], ◌∷◌, length, take, nat_eq, find, slice_index_or, refl, sym, ap, subst, ◌∙◌, eqb-true}
 use Rattle.std.specs.BTreeMap.{BTreeMap, get}
 use Rattle.std.specs.Int.Bits.{bit_or}
@@ -17,14 +17,14 @@ use Rattle.cspf_book.proofs.ById.{same_test}
 use Rattle.cspf_book.proofs.RouterBits.{among_more, among_added}
 use Rattle.cspf_book.proofs.ChangedBases.{on_key}
 
--- After one more change, the last change with a key is this change if it has the key, and otherwise
--- the last one before it.
+-- If a change is appended, the last change with a key is this change if it has the key. Otherwise
+-- it is the last change with the key from before.
 last_on-push : (k : ChangeKey) (cs : List Change) (c : Change)
     → last_on k (cs ++ c ∷ []) ≡ cond (eq_by_cmp change_key_cmp k (key_changed c)) (Some c) (last_on k cs)
 last_on-push k cs c = ap (find (on_key k)) (reverse-append cs (c ∷ []))
 
--- With one more change, the changes affect a router exactly if this change does or the changes
--- before it do.
+-- If a change is appended, the changes affect a router exactly if this change or an earlier change
+-- affects it.
 changes_router-push : (cs : List Change) (c : Change) (router : ℕ)
     → changes_router (cs ++ c ∷ []) router ≡ cond (nat_eq (key_changed c).0 router) true (changes_router cs router)
 changes_router-push cs c router =
@@ -36,8 +36,8 @@ changes_router-push cs c router =
     either false true = refl
     either false false = refl
 
--- `IsByKey` holds of a map, a set and bits for the first i changes. If the change at index i is
--- entered in all three, it holds for the first i + 1 changes.
+-- Let a map, a set and bits be those of the first i changes (`IsByKey`). If the change at index i
+-- is entered into all three, they are those of the first i + 1 changes.
 pub by_key_more : (m n : BTreeMap ChangeKey Change) (s t : BTreeSet ℕ) (bits more : ℕ) (cs : List Change) (i : ℕ) (c : Change) (key : ChangeKey)
     → i < length cs → c ≡ slice_index_or cs i c → key ≡ key_changed c
     → ((k : ChangeKey) → get change_key_cmp n k ≡ cond (eq_by_cmp change_key_cmp key k) (Some c) (get change_key_cmp m k))

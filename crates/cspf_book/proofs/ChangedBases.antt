@@ -1,4 +1,5 @@
--- The database after changes of a base: its link at each key, and its marked routers, which carry no transit.
+-- The links and the marks that a base has after changes. A mark says that a router carries no
+-- transit.
 use Rattle.std.proofs.Common.{◌≡◌, ◌↔◌, ℕ, Bool, true, false, not, cond, IsTrue, IfSome, Option, Some, None, List, [], ◌∷◌, reverse, find, refl, sym, ap, ◌∙◌}
 use Rattle.std.specs.Ordering.{nat_cmp, eq_by_cmp}
 use Rattle.std.specs.FinSet as set
@@ -12,7 +13,7 @@ use Rattle.cspf_model.specs.Changes.{ChangeKey, change_key_cmp, link_key, mark_k
 use Rattle.cspf_model.proofs.Databases.Keys.{change_keys_same, link_keys_same, mark_apart}
 use Rattle.cspf_model.proofs.Databases.LastChanges.{link_at-after_changes, tied_alone, after_mark, after_changes-append}
 
--- The change has this key.
+-- The key of the change is `k`.
 abbrev pub on_key : ChangeKey → Change → Bool
 on_key k c = eq_by_cmp change_key_cmp k (key_changed c)
 
@@ -30,8 +31,8 @@ pub last_put : (k : Key) (cs : List Change) (l : Link) → last_on (link_key k) 
 last_put k cs l e =
     sym (link_keys_same k (key_of l) (change_keys_same (link_key k) (link_key (key_of l)) (find_passes (on_key (link_key k)) (reverse cs) (Put l) e)))
 
--- `mark_after` says whether a router is marked after one change. Only a change of the router's own
--- mark matters. A marked router carries no transit.
+-- Only a change of a router's own mark matters for whether the router is marked after one change. A
+-- marked router carries no transit.
 pub marked-after_change : (d : Database) (c : Change) (q : ℕ)
     → set.contains (after_change d c).marks q ≡ mark_after (cond (on_key (mark_key q) c) (Some c) None) (set.contains d.marks q)
 marked-after_change d (Put l) q =
@@ -48,7 +49,7 @@ marked-after_change d (Node router transit) q =
     chosen false = refl
 
 -- The last change of a router's mark decides whether the router is marked. A marked router carries
--- no transit. The changes are listed here from the last to the first.
+-- no transit. This lemma lists the changes from the last to the first.
 marked-after_reversed : (d : Database) (cs : List Change) (q : ℕ)
     → set.contains (after_changes d (reverse cs)).marks q ≡ mark_after (find (on_key (mark_key q)) cs) (set.contains d.marks q)
 marked-after_reversed d [] q = refl
@@ -65,7 +66,7 @@ pub marked-after_changes : (d : Database) (cs : List Change) (q : ℕ)
 marked-after_changes d cs q =
     ap (λ bs. set.contains (after_changes d bs).marks q) (sym (reverse-reverse cs)) ∙ marked-after_reversed d (reverse cs) q
 
--- If there are changes with a link's key, the last of them decides which link is at this key.
+-- The last change with a link's key decides which link is at this key after the changes.
 pub link_by_last : (d : Database) (cs : List Change) (k : Key) (c : Change) → Some c ≡ last_on (link_key k) cs
     → link_left c ≡ link_at (after_changes d cs) k
 link_by_last d cs k c is =
@@ -89,7 +90,7 @@ pub keyed_by_base : (d : Database) (k : Key) (o : Option Link) → AreAtTheirKey
 keyed_by_base d k None keyed is = tt
 keyed_by_base d k (Some l) keyed is = keyed k l (sym is)
 
--- If two tests are equal, the first fails exactly if the second doesn't hold.
+-- If two tests give the same result, the first fails exactly if the second doesn't hold.
 unmarked : (a b : Bool) → a ≡ b → IsTrue (not b) ↔ (¬ IsTrue a)
 unmarked a true e = (λ t. absurd (false≢true t), λ marked. absurd (marked e))
 unmarked a false e = (λ t marked. false≢true (sym e ∙ marked), λ marked. refl)
@@ -109,8 +110,8 @@ transit_by_none d cs q is =
     marked-after_changes d cs q ∙ ap (λ o. mark_after o (set.contains d.marks q)) (sym is) in
     (λ free marked. free (sym same ∙ marked), λ free marked. free (same ∙ marked))
 
--- If the link at the reverse's key runs back to the router of `l`, it is the reverse exactly if it also runs to the
--- interface of `l`.
+-- Let `back` be the link at the key that the reverse of `l` has, and let it run to the router of
+-- `l`. Then `back` is the reverse of `l` exactly if its remote address is the local address of `l`.
 pub reverse_found : (d : Database) (l back : Link) → Some back ≡ link_at d (l.to, l.remote) → key_of back ≡ (l.to, l.remote)
     → back.to ≡ l.from → (back.remote ≡ l.local) ↔ HasReverse d l
 reverse_found d l back found keyed to = (

@@ -1,5 +1,5 @@
--- Covered links stay covered. A link is covered at a priority if the bandwidth that the placements
--- count on it there is at most its unreserved bandwidth in the base.
+-- Covered links stay covered. A link is covered at a priority if the placements count at most the
+-- link's unreserved bandwidth in the base at this priority.
 use Rattle.std.proofs.Common.{◌≡◌, ℕ, ◌+◌, ◌-◌, ◌≤◌, ◌||◌, ◌&&◌, Bool, true, false, not, cond, Option, Some, None, List, [], ◌∷◌, ◌++◌, nat_eq, nat_le, slice_index, lit<, refl, sym, ap, subst, ◌∙◌, arith}
 use Rattle.std.specs.List.{AllByRecursion}
 use Rattle.std.specs.Option.{option_map}
@@ -17,8 +17,8 @@ use Rattle.cspf_book.proofs.EffectiveLinks.{effective_at}
 use Rattle.cspf_book.proofs.Figures.{figure-le, figure-le-left, free-effective_link}
 use Rattle.cspf_book.proofs.KeyTests.{same_key_test}
 
--- At each key and priority, the placements count at most as much without the placement of this id
--- as with it.
+-- At each key and priority, the placements with other ids count at most as much bandwidth as all
+-- placements.
 pub counted-others : (id : ℕ) (placements : List Placement) (k : Key) (priority : ℕ)
     → counted (others id placements) k priority ≤ counted placements k priority
 counted-others id [] k priority = omega arith
@@ -28,20 +28,19 @@ counted-others id (p ∷ ps) k priority =
       | false ↦ omega (arith, counted-others id ps k priority, sum_by-cons (bandwidth_on k priority) p ps, sum_by-cons (bandwidth_on k priority) p (others id ps))
     ]
 
--- If the placements count at most a link's bandwidth at a priority, they still do after a release.
+-- If a link is covered at a priority, it is still covered after a release.
 pub releasing_covered : ReleasingKeepsCovered
 releasing_covered placements id l priority covered =
     omega (arith, counted-others id placements (key_of l) priority, covered)
 
--- Each link of the effective database is a link of the base with its effective bandwidths, which
--- are what the placements leave of its unreserved bandwidths.
+-- Each link of the effective database is a link of the base, with its effective bandwidths.
 link_behind : (placements : List Placement) (o : Option Link) (m : Link) → option_map (effective_link placements) o ≡ Some m
     → (l : Link) × (o ≡ Some l) × (effective_link placements l ≡ m)
 link_behind placements (Some l) m e = (l, refl, (cc))
 link_behind placements None m e = absurd (cc)
 
--- A link of the walk has room for the request: its effective bandwidth (what the placements leave)
--- is at least the request's bandwidth.
+-- If a walk in the effective database uses the base's link `l`, the effective bandwidth of `l` is
+-- at least the request's bandwidth.
 room_on : (base : Database) (placements : List Placement) (q : Request) (k : Key) (walk : List Link)
     → AllByRecursion (IsAdmissible (effective base placements) q) walk → has_key walk k ≡ true
     → (l : Link) → link_at base k ≡ Some l → q.bandwidth ≤ slice_index (effective_link placements l).free q.setup
@@ -57,17 +56,16 @@ room_on base placements q k (m ∷ walk) all has l is =
       | false ↦ λ _ later. room_on base placements q k walk all.1 later l is
     ] refl has
 
--- The placements count at most a link's bandwidth. The bandwidth of one more placement is at most
--- the link's effective bandwidth, which is what these placements leave. With this placement, the
--- bandwidth counted on the link is still at most the link's.
+-- Let the placements count at most a link's bandwidth. Let the bandwidth of a new placement be at
+-- most the effective bandwidth that the other placements leave. Then the link's bandwidth is still
+-- enough with the new placement.
 within : (counts has : Bool) (bandwidth figure free held all sum : ℕ) → (has ≡ true → bandwidth ≤ figure) → figure ≤ free - held
     → held ≤ all → all ≤ free → sum ≡ held + cond (counts && has) bandwidth 0 → sum ≤ free
 within true true bandwidth figure free held all sum room le less covered e = let fits = room refl in omega (arith, fits)
 within true false bandwidth figure free held all sum room le less covered e = omega arith
 within false has bandwidth figure free held all sum room le less covered e = omega arith
 
--- If the placements count at most a link's bandwidth at a priority, they still do after a request
--- is placed.
+-- If a link is covered at a priority, it is still covered after a request is placed.
 pub placing_covered : PlacingKeepsCovered
 placing_covered base placements p seven walk l priority is small covered =
     let rest : List Placement = others (id_of p) placements in

@@ -1,5 +1,6 @@
--- At which keys a database has the links of the effective database (the base's links with the
--- bandwidths that the placements leave). Also how a database is updated to the effective database.
+-- The keys at which a database agrees with the effective database, and how a database is updated
+-- until it agrees everywhere. The effective database is the base with the bandwidth that the
+-- placements leave on its links.
 use Rattle.std.proofs.Common.{◌≡◌, ℕ, ◌+◌, ◌<◌, ◌||◌, ◌&&◌, Bool, true, false, cond, Option, Some, None, List, [], ◌∷◌, ◌++◌, T, length, map, drop, nat_eq, nat_le, remove, get_or, refl, sym, ap, ◌∙◌, arith}
 use Rattle.std.proofs.Math.Path.{fun_ext}
 use Rattle.std.specs.Ordering.{eq_by_cmp, is_lt}
@@ -23,21 +24,23 @@ use Rattle.cspf_book.specs.Alike.{AreAlike, IsCurrentAt, IsCurrentBut, IsCurrent
 use Rattle.cspf_book.proofs.EffectiveLinks.{effective_at}
 use Rattle.cspf_book.proofs.KeyTests.{same_key_test}
 
--- Whether a key is below the keys of all entries doesn't depend on the links of the entries.
+-- The test `below_all` (a key is below the keys of all entries) doesn't depend on the links of the
+-- entries.
 below_all-mapped : (f : Link → Link) (k : Key) (es : List (Key × Link))
     → below_all key_cmp k (map (λ e. (e.0, f e.1)) es) ≡ below_all key_cmp k es
 below_all-mapped f k [] = refl
 below_all-mapped f k (e ∷ es) = ap (λ b. is_lt (key_cmp k e.0) && b) (below_all-mapped f k es)
 
--- Whether entries are sorted by their keys doesn't depend on their links.
+-- The test `is_sorted` (entries are sorted by their keys) doesn't depend on the links of the
+-- entries.
 is_sorted-mapped : (f : Link → Link) (es : List (Key × Link))
     → map.is_sorted key_cmp (map (λ e. (e.0, f e.1)) es) ≡ map.is_sorted key_cmp es
 is_sorted-mapped f [] = refl
 is_sorted-mapped f (e ∷ es) =
     λ i. below_all-mapped f e.0 es i && is_sorted-mapped f es i
 
--- A link keeps its key, and the router that it runs to, if it gets its effective bandwidths (what
--- the placements leave).
+-- A link with its effective bandwidths has the same key and the same neighbor as the link of the
+-- base.
 ends_kept : (placements : List Placement) (o : Option Link)
     → option_map ends_of_link (option_map (effective_link placements) o) ≡ option_map ends_of_link o
 unfolding effective_link
@@ -55,8 +58,7 @@ len-mapped base es sorted many =
     ∙ many
     ∙ sym (map.len-entries base.links)
 
--- The effective database, whose links have the bandwidths that the placements leave, and its base
--- differ only in attributes of their links (`AreAlike`).
+-- The base and its effective database differ only in attributes of their links (`AreAlike`).
 pub alike_effective : (base : Database) (placements : List Placement) → AreAlike base (effective base placements)
 alike_effective base placements = record {
   marks = refl;
@@ -67,16 +69,15 @@ alike_effective base placements = record {
   ends = λ k. ap (option_map ends_of_link) (effective_at base placements k) ∙ ends_kept placements (link_at base k);
 }
 
--- A database differs from the base only in attributes of its links. If it has at each key the
--- effective link (the base's link with the bandwidths that the placements leave), it is the
--- effective database.
+-- Let a database differ from the base only in attributes of its links. If it agrees with the
+-- effective database at each key, it is the effective database.
 pub current_whole : (base : Database) (placements : List Placement) (d : Database) → AreAlike base d
     → ((k : Key) → IsCurrentAt base placements d k) → d ≡ effective base placements
 current_whole base placements d alike current =
     same_database d (effective base placements) alike.marks (λ k. current k ∙ sym (effective_at base placements k))
 
--- The effective bandwidths of a link (what the placements leave) depend only on the base's link and
--- on the bandwidth that the placements count on its key.
+-- If two lists of placements count the same bandwidth on a link, they leave the same effective
+-- bandwidths on it.
 same_held : (before after : List Placement) (k : Key) (l : Link) → key_of l ≡ k
     → ((p : ℕ) → counted before k p ≡ counted after k p) → effective_link before l ≡ effective_link after l
 unfolding effective_link
@@ -84,9 +85,9 @@ same_held before after k l key same =
     ap (λ held. with_free l (figures l.free held) refl)
     (fun_ext (λ p. ap (λ q. counted before q p) key ∙ same p ∙ ap (λ q. counted after q p) (sym key)))
 
--- Take two lists of placements that count the same bandwidth at a key. A database has at this key
--- the base's link with the bandwidths that the first list leaves. Then these are also the
--- bandwidths that the second list leaves.
+-- Let two lists of placements count the same bandwidth at a key. If a database agrees at this key
+-- with the effective database of the first list, it also agrees with the effective database of the
+-- second list.
 pub current_along : (base : Database) (before after : List Placement) (d : Database) (k : Key) → AreAtTheirKeys base
     → ((p : ℕ) → counted before k p ≡ counted after k p) → IsCurrentAt base before d k → IsCurrentAt base after d k
 current_along base before after d k keyed same current = current ∙ mapped (link_at base k) refl
@@ -95,18 +96,20 @@ current_along base before after d k keyed same current = current ∙ mapped (lin
     mapped (Some l) is = ap Some (same_held before after k l (keyed k l is) same)
     mapped None is = refl
 
--- A choice between n and 0 by two tests is 0 if the second test fails.
+-- If the second of two tests fails, a choice of n for "both tests hold", and of 0 otherwise, gives
+-- 0.
 counted-neither : (b : Bool) (n : ℕ) → cond (b && false) n 0 ≡ 0
 counted-neither true n = refl
 counted-neither false n = refl
 
--- A placement counts nothing on a link that its route doesn't use.
+-- A placement counts no bandwidth on a link that its route doesn't use.
 bandwidth_on-none : (k : Key) (priority : ℕ) (p : Placement) → has_key p.route k ≡ false → bandwidth_on k priority p ≡ 0
 bandwidth_on-none k priority p off =
     ap (λ b. cond (nat_le p.hold priority && b) p.request.bandwidth 0) off
     ∙ counted-neither (nat_le p.hold priority) p.request.bandwidth
 
--- Removing a placement doesn't change the sums of links that its route doesn't use.
+-- Removing a placement doesn't change the bandwidth that is counted on links that its route doesn't
+-- use.
 pub counted-remove : (placements : List Placement) (at : ℕ) (d : Placement) (k : Key) → at < length placements
     → has_key (get_or placements at d).route k ≡ false → (priority : ℕ)
     → counted placements k priority ≡ counted (remove placements at) k priority
@@ -114,7 +117,8 @@ counted-remove placements at d k within off priority =
     omega
     (arith, sum_by-remove (bandwidth_on k priority) placements at d within, bandwidth_on-none k priority (get_or placements at d) off)
 
--- Adding a placement doesn't change the sums of links that its route doesn't use.
+-- Adding a placement doesn't change the bandwidth that is counted on links that its route doesn't
+-- use.
 pub counted-push : (placements : List Placement) (p : Placement) (k : Key) → has_key p.route k ≡ false → (priority : ℕ)
     → counted placements k priority ≡ counted (placements ++ p ∷ []) k priority
 counted-push placements p k off priority =
@@ -125,8 +129,8 @@ neither_holds : (a b : Bool) → a ≡ false → b ≡ false → (a || b) ≡ fa
 neither_holds true b first second = first
 neither_holds false b first second = second
 
--- In this module `new` has at one key the base's link with its effective bandwidths (what the
--- placements leave). At all other keys `new` has the links of `old`.
+-- In this module, `new` agrees with the effective database at the key `key`. At all other keys,
+-- `new` has the links of `old`.
 module _ (base : Database) (placements : List Placement) (old new : Database) (key : Key)
     (at : (k : Key) → link_at new k ≡ cond (eq_by_cmp key_cmp k key) (option_map (effective_link placements) (link_at base k)) (link_at old k)) where
   pub current_there : (k : Key) → ((nat_eq key.0 k.0 && nat_eq key.1 k.1) ≡ false → IsCurrentAt base placements old k) → IsCurrentAt base placements new k
@@ -137,18 +141,17 @@ module _ (base : Database) (placements : List Placement) (old new : Database) (k
         | false ↦ λ off. elsewhere (sym (same_key_test k key) ∙ off)
       ] refl)
 
-  -- The effective link at a key is the base's link with the bandwidths that the placements leave.
-  -- Suppose that `old` has the effective link at each key, except at the keys of the links from
-  -- index i on. Then `new` has it at each key, except at the keys of the links from index i + 1 on.
+  -- Let `key` be the key of the link at index i. Let `old` agree with the effective database,
+  -- except at the keys of the links from index i on. Then `new` agrees with the effective database,
+  -- except at the keys of the links from index i + 1 on.
   pub current_step : (links : List Link) (i : ℕ) (d : Link) → i < length links → key_of (get_or links i d) ≡ key → IsCurrentBut base placements old (drop i links)
       → IsCurrentBut base placements new (drop (i + 1) links)
   current_step links i d within is current k off =
       current_there k (λ apart. current k (at_drop_more (λ ls. has_key ls k) links i d within ∙ neither_holds _ _ (ap (λ (j : Key). nat_eq j.0 k.0 && nat_eq j.1 k.1) is ∙ apart) off))
 
-  -- The effective link at a key is the base's link with the bandwidths that the placements leave.
-  -- The change at index i sets a link with the key `key` (`Put`). Suppose that `old` has the
-  -- effective link at each key, except at keys that this change or later changes set. Then `new`
-  -- has it at each key, except at keys that later changes set.
+  -- Let the change at index i set a link with the key `key` (`Put`). Let `old` agree with the
+  -- effective database, except at keys that the changes from index i on set. Then `new` agrees with
+  -- the effective database, except at keys that the changes from index i + 1 on set.
   pub current_put : (changes : List Change) (i : ℕ) (d : Change) (l : Link) → i < length changes → get_or changes i d ≡ Put l → key_of l ≡ key
       → IsCurrentButPut base placements old (drop i changes) → IsCurrentButPut base placements new (drop (i + 1) changes)
   current_put changes i d l within is its current k off =
@@ -163,19 +166,17 @@ puts_none (Put l) other k = absurd (other l refl)
 puts_none (Remove from local) other k = refl
 puts_none (Node router transit) other k = refl
 
--- The effective link at a key is the base's link with the bandwidths that the placements leave. The
--- change at index i sets no link. Suppose that the database has the effective link at each key,
--- except at keys that this change or later changes set. Then it has the effective link at each key,
--- except at keys that later changes set.
+-- Let the change at index i set no link. Let `d` agree with the effective database, except at keys
+-- that the changes from index i on set. Then `d` agrees with it, except at keys that the changes
+-- from index i + 1 on set.
 pub current_past : (base : Database) (placements : List Placement) (d : Database) (changes : List Change) (i : ℕ) (c : Change) → i < length changes
     → ((k : Key) → puts_key k (get_or changes i c) ≡ false) → IsCurrentButPut base placements d (drop i changes)
     → IsCurrentButPut base placements d (drop (i + 1) changes)
 current_past base placements d changes i c within none current k off =
     current k (at_drop_more (λ cs. list_any (puts_key k) cs) changes i c within ∙ neither_holds _ _ (none k) off)
 
--- A change that sets no link at a key is made in the base and in a database. If the database had
--- the effective link at this key before (the base's link with what the placements leave), it has
--- the effective link afterwards, too.
+-- Let the same change be made in the base and in a database, and let it set no link at a key. If
+-- the database agreed with the effective database at this key before, it agrees afterwards, too.
 current_change : (base : Database) (placements : List Placement) (d : Database) (c : Change) (k : Key) → puts_key k c ≡ false
     → IsCurrentAt base placements d k → IsCurrentAt (after_change base c) placements (after_change d c) k
 current_change base placements d (Put l) k off current =
@@ -201,19 +202,19 @@ current_change base placements d (Remove from local) k off current =
     turned false o = refl
 current_change base placements d (Node router transit) k off current = current
 
--- If the disjunction of two tests fails, the first test fails.
+-- If neither of two tests holds, the first fails.
 first_fails : (a b : Bool) → (a || b) ≡ false → a ≡ false
 first_fails true b e = e
 first_fails false b e = refl
 
--- If the disjunction of two tests fails, the second test fails.
+-- If neither of two tests holds, the second fails.
 second_fails : (a b : Bool) → (a || b) ≡ false → b ≡ false
 second_fails true b e = absurd (cc)
 second_fails false b e = e
 
--- Changes that set no link at a key are made in the base and in a database. If the database had the
--- effective link at this key before (the base's link with what the placements leave), it has the
--- effective link afterwards, too.
+-- Let the same changes be made in the base and in a database, and let none of them set a link at a
+-- key. If the database agreed with the effective database at this key before, it agrees afterwards,
+-- too.
 current_along_changes : (base d : Database) (placements : List Placement) (cs : List Change) (k : Key)
     → list_any (puts_key k) cs ≡ false → IsCurrentAt base placements d k
     → IsCurrentAt (after_changes base cs) placements (after_changes d cs) k
@@ -229,39 +230,38 @@ pub current_changes : (base : Database) (placements : List Placement) (d : Datab
 current_changes base placements d cs current k off =
     current_along_changes base d placements cs k off (current k)
 
--- At each key the effective database has the base's link at this key, with the link's effective
--- bandwidths (what the placements leave).
+-- At each key, the effective database has the base's link with its effective bandwidths
+-- (`IsCurrentAt`).
 pub current_at_all : (base : Database) (placements : List Placement) (d : Database) → d ≡ effective base placements
     → (k : Key) → IsCurrentAt base placements d k
 current_at_all base placements d is k = ap (λ (e : Database). link_at e k) is ∙ effective_at base placements k
 
--- A database that is the effective database (the base's links with what the placements leave)
--- differs from the base only in attributes of its links (`AreAlike`).
+-- A database that is the effective database differs from the base only in attributes of its links
+-- (`AreAlike`).
 pub alike_current : (base : Database) (placements : List Placement) (d : Database) → d ≡ effective base placements
     → AreAlike base d
 alike_current base placements d is = rw is (alike_effective base placements)
 
--- Take the effective database of all placements, and remove the placement at an index from their
--- list. At each key that isn't on the route of the removed placement, the database still has the
--- effective link (the base's link with what the listed placements leave).
+-- Let `d` be the effective database of all placements, and remove the placement at an index from
+-- their list. Then `d` agrees with the new effective database at each key that isn't on the route
+-- of this placement.
 pub current_aside : (base : Database) (placements : List Placement) (at : ℕ) (p : Placement) (d : Database) → AreAtTheirKeys base
     → at < length placements → d ≡ effective base placements
     → IsCurrentBut base (remove placements at) d (get_or placements at p).route
 current_aside base placements at p d keyed within is k off =
     current_along base placements (remove placements at) d k keyed (counted-remove placements at p k within off) (current_at_all base placements d is k)
 
--- Take the effective database without the placement at an index, and add this placement to the list
--- again. At each key that isn't on its route, the database still has the effective link (the base's
--- link with what the listed placements leave).
+-- Let `d` be the effective database without the placement at an index, and add this placement
+-- again. Then `d` agrees with the new effective database at each key that isn't on the route of
+-- this placement.
 pub current_back : (base : Database) (placements : List Placement) (at : ℕ) (p : Placement) (d : Database) → AreAtTheirKeys base
     → at < length placements → d ≡ effective base (remove placements at)
     → IsCurrentBut base placements d (get_or placements at p).route
 current_back base placements at p d keyed within is k off =
     current_along base (remove placements at) placements d k keyed (λ q. sym (counted-remove placements at p k within off q)) (current_at_all base (remove placements at) d is k)
 
--- Take the effective database of some placements, and add a placement to their list. At each key
--- that isn't on its route, the database still has the effective link (the base's link with what the
--- listed placements leave).
+-- Let `d` be the effective database of some placements, and add a placement to their list. Then `d`
+-- agrees with the new effective database at each key that isn't on the route of this placement.
 pub current_with : (base : Database) (placements : List Placement) (p : Placement) (d : Database) → AreAtTheirKeys base
     → d ≡ effective base placements → IsCurrentBut base (placements ++ p ∷ []) d p.route
 current_with base placements p d keyed is k off =

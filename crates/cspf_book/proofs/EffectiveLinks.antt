@@ -1,4 +1,5 @@
--- The links of effective databases: a base's links with the bandwidths that the placements leave.
+-- The links of an effective database are the base's links, with the bandwidth that the placements
+-- leave.
 use Rattle.std.proofs.Common.{◌≡◌, true, false, cond, Some, List, [], ◌∷◌, map, refl, sym, ap, ◌∙◌}
 use Rattle.std.specs.Ordering.{eq_by_cmp}
 use Rattle.std.specs.Option.{option_map}
@@ -9,16 +10,15 @@ use Rattle.cspf_model.proofs.Databases.Keys.{keys_total}
 use Rattle.cspf_book.specs.Effective.{effective_link}
 use Rattle.cspf_book.specs.Laws.{HasEffectiveLinks}
 
--- If a function is applied to the links of all entries, a lookup finds the result of the function for the link that
--- it found before.
+-- Apply a function to the links of all entries. A lookup at a key then gives the function's result
+-- for the link that was there before.
 find-mapped : (f : Link → Link) (es : List (Key × Link)) (k : Key)
     → find key_cmp k (map (λ e. (e.0, f e.1)) es) ≡ option_map f (find key_cmp k es)
 find-mapped f [] k = refl
 find-mapped f (e ∷ es) k =
     elim (eq_by_cmp key_cmp k e.0) as (λ b. cond b (Some (f e.1)) (find key_cmp k (map (λ e. (e.0, f e.1)) es)) ≡ option_map f (cond b (Some e.1) (find key_cmp k es))) [ true ↦ refl | false ↦ find-mapped f es k ]
 
--- At each key the effective database has the base's link at this key, with the link's effective
--- bandwidths (what the placements leave).
+-- At each key, the effective database has the base's link with its effective bandwidths.
 pub effective_at : HasEffectiveLinks
 effective_at base placements k =
     get-from_entries keys_total (map (λ e. (e.0, effective_link placements e.1)) (entries base.links)) k

@@ -1,4 +1,5 @@
--- Placements by their ids, and lists of placements without the placement of an id.
+-- Lemmas on the index of the placement with an id, and on the list of the placements with other
+-- ids.
 use Rattle.std.proofs.Common.{◌≡◌, ℕ, zero, suc, ◌+◌, ◌-◌, ◌<◌, ◌≤◌, ◌||◌, Bool, true, false, cond, not, List, [], ◌∷◌, ◌++◌, length, map, nat_eq, remove, get_or, refl, sym, ap, ◌∙◌, arith}
 use Rattle.std.specs.List.{list_any, IsDistinct, AllByRecursion}
 use Rattle.std.proofs.lemmas.Cmp.{nat_eq_equiv}
@@ -26,7 +27,7 @@ others-none id (p ∷ ps) none =
     ap (λ b. cond (not b) (p ∷ others id ps) (others id ps)) (nat_eq_equiv.symm (id_of p) id ∙ none.0)
     ∙ ap (λ qs. p ∷ qs) (others-none id ps none.1)
 
--- Removing the placement at the index of an id leaves the placements with other ids.
+-- If the placement at the index of an id is removed, the placements with other ids are left.
 pub remove-index_of : (id : ℕ) (placements : List Placement) → HaveDistinctIds placements
     → remove placements (index_of_id id placements) ≡ others id placements
 remove-index_of id [] own = refl
@@ -43,8 +44,7 @@ remove-index_of id (p ∷ ps) own =
     later : (m n : ℕ) → m ≡ suc n → remove (p ∷ ps) m ≡ p ∷ remove ps n
     later m n e = rw e refl
 
--- If an id differs from the ids of all placements, it differs from the ids of the placements that
--- `others` returns.
+-- An id that no placement has is also the id of none of the placements that `others` returns.
 kept : (id m : ℕ) (placements : List Placement) → AllByRecursion (λ y. nat_eq m y ≡ false) (map id_of placements)
     → AllByRecursion (λ y. nat_eq m y ≡ false) (map id_of (others id placements))
 kept id m [] all = all
@@ -54,8 +54,8 @@ kept id m (q ∷ qs) all =
       | false ↦ (all.0, kept id m qs all.1)
     ]
 
--- If the ids of all placements are distinct, so are the ids of the placements that `others`
--- returns.
+-- If the ids of all placements are distinct, the ids of the placements that `others` returns are
+-- distinct, too.
 pub own_ids-others : (id : ℕ) (placements : List Placement) → HaveDistinctIds placements → HaveDistinctIds (others id placements)
 unfolding IsDistinct
 own_ids-others id [] own = own
@@ -78,15 +78,15 @@ none-others id (p ∷ ps) =
     neither true b first second = first
     neither false b first second = second
 
--- If the ids of placements are distinct, they stay distinct if a placement replaces the placement
--- with the same id.
+-- If the ids of placements are distinct, they stay distinct when a placement replaces the placement
+-- with its id.
 pub own_ids-placed : (placements : List Placement) (p : Placement) → HaveDistinctIds placements
     → HaveDistinctIds (others (id_of p) placements ++ p ∷ [])
 own_ids-placed placements p own =
     rw (map-append id_of (others (id_of p) placements) (p ∷ []))
     (IsDistinct-push nat_eq_equiv (map id_of (others (id_of p) placements)) (id_of p) (own_ids-others (id_of p) placements own) (none-others (id_of p) placements))
 
--- If the index of an id is past the last placement, no placement has the id.
+-- If the index of an id is the number of placements, no placement has the id.
 pub none-behind : (id : ℕ) (placements : List Placement) → index_of_id id placements ≡ length placements
     → has_id id placements ≡ false
 none-behind id [] behind = refl
@@ -96,7 +96,7 @@ none-behind id (p ∷ ps) behind =
       | false ↦ λ e. none-behind id ps (omega arith)
     ] behind
 
--- If the index of an id is the index of a placement, one of the placements has this id.
+-- If the index of an id is less than the number of placements, one of the placements has the id.
 pub id_at-index_of : (id : ℕ) (placements : List Placement) → index_of_id id placements < length placements
     → has_id id placements ≡ true
 id_at-index_of id [] within = absurd (omega arith)
@@ -114,7 +114,7 @@ index_of-all id [] at behind within before = omega arith
 index_of-all id (p ∷ ps) at behind within before =
     sym (position_or_len_is (λ q. nat_eq (id_of q) id) (p ∷ ps) at p within (λ k h. before k p h) (λ h. absurd (omega arith)))
 
--- If the placement at index `at` has the id, and no placement before it has the id, `at` is the index of the id.
+-- If the placement at index `at` is the first placement with an id, `at` is the index of this id.
 pub index_of-found : (id : ℕ) (placements : List Placement) (at : ℕ) (p : Placement) → at ≤ length placements
     → ((k : ℕ) (d : Placement) → k < at → nat_eq (id_of (get_or placements k d)) id ≡ false)
     → p ≡ get_or placements at p → id_of p ≡ id → at ≡ index_of_id id placements
@@ -125,8 +125,8 @@ index_of-found id placements at p within before is same =
     itself : id_of p ≡ id → nat_eq (id_of p) id ≡ true
     itself e = grind arith
 
--- Take at most `most` placements, and remove the one at index `at`, if there is one. If `at` isn't
--- `most`, fewer than `most` placements are left.
+-- Let there be at most `most` placements, and remove the placement at index `at`, if there is one.
+-- If `at` isn't `most`, fewer than `most` placements are left.
 pub few_kept : (placements : List Placement) (at most : ℕ) → at ≤ length placements → length placements ≤ most
     → (at ≡ most → ⊥) → length (remove placements at) < most
 few_kept [] zero most within few apart = omega arith

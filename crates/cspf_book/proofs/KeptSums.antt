@@ -17,7 +17,8 @@ use Rattle.cspf_book.specs.Kept.{no_sums, sums_at, sum_at, HasKeys, KeepsKeys, I
 use Rattle.cspf_book.proofs.Covered.{counted-others}
 use Rattle.cspf_book.proofs.KeyTests.{same_tests, same_key_test}
 
--- One of the first i + 1 links has a key exactly if one of the first i links has it, or the next link has it.
+-- One of the first i + 1 links has a key exactly if one of the first i links or the link at index i
+-- has this key.
 has_key-more : (links : List Link) (i : ℕ) (d : Link) (k : Key) → i < length links
     → has_key (take (i + 1) links) k ≡ (has_key (take i links) k || eq_by_cmp key_cmp (key_of (get_or links i d)) k)
 has_key-more links i d k within =
@@ -32,8 +33,8 @@ has_key-more links i d k within =
     turned : (j : Key) → (nat_eq j.0 k.0 && nat_eq j.1 k.1) ≡ eq_by_cmp key_cmp j k
     turned j = sym (same_key_test k j) ∙ (eq_by_cmp_equiv keys_total).symm k j
 
--- If two tests never both hold, the bandwidth that is counted if either holds is the sum of the
--- bandwidths that are counted for each test.
+-- Let two tests never both hold. A bandwidth that counts if one of them holds is then a sum: the
+-- bandwidth if the first holds, plus the bandwidth if the second holds.
 at_either : (h a b : Bool) (n : ℕ) → (b ≡ true → a ≡ false) → cond (h && (a || b)) n 0 ≡ cond (h && a) n 0 + cond (h && b) n 0
 at_either true true true n apart = absurd (let off = apart refl in cc)
 at_either true true false n apart = omega arith
@@ -41,14 +42,15 @@ at_either true false true n apart = omega arith
 at_either true false false n apart = refl
 at_either false a b n apart = refl
 
--- In this module `key` is the key of the link at index i. A bandwidth is counted on this link after
--- it is counted on the first i links.
+-- In this module, `key` is the key of the link at index i. A bandwidth is first counted on the
+-- first i links, and then on this link.
 module _ (links : List Link) (i : ℕ) (l : Link) (key : Key) (hold bandwidth : ℕ) (within : i < length links) (its : key_of (get_or links i l) ≡ key) where
   more_at : (k : Key) → has_key (take (i + 1) links) k ≡ (has_key (take i links) k || eq_by_cmp key_cmp key k)
   more_at k = has_key-more links i l k within ∙ ap (λ j. has_key (take i links) k || eq_by_cmp key_cmp j k) its
 
-  -- None of the first i links has this key. At each key and priority, what the first i + 1 links
-  -- count is the sum of what the first i links count and what this key alone counts.
+  -- Let none of the first i links have this key. At each key and priority, the bandwidth for the
+  -- first i + 1 links is then a sum: the bandwidth for the first i links, plus the bandwidth for
+  -- `key` alone.
   split : has_key (take i links) key ≡ false → (k : Key) (p : ℕ)
       → cond (nat_le hold p && has_key (take (i + 1) links) k) bandwidth 0
       ≡ cond (nat_le hold p && has_key (take i links) k) bandwidth 0 + cond (nat_le hold p && eq_by_cmp key_cmp key k) bandwidth 0
@@ -56,24 +58,24 @@ module _ (links : List Link) (i : ℕ) (l : Link) (key : Key) (hold bandwidth : 
       ap (λ b. cond (nat_le hold p && b) bandwidth 0) (more_at k)
       ∙ at_either (nat_le hold p) (has_key (take i links) k) (eq_by_cmp key_cmp key k) bandwidth (λ tie. ap (has_key (take i links)) (sym (keys_same key k tie)) ∙ new)
 
-  -- None of the first i links has this key. If the bandwidth is added on the first i links and then
-  -- at this key, it is added on the first i + 1 links.
+  -- Let none of the first i links have this key. If the bandwidth is added on the first i links and
+  -- then at this key, it is added on the first i + 1 links.
   pub more_along : (c d e : Counts) → has_key (take i links) key ≡ false → HasMoreAlong c d (take i links) hold bandwidth
       → HasMoreAt d e key hold bandwidth → HasMoreAlong c e (take (i + 1) links) hold bandwidth
   more_along c d e new along here = record {
     at = λ k p small. omega (arith, along.at k p small, here.at k p small, split new k p);
   }
 
-  -- None of the first i links has this key. If the bandwidth is subtracted on the first i links and
-  -- then at this key, it is subtracted on the first i + 1 links.
+  -- Let none of the first i links have this key. If the bandwidth is subtracted on the first i
+  -- links and then at this key, it is subtracted on the first i + 1 links.
   pub less_along : (c d e : Counts) → has_key (take i links) key ≡ false → HasMoreAlong d c (take i links) hold bandwidth
       → HasMoreAt e d key hold bandwidth → HasMoreAlong e c (take (i + 1) links) hold bandwidth
   less_along c d e new along here = record {
     at = λ k p small. omega (arith, along.at k p small, here.at k p small, split new k p);
   }
 
-  -- One of the first i links has this key. If the bandwidth is added on the first i links, it is
-  -- already added on the first i + 1 links, once at each key.
+  -- Let one of the first i links have this key. If the bandwidth is added on the first i links,
+  -- once at each key, it is already added on the first i + 1 links.
   pub more_again : (c d : Counts) → has_key (take i links) key ≡ true → HasMoreAlong c d (take i links) hold bandwidth
       → HasMoreAlong c d (take (i + 1) links) hold bandwidth
   more_again c d had along = record {
@@ -88,16 +90,17 @@ module _ (links : List Link) (i : ℕ) (l : Link) (key : Key) (hold bandwidth : 
       both : (k : Key) → (has_key (take i links) k || eq_by_cmp key_cmp key k) ≡ has_key (take i links) k
       both k = either (has_key (take i links) k) (eq_by_cmp key_cmp key k) (λ tie. ap (has_key (take i links)) (sym (keys_same key k tie)) ∙ had)
 
--- If neither of two steps changes a sum, both steps together change no sum.
+-- If the sums are the same before and after each of two steps, they are the same before and after
+-- both steps.
 pub same_sums_on : (c d e : Counts) → HasSameSums c d → HasSameSums d e → HasSameSums c e
 same_sums_on c d e first second = record { at = λ k p. second.at k p ∙ first.at k p }
 
--- If no key loses its entry in either of two steps, no key loses its entry in both steps together.
+-- If each of two steps keeps the entries of all keys, both steps together keep them.
 pub keeps_keys_on : (c d e : Counts) → KeepsKeys c d → KeepsKeys d e → KeepsKeys c e
 keeps_keys_on c d e first second = record { at = λ k h. second.at k (first.at k h) }
 
--- The first i links have entries of sums. If these entries are kept, and the next link has an
--- entry, the first i + 1 links have entries.
+-- Let the first i links have entries of sums in `c`. If `d` keeps these entries and has an entry
+-- for the link at index i, the first i + 1 links have entries in `d`.
 pub keys_more : (c d : Counts) (links : List Link) (i : ℕ) (l : Link) → i < length links → HasKeys c (take i links) → KeepsKeys c d
     → IsSome (get key_cmp d.sums (key_of (get_or links i l))) → HasKeys d (take (i + 1) links)
 keys_more c d links i l within keys keeps there = record {
@@ -126,7 +129,7 @@ entered_sums c d key none is = record { at = λ k p. ap (λ o. slice_index (unwr
         ap (λ ns. slice_index ns p) (sym (absent (get key_cmp c.sums k) none_here))
     chosen k p false tie = refl
 
--- If an entry of zeros is dropped, no sum changes.
+-- If an entry of zeros is removed, no sum changes.
 pub forgotten_sums : (c d : Counts) (key : Key) → sums_at c key ≡ no_sums
     → ((k : Key) → get key_cmp d.sums k ≡ cond (eq_by_cmp key_cmp key k) None (get key_cmp c.sums k)) → HasSameSums c d
 forgotten_sums c d key none is = record { at = λ k p. ap (λ o. slice_index (unwrap_or o no_sums) p) (is k) ∙ chosen k p (eq_by_cmp key_cmp key k) refl }
@@ -136,7 +139,7 @@ forgotten_sums c d key none is = record { at = λ k p. ap (λ o. slice_index (un
     chosen k p true tie = ap (λ ns. slice_index ns p) (sym none ∙ ap (sums_at c) (keys_same key k tie))
     chosen k p false tie = refl
 
--- If an entry of zeros is made at a key, each key that had an entry still has one.
+-- If an entry of zeros is made at a key, each key that had an entry still has an entry.
 pub entered_keys : (c d : Counts) (key : Key)
     → ((k : Key) → get key_cmp d.sums k ≡ cond (eq_by_cmp key_cmp key k) (Some no_sums) (get key_cmp c.sums k)) → KeepsKeys c d
 entered_keys c d key is = record { at = λ k h. subst IsSome (sym (is k)) (stays (eq_by_cmp key_cmp key k) (get key_cmp c.sums k) h) }
@@ -168,8 +171,8 @@ put_more c d key sums hold bandwidth is more = record {
         ∙ (λ i. sum_at c (keys_same key k tie i) p + cond (and_true (nat_le hold p) i) bandwidth 0)
     chosen k p small false tie = without (nat_le hold p) (sum_at c k p)
 
--- Take the sums of all placements. If the bandwidth of the placement at an index is subtracted on
--- the links of its route, the results are the sums of the other placements.
+-- Let `c` have the sums of all placements. If the bandwidth of the placement at index `at` is
+-- subtracted on the links of its route, the results are the sums without this placement.
 pub count_without : (c d : Counts) (placements : List Placement) (at : ℕ) (p : Placement) → at < length placements
     → IsCountOf c placements → HasMoreAlong d c (get_or placements at p).route (get_or placements at p).hold (get_or placements at p).request.bandwidth
     → IsCountOf d (remove placements at)
@@ -177,7 +180,7 @@ count_without c d placements at p within is less = record {
   at = λ k q small. omega (arith, is.at k q small, less.at k q small, sum_by-remove (bandwidth_on k q) placements at p within);
 }
 
--- Take the sums of all placements but the one at an index. If the bandwidth of this placement is
+-- Let `c` have the sums without the placement at index `at`. If the bandwidth of this placement is
 -- added on the links of its route, the results are the sums of all placements.
 pub count_with : (c d : Counts) (placements : List Placement) (at : ℕ) (p : Placement) → at < length placements
     → IsCountOf c (remove placements at) → HasMoreAlong c d (get_or placements at p).route (get_or placements at p).hold (get_or placements at p).request.bandwidth
@@ -186,37 +189,38 @@ count_with c d placements at p within is more = record {
   at = λ k q small. omega (arith, is.at k q small, more.at k q small, sum_by-remove (bandwidth_on k q) placements at p within);
 }
 
--- Take the sums of placements. If the bandwidth of one more placement is added on the links of its
--- route, the results are the sums of these placements together with this one.
+-- Let `c` have the sums of some placements. If the bandwidth of the placement `p` is added on the
+-- links of its route, the results are the sums of these placements and `p`.
 pub count_more : (c d : Counts) (placements : List Placement) (p : Placement) → IsCountOf c placements
     → HasMoreAlong c d p.route p.hold p.request.bandwidth → IsCountOf d (placements ++ p ∷ [])
 count_more c d placements p is more = record {
   at = λ k q small. omega (arith, is.at k q small, more.at k q small, sum_by_push (bandwidth_on k q) placements p);
 }
 
--- If the sums are the bandwidths that some placements count, and no sum changes, they still are
--- these bandwidths.
+-- If `c` has the sums of some placements, and `d` has the same sums as `c`, `d` has the sums of
+-- these placements.
 pub count_same : (c d : Counts) (placements : List Placement) → HasSameSums c d → IsCountOf c placements → IsCountOf d placements
 count_same c d placements same is = record { at = λ k q small. same.at k q ∙ is.at k q small }
 
--- At each key and priority the sum over all placements is at least the bandwidth that the placement
--- at an index counts.
+-- At each key and priority, the sum over all placements is at least the bandwidth that the
+-- placement at index `at` counts.
 pub is_counted : (c : Counts) (placements : List Placement) (at : ℕ) (p : Placement) → at < length placements → IsCountOf c placements
     → IsWithinSums c (get_or placements at p)
 is_counted c placements at p within is = record {
   at = λ k q small. omega (arith, is.at k q small, sum_by-remove (bandwidth_on k q) placements at p within);
 }
 
--- A sum that is at most 2 ^ 64 times a version is at most 2 ^ 64 times the next version.
+-- Let a sum be at most 2 ^ 64 times a version. If it doesn't grow, it is at most 2 ^ 64 times the
+-- next version.
 pub small_after : (version n m : ℕ) → n ≤ version * 2 ^ 64 → m ≤ n → m ≤ (version + 1) * 2 ^ 64
 small_after version n m small less = omega arith
 
--- Take a sum that is at most 2 ^ 64 times a version. If it grows by at most a bandwidth below 2 ^
--- 64, it is at most 2 ^ 64 times the next version.
+-- Let a sum be at most 2 ^ 64 times a version. If it grows by less than 2 ^ 64, it is at most 2 ^
+-- 64 times the next version.
 pub small_with : (version n m bandwidth : ℕ) → n ≤ version * 2 ^ 64 → bandwidth < 2 ^ 64 → m ≤ n + bandwidth → m ≤ (version + 1) * 2 ^ 64
 small_with version n m bandwidth small narrow more = omega arith
 
--- Placements count the same bandwidth at priority 7 and at each number above 7.
+-- `counted` gives the same bandwidth for priority 7 and for each number above 7.
 pub counted_least : (placements : List Placement) (k : Key) (p q : ℕ) → q ≡ min p 7 → counted placements k q ≡ counted placements k p
 counted_least [] k p q least = refl
 counted_least (r ∷ rs) k p q least =
@@ -228,8 +232,8 @@ counted_least (r ∷ rs) k p q least =
     same : bandwidth_on k q r ≡ bandwidth_on k p r
     same = ap (λ b. cond (b && has_key r.route k) r.request.bandwidth 0) test
 
--- If placements count at most as much as the placements of a book whose version is below 1,000,000, their sums are
--- below 2 ^ 127.
+-- Let the version of a book be below 1,000,000. The sums of placements that count no more than the
+-- book's placements are below 2 ^ 127.
 pub sums_small : (c d : Counts) (placements rest : List Placement) (version : ℕ) → HasSameSums c d → IsCountOf c rest
     → ((k : Key) (p : ℕ) → counted rest k p ≤ counted placements k p)
     → ((k : Key) (p : ℕ) → counted placements k p ≤ version * 2 ^ 64) → version < 1000000 → AreSmall d

@@ -1,6 +1,5 @@
--- The placements that lose their routes (the database before admits the route, and the database
--- after doesn't), listed by rank. A rank is a pair: 7 minus the placement's holding priority, and
--- the placement's id.
+-- The ranks of the placements that lose their routes (`IsLost`), and how the ranks are sorted. A
+-- rank is 7 minus the holding priority of a placement, together with the id of the placement.
 use Rattle.std.proofs.Common.{◌≡◌, ◌≢◌, ◌⊎◌, inl, inr, ℕ, ◌+◌, ◌-◌, ◌<◌, ◌≤◌, false, List, [], ◌∷◌, ◌++◌, length, map, take, get_or, set, nat_eq, refl, sym, ap, subst, ◌∙◌, arith}
 use Rattle.std.specs.Ordering.{nat_cmp, is_lt, ordering_then}
 use Rattle.std.specs.List.{AllPairs, Contains, swap}
@@ -21,7 +20,8 @@ use Rattle.cspf_book.specs.LostRoutes.{IsLost, ComesBefore, AreLost}
 use Rattle.cspf_book.specs.Following.{HaveOtherIds, order_rank, AreRanksOfLost}
 use Rattle.cspf_book.specs.Inside.{HaveDistinctIds}
 
--- If the list of the placements' ids has no id twice, any two of the placements have different ids.
+-- If the ids of the placements are distinct as a list, any two of the placements have different
+-- ids.
 pub other_ids : (placements : List Placement) → HaveDistinctIds placements → HaveOtherIds placements
 other_ids placements own i j d first within =
     let many = length-map placements id_of in
@@ -29,7 +29,7 @@ other_ids placements own i j d first within =
     let at_j = get_or-map id_of placements j d (id_of d) within in
     λ same. AllPairs-from_IsDistinct Decides-eqb (map id_of placements) own i j (id_of d) first (omega (arith, many, within)) (at_i ∙ same ∙ sym at_j)
 
--- If any two of the placements have different ids, the list of their ids has no id twice.
+-- If any two of the placements have different ids, the ids are distinct as a list.
 distinct_ids : (placements : List Placement) → HaveOtherIds placements → HaveDistinctIds placements
 distinct_ids placements other = IsDistinct-from_AllPairs Decides-eqb (map id_of placements) (pairs placements other)
   where
@@ -41,7 +41,7 @@ distinct_ids placements other = IsDistinct-from_AllPairs Decides-eqb (map id_of 
         let at_j = get_or-map id_of (p ∷ ps) j p d (omega (arith, many, within)) in
         λ same. other i j p first (omega (arith, many, within)) (sym at_i ∙ same ∙ at_j)
 
--- If any two of the placements have different ids, so have any two of the first n placements.
+-- If any two of the placements have different ids, this is also true of the first n placements.
 pub other_ids-take : (n : ℕ) (placements : List Placement) → HaveOtherIds placements → HaveOtherIds (take n placements)
 other_ids-take n placements other i j d first within =
     let many = length-take n placements in
@@ -50,7 +50,7 @@ other_ids-take n placements other i j d first within =
     λ same. other i j d first (omega (arith, many, within)) (ap id_of (sym at_i) ∙ same ∙ ap id_of at_j)
 
 module _ (before after : Database) where
-  -- If there are no placements, the list of ranks of placements that lose their routes is empty.
+  -- Without placements, the list of ranks is empty.
   pub ranks_none : AreRanksOfLost before after [] []
   ranks_none = record {
     lost = [];
@@ -62,8 +62,8 @@ module _ (before after : Database) where
       none : (p : Placement) → Contains [] p → ⊥
       none p (k, within, is) = omega arith
 
-  -- If one more placement loses its route (`before` admits it, and `after` doesn't), its rank is
-  -- added to the ranks of the earlier placements that lose their routes.
+  -- If the placement `p` loses its route, its rank is appended to the ranks of the earlier
+  -- placements.
   pub ranks_push : (ps : List Placement) (p : Placement) (ranks : List (ℕ × ℕ)) → HaveOtherIds (ps ++ p ∷ []) → IsLost before after p
       → AreRanksOfLost before after ps ranks → AreRanksOfLost before after (ps ++ p ∷ []) (ranks ++ order_rank p ∷ [])
   ranks_push ps p ranks other lost old = record {
@@ -94,8 +94,7 @@ module _ (before after : Database) where
           let many = length-append ps (p ∷ []) in
           λ same. other at.0 (length ps) r at.1 (omega (arith, many)) (ap id_of (get_or_append_left ps (p ∷ []) r at.0 at.1 ∙ at.2) ∙ same ∙ ap id_of (sym (get_or_at ps p [] r (length ps) refl)))
 
-  -- If one more placement doesn't lose its route, the ranks of the placements that lose their
-  -- routes stay the same.
+  -- If the placement `p` doesn't lose its route, the ranks stay the same.
   pub ranks_kept : (ps : List Placement) (p : Placement) (ranks : List (ℕ × ℕ)) → ¬ IsLost before after p
       → AreRanksOfLost before after ps ranks → AreRanksOfLost before after (ps ++ p ∷ []) ranks
   ranks_kept ps p ranks kept old = record {
@@ -111,28 +110,29 @@ module _ (before after : Database) where
     are = old.are;
   }
 
--- In this module `p` is the placement at index i. It is checked after the first i placements.
+-- In this module, `p` is the placement at index i, which is checked after the first i placements.
 module _ (before after : Database) (placements : List Placement) (i : ℕ) (p : Placement) (other : HaveOtherIds placements)
     (within : i < length placements) (is : p ≡ get_or placements i p) where
   whole : take (i + 1) placements ≡ take i placements ++ p ∷ []
   whole = take_more placements i p within ∙ ap (λ (r : Placement). take i placements ++ r ∷ []) (sym is)
 
-  -- Suppose that this placement loses its route (`IsLost`). Then the ranks for the first i + 1
-  -- placements are the ranks for the first i placements, followed by its rank.
+  -- If `p` loses its route, the rank of `p` is appended to the ranks for the first i placements.
+  -- This gives the ranks for the first i + 1 placements.
   pub ranks_more : (ranks new : List (ℕ × ℕ)) → IsLost before after p → new ≡ ranks ++ order_rank p ∷ []
       → AreRanksOfLost before after (take i placements) ranks → AreRanksOfLost before after (take (i + 1) placements) new
   ranks_more ranks new lost are old =
       let first = subst HaveOtherIds whole (other_ids-take (i + 1) placements other) in
       rw (whole, are) (ranks_push before after (take i placements) p ranks first lost old)
 
-  -- If this placement doesn't lose its route (`IsLost` doesn't hold), the ranks for the first i + 1
-  -- placements are the ranks for the first i placements.
+  -- If `p` doesn't lose its route, the ranks for the first i + 1 placements are the ranks for the
+  -- first i placements.
   pub ranks_same : (ranks new : List (ℕ × ℕ)) → ¬ IsLost before after p → new ≡ ranks
       → AreRanksOfLost before after (take i placements) ranks → AreRanksOfLost before after (take (i + 1) placements) new
   ranks_same ranks new kept are old =
       rw (whole, are) (ranks_kept before after (take i placements) p ranks kept old)
 
--- Swapping two elements before or after a function is applied to all elements gives the same list.
+-- Mapping a list and then swapping two elements gives the same list as swapping them first and then
+-- mapping.
 map-swap : {A B : Type 0} (f : A → B) (xs : List A) (i j : ℕ) → i < length xs → j < length xs
     → map f (swap xs i j) ≡ swap (map f xs) i j
 map-swap f [] i j first second = refl
@@ -142,7 +142,7 @@ map-swap f (x ∷ xs) i j first second =
     ∙ ap (λ y. set (set (map f (x ∷ xs)) i y) j (f (get_or (x ∷ xs) i x))) (sym (get_or-map f (x ∷ xs) j x (f x) second))
     ∙ ap (λ y. set (set (map f (x ∷ xs)) i (get_or (map f (x ∷ xs)) j (f x))) j y) (sym (get_or-map f (x ∷ xs) i x (f x) first))
 
--- If the ranks of placements are permuted, they are the ranks of these placements in another order.
+-- Each permutation of the ranks of placements has the ranks of these placements in another order.
 ranked : (lost : List Placement) (sorted : List (ℕ × ℕ)) → IsPermutation (map order_rank lost) sorted
     → (order : List Placement) × IsPermutation lost order × (sorted ≡ map order_rank order)
 ranked lost sorted moved =
@@ -161,14 +161,13 @@ ranked lost sorted moved =
           ap (λ zs. swap zs i j) are ∙ sym (map-swap order_rank order i j i_within j_within),
         )
 
--- Pairs are compared by their first parts, and then by their second parts. If one pair isn't below
--- another, its first part is greater, or the first parts are equal and its second part is at least
--- the other's.
+-- Pairs (a, m) and (b, n) are compared by their first parts, and then by their second parts. If (a,
+-- m) isn't below (b, n), either b is below a, or a equals b and n is at most m.
 not_below : (a b m n : ℕ) → is_lt (ordering_then (nat_cmp a b) (nat_cmp m n)) ≡ false → (b < a) ⊎ ((a ≡ b) × (n ≤ m))
 not_below a b m n above = grind (arith, nat_tests)
 
--- If two placements have different ids, and the rank of the second isn't below the rank of the
--- first, the first comes before the second in the list of lost routes (`ComesBefore`).
+-- Let two placements have different ids. If the rank of `r` isn't below the rank of `p`, `p`
+-- precedes `r` in the list of lost placements (`ComesBefore`).
 comes_before : (p r : Placement) → id_of p ≢ id_of r → is_lt (key_cmp (order_rank r) (order_rank p)) ≡ false → ComesBefore p r
 comes_before p r apart above =
     elim (not_below (7 - r.hold) (7 - p.hold) (id_of r) (id_of p) above) [
@@ -176,7 +175,8 @@ comes_before p r apart above =
       | inr tied ↦ inr (omega (arith, p.priority, r.priority, tied.0), omega (arith, tied.1))
     ]
 
--- The ids in the sorted ranks are the ids of the placements that lose their routes, the least important first.
+-- The ids of the sorted ranks are the ids of the placements that lose their routes, with the least
+-- important placement first.
 pub lost_by_rank : (before after : Database) (placements : List Placement) (ranks sorted : List (ℕ × ℕ)) (ids : List ℕ)
     → AreRanksOfLost before after placements ranks → IsPermutation ranks sorted → IsSorted key_cmp sorted
     → ids ≡ map (λ (r : ℕ × ℕ). r.1) sorted → AreLost before after placements ids

@@ -1,5 +1,6 @@
--- The changes that move a link's far end or change a mark decide which routes the base admits for
--- requests without affinities. A mark says that a router carries no transit.
+-- For requests without affinities, only the moving changes decide which routes the base admits. A
+-- moving change moves the far end of a link (its neighbor or remote address) or changes a mark. A
+-- mark says that a router carries no transit.
 use Rattle.std.proofs.Common.{◌≡◌, ◌↔◌, ℕ, ◌+◌, ◌≤◌, ◌⊎◌, inl, inr, Bool, true, false, not, ◌||◌, cond, IsTrue, Option, Some, None, List, [], ◌∷◌, ◌++◌, reverse, find, filter, nat_eq, refl, sym, ap, subst, ◌∙◌, eqb-true, arith}
 use Rattle.std.specs.Int.Bits.{bit_and, and_zero_r}
 use Rattle.std.specs.Ordering.{eq_by_cmp}
@@ -24,8 +25,8 @@ use Rattle.cspf_book.specs.MovedEnds.{have_other_ends, moves, moving_changes, Ha
 use Rattle.cspf_book.proofs.ChangedBases.{on_key, last_put, marked-after_changes}
 use Rattle.cspf_book.proofs.RouteWalks.{admits_followed, IsFollowed}
 
--- Both databases have the same marks. At each key at which the first has a link, the second has a
--- link to the same interface.
+-- The two databases have the same marks. At each key at which `d` has a link, `e` has a link to the
+-- same interface.
 record SharesEnds (d e : Database) : Type 0 where
   marks : (router : ℕ) → set.contains e.marks router ≡ set.contains d.marks router
   at : (k : Key) (l : Link) → link_at d k ≡ Some l
@@ -35,8 +36,8 @@ record SharesEnds (d e : Database) : Type 0 where
 abbrev taken_by : (ChangeKey → Bool) → List Change → List Change
 taken_by P cs = filter (λ c. P (key_changed c)) cs
 
--- If changes are taken by a test of their keys, the last change with a key is the same, or there is
--- none.
+-- Filter changes by a test of their keys. If a key passes the test, the last change with this key
+-- is the same as before. Otherwise no change with this key is left.
 last_of-filter : (P : ChangeKey → Bool) (k : ChangeKey) (cs : List Change)
     → find (on_key k) (filter (λ c. P (key_changed c)) cs) ≡ cond (P k) (find (on_key k) cs) None
 last_of-filter P k [] = sym (either (P k) None)
@@ -74,14 +75,15 @@ filter-reverse P (c ∷ cs) =
     turned true = sym (reverse-append (c ∷ []) (filter P cs))
     turned false = append-nil (reverse (filter P cs))
 
--- The last of the moving changes with a key is the last change with this key, if the changes move
--- something there.
+-- If the changes move something at a key (`moves`), the last moving change with this key is the
+-- last change with it. Otherwise no moving change has this key.
 last_on-moving : (d : Database) (cs : List Change) (k : ChangeKey)
     → last_on k (moving_changes d cs) ≡ cond (moves d cs k) (last_on k cs) None
 last_on-moving d cs k =
     ap (find (on_key k)) (sym (filter-reverse (λ c. moves d cs (key_changed c)) cs)) ∙ last_of-filter (moves d cs) k (reverse cs)
 
--- If two links don't have other ends, both are there and run to the same interface.
+-- If `have_other_ends` is false for two optional links, both are links, and both run to the same
+-- interface.
 same_ends : (a b : Option Link) → have_other_ends a b ≡ false
     → (l : Link) × (m : Link) × (a ≡ Some l) × (b ≡ Some m) × (m.to ≡ l.to) × (m.remote ≡ l.remote)
 same_ends None b is = absurd (false≢true (sym is))
@@ -94,7 +96,7 @@ same_ends (Some l) (Some m) is =
     turned true e = refl
     turned false e = sym e
 
--- After changes a database has each link at its own key if it had so before them.
+-- If a database has each link at the link's own key, this is still so after changes.
 keyed_after : (d : Database) (cs : List Change) → AreAtTheirKeys d → AreAtTheirKeys (after_changes d cs)
 keyed_after d cs keyed k l is = by_last (last_on (link_key k) cs) refl (sym (link_at-after_changes d cs k) ∙ is)
   where
@@ -109,13 +111,15 @@ keyed_after d cs keyed k l is = by_last (last_on (link_key k) cs) refl (sym (lin
     by_last (Some (Node router transit)) last at =
         let never : None ≡ Some l = ap (λ o. link_after o (link_at d k)) (sym last) ∙ at in absurd (cc)
 
--- Links with the same key that run to the same interface share their ends.
+-- If two optional links are equal, and the first is a link, the second is a link to the same
+-- interface.
 shared : (a b : Option Link) → a ≡ b → (l : Link) → a ≡ Some l → (m : Link) × (b ≡ Some m) × (m.to ≡ l.to) × (m.remote ≡ l.remote)
 shared a b same l is = (l, sym same ∙ is, refl, refl)
 
 module _ (d : Database) (cs : List Change) where
-  -- The moving changes lead to the same link as all changes, or all changes keep the link's ends,
-  -- and the moving changes keep the link.
+  -- One of two claims is true of the link at a key. The moving changes leave the same link there as
+  -- all changes. Or all changes keep the interface to which the link runs, and the moving changes
+  -- keep the whole link.
   at_key : (k : Key) → (link_at (after_changes d (moving_changes d cs)) k ≡ link_at (after_changes d cs) k)
       ⊎ ((have_other_ends (link_at d k) (link_at (after_changes d cs) k) ≡ false) × (link_at (after_changes d (moving_changes d cs)) k ≡ link_at d k))
   at_key k =
@@ -167,7 +171,7 @@ module _ (d e : Database) (q : Request) (plain : HasNoAffinities q) (shares : Sh
   abbrev bare : Request
   bare = without_bandwidth q
 
-  -- A request without affinities and without bandwidth admits each link.
+  -- Each link is admitted by a request without affinities whose bandwidth is 0.
   admits_all : (l : Link) → IsAdmitted bare l
   admits_all l = record {
     affinity = record {
@@ -221,8 +225,8 @@ module _ (d e : Database) (q : Request) (plain : HasNoAffinities q) (shares : Sh
   followed_with links router (l ∷ ls) old =
       (goes_on_with links router l old.0, followed_with (links + 1) l.to ls old.1)
 
--- If the request of a placement has no affinities, a database that shares its ends with another
--- admits the route if the other admits it.
+-- Let the request of a placement have no affinities. If a database admits the route, each database
+-- that has the same marks and links to the same interfaces (`SharesEnds`) admits it, too.
 admits_with : (d e : Database) (p : Placement) → HasNoAffinities p.request → SharesEnds d e → AreAtTheirKeys e → AdmitsRoute d p → AdmitsRoute e p
 admits_with d e p plain shares keyed admits =
     (admits_followed e p).0 (followed_with d e p.request plain shares keyed 0 p.request.from p.route ((admits_followed d p).1 admits))

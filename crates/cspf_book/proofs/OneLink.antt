@@ -1,5 +1,5 @@
--- A link with its effective bandwidths (what the placements leave), and how it replaces the same
--- link with earlier effective bandwidths.
+-- How a link with its effective bandwidths is computed, and how it replaces the same link with
+-- earlier bandwidths. The effective bandwidths are what the placements leave.
 use Rattle.std.proofs.Common.{◌≡◌, ◌≢◌, ℕ, zero, suc, ◌-◌, ◌<◌, min, Bool, true, false, cond, Option, Some, None, is_some, List, [], ◌∷◌, length, slice_index, slice_set, slice_index_or, refl, sym, ap, ◌∙◌, arith}
 use Rattle.std.proofs.Math.Nat.{ℕ_set}
 use mathlib.Core.HLevel.{is_prop→PathP, ¬_prop}
@@ -36,9 +36,9 @@ same_link l m e = λ i. record {
   two_ends = is_prop→PathP (λ j. (e j).from ≢ (e j).to) (λ j. ¬_prop) l.two_ends m.two_ends i;
 }
 
--- Take eight numbers. The first is the bandwidth that is left at priority 0. Each other number is
--- the lesser of the number before it and the bandwidth that is left at its priority. Then these are
--- the link's effective bandwidths (`figures`).
+-- Eight numbers are the effective bandwidths of a link (`figures`) if two conditions are met. The
+-- first number is the bandwidth that is left at priority 0. Each later number is the lesser of the
+-- previous number and the bandwidth that is left at its priority.
 pub eight_figures : (free : List ℕ) (held : ℕ → ℕ) (a b c d e f g h : ℕ) → a ≡ slice_index free 0 - held 0
     → b ≡ min a (slice_index free 1 - held 1) → c ≡ min b (slice_index free 2 - held 2)
     → d ≡ min c (slice_index free 3 - held 3) → e ≡ min d (slice_index free 4 - held 4)
@@ -55,8 +55,8 @@ eight_figures free held a b c d e f g h pa pb pc pd pe pf pg ph =
     let eighth : h ≡ figure free held 7 = ph ∙ ap (λ x. min x (slice_index free 7 - held 7)) seventh in
     λ i. first i ∷ second i ∷ third i ∷ fourth i ∷ fifth i ∷ sixth i ∷ seventh i ∷ eighth i ∷ []
 
--- A link with the effective bandwidths of `l` (what the placements leave), and with all other
--- attributes of `l`, is the effective link of `l`.
+-- A link with the effective bandwidths of `l` and with all other attributes of `l` is the effective
+-- link of `l`.
 pub effective_from : (placements : List Placement) (l r : Link) (free : List ℕ)
     → HasLinkFields r (record (fields_of_link l) { free = free }) → free ≡ figures l.free (counted placements (key_of l))
     → r ≡ effective_link placements l
@@ -65,13 +65,13 @@ effective_from placements l r free has e =
     same_link r (effective_link placements l) ((links_said r (record (fields_of_link l) { free = free })).0 has
     ∙ ap (λ f. record (fields_of_link l) { free = f }) e)
 
--- Replacing the only change of a list gives the list of the new change.
+-- Replacing the only change of a list gives a list of just the new change.
 pub one_change : (cs : List Change) (c : Change) → length cs ≡ 1 → slice_set cs 0 c ≡ c ∷ []
 one_change [] c e = absurd (omega arith)
 one_change (x ∷ []) c e = refl
 one_change (x ∷ y ∷ cs) c e = absurd (omega arith)
 
--- A batch fits if it only replaces a link by a link with the same key that runs to the same router.
+-- A batch fits if all it does is replace a link by a link with the same key and neighbor.
 pub one_fits : (d : Database) (l : Link) (b : NumberedChanges) → IsWithinLimits d
     → option_map ends_of_link (link_at d (key_of l)) ≡ Some (ends_of_link l) → b.changes ≡ Put l ∷ [] → Fits d b
 unfolding IsDistinct
@@ -90,12 +90,12 @@ one_fits d l b within there is =
     only zero c h = tt
     only (suc k) c h = absurd (omega arith)
 
--- A link with other bandwidths has the same key and runs to the same router.
+-- A link with other bandwidths has the same key and the same neighbor.
 pub ends_from : (l r : Link) (free : List ℕ) → HasLinkFields r (record (fields_of_link l) { free = free }) → ends_of_link r ≡ ends_of_link l
 ends_from l r free has =
     ap (λ f. ((f.from, f.local), f.to)) ((links_said r (record (fields_of_link l) { free = free })).0 has)
 
--- Link `m` has the same key as the base's link `l`, and both run to the same router.
+-- In this module, the database `old` differs from the base only in attributes of its links.
 module _ (base old : Database) (k : Key) (keyed : AreAtTheirKeys base) (alike : AreAlike base old) (l m : Link) where
   ends_there : link_at base k ≡ Some l → ends_of_link m ≡ ends_of_link l
       → option_map ends_of_link (link_at base (key_of m)) ≡ Some (ends_of_link m)
@@ -103,8 +103,8 @@ module _ (base old : Database) (k : Key) (keyed : AreAtTheirKeys base) (alike : 
       ap (λ j. option_map ends_of_link (link_at base j)) (ap (λ (e : Key × ℕ). e.0) ends ∙ keyed k l is)
       ∙ ap (option_map ends_of_link) is ∙ ap Some (sym ends)
 
-  -- The database `old` differs from the base only in attributes of its links. It has a link with
-  -- the key of `m`, and this link and `m` run to the same router.
+  -- Let the link `m` have the same key and neighbor as the base's link `l`. Then `old` has a link
+  -- with this key and neighbor.
   pub ends_there_too : link_at base k ≡ Some l → ends_of_link m ≡ ends_of_link l
       → option_map ends_of_link (link_at old (key_of m)) ≡ Some (ends_of_link m)
   ends_there_too is ends = alike.ends (key_of m) ∙ ends_there is ends
@@ -113,16 +113,16 @@ module _ (base old : Database) (k : Key) (keyed : AreAtTheirKeys base) (alike : 
       → AreAlike base new
   alike_with new is ends put = rw put (alike_put base old m alike (ends_there is ends))
 
--- a link keeps its key if it gets its effective bandwidths (what the placements leave)
+-- a link with its effective bandwidths has the same key as the link of the base
 pub key_of-effective_link : (placements : List Placement) (l : Link) → key_of (effective_link placements l) ≡ key_of l
 unfolding effective_link
 key_of-effective_link placements l = refl
 
--- What a database has at each key after it gets the base's link at the key `k` with the link's
--- effective bandwidths (what the placements leave).
+-- This module states which links a database has after the base's link at the key `k`, with its
+-- effective bandwidths, was put into it.
 module _ (base old : Database) (placements : List Placement) (k : Key) (keyed : AreAtTheirKeys base) (alike : AreAlike base old) where
-  -- A database gets the base's link at the key `k` with the link's effective bandwidths (what the
-  -- placements leave). Then it has this link at `k`, and at all other keys the links of `old`.
+  -- Put the base's link at the key `k` into `old`, with its effective bandwidths. The resulting
+  -- database has this link at `k`, and the links of `old` at all other keys.
   pub at_put : (l : Link) (new : Database) → link_at base k ≡ Some l → new ≡ after_change old (Put (effective_link placements l)) → (q : Key)
       → link_at new q ≡ cond (eq_by_cmp key_cmp q k) (option_map (effective_link placements) (link_at base q)) (link_at old q)
   at_put l new is put q =
@@ -136,7 +136,8 @@ module _ (base old : Database) (placements : List Placement) (k : Key) (keyed : 
       chosen true tie = sym (ap (option_map (effective_link placements)) (ap (link_at base) (keys_same q k tie) ∙ is))
       chosen false off = refl
 
-  -- If the base has no link at the key `k`, `old` has none either, and no link has to be set there.
+  -- If the base has no link at the key `k`, `old` has no link there either, and nothing has to be
+  -- put into `old`.
   pub at_none : link_at base k ≡ None → (q : Key)
       → link_at old q ≡ cond (eq_by_cmp key_cmp q k) (option_map (effective_link placements) (link_at base q)) (link_at old q)
   at_none none q = chosen (eq_by_cmp key_cmp q k) refl

@@ -1,5 +1,6 @@
--- For two databases there is only one list of the ids of placements that lose their routes: the
--- first database admits the route, and the second doesn't.
+-- For two databases there is only one list of the ids of placements that lose their routes
+-- (`AreLost`). Below, a list is ordered if each of its placements precedes all later placements
+-- (`ComesBefore`).
 use Rattle.std.proofs.Common.{◌≡◌, ◌⊎◌, inl, inr, zero, suc, List, [], ◌∷◌, map, refl, sym, ap, subst, ◌∙◌, arith}
 use Rattle.std.specs.List.{AllPairs, Contains}
 use Rattle.cspf_book.specs.declared.placement.Placement.{Placement}
@@ -7,7 +8,7 @@ use Rattle.cspf_book.specs.Placements.{id_of}
 use Rattle.cspf_book.specs.LostRoutes.{ComesBefore}
 use Rattle.cspf_book.specs.Laws.{HaveOneLostList}
 
--- If one placement comes before another, the other doesn't come before it.
+-- Two placements can't each precede the other.
 one_way : (p r : Placement) → ComesBefore p r → ComesBefore r p → ⊥
 one_way p r first back =
     elim first [
@@ -15,19 +16,17 @@ one_way p r first back =
       | inr same ↦ elim back [ inl lower ↦ omega (arith, same.0) | inr tied ↦ omega (arith, same.1, tied.1) ]
     ]
 
--- If each placement of a list comes before all later ones, this also holds of the list without its
--- first placement.
+-- An ordered list is also ordered without its first placement.
 ordered_rest : (p : Placement) (ps : List Placement) → AllPairs ComesBefore (p ∷ ps) → AllPairs ComesBefore ps
 ordered_rest p ps ordered i j d first within =
     ordered (suc i) (suc j) d (omega arith) (omega arith)
 
--- If each placement of a list comes before all later ones, the first comes before each other
--- placement of the list.
+-- The first placement of an ordered list precedes each other placement of the list.
 first_before : (p r : Placement) (ps : List Placement) → AllPairs ComesBefore (p ∷ ps) → Contains ps r → ComesBefore p r
 first_before p r ps ordered (k, within, is) =
     subst (ComesBefore p) is (ordered 0 (suc k) r (omega arith) (omega arith))
 
--- An element of a list is its first element, or one of the rest.
+-- An element of a list is the first element, or an element of the rest.
 first_or_rest : (p r : Placement) (ps : List Placement) → Contains (p ∷ ps) r → (p ≡ r) ⊎ Contains ps r
 first_or_rest p r ps (zero, within, is) = inl is
 first_or_rest p r ps (suc k, within, is) = inr (k, omega arith, is)
@@ -35,9 +34,9 @@ first_or_rest p r ps (suc k, within, is) = inr (k, omega arith, is)
 in_rest : (p r : Placement) (ps : List Placement) → Contains ps r → Contains (p ∷ ps) r
 in_rest p r ps (k, within, is) = (suc k, omega arith, is)
 
--- Two lists have the same first placement, and in the first list each placement comes before all
--- later ones. If each placement of the first list is in the second, this also holds of the lists
--- without their first placements.
+-- Let two lists have the same first placement, and let the first list be ordered (`AllPairs
+-- ComesBefore`). If the second list contains each placement of the first list, this is also true of
+-- the two lists without their first placements.
 same_rest : (p q : Placement) (ps qs : List Placement) → p ≡ q → AllPairs ComesBefore (p ∷ ps)
     → ((r : Placement) → Contains (p ∷ ps) r → Contains (q ∷ qs) r) → (r : Placement) → Contains ps r → Contains qs r
 same_rest p q ps qs same ordered there r has =
@@ -50,8 +49,7 @@ same_rest p q ps qs same ordered there r has =
       | inr later ↦ later
     ]
 
--- Two lists with the same placements are equal if in each list each placement comes before all
--- later ones.
+-- Two ordered lists (`AllPairs ComesBefore`) that contain the same placements are equal.
 one_list : (ps qs : List Placement) → AllPairs ComesBefore ps → AllPairs ComesBefore qs
     → ((r : Placement) → Contains ps r → Contains qs r) → ((r : Placement) → Contains qs r → Contains ps r) → ps ≡ qs
 one_list [] [] first second there back = refl

@@ -1,4 +1,5 @@
--- The priorities at which links have less bandwidth than is counted on them.
+-- The list of the links and priorities at which a link has less bandwidth than the placements count
+-- on it.
 use Rattle.std.proofs.Common.{◌≡◌, ◌⊎◌, inl, inr, ℕ, zero-add, zero, suc, ◌+◌, ◌<◌, ◌≤◌, Bool, true, false, cond, Some, List, [], ◌∷◌, ◌++◌, map, filter, slice_index, sym, ap, ◌∙◌, arith}
 use Rattle.std.specs.Ordering.{eq_by_cmp}
 use Rattle.std.specs.List.{range_with_len, Contains}
@@ -18,11 +19,12 @@ use Rattle.cspf_book.specs.Placements.{counted}
 use Rattle.cspf_book.specs.OverLinks.{priorities, is_over, over_at, over_on, over_by, over}
 use Rattle.cspf_book.specs.Laws.{AbsorbingKeepsCovered}
 
--- the link's key with each priority below n at which the link has less bandwidth than is counted on it
+-- the entries of `over_on` for the priorities below n: those at which the link has less bandwidth
+-- than is counted on it
 abbrev pub over_up_to : List Placement → Link → ℕ → List Over
 over_up_to placements l n = map (over_at l) (filter (is_over placements l) (range_with_len 0 n))
 
--- The numbers from 0 to n are the numbers below n, followed by n.
+-- The list of the numbers from 0 to n is the list of the numbers below n, followed by n.
 range_with_len-more : (n : ℕ) → range_with_len 0 (n + 1) ≡ range_with_len 0 n ++ n ∷ []
 range_with_len-more n =
     sym (map-id (range_with_len 0 (n + 1))) ∙ map-range_with_len_more (λ k. k) 0 n n (omega arith)
@@ -35,9 +37,8 @@ over_up_to-more placements l n =
     ∙ ap (map (over_at l)) (filter-append (is_over placements l) (range_with_len 0 n) (n ∷ []))
     ∙ map-append (over_at l) (filter (is_over placements l) (range_with_len 0 n)) (filter (is_over placements l) (n ∷ []))
 
--- `over_up_to` lists the priorities below n at which a link has less bandwidth than the placements
--- count on it. If the link also has less at priority n, the list for the priorities below n + 1
--- ends with priority n.
+-- Let a link have less bandwidth at priority n than the placements count on it. Then `over_up_to`
+-- lists the same entries for n + 1 as for n, followed by an entry for priority n.
 pub over_listed : (placements : List Placement) (l : Link) (n : ℕ) (start list : List Over)
     → slice_index l.free n < counted placements (key_of l) n → list ≡ start ++ over_up_to placements l n
     → list ++ over_at l n ∷ [] ≡ start ++ over_up_to placements l (n + 1)
@@ -47,9 +48,8 @@ over_listed placements l n start list less so_far =
     ∙ ap (λ os. start ++ os)
     (sym (over_up_to-more placements l n ∙ ap (λ b. over_up_to placements l n ++ map (over_at l) (cond b (n ∷ []) [])) (lt-ltb (slice_index l.free n) (counted placements (key_of l) n) less)))
 
--- `over_up_to` lists the priorities below n at which a link has less bandwidth than the placements
--- count on it. If the link has enough at priority n, the list for the priorities below n + 1 is the
--- same.
+-- Let a link have enough bandwidth at priority n for the placements. Then `over_up_to` lists the
+-- same entries for n + 1 as for n.
 pub over_passed : (placements : List Placement) (l : Link) (n : ℕ) (start list : List Over)
     → counted placements (key_of l) n ≤ slice_index l.free n → list ≡ start ++ over_up_to placements l n
     → list ≡ start ++ over_up_to placements l (n + 1)
@@ -59,7 +59,7 @@ over_passed placements l n start list enough so_far =
     (sym (over_up_to-more placements l n ∙ ap (λ b. over_up_to placements l n ++ map (over_at l) (cond b (n ∷ []) [])) (le-ltb (slice_index l.free n) (counted placements (key_of l) n) enough)
     ∙ append-nil (over_up_to placements l n)))
 
--- A filtered list contains each element that passes the test.
+-- A filtered list contains each element of the list that passes the test.
 Contains-filter : {A : Type 0} (p : A → Bool) (xs : List A) (x : A) → Contains xs x → p x ≡ true → Contains (filter p xs) x
 Contains-filter p [] x (k, within, is) passes = absurd (omega arith)
 Contains-filter p (y ∷ ys) x (zero, within, is) passes =
@@ -70,7 +70,7 @@ Contains-filter p (y ∷ ys) x (suc k, within, is) passes =
       | false ↦ Contains-filter p ys x (k, omega arith, is) passes
     ]
 
--- A mapped list contains the image of each element.
+-- If a list contains x, the list mapped by f contains f x.
 Contains-map : {A B : Type 0} (f : A → B) (xs : List A) (x : A) → Contains xs x → Contains (map f xs) (f x)
 Contains-map f xs x (k, within, is) =
     (k, omega (arith, length-map xs f, within), get_or-map f xs k x (f x) within ∙ ap f is)
@@ -79,8 +79,8 @@ Contains-map f xs x (k, within, is) =
 Contains-priorities : (n : ℕ) → n < 8 → Contains priorities n
 Contains-priorities n small = (n, small, get_or-range_with_len 0 8 n n small ∙ zero-add n)
 
--- If a link has less bandwidth at a priority than is counted on it, `over_on` lists the link's key with this
--- priority.
+-- If a link has less bandwidth at a priority than is counted on it, `over_on` has an entry for the
+-- link and this priority.
 named : (placements : List Placement) (l : Link) (priority : ℕ) → priority < 8 → is_over placements l priority ≡ true
     → Contains (over_on placements l) (over_at l priority)
 named placements l priority small passes =
@@ -99,9 +99,9 @@ put_by_one d c l is =
     the_put (Remove from local) e = absurd (cc)
     the_put (Node router transit) e = absurd (cc)
 
--- Take a link that the base has after the changes, with less bandwidth at a priority than the
--- placements count on it. The base had this link before the changes, or the list `over` (of links
--- with too little bandwidth) has it with the priority.
+-- Let the base have, after the changes, a link with less bandwidth at a priority than the
+-- placements count on it. Then the base had the same link before the changes, or the list `over`
+-- has an entry for the link and this priority.
 over_or_kept : (d : Database) (placements : List Placement) (changes : List Change) (l : Link) (priority : ℕ) → priority < 8
     → is_over placements l priority ≡ true → link_at (after_changes d changes) (key_of l) ≡ Some l
     → (link_at d (key_of l) ≡ Some l) ⊎ Contains (over placements changes) (over_at l priority)
@@ -116,9 +116,9 @@ over_or_kept d placements (c ∷ cs) l priority small passes is =
       | inr later ↦ inr (Contains-append_right (over_by placements c) (over placements cs) (over_at l priority) later)
     ]
 
--- Take a link that the base has after changes. The base had it before, or the placements count at
--- most its bandwidth at the priority. Otherwise the list `over` (of links with too little
--- bandwidth) has it with this priority.
+-- Take a link of the base after changes, and a priority. The base had the same link before the
+-- changes, or the link is covered (`IsCovered`), or the list `over` has an entry for the link and
+-- this priority.
 pub absorbing_covered : AbsorbingKeepsCovered
 absorbing_covered base placements changes l priority is small =
     elim (cases_lt (slice_index l.free priority) (counted placements (key_of l) priority)) [

@@ -10,7 +10,7 @@ use Rattle.cspf_book.specs.Placements.{others}
 use Rattle.cspf_book.specs.BookState.{BookState, effective_beside, IsAnswerPlaced, IsPlaceError, HasRoomFor, links_placed}
 use Rattle.cspf_book.specs.Offers.{IsOffered, IsOfferRefused}
 
--- If an answer offers a placement for a request, the placement is of this request, and its route
+-- A placement that is offered for an answer to a request is a placement of this request. Its route
 -- has at most `room` links.
 pub offered_of : (q : Request) (hold room : ℕ) (a : Answer) (p : Placement) → IsOffered q hold room a (Some p)
     → (p.request ≡ q) × (length p.route ≤ room)
@@ -19,8 +19,8 @@ offered_of q hold room unknown_to p off = absurd off
 offered_of q hold room no_route p off = absurd off
 offered_of q hold room (route walk) p (own, its, few) = (its.request, rw its.route few)
 
--- If an answer offers a placement, and this placement replaces the placement with its id in the
--- book, the book changes as `IsAnswerPlaced` says.
+-- Let a placement be offered for an answer. If it replaces the placement with the same id in the
+-- book, the book changes as `IsAnswerPlaced` states.
 pub answer_placed : (old new : BookState) (q : Request) (hold room : ℕ) (a : Answer) (p : Placement) → IsOffered q hold room a (Some p)
     → links_placed (others q.id old.placements) + room ≡ MOST_ROUTES_LINKS
     → new.placements ≡ others q.id old.placements ++ p ∷ [] → new.base ≡ old.base → new.version ≡ old.version + 1
@@ -38,8 +38,8 @@ answer_placed old new q hold room (route walk) p (own, its, few) left placements
   version = version;
 }
 
--- If a request gets no offer of a placement for the reason `why`, this is also why the book doesn't
--- place the request (`IsPlaceError`).
+-- If no placement is offered for a request because of `why`, this is also the error with which the
+-- book doesn't place the request (`IsPlaceError`).
 pub place_error : (s : BookState) (q : Request) (room : ℕ) (why : PlaceError)
     → HasRoomFor s q.id → links_placed (others q.id s.placements) + room ≡ MOST_ROUTES_LINKS
     → IsOfferRefused (effective_beside s q.id) q room why → IsPlaceError s q why

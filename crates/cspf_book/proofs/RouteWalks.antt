@@ -20,14 +20,14 @@ pub same_request : (q : Request) (priority : q.setup < 8) (two_ends : q.from ≢
 same_request q priority two_ends =
     λ i. record q { bandwidth = 0; priority = le_prop priority q.priority i; two_ends = ¬_prop two_ends q.two_ends i }
 
--- A walk that has reached this router over this many links may continue along all these links, one
+-- A walk has reached `router` over `links` links. It may continue along all links of the list, one
 -- after the other.
 abbrev pub IsFollowed : Database → Request → ℕ → ℕ → List Link → Type 0
 IsFollowed d q links router [] = Unit {0}
 IsFollowed d q links router (l ∷ ls) = MayGoOn d q links router l × IsFollowed d q (links + 1) l.to ls
 
--- a walk from this router along the links of a route, in which each link runs from a router that
--- carries transit
+-- There is a walk from `router` along the links of `route`, and each of its links runs from a
+-- router that carries transit.
 record HasWalkOn (d : Database) (q : Request) (router : ℕ) (route : List Link) : Type 0 where
   walk : List Link
   links : AllByRecursion (IsAdmissible d q) walk
@@ -35,7 +35,7 @@ record HasWalkOn (d : Database) (q : Request) (router : ℕ) (route : List Link)
   transit : AllByRecursion (HasTransit d) (map (λ m. m.from) walk)
   along : map ends_of_link walk ≡ map ends_of_link route
 
--- A walk that has at least one link so far may continue only from a router that carries transit.
+-- If a walk may leave a router after at least one link, this router carries transit.
 left_later : (d : Database) (router links : ℕ) → 0 < links → MayLeave d router links → HasTransit d router
 left_later d router links some (inl transit) = transit
 left_later d router links some (inr none) = absurd (omega arith)
@@ -47,13 +47,14 @@ from_same a b e = ap (λ (x : Key × ℕ). x.0.0) e
 to_same : (a b : Link) → ends_of_link a ≡ ends_of_link b → a.to ≡ b.to
 to_same a b e = ap (λ (x : Key × ℕ). x.1) e
 
--- If the first links of two lists have the same `ends_of_link`, and so do the other links one by one, then so do
--- all links.
+-- Let the first links of two lists have the same `ends_of_link`. If this is also true of all later
+-- links, pair by pair, it is true of all links.
 both_ends : (a b : Link) (more rest : List Link) → ends_of_link a ≡ ends_of_link b → map ends_of_link more ≡ map ends_of_link rest
     → map ends_of_link (a ∷ more) ≡ map ends_of_link (b ∷ rest)
 both_ends a b more rest first later = λ i. first i ∷ later i
 
--- If the links of a route after its first link can be followed, there is a walk along these links.
+-- Let a walk have at least one link. If it can follow the links of a route from `router` on, there
+-- is a walk from `router` along these links (`HasWalkOn`).
 walk_later : (d : Database) (q : Request) (links router : ℕ) (route : List Link) → 0 < links → IsFollowed d q links router route
     → HasWalkOn d q router route
 walk_later d q links router [] some followed =
@@ -69,7 +70,8 @@ walk_later d q links router (l ∷ ls) some (go, rest) =
       along = both_ends found l later.walk ls go.there.alike later.along;
     }
 
--- The links of a walk after its first link can be followed one after the other (`IsFollowed`).
+-- Let a walk run along the links of a route, and let each of its links run from a router that
+-- carries transit. Then the route can be followed link by link (`IsFollowed`).
 followed_later : (d : Database) (q : Request) (links router : ℕ) (walk route : List Link) → AllByRecursion (IsAdmissible d q) walk
     → AreJoined router walk → AllByRecursion (HasTransit d) (map (λ m. m.from) walk)
     → map ends_of_link walk ≡ map ends_of_link route → IsFollowed d q links router route
@@ -87,7 +89,7 @@ followed_later d q links router (w ∷ ws) (l ∷ ls) all joined transit along =
       followed_later d q (links + 1) l.to ws ls all.1 (subst (λ r. AreJoined r ws) (to_same w l alike) joined.1) transit.1 rest,
     )
 
--- If the links can be followed from the head-end, there is a walk along them.
+-- If the links of a route can be followed from the head-end, there is a walk along these links.
 walk_from : (d : Database) (q : Request) (route : List Link) → IsFollowed d q 0 q.from route
     → (walk : List Link) × IsWalk d q walk × (map ends_of_link walk ≡ map ends_of_link route)
 walk_from d q [] followed = ([], record { links = tt; joined = tt; transit = tt }, refl)
@@ -103,7 +105,7 @@ walk_from d q (l ∷ ls) (go, rest) =
       both_ends found l later.walk ls go.there.alike later.along,
     )
 
--- If a walk runs along the links of a route, the route can be followed from the head-end.
+-- If there is a walk along the links of a route, the route can be followed from the head-end.
 followed_from : (d : Database) (q : Request) (walk route : List Link) → IsWalk d q walk
     → map ends_of_link walk ≡ map ends_of_link route → IsFollowed d q 0 q.from route
 followed_from d q [] [] is_walk along = tt
@@ -120,8 +122,8 @@ followed_from d q (w ∷ ws) (l ∷ ls) is_walk along =
       followed_later d q 1 l.to ws ls is_walk.links.1 (subst (λ r. AreJoined r ws) (to_same w l alike) is_walk.joined.1) is_walk.transit rest,
     )
 
--- The database admits a placement's route exactly if a walk of the placement's request, with
--- bandwidth 0, can follow the route link by link.
+-- The database admits a placement's route exactly if the route can be followed link by link for the
+-- placement's request with bandwidth 0.
 pub admits_followed : (d : Database) (p : Placement)
     → IsFollowed d (without_bandwidth p.request) 0 p.request.from p.route ↔ AdmitsRoute d p
 admits_followed d p = (
@@ -129,8 +131,8 @@ admits_followed d p = (
   λ admits. followed_from d (without_bandwidth p.request) admits.walk p.route admits.is_walk admits.along,
 )
 
--- If the database has an admitted link at the key of `l`, and both run to the same router, `HasItsLink` holds
--- exactly if the admitted link has its reverse.
+-- Let the database have an admitted link at the key of `l`, which runs to the same router as `l`.
+-- Then `HasItsLink` holds exactly if the database also has the reverse of this link.
 pub its_link : (d : Database) (q : Request) (l found : Link) → Some found ≡ link_at d (key_of l) → key_of found ≡ key_of l
     → found.to ≡ l.to → IsAdmitted q found → HasReverse d found ↔ HasItsLink d q l
 its_link d q l found is keyed to admitted = (
@@ -146,8 +148,8 @@ its_link d q l found is keyed to admitted = (
       subst (HasReverse d) (sym one) its.admissible.usable.reverse,
 )
 
--- In this module `l` is the link at index i of the route. A walk along the first i links has
--- reached `router`, and follows the route from there.
+-- In this module, `l` is the link at index i of the route. A walk along the first i links has
+-- reached `router`.
 module _ (d : Database) (q : Request) (route items : List Link) (i router : ℕ) (l : Link) (whole : items ≡ route) (within : i < length items)
     (is : l ≡ get_or items i l) where
   first_of : IsFollowed d q i router (drop i route) ≡ IsFollowed d q i router (l ∷ drop (i + 1) route)
@@ -169,7 +171,7 @@ module _ (d : Database) (q : Request) (route items : List Link) (i router : ℕ)
     λ every. (coe 0 1 (k. first_of k) (so_far.1 every)).1,
   )
 
--- After the last link of the route nothing is left to follow.
+-- Past the last link of the route, no link is left to follow.
 pub followed_all : (d : Database) (q : Request) (route items : List Link) (i router : ℕ) → items ≡ route → length items ≤ i
     → IsFollowed d q i router (drop i route)
 followed_all d q route items i router whole behind =

@@ -1,4 +1,4 @@
--- The bits of routers: which bits a placement has, and when no router of its route is affected.
+-- The bits of routers: a test of bits shows that changes affect no router on a placement's route.
 use Rattle.std.proofs.Common.{◌≡◌, ℕ, zero, suc, ◌+◌, ◌*◌, ◌/◌, ◌%◌, ◌^◌, ◌<◌, ◌&&◌, Bool, true, false, not, nat_eq, eqb-true, List, [], ◌∷◌, map, remove, refl, sym, ap, ◌∙◌, arith}
 use Rattle.std.specs.Int.Bits.{bit_and, bit_or, and_zero_l, and_self}
 use Rattle.std.specs.List.{AllByRecursion}
@@ -10,7 +10,7 @@ use Rattle.cspf_book.specs.declared.placement.Placement.{Placement}
 use Rattle.cspf_book.specs.Following.{changes_router}
 use Rattle.cspf_book.specs.RouterBits.{one_of_32, four_bits, bits_with, bits_of, IsAmong, has_quarters}
 
--- A bit that is among some bits is among them with further bits, too.
+-- Bits that are among `bits` are also among `bits` together with further bits.
 pub among_more : (bits more bit : ℕ) → bit_and bits bit ≡ bit → bit_and (bit_or bits more) bit ≡ bit
 among_more bits more bit is =
     ap (bit_and (bit_or bits more)) (sym is)
@@ -18,18 +18,19 @@ among_more bits more bit is =
     ∙ ap (λ b. bit_and b bit) (ap (λ b. bit_and b bits) (or_comm bits more) ∙ and_or_self bits more)
     ∙ is
 
--- A bit that is added to some bits is among them.
+-- If the four bits of a router are added to some bits, they are among the resulting bits.
 pub among_added : (bits router : ℕ) → IsAmong (bit_or bits (four_bits router)) router
 among_added bits router = and_or_self (four_bits router) bits
 
--- The bits of the routers to which links run are added to other bits, and these are kept.
+-- If a router's bits are among `bits`, they are still among them after the bits of the links'
+-- neighbors are added.
 among_with : (bits router : ℕ) (ls : List Link) → IsAmong bits router → IsAmong (bits_with bits ls) router
 among_with bits router [] is = is
 among_with bits router (l ∷ ls) is =
     among_with (bit_or bits (four_bits l.to)) router ls (among_more bits (four_bits l.to) (four_bits router) is)
 
--- If the changes affect no router whose bit is among these bits, with the bits of the routers to
--- which the links run, they affect no router to which a link runs.
+-- Add the bits of the links' neighbors to some bits. If the changes affect no router whose bits are
+-- among the result, they affect no neighbor of a link.
 off_links : (cs : List Change) (bits : ℕ) (ls : List Link) → ((router : ℕ) → IsAmong (bits_with bits ls) router → changes_router cs router ≡ false)
     → AllByRecursion (λ l. changes_router cs l.to ≡ false) ls
 off_links cs bits [] off = tt
@@ -38,11 +39,11 @@ off_links cs bits (l ∷ ls) off = (
   off_links cs (bit_or bits (four_bits l.to)) ls off,
 )
 
--- One of 32 bits isn't 0, and is below 2 ^ 32.
+-- `one_of_32` is greater than 0 and below 2 ^ 32.
 bit_some : (n : ℕ) → (0 < one_of_32 n) × (one_of_32 n < 2 ^ 32)
 bit_some n = (pow_pos (n % 32), pow_below (n % 32) 32 (mod_below n 32 (omega arith)))
 
--- A number that isn't 0 passes the test for it.
+-- The test `not (nat_eq n 0)` is true for each number n above 0.
 tells : (n : ℕ) → 0 < n → not (nat_eq n 0) ≡ true
 tells n some =
     elim (nat_eq n 0) as (λ b. nat_eq n 0 ≡ b → not b ≡ true) [
@@ -50,7 +51,7 @@ tells n some =
       | false ↦ λ _. refl
     ] refl
 
--- Four numbers below 2 ^ 32 that aren't 0, one for each quarter, have a bit in each quarter.
+-- If the four quarters of a number are greater than 0, at least one bit is set in each quarter.
 quarters_some : (x y z w : ℕ) → (0 < x) × (x < 2 ^ 32) → (0 < y) × (y < 2 ^ 32) → (0 < z) × (z < 2 ^ 32) → (0 < w) × (w < 2 ^ 32)
     → has_quarters (x + y * 2 ^ 32 + (z + w * 2 ^ 32) * 2 ^ 64) ≡ true
 quarters_some x y z w a b c d =
@@ -61,14 +62,15 @@ quarters_some x y z w a b c d =
     let fourth : 0 < n / 2 ^ 96 % 2 ^ 32 = omega (arith, a.1, b.1, c.1, d.0, d.1) in
     rw (tells (n % 2 ^ 32) first, tells (n / 2 ^ 32 % 2 ^ 32) second, tells (n / 2 ^ 64 % 2 ^ 32) third, tells (n / 2 ^ 96 % 2 ^ 32) fourth) refl
 
--- The four bits of a router have one bit in each quarter.
+-- Among the four bits of a router, at least one bit is set in each quarter.
 four_quarters : (router : ℕ) → has_quarters (four_bits router) ≡ true
 unfolding four_bits
 four_quarters router =
     let n = router * 2654435769 in
     quarters_some (one_of_32 (n / 2 ^ 27)) (one_of_32 (n / 2 ^ 22)) (one_of_32 (n / 2 ^ 17)) (one_of_32 (n / 2 ^ 12)) (bit_some (n / 2 ^ 27)) (bit_some (n / 2 ^ 22)) (bit_some (n / 2 ^ 17)) (bit_some (n / 2 ^ 12))
 
--- If a number has no bit in a quarter, neither have the bits that it shares with another number.
+-- If no bit of a number is set in a quarter, no bit is set there in its conjunction with another
+-- number.
 lost_quarter : (a b k : ℕ) → nat_eq (a / 2 ^ k % 2 ^ 32) 0 ≡ true → nat_eq (bit_and a b / 2 ^ k % 2 ^ 32) 0 ≡ true
 lost_quarter a b k none =
     let shared = ap (λ n. n % 2 ^ 32) (and_shr a b k) ∙ and_mod (a / 2 ^ k) (b / 2 ^ k) 32 in
@@ -78,8 +80,8 @@ lost_first : (a b : ℕ) → nat_eq (a % 2 ^ 32) 0 ≡ true → nat_eq (bit_and 
 lost_first a b none =
     ap (λ n. nat_eq n 0) (and_mod a b 32 ∙ ap (λ n. bit_and n (b % 2 ^ 32)) (eqb-true (a % 2 ^ 32) 0 none) ∙ and_zero_l (b % 2 ^ 32))
 
--- If a number doesn't have a bit in each quarter, neither have the bits that it shares with another
--- number.
+-- If some quarter of a number has no bit that is set, this is also true of its conjunction with
+-- another number.
 quarters_lost : (a b : ℕ) → has_quarters a ≡ false → has_quarters (bit_and a b) ≡ false
 quarters_lost a b = fewer _ _ _ _ _ _ _ _ (lost_first a b) (lost_quarter a b 32) (lost_quarter a b 64) (lost_quarter a b 96)
   where
@@ -97,8 +99,8 @@ quarters_lost a b = fewer _ _ _ _ _ _ _ _ (lost_first a b) (lost_quarter a b 32)
     fewer false false false true false false false w one two three four none = ap not (four refl)
     fewer false false false false t u v w one two three four none = absurd (false≢true (sym none))
 
--- The bits of changes and of a placement don't share a bit in each quarter. If the changes affect a
--- router, its four bits aren't among the bits of the placement.
+-- Let `all` have the bits of all routers that the changes affect. If `all` and `bits` don't share a
+-- bit in each quarter, the changes affect no router whose four bits are among `bits`.
 pub apart_bits : (all bits router : ℕ) (cs : List Change) → has_quarters (bit_and all bits) ≡ false → (changes_router cs router ≡ true → IsAmong all router)
     → IsAmong bits router → changes_router cs router ≡ false
 apart_bits all bits router cs apart has is =
@@ -108,8 +110,8 @@ apart_bits all bits router cs apart has is =
     ∙ sym (and_assoc (four_bits router) all bits) in
     false≢true (sym (ap has_quarters own ∙ quarters_lost (bit_and all bits) (four_bits router) apart) ∙ four_quarters router))
 
--- The changes affect no router whose bit the placement has. Then they affect neither the head-end
--- of the placement nor a router to which a link of its route runs.
+-- Let the changes affect no router whose bits the placement has. Then they affect neither the
+-- head-end nor the neighbor of a link on the placement's route.
 pub off_route : (cs : List Change) (p : Placement) → ((router : ℕ) → IsAmong (bits_of p) router → changes_router cs router ≡ false)
     → (changes_router cs p.request.from ≡ false) × AllByRecursion (λ l. changes_router cs l.to ≡ false) p.route
 off_route cs p off = (
@@ -117,7 +119,8 @@ off_route cs p off = (
   off_links cs (four_bits p.request.from) p.route off,
 )
 
--- The bits of the other placements are left if a placement and its bits are removed at one index.
+-- Remove a placement and its bits from their lists, at the same index. Then the list of bits still
+-- has the bits of the placements.
 pub bits-remove : (ps : List Placement) (index : ℕ) → remove (map bits_of ps) index ≡ map bits_of (remove ps index)
 bits-remove [] zero = refl
 bits-remove [] (suc index) = refl

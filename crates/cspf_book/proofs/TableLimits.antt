@@ -1,4 +1,4 @@
--- The limits that hold of each table's database.
+-- The limits on the database of a table.
 use Rattle.std.proofs.Common.{◌≡◌, ℕ, ◌+◌, ◌≤◌, Bool, true, false, cond, List, [], ◌∷◌, length, ap, arith}
 use Rattle.std.specs.Ordering.{nat_cmp}
 use Rattle.std.specs.Cmp.{nat_cmp_total}
@@ -11,7 +11,7 @@ use Rattle.cspf_model.specs.Database.{Database, Key, router_count, AreAtTheirKey
 use Rattle.cspf_db.specs.Index.{links_of}
 use Rattle.cspf_book.specs.Alike.{IsWithinLimits}
 
--- A set made of a list has at most as many items as the list.
+-- A set that is made of a list has at most as many elements as the list.
 len-from_list-le : (ns : List ℕ) → set.len (set.from_list {R = nat_cmp} ns) ≤ length ns
 len-from_list-le [] = omega (arith, set.len-empty nat_cmp)
 len-from_list-le (n ∷ ns) =
@@ -21,8 +21,8 @@ len-from_list-le (n ∷ ns) =
     one_more true m = omega arith
     one_more false m = omega arith
 
--- Take a database in which each link is at its own key. It is within its limits (`IsWithinLimits`)
--- if the lists of its links and marked routers, and the number of its routers, are.
+-- Let each link of a database be at the link's own key. The database is within a table's limits
+-- (`IsWithinLimits`) if its numbers of links, marks and routers are within these limits.
 pub limits_of : (d : Database) (rows : List Link) (marks : List ℕ) → length rows ≤ MOST_LINKS → rows ≡ links_of d
     → router_count d ≤ MOST_ROUTERS → AreAtTheirKeys d → d.marks ≡ set.from_list marks → length marks ≤ MOST_MARKS
     → IsWithinLimits d

@@ -1,4 +1,4 @@
--- How a link that a route uses twice is found.
+-- How a route is tested for a link that it uses twice.
 use Rattle.std.proofs.Common.{◌≡◌, ◌↔◌, ℕ, ◌+◌, ◌<◌, true, false, List, [], ◌∷◌, length, map, drop, slice_index_or, refl, sym, ap, ◌∙◌}
 use Rattle.std.specs.Ordering.{eq_by_cmp}
 use Rattle.std.specs.List.{AllByRecursion}
@@ -19,8 +19,8 @@ none_has : (k : Key) (links : List Link) → AllByRecursion (λ y. eq_by_cmp key
 none_has k [] all = refl
 none_has k (l ∷ ls) all = or_from _ _ (sym (same_key_test k (key_of l)) ∙ all.0) (none_has k ls all.1)
 
--- In this module `l` is the link at index i. Its key differs from the keys of all later links, or equals one of
--- these keys.
+-- In this module, `l` is the link at index i. One lemma is for a key of `l` that no later link has,
+-- and the other for a key that a later link has.
 module _ (links : List Link) (i : ℕ) (within : i < length links) (l : Link) (is : l ≡ slice_index_or links i l)
     (whole : HaveOwnKeys (drop i links) ↔ HaveOwnKeys links) where
   behind : HaveOwnKeys (drop i links) ≡ HaveOwnKeys (l ∷ drop (i + 1) links)

@@ -1,5 +1,5 @@
--- Whether a database that admits a route still admits it after changes. A link is looked up only if
--- the changes affect a router at one of its ends.
+-- How to tell whether a database that admits a route still admits it after changes. A link of the
+-- route is looked up only if the changes affect one of the link's two routers.
 use Rattle.std.proofs.Common.{◌≡◌, ◌↔◌, ℕ, ◌+◌, ◌<◌, ◌≤◌, inl, inr, Bool, true, false, cond, IsTrue, Some, None, List, [], ◌∷◌, length, drop, get_or, nat_eq, refl, sym, ap, ◌∙◌, eq-eqb}
 use Rattle.std.specs.Ordering.{eq_by_cmp}
 use Rattle.std.specs.FinSet as set
@@ -21,12 +21,12 @@ use Rattle.cspf_book.proofs.ChangedBases.{marked-after_change}
 use Rattle.cspf_book.proofs.RouterBits.{off_route}
 use Rattle.cspf_book.proofs.RouteWalks.{admits_followed, goes_on, followed_on, followed_more, followed_all, IsFollowed}
 
--- A change that affects another router has another key.
+-- A change that affects another router than `k.0` has another key than `k`.
 apart : (c : Change) (k : ChangeKey) → nat_eq (key_changed c).0 k.0 ≡ false → eq_by_cmp change_key_cmp k (key_changed c) ≡ false
 apart c k off =
     false_from_ne_true (eq_by_cmp change_key_cmp k (key_changed c)) (λ tie. false≢true (sym off ∙ eq-eqb (key_changed c).0 k.0 (ap (λ (q : ChangeKey). q.0) (sym (change_keys_same k (key_changed c) tie)))))
 
--- If no change affects a router, each link from the router stays the same.
+-- If no change affects a router, the links from this router are unchanged.
 unchanged_link : (d : Database) (cs : List Change) (k : Key) → changes_router cs k.0 ≡ false → link_at (after_changes d cs) k ≡ link_at d k
 unchanged_link d [] k off = refl
 unchanged_link d (c ∷ cs) k off =
@@ -64,8 +64,8 @@ module _ (d : Database) (cs : List Change) (q : Request) where
       kept_reverse has =
           (has.0, unchanged_link d cs (key_of has.0) (ap (changes_router cs) has.2.from ∙ to) ∙ has.1, has.2)
 
-  -- No change affects the two routers of a link. If a walk may continue along the link before the
-  -- changes, it may do so after them.
+  -- Let no change affect the two routers of a link. If a walk may continue along the link before
+  -- the changes, it may continue along it after them.
   untouched_goes_on : (links router : ℕ) (l : Link) → IsLeft router → IsLeft l.to → MayGoOn d q links router l
       → MayGoOn (after_changes d cs) q links router l
   untouched_goes_on links router l here there old = record {
@@ -80,8 +80,8 @@ module _ (d : Database) (cs : List Change) (q : Request) where
     };
   }
 
--- No change affects a router to which a walk leads, or a router to which one of these links runs. If
--- the walk can follow the links before the changes, it can follow them after the changes.
+-- Let no change affect the router at which some links start, or the neighbor of one of these links.
+-- If a walk can follow the links before the changes, it can follow them after the changes.
 untouched_followed : (d : Database) (cs : List Change) (q : Request) (links router : ℕ) (route : List Link) → changes_router cs router ≡ false
     → AllByRecursion (λ l. changes_router cs l.to ≡ false) route → IsFollowed d q links router route
     → IsFollowed (after_changes d cs) q links router route
@@ -91,8 +91,8 @@ untouched_followed d cs q links router (l ∷ ls) here off old = (
   untouched_followed d cs q (links + 1) l.to ls off.0 off.1 old.1,
 )
 
--- If the changes affect no router whose bit a placement has, a database that admits the placement's
--- route admits it after the changes, too.
+-- Let no change affect a router whose bits the placement has. If the database admits the
+-- placement's route, it also admits this route after the changes.
 pub untouched_admits : (d : Database) (cs : List Change) (p : Placement) → ((router : ℕ) → IsAmong (bits_of p) router → changes_router cs router ≡ false)
     → AdmitsRoute d p → AdmitsRoute (after_changes d cs) p
 untouched_admits d cs p off admits =
@@ -100,9 +100,9 @@ untouched_admits d cs p off admits =
     (admits_followed (after_changes d cs) p).0
     (untouched_followed d cs (without_bandwidth p.request) 0 p.request.from p.route parts.0 parts.1 ((admits_followed d p).1 admits))
 
--- Take a route that the database admits now. After the changes a walk can follow the whole route
--- exactly if it can follow the links from index `i` on. `near` says whether a change affects
--- `router`, to which the first `i` links lead.
+-- Let the database admit the route now. After the changes, a walk can follow the whole route
+-- exactly if a walk from `router` can follow the links from index `i` on. `near` says whether a
+-- change affects `router`.
 pub record IsFollowedUpTo (d : Database) (cs : List Change) (p : Placement) (i router : ℕ) (near : Bool) : Type 0 where
   pub changed : near ≡ changes_router cs router
   pub before : AdmitsRoute d p → IsFollowed d (without_bandwidth p.request) i router (drop i p.route)
@@ -118,7 +118,8 @@ up_to_start d cs p near is = record {
   after = λ _. (λ all. all, λ all. all);
 }
 
--- In this module `l` is the link at index i of the route, and the links before it were followed.
+-- In this module, `l` is the link at index i of the route, and `IsFollowedUpTo` holds for the first
+-- i links.
 module _ (d : Database) (cs : List Change) (p : Placement) (items : List Link) (i router : ℕ) (near far : Bool) (l : Link)
     (whole : items ≡ p.route) (within : i < length items) (is : l ≡ get_or items i l) (so_far : IsFollowedUpTo d cs p i router near) where
   abbrev bare : Request
@@ -135,8 +136,8 @@ module _ (d : Database) (cs : List Change) (p : Placement) (items : List Link) (
         (IsFollowed (after_changes d cs) bare 0 p.request.from p.route) go (so_far.after admits);
   }
 
-  -- If no change affects the two routers of the link at index i, `IsFollowedUpTo` holds for the
-  -- first i + 1 links, and the link needn't be looked up.
+  -- If no change affects the two routers of the link, `IsFollowedUpTo` holds for the first i + 1
+  -- links without a lookup of the link.
   pub up_to_passed : far ≡ changes_router cs l.to → near ≡ false → far ≡ false → IsFollowedUpTo d cs p (i + 1) l.to far
   up_to_passed changed here there = record {
     changed = changed;
@@ -149,7 +150,7 @@ module _ (d : Database) (cs : List Change) (p : Placement) (items : List Link) (
   }
 
   -- If the walk may not continue along the link after the changes, the database doesn't admit the
-  -- route after them.
+  -- route after the changes.
   pub up_to_broken : ¬ MayGoOn (after_changes d cs) bare i router l → AdmitsRoute d p → IsTrue false ↔ AdmitsRoute (after_changes d cs) p
   up_to_broken stuck admits = (
     λ never. absurd (false≢true never),
@@ -158,8 +159,8 @@ module _ (d : Database) (cs : List Change) (p : Placement) (items : List Link) (
         ((so_far.after admits).1 ((admits_followed (after_changes d cs) p).1 later)))),
   )
 
--- Take a route that the database admits. If `IsFollowedUpTo` holds for all its links, the database
--- admits the route after the changes, too.
+-- If the database admits the route now, and `IsFollowedUpTo` holds for all links of the route, the
+-- database also admits the route after the changes.
 pub up_to_end : (d : Database) (cs : List Change) (p : Placement) (items : List Link) (i router : ℕ) (near : Bool) → items ≡ p.route
     → length items ≤ i → IsFollowedUpTo d cs p i router near → AdmitsRoute d p → IsTrue true ↔ AdmitsRoute (after_changes d cs) p
 up_to_end d cs p items i router near whole behind so_far admits = (

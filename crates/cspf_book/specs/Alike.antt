@@ -1,5 +1,6 @@
--- Private: databases that differ only in attributes of their links. Also at which keys a database
--- has the links of the effective database (the base's links with what the placements leave).
+-- Private: databases that differ only in attributes of their links. Also: the keys at which a
+-- database agrees with the effective database (the base with the bandwidth that the placements
+-- leave on its links).
 use Rattle.std.specs.Prelude.{◌≡◌, ◌≤◌, Bool, false, cond, List, [], ◌∷◌}
 use Rattle.std.specs.Ordering.{eq_by_cmp}
 use Rattle.std.specs.List.{list_any}
@@ -13,27 +14,28 @@ use Rattle.cspf_book.specs.declared.placement.Placement.{Placement}
 use Rattle.cspf_book.specs.Placements.{ends_of_link, has_key}
 use Rattle.cspf_book.specs.Effective.{effective_link}
 
--- Both databases have links at the same keys, the same number of links, and the same marks. The two links at a key
--- run to the same router. A mark says that a router carries no transit.
+-- The two databases have links at the same keys, and the two links at a key run to the same router.
+-- Their marks and their numbers of links are also the same. A mark says that a router carries no
+-- transit.
 pub record AreAlike (d e : Database) : Type 0 where
   pub marks : e.marks ≡ d.marks
   pub count : link_count e ≡ link_count d
   pub ends : (k : Key) → option_map ends_of_link (link_at e k) ≡ option_map ends_of_link (link_at d k)
 
--- `d` is up to date at this key: it has the base's link with its effective bandwidths (what the
--- placements leave), or no link if the base has none.
+-- At this key, `d` has the base's link with the bandwidths that the placements leave, or no link if
+-- the base has no link. So `d` agrees with the effective database there.
 abbrev pub IsCurrentAt : Database → List Placement → Database → Key → Type 0
 IsCurrentAt base placements d k = link_at d k ≡ option_map (effective_link placements) (link_at base k)
 
--- At one key `new` has the base's link with its effective bandwidths (what the placements leave).
--- At all other keys `new` has the links of `old`.
+-- At `key`, `new` agrees with the effective database: it has the base's link with the bandwidths
+-- that the placements leave. At all other keys, `new` has the links of `old`.
 abbrev pub IsCurrentNowAt : Database → List Placement → Database → Database → Key → Type 0
 IsCurrentNowAt base placements old new key =
     (k : Key) → link_at new k
     ≡ cond (eq_by_cmp key_cmp k key) (option_map (effective_link placements) (link_at base k)) (link_at old k)
 
--- At each key except the keys of these links, `d` has the base's link with its effective
--- bandwidths, which are what the placements leave (`IsCurrentAt`).
+-- `d` agrees with the effective database (`IsCurrentAt`) at each key that isn't the key of one of
+-- these links.
 abbrev pub IsCurrentBut : Database → List Placement → Database → List Link → Type 0
 IsCurrentBut base placements d links =
     (k : Key) → has_key links k ≡ false → IsCurrentAt base placements d k
@@ -44,13 +46,14 @@ puts_key k (Put l) = has_key (l ∷ []) k
 puts_key k (Remove from local) = false
 puts_key k (Node router transit) = false
 
--- At each key except the keys of links that these changes set (`Put`), `d` has the base's link with
--- its effective bandwidths, which are what the placements leave (`IsCurrentAt`).
+-- `d` agrees with the effective database (`IsCurrentAt`) at each key at which these changes set no
+-- link (`Put`).
 abbrev pub IsCurrentButPut : Database → List Placement → Database → List Change → Type 0
 IsCurrentButPut base placements d changes =
     (k : Key) → list_any (puts_key k) changes ≡ false → IsCurrentAt base placements d k
 
--- The database is within the limits of a table on links, routers and marks, and each link is at its own key.
+-- The database is within a table's limits on the numbers of links, routers and marks. Each link is
+-- stored at its own key.
 pub record IsWithinLimits (d : Database) : Type 0 where
   pub links : link_count d ≤ MOST_LINKS
   pub routers : router_count d ≤ MOST_ROUTERS

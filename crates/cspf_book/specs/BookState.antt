@@ -14,8 +14,9 @@ use Rattle.cspf_book.specs.contracts.placement.Placement.{the_row}
 use Rattle.cspf_book.specs.Placements.{others}
 use Rattle.cspf_book.specs.Effective.{effective}
 
--- the base; the version, which counts the accepted base batches, placements and releases; and the placements in
--- the order in which they were placed
+-- The state of a book: the base, the version, and the placements in the order in which they were
+-- placed. The version is the number of accepted base batches, placements and releases, taken
+-- together.
 pub record BookState : Type 0 where
   pub base : Database
   pub version : ℕ
@@ -28,8 +29,8 @@ state_code =
     (coded× database_code (coded× coded_ℕ (coded_list the_row.coded)))
     (λ s. (s.base, (s.version, s.placements))) (λ p. record { base = p.0; version = p.1.0; placements = p.1.1 }) (λ _. refl)
 
--- the effective database (the base's links with what placements leave) in which a request with this
--- id is placed; the earlier placement with this id isn't counted
+-- The effective database in which a request with this id is placed. Its links are the base's links
+-- with the bandwidth that the placements with other ids leave.
 abbrev pub effective_beside : BookState → ℕ → Database
 effective_beside s id = effective s.base (others id s.placements)
 
@@ -43,7 +44,7 @@ pub record IsPlacementOf (q : Request) (priority : ℕ) (walk : List Link) (p : 
 abbrev pub links_placed : List Placement → ℕ
 links_placed placements = sum_by (λ p. length p.route) placements
 
--- Without a placement of this id, the book has fewer than `MOST_PLACEMENTS` placements.
+-- The book has fewer than `MOST_PLACEMENTS` placements with other ids.
 abbrev pub HasRoomFor : BookState → ℕ → Type 0
 HasRoomFor s id = length (others id s.placements) < MOST_PLACEMENTS
 
@@ -58,17 +59,19 @@ pub record IsPlacedAlong (old : BookState) (q : Request) (hold : ℕ) (walk : Li
   pub base : new.base ≡ old.base
   pub version : new.version ≡ old.version + 1
 
--- how an answer changes the book: a route is placed, and any other answer changes nothing
+-- how an answer changes the book: if the answer is a route, the request is placed along it, and any
+-- other answer changes nothing
 abbrev pub IsAnswerPlaced : BookState → Request → ℕ → Answer → BookState → Type 0
 IsAnswerPlaced old q hold unknown_from new = new ≡ old
 IsAnswerPlaced old q hold unknown_to new = new ≡ old
 IsAnswerPlaced old q hold no_route new = new ≡ old
 IsAnswerPlaced old q hold (route walk) new = IsPlacedAlong old q hold walk new
 
--- Why a request isn't placed. `Full`: without the placement of this id, the book already has the most placements
--- that it may have. Otherwise memory is refused, or the best answer is a route that can't be placed. `Twice`: the
--- route uses a link twice. `TooManyLinks`: the route uses no link twice, but the routes of all placements would
--- have too many links.
+-- Why a request isn't placed. `Full`: the book already has `MOST_PLACEMENTS` placements with other
+-- ids. The other errors suppose that the book has fewer such placements (`HasRoomFor`). `Memory`:
+-- memory is refused. `Twice`: the best answer is a route that uses a link twice. `TooManyLinks`:
+-- the best answer is a route that uses no link twice. With this route, the routes of all placements
+-- would have more than `MOST_ROUTES_LINKS` links.
 abbrev pub IsPlaceError : BookState → Request → PlaceError → Type 0
 IsPlaceError s q Memory = HasRoomFor s q.id
 IsPlaceError s q Full = MOST_PLACEMENTS ≤ length (others q.id s.placements)

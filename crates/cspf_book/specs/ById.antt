@@ -1,5 +1,5 @@
--- Private: the version of the book in which each placement was placed, by the placement's id. Also
--- the bits of the routers on each placement's route.
+-- Private: the version of the book in which each placement was placed. A map has these versions by
+-- the placements' ids. Also: the bits of the routers on each placement's route.
 use Rattle.std.specs.Prelude.{◌≡◌, ◌+◌, ◌<◌, ◌≤◌, ◌++◌, ℕ, Option, Some, None, cond, List, [], ◌∷◌, length, map, nat_eq, remove, slice_index}
 use Rattle.std.specs.Ordering.{nat_cmp}
 use Rattle.std.specs.BTreeMap.{get}
@@ -8,13 +8,14 @@ use Rattle.cspf_book.specs.declared.placement.Placement.{Placement}
 use Rattle.cspf_book.specs.Placements.{id_of}
 use Rattle.cspf_book.specs.RouterBits.{bits_of}
 
--- Each version is greater than the version before it. The first is at least `low`, and the last is
--- below `high`.
+-- The versions are strictly increasing. The first version is at least `low`, and the last version
+-- is below `high`.
 abbrev pub IsRising : ℕ → List ℕ → ℕ → Type 0
 IsRising low [] high = low ≤ high
 IsRising low (v ∷ vs) high = (low ≤ v) × IsRising (v + 1) vs high
 
--- the version at the index of the first placement with this id, if a placement has the id
+-- the version in `versions` at the index of the first placement with this id; nothing if no
+-- placement has this id
 abbrev pub version_of : List ℕ → List Placement → ℕ → Option ℕ
 version_of [] placements id = None
 version_of (v ∷ vs) [] id = None
@@ -24,15 +25,15 @@ version_of (v ∷ vs) (p ∷ ps) id = cond (nat_eq (id_of p) id) (Some v) (versi
 abbrev pub entered : Ids → ℕ → Option ℕ
 entered x id = get nat_cmp x.by_id id
 
--- The versions before the index are lower than this version, and the versions from the index on are
--- at least this version.
+-- The elements of `versions` before `index` are lower than `version`. The elements from `index` on
+-- are at least `version`.
 pub record IsIndexIn (versions : List ℕ) (version index : ℕ) : Type 0 where
   pub before : (k : ℕ) → k < index → slice_index versions k < version
   pub behind : (k : ℕ) → index ≤ k → k < length versions → version ≤ slice_index versions k
 
--- `x` lists one version for each placement, in the order of the placements. The versions rise, and
--- none is above `version`. The map of `x` has the version of each placement at the placement's id.
--- `x` also lists the bits of the routers on each placement's route.
+-- `x` lists one version for each placement, in the order of the placements. These versions are
+-- strictly increasing, and at most `version`. The map of `x` maps the id of each placement to the
+-- placement's version. `x` also lists the bits of the routers on each placement's route.
 pub record AreIdsOf (x : Ids) (version : ℕ) (placements : List Placement) : Type 0 where
   pub many : length x.versions.items ≡ length placements
   pub rising : IsRising 0 x.versions.items (version + 1)
@@ -45,19 +46,21 @@ pub record HasSameIds (old new : Ids) : Type 0 where
   pub bits : new.bits.items ≡ old.bits.items
   pub at : (id : ℕ) → entered new id ≡ entered old id
 
--- The map of `new` has this version for one id. For each other id it has what the map of `old` has.
+-- The map of `new` has `version` for `id`. For all other ids, the maps of `new` and `old` are the
+-- same.
 pub record HasEntered (old new : Ids) (id version : ℕ) : Type 0 where
   pub at : (other : ℕ) → entered new other ≡ cond (nat_eq id other) (Some version) (entered old other)
 
--- In the list of versions, the version at an index is removed, and `version` is added at the end.
--- The same is done with `added` in the list of bits. The map of versions by ids stays the same.
+-- In the list of versions, the element at `index` is removed, and `version` is appended. In the
+-- list of bits, the element at `index` is removed, and `added` is appended. The map of versions by
+-- ids is unchanged.
 pub record HasReplaced (old new : Ids) (index version added : ℕ) : Type 0 where
   pub versions : new.versions.items ≡ remove old.versions.items index ++ version ∷ []
   pub bits : new.bits.items ≡ remove old.bits.items index ++ added ∷ []
   pub at : (id : ℕ) → entered new id ≡ entered old id
 
--- The version and the bits at an index are removed from their lists, and the map has no version for
--- this id. For other ids the map stays the same.
+-- The elements at `index` are removed from the lists of versions and bits, and the map has no
+-- version for `id`. For all other ids, the map is unchanged.
 pub record HasForgotten (old new : Ids) (id index : ℕ) : Type 0 where
   pub versions : new.versions.items ≡ remove old.versions.items index
   pub bits : new.bits.items ≡ remove old.bits.items index

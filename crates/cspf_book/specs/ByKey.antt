@@ -8,8 +8,8 @@ use Rattle.cspf_model.specs.Changes.{ChangeKey, change_key_cmp, last_on}
 use Rattle.cspf_book.specs.Following.{changes_router}
 use Rattle.cspf_book.specs.RouterBits.{IsAmong}
 
--- The map has, for each key, the last of the changes with this key. The set has the routers that
--- the changes affect, and the bits of these routers are among `bits`.
+-- The map has the last change for each key. The set has the routers that the changes affect, and
+-- `bits` has the bits of all these routers.
 pub record IsByKey (last : BTreeMap ChangeKey Change) (routers : BTreeSet ℕ) (bits : ℕ) (changes : List Change) : Type 0 where
   pub last_at : (k : ChangeKey) → get change_key_cmp last k ≡ last_on k changes
   pub has : (router : ℕ) → contains nat_cmp routers router ≡ changes_router changes router

@@ -1,5 +1,5 @@
--- Private: how a route is followed link by link in a database, and how the placements that lose their routes are
--- listed.
+-- Private: how a route is followed link by link in a database, and how the placements that lose
+-- their routes are sorted.
 use Rattle.std.specs.Prelude.{◌≡◌, ◌≢◌, ◌-◌, ◌↔◌, ℕ, Bool, List, AllPairs, Contains, map, nat_eq}
 use Rattle.std.specs.List.{list_any}
 use Rattle.cspf_model.specs.declared.link.Link.{Link}
@@ -12,7 +12,7 @@ use Rattle.cspf_book.specs.declared.placement.Placement.{Placement}
 use Rattle.cspf_book.specs.Placements.{ends_of_link, id_of}
 use Rattle.cspf_book.specs.LostRoutes.{IsLost}
 
--- One of the changes affects the router: it changes a link that runs from the router, or says
+-- One of the changes affects the router: it changes a link that runs from the router, or it says
 -- whether the router carries transit.
 abbrev pub changes_router : List Change → ℕ → Bool
 changes_router changes router = list_any (λ c. nat_eq (key_changed c).0 router) changes
@@ -23,8 +23,8 @@ pub record HasItsLink (d : Database) (q : Request) (l : Link) : Type 0 where
   pub admissible : IsAdmissible d q found
   pub alike : ends_of_link found ≡ ends_of_link l
 
--- A walk that has reached this router over this many links may continue along the database's link at the key of
--- `l`.
+-- A walk has reached `router` over `links` links, and may continue along the database's link at the
+-- key of `l`.
 pub record MayGoOn (d : Database) (q : Request) (links router : ℕ) (l : Link) : Type 0 where
   pub from : l.from ≡ router
   pub leaves : MayLeave d router links
@@ -38,8 +38,8 @@ HaveOtherIds placements = AllPairs (λ p r. id_of p ≢ id_of r) placements
 abbrev pub order_rank : Placement → ℕ × ℕ
 order_rank p = (7 - p.hold, id_of p)
 
--- `ranks` lists, in any order, the rank of each placement that loses its route. A rank is a pair: 7
--- minus the placement's holding priority, and the placement's id.
+-- `ranks` has the rank of each placement that loses its route, in any order. A rank is 7 minus the
+-- holding priority of a placement, together with the id of the placement.
 pub record AreRanksOfLost (before after : Database) (placements : List Placement) (ranks : List (ℕ × ℕ)) : Type 0 where
   pub lost : List Placement
   pub members : (p : Placement) → Contains lost p ↔ (Contains placements p × IsLost before after p)

@@ -15,10 +15,11 @@ use Rattle.cspf_book.specs.BookState.{links_placed}
 abbrev pub HaveDistinctIds : List Placement → Type 0
 HaveDistinctIds placements = IsDistinct nat_eq (map id_of placements)
 
--- What holds of each book. The effective table (the base's links with what the placements leave),
--- the counted sums and the versions by ids are those of the placements. Each sum is at most 2 ^ 64
--- times the version. No two placements share an id. The placements and their links are within the
--- limits. The batch `one` has one change.
+-- The invariant of a book. The effective table, the counted sums, and the versions by ids are
+-- computed from the placements. The effective table is the base with the bandwidth that the
+-- placements leave on its links. Each sum is at most 2 ^ 64 times the version. No two placements
+-- share an id. The placements and the links of their routes are within the limits. The batch `one`
+-- has one change.
 pub record IsBook (a : Inside) : Type 0 where
   pub current : a.held.effective ≡ effective a.base a.placements.items
   pub sums : IsCountOf a.held.counts a.placements.items

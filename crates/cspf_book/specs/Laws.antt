@@ -1,5 +1,5 @@
--- Laws of the bandwidths that placements count, and of effective databases (a base's links with
--- what the placements leave).
+-- Laws of the bandwidths that placements count, and of effective databases. An effective database
+-- is a base with the bandwidth that the placements leave on its links.
 use Rattle.std.specs.Prelude.{◌≡◌, ◌⊎◌, ℕ, zero, suc, ◌<◌, ◌≤◌, min, List, [], ◌∷◌, ◌++◌, Contains, slice_index}
 use Rattle.std.specs.Option.{option_map}
 use Rattle.cspf_model.specs.declared.link.Link.{Link}
@@ -13,40 +13,40 @@ use Rattle.cspf_book.specs.Effective.{effective_link, effective}
 use Rattle.cspf_book.specs.OverLinks.{over_at, over}
 use Rattle.cspf_book.specs.LostRoutes.{AreLost}
 
--- The effective bandwidths of a link, which are computed from what the placements leave, never rise
--- from priority 0 to priority 7.
+-- The effective bandwidths of a link never rise from priority 0 to priority 7.
 abbrev pub FiguresNeverRise : Type 0
 FiguresNeverRise =
     (placements : List Placement) (l : Link) (p q : ℕ) → p ≤ q → q < 8
     → slice_index (effective_link placements l).free q ≤ slice_index (effective_link placements l).free p
 
--- At each key the effective database has the base's link at this key, with the link's effective
--- bandwidths (what the placements leave). It has no link there if the base has none.
+-- At each key, the effective database has the base's link with its effective bandwidths, or no link
+-- if the base has no link.
 abbrev pub HasEffectiveLinks : Type 0
 HasEffectiveLinks =
     (base : Database) (placements : List Placement) (k : Key)
     → link_at (effective base placements) k ≡ option_map (effective_link placements) (link_at base k)
 
--- the least bandwidth at this priority and at all more important priorities
+-- the least of the bandwidths at this priority and at all more important priorities
 abbrev pub least_up_to : List ℕ → ℕ → ℕ
 least_up_to free zero = slice_index free zero
 least_up_to free (suc p) = min (least_up_to free p) (slice_index free (suc p))
 
--- Without placements, the effective bandwidth at a priority is the least that the base has at this priority and at
--- all more important priorities. So if the link's bandwidths in the base don't rise with the priority's number,
--- they are its effective bandwidths.
+-- Without placements, the effective bandwidth of a link at a priority is `least_up_to` of its
+-- bandwidths in the base. So if the bandwidths in the base never rise from priority 0 to priority
+-- 7, they are equal to the effective bandwidths.
 abbrev pub NothingHeldIsBase : Type 0
 NothingHeldIsBase =
     (l : Link) (p : ℕ) → p < 8
     → slice_index (effective_link [] l).free p ≡ least_up_to l.free p
 
--- A link is covered at a priority: the placements count at most the link's unreserved bandwidth at this priority.
+-- A link is covered at a priority if the placements count at most the link's unreserved bandwidth
+-- at this priority.
 abbrev pub IsCovered : List Placement → Link → ℕ → Type 0
 IsCovered placements l priority = counted placements (key_of l) priority ≤ slice_index l.free priority
 
--- A link is covered at a priority if the placements count at most its bandwidth there. Placing a
--- request keeps each covered link covered, at each priority. The route has to be a walk of the
--- request in the effective database of the other placements.
+-- Placing a request with the setup priority 7 keeps each covered link covered, at each priority
+-- (`IsCovered`). The route has to be a walk of the request in the effective database of the other
+-- placements.
 abbrev pub PlacingKeepsCovered : Type 0
 PlacingKeepsCovered =
     (base : Database) (placements : List Placement) (p : Placement) → p.request.setup ≡ 7
@@ -54,24 +54,23 @@ PlacingKeepsCovered =
     → (l : Link) (priority : ℕ) → IsLinkOf base l → priority < 8
     → IsCovered placements l priority → IsCovered (others (id_of p) placements ++ p ∷ []) l priority
 
--- A link is covered at a priority if the placements count at most its bandwidth there. A release
--- keeps each covered link covered, at each priority.
+-- A release keeps each covered link covered, at each priority (`IsCovered`).
 abbrev pub ReleasingKeepsCovered : Type 0
 ReleasingKeepsCovered =
     (placements : List Placement) (id : ℕ) (l : Link) (priority : ℕ)
     → IsCovered placements l priority → IsCovered (others id placements) l priority
 
--- A link is covered at a priority if the placements count at most its bandwidth there. Take a link
--- that the base has after changes, and a priority. The link was already a link of the base, or it
--- is covered, or the list `over` has it with this priority.
+-- Take a link of the base after changes, and a priority. The base had the same link before the
+-- changes, or the link is covered (`IsCovered`), or the list `over` has the link with this
+-- priority.
 abbrev pub AbsorbingKeepsCovered : Type 0
 AbsorbingKeepsCovered =
     (base : Database) (placements : List Placement) (changes : List Change) (l : Link) (priority : ℕ)
     → IsLinkOf (after_changes base changes) l → priority < 8
     → IsLinkOf base l ⊎ (IsCovered placements l priority ⊎ Contains (over placements changes) (over_at l priority))
 
--- For two databases there is only one list of the ids of placements that lose their routes: the
--- first database admits the route, and the second doesn't.
+-- For two databases there is only one list of the ids of placements that lose their routes
+-- (`AreLost`).
 abbrev pub HaveOneLostList : Type 0
 HaveOneLostList =
     (before after : Database) (placements : List Placement) (a b : List ℕ)

@@ -1,4 +1,5 @@
--- Which placements' routes a database admits, and which routes are lost when another database replaces it.
+-- Which routes of placements a database admits, and which of these routes are lost when another
+-- database replaces it.
 use Rattle.std.specs.Prelude.{◌≡◌, ◌<◌, ◌⊎◌, ◌↔◌, ℕ, List, AllPairs, Contains, map}
 use Rattle.cspf_model.specs.declared.link.Link.{Link}
 use Rattle.cspf_model.specs.declared.request.Request.{Request}
@@ -11,25 +12,27 @@ use Rattle.cspf_book.specs.Placements.{ends_of_link, id_of}
 abbrev pub without_bandwidth : Request → Request
 without_bandwidth q = record q { bandwidth = 0 }
 
--- The database admits the placement's route. It has a walk of the placement's request with bandwidth 0. The walk's
--- links have the same keys as the route's links, one by one, and run to the same routers.
+-- The database admits the route of the placement: it has a walk of the placement's request with
+-- bandwidth 0, along the same links. Link by link, walk and route have the same keys and the same
+-- neighbors.
 pub record AdmitsRoute (d : Database) (p : Placement) : Type 0 where
   pub walk : List Link
   pub is_walk : IsWalk d (without_bandwidth p.request) walk
   pub along : map ends_of_link walk ≡ map ends_of_link p.route
 
--- The database `before` admits the route, and the database `after` doesn't.
+-- The database `before` admits the route of the placement, and the database `after` doesn't.
 pub record IsLost (before after : Database) (p : Placement) : Type 0 where
   pub admitted : AdmitsRoute before p
   pub broken : ¬ AdmitsRoute after p
 
--- The less important placement comes first: the placement with the higher number of the holding priority, or with
--- the lower id if these numbers are equal.
+-- `p` precedes `r` in the list of lost placements if the holding priority of `p` is less important
+-- (a greater number). If the holding priorities are equal, `p` precedes `r` if `p` has the lower
+-- id.
 abbrev pub ComesBefore : Placement → Placement → Type 0
 ComesBefore p r = (r.hold < p.hold) ⊎ ((r.hold ≡ p.hold) × (id_of p < id_of r))
 
--- The ids of the placements whose routes are lost (`before` admits the route, and `after` doesn't),
--- each once. The least important comes first.
+-- `ids` has the ids of the placements whose routes are lost, each once, in the order of
+-- `ComesBefore`.
 pub record AreLost (before after : Database) (placements : List Placement) (ids : List ℕ) : Type 0 where
   pub lost : List Placement
   pub members : (p : Placement) → Contains lost p ↔ (Contains placements p × IsLost before after p)

@@ -1,4 +1,4 @@
--- Private: which placement is offered to a request in a database, and why a route isn't placed.
+-- Private: the placement that is offered for an answer, and why a route isn't placed.
 use Rattle.std.specs.Prelude.{◌≤◌, ◌<◌, ℕ, Option, Some, None, List, length}
 use Rattle.cspf_model.specs.declared.link.Link.{Link}
 use Rattle.cspf_model.specs.declared.request.Request.{Request}
@@ -9,8 +9,8 @@ use Rattle.cspf_book.specs.declared.error.PlaceError.TheVariants.{Memory, Full, 
 use Rattle.cspf_book.specs.declared.placement.Placement.{Placement}
 use Rattle.cspf_book.specs.BookState.{IsPlacementOf}
 
--- An answer that is a route offers a placement along this route, which uses no link twice and has at most `room`
--- links. Any other answer offers no placement.
+-- For an answer that is a route, a placement along this route is offered. The route uses no link
+-- twice and has at most `room` links. For any other answer, no placement is offered.
 abbrev pub IsOffered : Request → ℕ → ℕ → Answer → Option Placement → Type 0
 IsOffered q hold room unknown_from (Some p) = ⊥
 IsOffered q hold room unknown_from None = Unit {0}
@@ -22,22 +22,23 @@ IsOffered q hold room (route walk) None = ⊥
 IsOffered q hold room (route walk) (Some p) =
     HaveOwnKeys walk × IsPlacementOf q hold walk p × (length walk ≤ room)
 
--- Why a walk isn't placed if a route may have at most `room` links. Memory is refused only for a walk that would
--- otherwise be placed.
+-- Why no request is placed along this walk, if a route may have at most `room` links. Memory is
+-- refused only for a walk that would otherwise be placed.
 abbrev pub IsWalkRefused : ℕ → List Link → PlaceError → Type 0
 IsWalkRefused room walk Memory = HaveOwnKeys walk × (length walk ≤ room)
 IsWalkRefused room walk Full = ⊥
 IsWalkRefused room walk Twice = ¬ HaveOwnKeys walk
 IsWalkRefused room walk TooManyLinks = HaveOwnKeys walk × (room < length walk)
 
--- why an answer gives no placement: it is a walk that can't be placed
+-- why no placement is offered for an answer that is a walk; other answers aren't refused
 abbrev pub IsAnswerRefused : ℕ → Answer → PlaceError → Type 0
 IsAnswerRefused room unknown_from why = ⊥
 IsAnswerRefused room unknown_to why = ⊥
 IsAnswerRefused room no_route why = ⊥
 IsAnswerRefused room (route walk) why = IsWalkRefused room walk why
 
--- why nothing is offered to a request: memory is refused, or the best answer is a walk that can't be placed
+-- Why the search for a placement of a request ends with an error. Memory is refused, or the best
+-- answer is a walk that uses a link twice or has more than `room` links.
 abbrev pub IsOfferRefused : Database → Request → ℕ → PlaceError → Type 0
 IsOfferRefused d q room Memory = Unit {0}
 IsOfferRefused d q room Full = ⊥

@@ -1,4 +1,5 @@
--- Which links, after changes of the base, have less bandwidth than the placements hold on them.
+-- The links on which, after changes of the base, the placements hold more bandwidth than the links
+-- have.
 use Rattle.std.specs.Prelude.{ℕ, Bool, List, [], ◌∷◌, filter, map, nat_lt, slice_index}
 use Rattle.std.specs.List.{flat_map}
 use Rattle.cspf_model.specs.declared.link.Link.{Link}
@@ -13,28 +14,28 @@ use Rattle.cspf_book.specs.Placements.{counted}
 abbrev pub priorities : List ℕ
 priorities = 0 ∷ 1 ∷ 2 ∷ 3 ∷ 4 ∷ 5 ∷ 6 ∷ 7 ∷ []
 
--- the link's unreserved bandwidth at the priority is less than the bandwidth that is counted on its
--- key
+-- at this priority, the link's unreserved bandwidth is less than the bandwidth that the placements
+-- count on the link's key
 abbrev pub is_over : List Placement → Link → ℕ → Bool
 is_over placements l priority =
     nat_lt (slice_index l.free priority) (counted placements (key_of l) priority)
 
--- a link's key with a priority
+-- the entry for a link and a priority: the key of the link, and the priority
 abbrev pub over_at : Link → ℕ → Over
 over_at l priority = record { from = l.from; local = l.local; priority = priority }
 
--- the link's key with each priority at which `is_over` holds, in order
+-- one entry for each priority at which `is_over` is true of the link, from priority 0 to 7
 abbrev pub over_on : List Placement → Link → List Over
 over_on placements l = map (over_at l) (filter (is_over placements l) priorities)
 
--- the link that a change sets (`Put`), with each priority at which it has less bandwidth than the
--- placements count on it; nothing if the change sets no link
+-- The entries for the link that a change sets (`Put`). There is one for each priority at which the
+-- link has less bandwidth than the placements count on it. Other changes have no entries.
 abbrev pub over_by : List Placement → Change → List Over
 over_by placements (Put l) = over_on placements l
 over_by placements (Remove from local) = []
 over_by placements (Node router transit) = []
 
--- each link that the changes set (`Put`), with each priority at which it has less bandwidth than
--- the placements count on it, in the order of the changes
+-- The entries for all links that the changes set (`Put`), in the order of the changes. There is one
+-- for each priority at which the link has less bandwidth than the placements count on it.
 abbrev pub over : List Placement → List Change → List Over
 over placements changes = flat_map (over_by placements) changes

@@ -5,7 +5,7 @@ use Rattle.cspf_model.specs.declared.link.Link.{Link}
 use Rattle.cspf_model.specs.Database.{Key, key_of}
 use Rattle.cspf_book.specs.declared.placement.Placement.{Placement}
 
--- the key of a link and the router that it runs to
+-- the key and the neighbor of a link
 abbrev pub ends_of_link : Link → Key × ℕ
 ends_of_link l = (key_of l, l.to)
 
@@ -13,14 +13,14 @@ ends_of_link l = (key_of l, l.to)
 abbrev pub has_key : List Link → Key → Bool
 has_key links k = list_any (λ l. nat_eq l.from k.0 && nat_eq l.local k.1) links
 
--- The bandwidth that a placement counts at a priority on the link with this key. It is the placement's bandwidth
--- if its route has the link and its holding priority is at most this priority. Otherwise it is 0. So a placement
--- with the holding priority h counts at the priorities h to 7.
+-- The bandwidth that a placement counts on the link with this key at a priority. A placement with
+-- the holding priority h counts its bandwidth on each link of its route, at the priorities h to 7.
+-- Elsewhere it counts 0.
 abbrev pub bandwidth_on : Key → ℕ → Placement → ℕ
 bandwidth_on k priority p =
     cond (nat_le p.hold priority && has_key p.route k) p.request.bandwidth 0
 
--- the bandwidth counted on the link with this key at a priority: the sum over all placements
+-- the bandwidth that all placements together count on the link with this key at a priority
 abbrev pub counted : List Placement → Key → ℕ → ℕ
 counted placements k priority = sum_by (bandwidth_on k priority) placements
 

@@ -1,10 +1,11 @@
--- Private: the bits of routers, by which most placements are passed over if the base changes.
+-- Private: the bits of routers. If the base changes, a test of these bits shows for most placements
+-- that they keep their routes.
 use Rattle.std.specs.Prelude.{◌≡◌, ℕ, Bool, ◌+◌, ◌*◌, ◌/◌, ◌%◌, ◌^◌, ◌&&◌, not, List, [], ◌∷◌, nat_eq}
 use Rattle.std.specs.Int.Bits.{bit_and, bit_or}
 use Rattle.cspf_model.specs.declared.link.Link.{Link}
 use Rattle.cspf_book.specs.declared.placement.Placement.{Placement}
 
--- one of 32 bits
+-- one of 32 bits, chosen by `number`
 abbrev pub one_of_32 : ℕ → ℕ
 one_of_32 number = 2 ^ (number % 32)
 
@@ -18,7 +19,7 @@ four_of n =
 unfoldable pub four_bits : ℕ → ℕ
 four_bits router = four_of (router * 2654435769)
 
--- these bits, with the four bits of each router to which one of the links runs
+-- `bits`, together with the four bits of the neighbor of each link
 abbrev pub bits_with : ℕ → List Link → ℕ
 bits_with bits [] = bits
 bits_with bits (l ∷ ls) = bits_with (bit_or bits (four_bits l.to)) ls
@@ -31,7 +32,7 @@ bits_of p = bits_with (four_bits p.request.from) p.route
 abbrev pub IsAmong : ℕ → ℕ → Type 0
 IsAmong bits router = bit_and bits (four_bits router) ≡ four_bits router
 
--- There is a bit in each quarter.
+-- At least one bit is set in each quarter of the 128 bits.
 abbrev pub has_quarters : ℕ → Bool
 has_quarters bits =
     not (nat_eq (bits % 2 ^ 32) 0)

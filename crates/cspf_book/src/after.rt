@@ -1,4 +1,4 @@
-//! Lookups in the database that changes would make of the base. The base itself isn't changed.
+//! Lookups in the base as it would be after changes. The base itself isn't changed.
 
 ghost use Rattle.std.specs.Prelude.{◌≡◌, ◌↔◌, IsTrue, IfSome};
 ghost use Rattle.cspf_model.specs.Database.{key_of, link_at, HasReverse, HasTransit};
@@ -10,7 +10,7 @@ use cspf_addr::Addr;
 use cspf_db::Table;
 use cspf_model::{Change, Link};
 
-/// The link that is at the change's key once the change is made. After a removal there is no link.
+/// The link that a change leaves at its key. A removal leaves no link.
 fn link_left(change: &Change) -> Option<Link>
     ensures { result ≡ link_left change.now }
 {
@@ -42,7 +42,7 @@ pub(crate) fn find_after(base: &Table, changes: &Changed, from: Addr, local: Add
     }
 }
 
-/// Whether the database has the reverse of the link after the changes.
+/// Whether the base has the reverse of the link after the changes.
 pub(crate) fn has_reverse_after(base: &Table, changes: &Changed, link: &Link) -> bool
     ensures { IsTrue result ↔ HasReverse (after_changes base.now changes.now) link.now }
 {

@@ -1,5 +1,5 @@
-//! A book: a base database, the placements over it, and the effective database that results (the
-//! base's links with what the placements leave).
+//! A book: a base database, the placements over it, and the effective database. This is the base,
+//! with the bandwidth that the placements leave on its links.
 
 ghost use Rattle.std.specs.Prelude.{◌≡◌, ◌+◌, ◌<◌, [], IsTrue, IfOk, IfErr, OnOk, OnErr};
 ghost use Rattle.cspf_model.specs.Best.{IsBestAnswer};
@@ -32,8 +32,9 @@ use std::alloc::{AllocError, Global};
 use std::marker::Model;
 
 /// A base database and the placements over it. A request is placed along the best route in the
-/// effective database, whose links have the bandwidth that earlier placements leave. From then on
-/// the request holds its bandwidth on the links of that route. Nothing is preempted.
+/// effective database, whose links have the bandwidth that earlier placements leave. From then on,
+/// the placement holds the request's bandwidth on each link of this route. No placement is
+/// preempted.
 #[derive(Drop)]
 pub struct Book {
     base: Table,
@@ -59,7 +60,7 @@ impl Model for Book {
 }
 
 impl Book {
-    /// The first book, of version 0: the base is empty, and there are no placements.
+    /// An empty book, of version 0: the base has no links, and there are no placements.
     pub fn new(alloc: Global) -> Result<Book, AllocError>
         ensures { IfOk result (λ book. book ≡ record { base = no_links; version = 0; placements = [] }) }
     {
@@ -96,8 +97,7 @@ impl Book {
         &self.base
     }
 
-    /// The effective database: the base's links, each with the bandwidth that isn't held by
-    /// placements.
+    /// The effective database: the base, with the bandwidth that the placements leave on its links.
     pub fn effective(&self) -> &Table
         ensures { result.now ≡ effective self.now.base self.now.placements }
     {
@@ -118,8 +118,8 @@ impl Book {
         self.held.counts.sum(from, local, priority.min(7))
     }
 
-    /// The best answer to a request in the effective database (the base's links with what the
-    /// placements leave). No bandwidth is reserved.
+    /// The best answer to a request in the effective database. The request isn't placed, and no
+    /// bandwidth is held.
     pub fn ask(&self, alloc: Global, request: &Request) -> Result<Outcome, AllocError>
         ensures { IfOk result (λ outcome. IsBestAnswer (effective self.now.base self.now.placements)
             request.now (answer_of outcome)) }
@@ -127,10 +127,10 @@ impl Book {
         best(alloc, &self.held.effective, request)
     }
 
-    /// Lists each link that the batch sets (`Put`) and each priority at which the link then has
-    /// less unreserved bandwidth than the placements count on its key. The entries are in the
-    /// batch's order, and for one link from priority 0 to 7. It isn't checked whether the batch
-    /// fits.
+    /// Lists the links that the batch sets (`Put`), each with the priorities at which the
+    /// placements count more bandwidth than the link then has. The entries are in the order of the
+    /// batch. The entries of one link go from priority 0 to 7. The call doesn't check whether the
+    /// batch fits.
     pub fn over(&self, alloc: Global, batch: &Batch) -> Result<Vec<Over>, AllocError>
         ensures { IfOk result (λ list. list.items ≡ over self.now.placements batch.now.changes) }
     {
@@ -138,9 +138,9 @@ impl Book {
     }
 
     /// The ids of the placements that lose their routes by the batch: the base admits the route
-    /// now, and wouldn't admit it after the changes. The least important comes first: by holding
-    /// priority from 7 down to 0, then by id. Bandwidth doesn't matter. It isn't checked whether
-    /// the batch fits.
+    /// now, and wouldn't admit it after the changes. Bandwidth doesn't matter. The ids are sorted
+    /// by holding priority from 7 (the least important) to 0, and then by id. The call doesn't
+    /// check whether the batch fits.
     pub fn lost(&self, alloc: Global, batch: &Batch) -> Result<Vec<u64>, AllocError>
         ensures { IfOk result (λ ids. AreLost self.now.base
             (after_changes self.now.base batch.now.changes) self.now.placements ids.items) }
@@ -155,8 +155,8 @@ impl Book {
     }
 
     /// Makes all changes of a batch in the base if the batch fits, and otherwise changes nothing.
-    /// All placements stay, even if the base then has less bandwidth than they hold. No memory is
-    /// taken.
+    /// All placements stay, even if the base then has less bandwidth than the placements hold. No
+    /// memory is allocated.
     pub fn try_absorb(&mut self, batch: &Batch) -> Result<(), Refusal>
         requires { self.old.version < MOST_VERSIONS }
         ensures ok { OnOk result (Fits self.old.base batch.now) }
@@ -182,11 +182,11 @@ impl Book {
         Ok(())
     }
 
-    /// Places a request, whose setup priority has to be 7. Finds the best answer in the effective
-    /// database, whose links have what the placements leave. An earlier placement with the
-    /// request's id isn't counted there. If the answer is a route, the request is placed along it,
-    /// and the new placement replaces the earlier one. If the answer is no route, or after an
-    /// error, nothing changes.
+    /// Places a request, whose setup priority has to be 7. First the best answer is found in the
+    /// effective database. An earlier placement with the request's id isn't counted in this search.
+    /// If the answer is a route, the request is placed along this route, and the new placement
+    /// replaces the earlier placement. Any other answer changes nothing, and an error changes
+    /// nothing either.
     pub fn place(
         &mut self,
         alloc: Global,
@@ -243,7 +243,7 @@ impl Book {
     }
 
     /// Releases the placement with this id. If no placement has the id, nothing changes. No memory
-    /// is taken.
+    /// is allocated.
     pub fn release(&mut self, id: u64) -> Result<(), Absent>
         requires { self.old.version < MOST_VERSIONS }
         ensures ok { OnOk result (IsTrue (has_id id self.old.placements)) }

@@ -1,4 +1,4 @@
-//! The changes of a batch, which are looked up by their keys.
+//! The changes of a batch, to be looked up by their keys.
 
 ghost use Rattle.std.specs.Prelude.{◌≡◌, ℕ, false, [], IfOk};
 ghost use Rattle.std.specs.Option.{option_copied};
@@ -42,7 +42,7 @@ impl<'a> Model for Changed<'a> {
 }
 
 impl<'a> Changed<'a> {
-    /// Returns a list of no changes. The call takes no memory.
+    /// Returns an empty list of changes. No memory is allocated.
     pub(crate) fn none(alloc: Global) -> Changed<'static>
         ensures { result ≡ [] }
     {
@@ -54,7 +54,8 @@ impl<'a> Changed<'a> {
         }
     }
 
-    /// Returns these changes, with the map and the set by which they are looked up.
+    /// Returns these changes, with a map from keys to changes, and the set of the routers that the
+    /// changes affect.
     pub(crate) fn new(alloc: Global, changes: &'a [Change]) -> Result<Changed<'a>, AllocError>
         ensures { IfOk result (λ changed. changed ≡ changes.now) }
     {
@@ -77,8 +78,8 @@ impl<'a> Changed<'a> {
     }
 
     /// The last change with this key, if there is one. The key of a change of a link is the link's
-    /// key. A change of a router's mark, which says that the router carries no transit, has the
-    /// router and `None` as its key.
+    /// key. A change of a mark has the router and `None` as its key. A mark says that a router
+    /// carries no transit.
     pub(crate) fn last_on(&self, key: (Addr, Option<Addr>)) -> Option<&Change>
         ensures { option_copied result ≡ last_on key self.now }
     {
@@ -86,15 +87,15 @@ impl<'a> Changed<'a> {
     }
 
     /// Whether one of the changes affects the router: it changes a link that runs from the router,
-    /// or says whether the router carries transit.
+    /// or it says whether the router carries transit.
     pub(crate) fn has_router(&self, router: Addr) -> bool
         ensures { result ≡ changes_router self.now router }
     {
         self.routers.contains(&router)
     }
 
-    /// Whether the changes affect a router whose four bits are among these bits. The result may be `true`
-    /// although they affect no such router.
+    /// Whether the changes may affect a router whose four bits are all in `bits`. If the result is
+    /// `false`, they affect no such router.
     pub(crate) fn may_affect(&self, bits: u128) -> bool
         ensures { result ≡ false → (router : ℕ) → IsAmong bits router
             → changes_router self.now router ≡ false }

@@ -12,8 +12,8 @@ use cspf_model::Link;
 use std::alloc::{AllocError, Global};
 use std::collections::BTreeMap;
 
-/// For the key of a link, the sum of the bandwidths counted on the link at each priority. At a key
-/// without an entry nothing is counted.
+/// The sums of counted bandwidth by the keys of links, one sum for each priority. A key without an
+/// entry has the sums 0.
 #[derive(Drop)]
 pub(crate) struct Counts {
     sums: BTreeMap<(u32, u32), [u128; 8]>,
@@ -44,7 +44,7 @@ fn lowered(mut sums: [u128; 8], hold: u8, bandwidth: u64) -> [u128; 8]
 }
 
 impl Counts {
-    /// Returns counts without any sums: nothing is counted on any link. No memory is taken.
+    /// Returns counts without entries: no bandwidth is counted on any link. No memory is allocated.
     pub(crate) fn new(alloc: Global) -> Counts
         ensures { IsCountOf result [] }
     {
@@ -79,8 +79,7 @@ impl Counts {
         self.sums.contains_key(&(from.number(), local.number()))
     }
 
-    /// Replaces the sums (of counted bandwidth) at this key. There have to be sums at the key
-    /// already. No memory is taken.
+    /// Replaces the sums at this key, which has to have an entry already. No memory is allocated.
     fn put(&mut self, from: Addr, local: Addr, sums: [u128; 8])
         requires { IsSome (get key_cmp self.old.sums (from, local)) }
         ensures { HasSumsAt self.old self.new (from, local) sums }
@@ -88,8 +87,8 @@ impl Counts {
         let _ = self.sums.insert((from.number(), local.number()), sums);
     }
 
-    /// For each of these links, makes an entry of sums for the link's key if there is none. In a
-    /// new entry all sums are 0. After an error some of the new entries may have been made.
+    /// Makes an entry of sums for each of these links whose key has no entry yet. In a new entry,
+    /// all sums are 0. After an error, some of the new entries may have been made.
     pub(crate) fn enter(&mut self, links: &[Link]) -> Result<(), AllocError>
         ensures sums { HasSameSums self.old self.new }
         ensures kept { KeepsKeys self.old self.new }
@@ -101,7 +100,8 @@ impl Counts {
         Ok(())
     }
 
-    /// Makes an entry of sums for this key if there is none. In a new entry all sums are 0.
+    /// Makes an entry of sums for this key if the key has no entry yet. In a new entry, all sums
+    /// are 0.
     fn enter_one(&mut self, from: Addr, local: Addr) -> Result<(), AllocError>
         ensures sums { HasSameSums self.old self.new }
         ensures kept { KeepsKeys self.old self.new }
@@ -113,8 +113,8 @@ impl Counts {
         Ok(())
     }
 
-    /// For each of these links, removes the entry at the link's key if all its sums are 0: no
-    /// bandwidth is counted on the link at any priority.
+    /// For each of these links, removes the entry of its key if no bandwidth is counted there at
+    /// any priority.
     pub(crate) fn forget(&mut self, links: &[Link])
         ensures { HasSameSums self.old self.new }
     {
@@ -123,8 +123,7 @@ impl Counts {
         }
     }
 
-    /// Removes the entry at this key if all its sums are 0: no bandwidth is counted at any priority
-    /// on the link with this key.
+    /// Removes the entry at this key if all its sums are 0.
     fn forget_one(&mut self, from: Addr, local: Addr)
         ensures { HasSameSums self.old self.new }
     {
@@ -134,8 +133,8 @@ impl Counts {
         }
     }
 
-    /// Adds a bandwidth to the bandwidth that is counted on the link with this key, at each
-    /// priority from `hold` to 7. No memory is taken.
+    /// Adds `bandwidth` to the sums at this key, at each priority from `hold` to 7. No memory is
+    /// allocated.
     fn raise(&mut self, from: Addr, local: Addr, hold: u8, bandwidth: u64)
         requires there { IsSome (get key_cmp self.old.sums (from, local)) }
         requires small { (p : ℕ) → p < 8 → sum_at self.old (from, local) p < 2 ^ 127 }
@@ -146,8 +145,7 @@ impl Counts {
         self.put(from, local, raised(sums, hold, bandwidth));
     }
 
-    /// Subtracts a bandwidth from the bandwidth that is counted on the link with this key, at each
-    /// priority from `hold` to 7.
+    /// Subtracts `bandwidth` from the sums at this key, at each priority from `hold` to 7.
     fn lower(&mut self, from: Addr, local: Addr, hold: u8, bandwidth: u64)
         requires { (p : ℕ) → p < 8
             → cond (nat_le hold p) bandwidth 0 ≤ sum_at self.old (from, local) p }
@@ -160,7 +158,8 @@ impl Counts {
         }
     }
 
-    /// Counts a placement: adds its bandwidth once on each link of its route. No memory is taken.
+    /// Counts a placement: adds its bandwidth once on each link of its route. No memory is
+    /// allocated.
     pub(crate) fn add(&mut self, placement: &Placement)
         requires keys { HasKeys self.old placement.now.route }
         requires small { AreSmall self.old }
@@ -179,7 +178,7 @@ impl Counts {
     }
 
     /// Undoes `add`: subtracts the placement's bandwidth once on each link of its route. No memory
-    /// is taken.
+    /// is allocated.
     pub(crate) fn take(&mut self, placement: &Placement)
         requires { IsWithinSums self.old placement.now }
         ensures sums { HasMoreAlong self.new self.old placement.now.route placement.now.hold

@@ -1,5 +1,5 @@
-//! The links with their effective bandwidths (what the placements leave), and the table of these
-//! links, which is updated link by link.
+//! Computes the effective bandwidths of links, which are what the placements leave, and updates the
+//! table of the effective database link by link.
 
 ghost use Rattle.std.specs.Prelude.{◌≡◌, ◌-◌, ◌<◌, min, List, length, slice_index};
 ghost use Rattle.std.specs.Option.{option_map};
@@ -29,8 +29,8 @@ fn left(link: &Link, sums: [u128; 8], priority: u8) -> u64
     u128::from(free).saturating_sub(held) as u64
 }
 
-/// The effective bandwidth at a priority: the bandwidth that is left at this priority, but at most
-/// `least`. `least` is the effective bandwidth at the next more important priority.
+/// The effective bandwidth at a priority: the lesser of the bandwidth that is left at this priority
+/// and `least`. `least` is the effective bandwidth at the next more important priority.
 fn lesser(link: &Link, sums: [u128; 8], priority: u8, least: u64) -> u64
     requires { priority < 8 }
     ensures { result ≡ min least (slice_index link.now.free priority - slice_index sums priority) }
@@ -39,8 +39,8 @@ fn lesser(link: &Link, sums: [u128; 8], priority: u8, least: u64) -> u64
     if figure < least { figure } else { least }
 }
 
-/// The link with its effective bandwidths, which are computed from the bandwidth that is counted on
-/// the link in `counts`.
+/// The link with its effective bandwidths, which follow from the bandwidth that `counts` has for
+/// the link.
 fn effective_link(counts: &Counts, link: &Link) -> Link
     ensures effective { (placements : List Placed) → IsCountOf counts.now placements
         → result ≡ effective_link placements link.now }
@@ -85,8 +85,8 @@ pub(crate) fn within_limits(table: &Table)
     let _ = table.marks();
 }
 
-/// Replaces the table's link with the same key by this link. Both run to the same router. No memory
-/// is taken.
+/// Puts this link in place of the table's link with the same key. The two links have to run to the
+/// same router. No memory is allocated.
 fn put_over(table: &mut Table, one: &mut Batch, link: Link)
     requires one { length one.old.changes ≡ 1 }
     requires there { option_map ends_of_link (link_at table.old (key_of link)) ≡ Some (ends_of_link link) }
@@ -98,8 +98,8 @@ fn put_over(table: &mut Table, one: &mut Batch, link: Link)
     table.absorb(one);
 }
 
-/// If the base has a link with this key, sets it in the table, with its effective bandwidths (what
-/// the placements leave).
+/// If the base has a link with this key, puts this link with its effective bandwidths into the
+/// table.
 fn refresh(
     table: &mut Table,
     one: &mut Batch,
@@ -121,9 +121,9 @@ fn refresh(
     }
 }
 
-/// Puts into the table, for each of these links, the base's link with the same key and with its
-/// effective bandwidths (what the placements leave). If the table already had such links at all other keys, it is then
-/// the effective database.
+/// For each of these links, puts the base's link with the same key into the table, with its
+/// effective bandwidths. If the table already agreed with the effective database at all other keys,
+/// it is then the effective database.
 pub(crate) fn refresh_links(
     table: &mut Table,
     one: &mut Batch,
@@ -143,9 +143,9 @@ pub(crate) fn refresh_links(
     }
 }
 
-/// Puts into the table, for each link that a change puts (`Put`), the base's link with the same key
-/// and with its effective bandwidths (what the placements leave). If the table already had such links at
-/// all other keys, it is then the effective database.
+/// For each link that a change sets (`Put`), puts the base's link with the same key into the table,
+/// with its effective bandwidths. If the table already agreed with the effective database at all
+/// other keys, it is then the effective database.
 pub(crate) fn refresh_puts(
     table: &mut Table,
     one: &mut Batch,

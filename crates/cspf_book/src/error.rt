@@ -18,8 +18,8 @@ pub enum PlaceError {
     /// The routes of all placements would have more than `MOST_ROUTES_LINKS` links.
     #[error("more than {most} links of routes", most = MOST_ROUTES_LINKS)]
     TooManyLinks,
-    /// The best route uses a link twice. The search checks only whether the link has the request's
-    /// bandwidth once.
+    /// The best route uses a link twice. The search allows this, because it checks the bandwidth of
+    /// a link for one use only.
     #[error("a route that uses a link twice")]
     Twice,
 }

@@ -2,10 +2,10 @@
 //! its bandwidth on each link of its route.
 //!
 //! `specs/Placements.antt` defines how much bandwidth is counted on a link. `specs/Effective.antt`
-//! defines the database with the bandwidth that is left. `specs/BookState.antt` defines how placing
-//! a request changes a book. `specs/OverLinks.antt` and `specs/LostRoutes.antt` define how changes
-//! of the base affect placements. `specs/Laws.antt` has the laws that follow from these
-//! definitions.
+//! defines the effective database: the base, with the bandwidth that the placements leave on its
+//! links. `specs/BookState.antt` defines how placing a request changes a book.
+//! `specs/OverLinks.antt` and `specs/LostRoutes.antt` define how changes of the base affect
+//! placements. `specs/Laws.antt` has the laws that follow from these definitions.
 #![tactic(auto)]
 
 mod after;

@@ -1,8 +1,8 @@
-//! How much a book holds at most.
+//! The limits of a book.
 
-/// How many placements a book has at most.
+/// The greatest number of placements in a book.
 pub const MOST_PLACEMENTS: usize = 65536;
 
-/// How many links the routes of all placements have at most. A link counts once for each time that
-/// a route uses it.
+/// The greatest number of links in the routes of all placements. A link counts once for each route
+/// that uses it.
 pub const MOST_ROUTES_LINKS: usize = 1_048_576;

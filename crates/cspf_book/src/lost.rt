@@ -1,5 +1,5 @@
-//! Which placements lose their routes when the base changes: the base admits the route before the
-//! changes, and doesn't after them.
+//! Finds the placements that lose their routes when the base changes: the base admits the route
+//! before the changes, but not after them.
 
 ghost use Rattle.std.specs.Prelude.{◌≡◌, ◌↔◌, [], map, IsTrue, IfOk};
 ghost use Rattle.cspf_model.specs.Changes.{after_changes};
@@ -35,8 +35,8 @@ fn has_its_link(base: &Table, changes: &Changed, request: &Request, link: &Link)
     }
 }
 
-/// Whether a walk that has reached `router` over `links` links may continue along the link that the
-/// base, after the changes, has at the key of `link`.
+/// A walk has reached `router` over `links` links. Returns whether it may continue along the link
+/// at the key of `link`, in the base after the changes.
 fn may_go_on(
     base: &Table,
     changes: &Changed,
@@ -77,8 +77,8 @@ fn admits(base: &Table, changes: &Changed, placement: &Placement) -> bool
     true
 }
 
-/// Whether the base admits the placement's route after the changes, too, if the base admits the
-/// route now. A link is looked up only if the changes affect a router at one of its ends.
+/// Whether the base still admits the placement's route after the changes. The base has to admit the
+/// route now. A link of the route is looked up only if the changes affect one of its two routers.
 fn still_admits(base: &Table, changes: &Changed, placement: &Placement) -> bool
     ensures { AdmitsRoute base.now placement.now
         → IsTrue result ↔ AdmitsRoute (after_changes base.now changes.now) placement.now }
@@ -106,8 +106,9 @@ fn is_lost(base: &Table, none: &Changed, changes: &Changed, placement: &Placemen
     !still_admits(base, changes, placement) && admits(base, none, placement)
 }
 
-/// Whether the base admits the placement's route now, but not after the changes. `bits` are the bits
-/// of the routers on the route. The route is read only if the changes may affect such a router.
+/// Whether the base admits the placement's route now, but not after the changes. `bits` has the
+/// bits of the routers on the route. The route is read only if the changes may affect one of these
+/// routers.
 fn is_lost_by_bits(
     base: &Table,
     none: &Changed,
@@ -123,8 +124,8 @@ fn is_lost_by_bits(
     changes.may_affect(bits) && is_lost(base, none, changes, placement)
 }
 
-/// Does the same as `is_lost_by_bits`. `moving` are the changes that move a link's far end or change
-/// a mark. For a request without affinities only these are looked at.
+/// As `is_lost_by_bits`. `moving` has the changes that move the far end of a link or change a mark.
+/// For a request without affinities, only the changes in `moving` are looked at.
 fn is_lost_by_moving(
     base: &Table,
     none: &Changed,
@@ -147,8 +148,8 @@ fn is_lost_by_moving(
     }
 }
 
-/// Does the same as `is_lost_by_moving`. If the changes can affect no router of the placement, the
-/// placement isn't read.
+/// As `is_lost_by_moving`. The placement is read only if the changes may affect a router on its
+/// route.
 fn is_lost_at(
     base: &Table,
     none: &Changed,
@@ -166,8 +167,8 @@ fn is_lost_at(
     changes.may_affect(bits) && is_lost_by_moving(base, none, changes, moving, placement, bits)
 }
 
-/// Lists the rank of each placement that loses its route. A rank is a pair: 7 minus the placement's
-/// holding priority, and the placement's id.
+/// Lists the rank of each placement that loses its route. A rank is 7 minus the holding priority of
+/// a placement, together with the id of the placement.
 fn list_ranks(
     alloc: Global,
     base: &Table,
@@ -193,16 +194,15 @@ fn list_ranks(
     Ok(ranks)
 }
 
-/// The ids in these ranks, in the same order. A rank is a pair: 7 minus a placement's holding
-/// priority, and the placement's id.
+/// The ids of these ranks, in the same order.
 fn ids_of(alloc: Global, ranks: &[(u8, u64)]) -> Result<Vec<u64>, AllocError>
     ensures { IfOk result (λ ids. ids.items ≡ map (λ rank. rank.1) ranks.now) }
 {
     ranks.iter().map(|rank| rank.1).collect(alloc)
 }
 
-/// The ids of the placements that lose their routes by the changes (afterwards the base no longer
-/// admits the route). The least important comes first.
+/// The ids of the placements that lose their routes by the changes. The least important placement
+/// comes first.
 pub(crate) fn lost(
     alloc: Global,
     base: &Table,

@@ -1,5 +1,5 @@
-//! How placements are added to a book and taken out of it. Each time the sums of counted bandwidth
-//! and the effective table (the base's links with what the placements leave) are updated.
+//! Adds placements to a book and removes placements from a book. Each time, the sums of counted
+//! bandwidth and the effective database are updated.
 
 ghost use Rattle.std.specs.Prelude.{◌≡◌, ◌+◌, ◌^◌, ◌<◌, [], ◌∷◌, ◌++◌, length, vec_len, remove, OnOk};
 ghost use Rattle.std.specs.Vec.{vec_capacity};
@@ -14,8 +14,7 @@ use cspf_db::Table;
 use cspf_model::Batch;
 use std::alloc::AllocError;
 
-/// How many links the route of the placement at an index has. It is 0 for an index past the last
-/// placement.
+/// How many links the route of the placement at index `at` has: 0 if there is no such placement.
 pub(crate) fn links_at(placements: &[Placement], at: usize) -> usize
     ensures { links_placed placements.now ≡ links_placed (remove placements.now at) + result }
 {
@@ -26,8 +25,9 @@ pub(crate) fn links_at(placements: &[Placement], at: usize) -> usize
     }
 }
 
-/// Makes entries of `counts` for the links of the placement at an index, if there is one. In a book
-/// these entries exist already. After an error some of them may be missing.
+/// Makes entries of `counts` for the links of the placement at index `at`, if there is such a
+/// placement. In a book these entries exist already. After an error, some of the entries may be
+/// missing.
 pub(crate) fn enter_at(
     counts: &mut Counts,
     placements: &[Placement],
@@ -42,8 +42,8 @@ pub(crate) fn enter_at(
     Ok(())
 }
 
-/// Drops the entries of `counts` for the links of the placement at an index, if there is one. An
-/// entry stays if bandwidth is still counted on its link.
+/// Removes the entries of `counts` for the links of the placement at index `at`, if there is such a
+/// placement. An entry stays if bandwidth is still counted on its link.
 pub(crate) fn forget_at(counts: &mut Counts, placements: &[Placement], at: usize)
     ensures { HasSameSums counts.old counts.new }
 {
@@ -52,7 +52,7 @@ pub(crate) fn forget_at(counts: &mut Counts, placements: &[Placement], at: usize
     }
 }
 
-/// Removes the placement at an index, if there is one, from the list of placements.
+/// Removes the placement at index `at` from the list of placements, if there is such a placement.
 pub(crate) fn take_out(placements: &mut Vec<Placement>, at: usize)
     ensures items { placements.new.items ≡ remove placements.old.items at }
     ensures room { vec_capacity placements.new ≡ vec_capacity placements.old }
@@ -65,19 +65,18 @@ pub(crate) fn take_out(placements: &mut Vec<Placement>, at: usize)
 /// The bandwidth that the placements of a book hold.
 #[derive(Drop)]
 pub(crate) struct Held {
-    /// The effective database: the base's links, each with the bandwidth that the placements leave.
+    /// The effective database: the base, with the bandwidth that the placements leave on its links.
     pub(crate) effective: Table,
     /// How much bandwidth is counted on each link.
     pub(crate) counts: Counts,
-    /// A batch that always has one change. With it the effective database is updated, one link at a
-    /// time.
+    /// A batch that always has one change. It is used to update one link of the effective database.
     pub(crate) one: Batch,
 }
 
 impl Held {
-    /// Subtracts the placement at an index, if there is one, from the sums of counted bandwidth.
-    /// Its bandwidth is free again in the effective database. The list of placements stays the
-    /// same.
+    /// Subtracts the bandwidth of the placement at index `at`, if there is such a placement, from
+    /// the sums of counted bandwidth. In the effective database this bandwidth is free again. The
+    /// list of placements isn't changed.
     pub(crate) fn set_aside(&mut self, base: &Table, placements: &[Placement], at: usize)
         requires one { length self.old.one.changes ≡ 1 }
         requires counted { IsCountOf self.old.counts placements.now }
@@ -101,8 +100,8 @@ impl Held {
         }
     }
 
-    /// Undoes `set_aside`: counts the bandwidth of the placement at an index again, in the sums and
-    /// in the effective database.
+    /// Undoes `set_aside`: counts the bandwidth of the placement at index `at` again, in the sums
+    /// and in the effective database.
     pub(crate) fn set_back(&mut self, base: &Table, placements: &[Placement], at: usize)
         requires one { length self.old.one.changes ≡ 1 }
         requires keys { HasKeysAt self.old.counts placements.now at }
@@ -127,7 +126,7 @@ impl Held {
         }
     }
 
-    /// Adds a placement at the end of the list, and counts its bandwidth. The call takes no memory.
+    /// Appends a placement to the list, and counts its bandwidth. No memory is allocated.
     pub(crate) fn put_in(
         &mut self,
         base: &Table,

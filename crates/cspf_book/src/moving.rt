@@ -1,5 +1,6 @@
-//! The changes of a batch that move a link's far end or change a mark. Only these matter to a
-//! request without affinities whose bandwidth is 0. A mark says that a router carries no transit.
+//! The changes of a batch that move the far end of a link or change a mark. The far end is the
+//! neighbor and the remote address; a mark says that a router carries no transit. Only these
+//! changes matter to a request without affinities whose bandwidth is 0.
 
 ghost use Rattle.std.specs.Prelude.{◌≡◌, true, IfOk};
 ghost use Rattle.cspf_model.specs.Changes.{key_changed};
@@ -21,8 +22,8 @@ pub(crate) fn has_no_affinities(request: &Request) -> bool
         && request.include_all.bits() == 0
 }
 
-/// Whether the changes move the far end of the link with this key: before or after them there is no
-/// link, or the two links run to different interfaces.
+/// Whether the changes move the far end of the link with this key. The result is also true if there
+/// is no link with this key before the changes, or none after them.
 fn moves_link(base: &Table, changes: &Changed, from: Addr, local: Addr) -> bool
     ensures { result ≡ moves_at base.now changes.now from (Some local) }
 {
@@ -35,8 +36,8 @@ fn moves_link(base: &Table, changes: &Changed, from: Addr, local: Addr) -> bool
     }
 }
 
-/// Whether the changes move the far end of the link with the change's key. A change of a mark
-/// counts, too.
+/// Whether the changes move the far end of the link with the key of `change`. For a change of a
+/// mark, the result is always true.
 fn moves(base: &Table, changes: &Changed, change: &Change) -> bool
     ensures { result ≡ moves base.now changes.now (key_changed change.now) }
 {
@@ -46,7 +47,7 @@ fn moves(base: &Table, changes: &Changed, change: &Change) -> bool
     }
 }
 
-/// Lists the changes that move a link's far end or change a mark.
+/// Lists the changes that move the far end of a link or change a mark.
 pub(crate) fn list_moving(
     alloc: Global,
     base: &Table,

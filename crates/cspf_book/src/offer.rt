@@ -1,5 +1,5 @@
-//! The answer to a request that is to be placed, with the placement if the answer is a route that
-//! may be placed.
+//! Finds the best answer to a request that is to be placed. If the answer is a route that may be
+//! placed, the placement is returned with the answer.
 
 ghost use Rattle.std.specs.Prelude.{◌≡◌, ◌↔◌, ◌<◌, ◌≤◌, IfOk, IfErr, IfSome, IfNone, OnErr, IsTrue, length};
 ghost use Rattle.cspf_model.specs.Best.{IsBestAnswer, route};
@@ -40,7 +40,8 @@ fn copy_of(alloc: Global, route: &Route) -> Result<Route, AllocError>
     Ok(Route::new(links, route.cost()))
 }
 
-/// The placement of a request along a route, which may have at most `room` links.
+/// The placement of a request along a route. A route is refused if it uses a link twice or has more
+/// than `room` links.
 fn placement_on(
     alloc: Global,
     route: &Route,
@@ -67,8 +68,8 @@ fn placement_on(
     })
 }
 
-/// Returns the answer of the search, with a placement if the answer is a route that may be placed.
-/// Such a route has at most `room` links.
+/// Returns the answer of the search. If the answer is a route, its placement is returned too. A
+/// route that can't be placed is an error (`placement_on`).
 fn offer_of(
     alloc: Global,
     outcome: Outcome,
@@ -80,7 +81,7 @@ fn offer_of(
     ensures same { IfOk result (λ offered. offered.0 ≡ outcome) }
     ensures placement { IfOk result (λ offered.
         IsOffered request.now hold room (answer_of outcome) offered.1) }
-    // Each error says why the route isn't placed. Memory is refused only for a route that would
+    // The error says why the route isn't placed. Memory is refused only for a route that would
     // otherwise be placed.
     ensures refused { IfErr result (IsAnswerRefused room (answer_of outcome)) }
 {
@@ -93,8 +94,8 @@ fn offer_of(
     }
 }
 
-/// The best answer to a request in the table's database, with a placement if the answer is a route
-/// that may be placed. Such a route has at most `room` links.
+/// The best answer to a request in the table's database. If the answer is a route, its placement is
+/// returned too. A route that can't be placed is an error (`placement_on`).
 fn offer(
     alloc: Global,
     table: &Table,
@@ -112,9 +113,8 @@ fn offer(
     offer_of(alloc, outcome, request, hold, room)
 }
 
-/// Does the same as `offer`. It makes entries of `counts` for the links of the offered placement,
-/// and no sum changes. It enters the version for the placement's id. After an error, or if no
-/// placement is offered, it has entered no version.
+/// As `offer`. If there is a placement, entries of `counts` are also made for its links, and
+/// `version` is entered for its id. No sum changes. After an error, `ids` is unchanged.
 pub(crate) fn offer_counted(
     alloc: Global,
     table: &Table,

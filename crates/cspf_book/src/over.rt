@@ -1,4 +1,5 @@
-//! Which links, after changes of the base, have less bandwidth than the placements hold on them.
+//! Finds the links on which, after changes of the base, the placements hold more bandwidth than the
+//! links have.
 
 ghost use Rattle.std.specs.Prelude.{◌≡◌, ◌++◌, List, IfOk, OnOk};
 ghost use Rattle.cspf_book.specs.OverLinks.{over_on, over};
@@ -10,19 +11,19 @@ use cspf_addr::Addr;
 use cspf_model::{Change, Link};
 use std::alloc::{AllocError, Global};
 
-/// A link and a priority. The link has less unreserved bandwidth at this priority than is counted
-/// on its key.
+/// A link and a priority at which the placements count more bandwidth than the link has.
 #[derive(Clone, Copy, Debug, PartialEq, Eq)]
 pub struct Over {
     /// The router from which the link runs.
     pub from: Addr,
     /// The address of the link's interface at that router.
     pub local: Addr,
-    /// The priority, 0 (the highest) to 7.
+    /// The priority, from 0 (the most important) to 7.
     pub priority: u8,
 }
 
-/// Lists the priorities at which the link has less unreserved bandwidth than is counted on its key.
+/// Appends an entry for each priority at which the link has less unreserved bandwidth than is
+/// counted on its key.
 fn list_over(list: &mut Vec<Over>, counts: &Counts, link: &Link) -> Result<(), AllocError>
     ensures { OnOk result ((placements : List Placed) → IsCountOf counts.now placements
         → list.new.items ≡ list.old.items ++ over_on placements link.now) }
@@ -40,8 +41,8 @@ fn list_over(list: &mut Vec<Over>, counts: &Counts, link: &Link) -> Result<(), A
     Ok(())
 }
 
-/// For each link that the changes set (`Put`), lists the priorities at which the link has less
-/// unreserved bandwidth than the placements count on its key.
+/// For each link that the changes set (`Put`), lists the priorities at which the placements count
+/// more bandwidth than the link has.
 pub(crate) fn find_over(
     alloc: Global,
     counts: &Counts,

@@ -7,10 +7,10 @@ use cspf_model::{Request, Route};
 pub struct Placement {
     /// The request. Its id is also the id of the placement.
     pub request: Request,
-    /// The holding priority, 0 (the highest) to 7 (RFC 3209 4.7.1).
+    /// The holding priority, from 0 (the most important) to 7 (RFC 3209 4.7.1).
     pub hold: u8,
-    /// The route. Each of its links has the unreserved bandwidth that the effective database (with
-    /// what earlier placements left) had when the request was placed.
+    /// The route. Its links have the unreserved bandwidths of the effective database in which the
+    /// request was placed. These are the bandwidths that earlier placements left.
     pub route: Route,
     ghost priority: { hold < 8 },
 }

@@ -1,6 +1,6 @@
-//! The bits of the routers on a placement's route. Each router has one bit in each quarter of 128
-//! bits. If no change affects a router whose four bits a placement has, the placement keeps its
-//! route.
+//! The bits of routers. Each router has four bits, one in each quarter of 128 bits, and a placement
+//! has the bits of all routers on its route. If no change affects a router whose four bits the
+//! placement has, the placement keeps its route.
 
 ghost use Rattle.std.specs.Prelude.{◌≡◌, ◌<◌, ◌^◌};
 ghost use Rattle.cspf_book.specs.RouterBits.{one_of_32, four_bits, bits_of, has_quarters};
@@ -11,7 +11,7 @@ use cspf_addr::Addr;
 /// 2 ^ 32: the size of a quarter of 128 bits.
 const QUARTER: u128 = 4_294_967_296;
 
-/// One of 32 bits.
+/// One of 32 bits, chosen by `number`.
 fn one_of_32(number: u64) -> u128
     ensures bit { result ≡ one_of_32 number }
     ensures small { result < 2 ^ 32 }
@@ -19,8 +19,8 @@ fn one_of_32(number: u64) -> u128
     1u128 << (number % 32)
 }
 
-/// The four bits of a router, one in each quarter. Other routers may have the same bits. Addresses
-/// that differ in few places mostly have different bits.
+/// The four bits of a router, one in each quarter. Other routers may have the same bits. Even
+/// addresses that differ in only a few bits mostly have different `four_bits`.
 #[tactic(auto, unfolding(crate::specs::RouterBits::four_bits))]
 pub(crate) fn four_bits(router: Addr) -> u128
     ensures { result ≡ four_bits router }
@@ -42,7 +42,7 @@ pub(crate) fn bits_of(placement: &Placement) -> u128
     bits
 }
 
-/// Whether there is a bit in each quarter.
+/// Whether at least one bit is set in each quarter of the 128 bits.
 pub(crate) fn has_quarters(bits: u128) -> bool
     ensures { result ≡ has_quarters bits }
 {

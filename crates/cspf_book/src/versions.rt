@@ -1,5 +1,5 @@
-//! The index of the placement with an id, found by the version of the book in which it was placed,
-//! and the bits of the routers on each placement's route.
+//! Finds the index of the placement with an id, by the version of the book in which it was placed.
+//! Also stores the bits of the routers on each placement's route.
 
 ghost use Rattle.std.specs.Prelude.{◌≡◌, ◌<◌, ◌++◌, ℕ, [], ◌∷◌, List, length, vec_len, remove, OnOk, OnErr};
 ghost use Rattle.std.specs.Vec.{vec_capacity};
@@ -14,7 +14,7 @@ use std::collections::BTreeMap;
 /// The versions in which the placements of a book were placed.
 #[derive(Drop)]
 pub(crate) struct Ids {
-    /// The versions in the order of the placements. Each is greater than the one before it.
+    /// The versions, in the order of the placements. They are strictly increasing.
     versions: Vec<u32>,
     /// The bits of the routers on each placement's route, in the same order.
     bits: Vec<u128>,
@@ -23,7 +23,7 @@ pub(crate) struct Ids {
 }
 
 impl Ids {
-    /// Returns the versions of a book without placements. The call takes no memory.
+    /// Returns the versions of a book without placements. No memory is allocated.
     pub(crate) fn new(alloc: Global) -> Ids
         ensures { AreIdsOf result 0 [] }
     {
@@ -53,7 +53,7 @@ impl Ids {
         self.bits.as_slice()
     }
 
-    /// Takes memory for the version and the bits of one more placement.
+    /// Reserves memory for the version and the bits of one more placement.
     pub(crate) fn reserve(&mut self) -> Result<(), AllocError>
         ensures same { HasSameIds self.old self.new }
         ensures room { OnOk result (vec_len self.new.versions < vec_capacity self.new.versions) }
@@ -63,8 +63,8 @@ impl Ids {
         self.bits.reserve(1)
     }
 
-    /// Enters in the map by ids the version in which the placement with this id is placed. After an
-    /// error nothing has changed.
+    /// Enters `version` into the map by ids, as the version in which the placement with this id is
+    /// placed. After an error, nothing has changed.
     pub(crate) fn enter(&mut self, id: u64, version: u32) -> Result<(), AllocError>
         ensures versions { self.new.versions ≡ self.old.versions }
         ensures bits { self.new.bits ≡ self.old.bits }
@@ -75,8 +75,8 @@ impl Ids {
         Ok(())
     }
 
-    /// Removes the version and the bits at an index from their lists, if there are any, and adds this
-    /// version and these bits at the ends. The call takes no memory.
+    /// Removes the version and the bits at index `at` from their lists, if the lists have this
+    /// index. Then appends this version and these bits. No memory is allocated.
     pub(crate) fn replace(&mut self, at: usize, version: u32, bits: u128)
         requires room { vec_len self.old.versions < vec_capacity self.old.versions }
         requires more { vec_len self.old.bits < vec_capacity self.old.bits }
@@ -86,8 +86,8 @@ impl Ids {
         replace_bits(&mut self.bits, at, bits);
     }
 
-    /// Removes the version of the placement with this id from the map by ids. Removes the version
-    /// and the bits of the placement from their lists, in which they are at this index.
+    /// Removes the version of this id from the map by ids. Also removes the version and the bits at
+    /// index `at` from their lists.
     pub(crate) fn forget(&mut self, id: u64, at: usize)
         requires versions { at < length self.old.versions.items }
         requires bits { at < length self.old.bits.items }
@@ -99,8 +99,8 @@ impl Ids {
     }
 }
 
-/// Removes the version at an index, if there is one, and adds this version at the end. The call
-/// takes no memory.
+/// Removes the version at index `at`, if the list has this index, and appends this version. No
+/// memory is allocated.
 fn replace_version(versions: &mut Vec<u32>, at: usize, version: u32)
     requires { vec_len versions.old < vec_capacity versions.old }
     ensures { versions.new.items ≡ remove versions.old.items at ++ version ∷ [] }
@@ -111,8 +111,8 @@ fn replace_version(versions: &mut Vec<u32>, at: usize, version: u32)
     versions.push_reserved(version);
 }
 
-/// Removes the bits at an index, if there are any, and adds these bits at the end. The call takes no
-/// memory.
+/// Removes the bits at index `at`, if the list has this index, and appends these bits. No memory is
+/// allocated.
 fn replace_bits(list: &mut Vec<u128>, at: usize, bits: u128)
     requires { vec_len list.old < vec_capacity list.old }
     ensures { list.new.items ≡ remove list.old.items at ++ bits ∷ [] }
@@ -123,7 +123,7 @@ fn replace_bits(list: &mut Vec<u128>, at: usize, bits: u128)
     list.push_reserved(bits);
 }
 
-/// How many of the versions are lower than this version. The versions have to be in rising order.
+/// How many of the versions are lower than `version`. The versions have to be in increasing order.
 fn index_in(versions: &[u32], version: u32) -> usize
     ensures { IsNonDecreasing versions.now → IsIndexIn versions.now version result }
 {

@@ -1,5 +1,5 @@
--- Links stay covered from any state on, unless their `over` line (it reports too little bandwidth)
--- is written. A link is covered at a priority if the placements count at most its unreserved
+-- From each state on, a link stays covered, or its `over` line is written, which reports too little
+-- bandwidth. A link is covered at a priority if the placements count at most its unreserved
 -- bandwidth there.
 use Rattle.std.proofs.Common.{◌≡◌, ◌⊎◌, ℕ, zero, suc, ◌+◌, ◌<◌, ◌≤◌, List, [], ◌∷◌, ◌++◌, Result, Ok, Err, IfOk, inl, inr, sym, ap, subst, ◌∙◌, append_assoc, arith}
 use Rattle.std.specs.List.{Contains, flat_map}
@@ -29,25 +29,24 @@ use Rattle.cspf_book_run.specs.BookScriptLaws.{IsBookCovered, IsSaidOver, RowsCo
 use Rattle.cspf_book_run.specs.BookStates.{IsReadable}
 use Rattle.cspf_book_run.proofs.BookRowLemmas.{readable_row}
 
--- the laws of covered links on which these proofs rest; a covered link has enough bandwidth for the
--- placements
+-- The laws of covered links on which these proofs rest. A covered link has enough bandwidth for the
+-- placements.
 pub record KeepCovered : Type 0 where
   pub placing : PlacingKeepsCovered
   pub releasing : ReleasingKeepsCovered
   pub absorbing : AbsorbingKeepsCovered
 
--- At the start there are no placements, so they count at most the bandwidth of each link.
+-- At the start there are no placements, so each link is covered.
 pub covered_at_first : IsBookCovered book_start.book
 covered_at_first l priority there below = omega arith
 
--- If the base has the link, then the placements count at most the link's bandwidth at the priority,
--- or X holds.
+-- If the base has the link, the link is covered at the priority, or X holds.
 abbrev CoveredOr : Type 0 → BookState → Link → ℕ → Type 0
 CoveredOr X b l priority = IsLinkOf b.base l → IsCovered b.placements l priority ⊎ X
 
 -- ---- a line among other lines
 
--- A text that is part of the second of two texts is part of the joined text.
+-- If a text is a part of the second of two texts, it is also a part of these two texts joined.
 later_part : (first before m after : List ℕ) → first ++ (before ++ m ++ after) ≡ first ++ before ++ m ++ after
 later_part first before m after = sym (append_assoc first (before ++ m) after) ∙ ap (λ (z : List ℕ). z ++ after) (sym (append_assoc first before m))
 
@@ -63,8 +62,8 @@ module _ (l : Link) (priority : ℕ) where
   abbrev text : List ℕ
   text = over_line (over_at l priority)
 
-  -- If all lines are the lines `first` and then the lines `second`, an `over` line (it reports too
-  -- little bandwidth) among `first` is among all lines.
+  -- If the `over` line of the link is among the lines `first`, it is also among the lines `first`
+  -- followed by `second`.
   pub said_first : (lines first second : List ℕ) → lines ≡ first ++ second → IsSaidOver first l priority → IsSaidOver lines l priority
   said_first lines first second split (before, after, is) = (
     before,
@@ -72,8 +71,8 @@ module _ (l : Link) (priority : ℕ) where
     split ∙ ap (λ (z : List ℕ). z ++ second) is ∙ append_assoc (before ++ text) after second,
   )
 
-  -- If all lines are the lines `first` and then the lines `second`, an `over` line (it reports too
-  -- little bandwidth) among `second` is among all lines.
+  -- If the `over` line of the link is among the lines `second`, it is also among the lines `first`
+  -- followed by `second`.
   pub said_second : (lines first second : List ℕ) → lines ≡ first ++ second → IsSaidOver second l priority → IsSaidOver lines l priority
   said_second lines first second split (before, after, is) = (
     first ++ before,
@@ -83,15 +82,16 @@ module _ (l : Link) (priority : ℕ) where
 
   -- ---- how rows change the bandwidth that is counted on the link
 
-  -- Suppose that the link isn't covered after the rows. Then it wasn't covered before them, or the
-  -- rows accept a base batch and have the link's `over` line (it reports too little bandwidth).
+  -- Rows lead from the state `s` to the state `t`. If the link isn't covered in `t`, one of two
+  -- claims is true. It wasn't covered in `s` either, or the rows accept a base batch and their
+  -- lines have the link's `over` line.
   pub record KeepsCover (s t : BookRunState) (lines : List ℕ) : Type 1 where
     pub batches : s.batches ≤ t.batches
     pub cover : (X : Type 0) → CoveredOr X s.book l priority
         → CoveredOr (X ⊎ ((s.batches < t.batches) × IsSaidOver lines l priority)) t.book l priority
 
-  -- A covered link has enough bandwidth for the placements. If the rows accept no base batch, and
-  -- the link stays covered if it was covered before them, `KeepsCover` holds of the rows.
+  -- If rows accept no base batch, and a link that is covered before them is covered after them,
+  -- `KeepsCover` holds for these rows.
   kept : (s t : BookRunState) (lines : List ℕ) → t.batches ≡ s.batches
       → ((X : Type 0) → CoveredOr X s.book l priority → CoveredOr X t.book l priority) → KeepsCover s t lines
   kept s t lines batches keeps = record {
@@ -99,14 +99,14 @@ module _ (l : Link) (priority : ℕ) where
     cover = λ X covered there. elim (keeps X covered there) [ inl c ↦ inl c | inr x ↦ inr (inl x) ];
   }
 
-  -- If the rows change neither the book nor the number of accepted base batches, `KeepsCover` holds
-  -- of the rows.
+  -- If rows change neither the book nor the number of accepted base batches, `KeepsCover` holds for
+  -- these rows.
   stays : (s t : BookRunState) (lines : List ℕ) → t.batches ≡ s.batches → t.book ≡ s.book → KeepsCover s t lines
   stays s t lines batches book = kept s t lines batches (λ X covered. subst (λ (b : BookState). CoveredOr X b l priority) (sym book) covered)
 
   module _ (laws : KeepCovered) (below : priority < 8) where
-    -- If the placements count at most the link's bandwidth at the priority, or X holds, this also
-    -- holds after a request is placed.
+    -- If the link is covered, or X holds, this is still true after a request is placed
+    -- (`CoveredOr`).
     placing_covers : (old new : BookState) (q : Request) (hold : ℕ) (answer : Answer) → q.setup ≡ 7
         → IsBestAnswer (effective_beside old q.id) q answer → IsAnswerPlaced old q hold answer new
         → (X : Type 0) → CoveredOr X old l priority → CoveredOr X new l priority
@@ -129,9 +129,8 @@ module _ (l : Link) (priority : ℕ) where
           | inr x ↦ inr x
         ]
 
-    -- After an accepted base batch the placements still count at most the link's bandwidth, or X
-    -- holds. Otherwise the link's `over` line (it reports too little bandwidth) is among the lines
-    -- of the batch.
+    -- `KeepsCover` holds for an accepted base batch: a link that was covered is still covered, or
+    -- its `over` line is among the lines of the batch.
     absorbing_covers : (s t : BookRunState) (number : ℕ) (line : List ℕ) → AreBaseLines s number line → t ≡ after_base_batch s → KeepsCover s t line
     absorbing_covers s t number line (ids, lost, is) after = rw after (record {
       batches = omega arith;

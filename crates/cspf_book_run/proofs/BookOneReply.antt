@@ -107,9 +107,9 @@ place_reply_once reply id version answer l m (rest, is, line) (rest2, is2, line2
     let rests : rest ≡ rest2 = ap (drop 3) same in
     line ∙ rw rests (sym line2)
 
--- A `place` row that is answered isn't refused.
+-- In this module, a `place` row isn't both answered and refused.
 module _ (best : OneBestAnswer) (s : BookRunState) (q : Request) (hold : ℕ) where
-  -- If the best answer is a route, this route is placed.
+  -- If the best answer to a `place` row is a route, the request is placed along this route.
   other_answer : (l : List ℕ) (book : BookState) (a : IsPlaceAnswered s q hold l book) (walk : List Link) → IsBestAnswer (effective_beside s.book q.id) q (route walk) → IsPlacedAlong s.book q hold walk book
   other_answer l book a walk is = subst (λ (x : Answer). IsAnswerPlaced s.book q hold x book) (best _ q a.answer (route walk) a.best is) a.placed
 

@@ -1,5 +1,5 @@
--- Rows keep the numbers of a book in range: the bandwidth that is counted on a link's key at a
--- priority stays below 2 ^ 64.
+-- Rows keep the numbers of a book in range. At each key and priority, the bandwidth that the
+-- placements count stays below 2 ^ 64.
 use Rattle.std.proofs.Common.{◌≡◌, ℕ, suc, ◌-◌, ◌+◌, ◌^◌, ◌<◌, ◌≤◌, ◌||◌, ◌&&◌, Bool, true, false, cond, nat_eq, nat_le, Option, Some, None, List, [], ◌∷◌, ◌++◌, slice_index, Result, Ok, Err, inl, inr, refl, sym, ap, subst, ◌∙◌, lit<, arith}
 use Rattle.std.proofs.lemmas.List.Sums.{sum_by_push}
 use Rattle.std.specs.List.{AllByRecursion}
@@ -45,7 +45,7 @@ use Rattle.cspf_book_run.proofs.OverExact.{none_at_first}
 abbrev AreLinksInRange : Database → Type 0
 AreLinksInRange d = (l : Link) → IsLinkOf d l → IsLinkInRange l
 
--- The bandwidth that the placements count on each key at each priority is below 2 ^ 64.
+-- At each key and priority, the bandwidth that the placements count is below 2 ^ 64.
 abbrev AreSumsSmall : List Placement → Type 0
 AreSumsSmall placements = (k : Key) (priority : ℕ) → priority < 8 → counted placements k priority < 2 ^ 64
 
@@ -76,8 +76,7 @@ changes_in_range d (c ∷ cs) range before = changes_in_range (after_change d c)
 
 -- ---- a placement
 
--- Each link of the effective database is a link of the base with its effective bandwidths (what the
--- placements leave).
+-- Each link of the effective database is a link of the base, with its effective bandwidths.
 base_link : (placements : List Placement) (o : Option Link) (m : Link) → option_map (effective_link placements) o ≡ Some m
     → (l : Link) × (o ≡ Some l) × (effective_link placements l ≡ m)
 base_link placements (Some l) m is = (l, refl, (cc))
@@ -113,9 +112,9 @@ room_at base placements q k (m ∷ walk) all has =
       | false ↦ λ _ later. room_at base placements q k walk all.1 later
     ] refl has
 
--- Take a request with setup priority 7 for which the link at this key has room (`HasRoomAt`). At
--- each priority the request's bandwidth is at most the link's bandwidth less what the placements
--- count on it.
+-- Let a request have the setup priority 7, and let the link at a key have room for the request
+-- (`HasRoomAt`). At each priority, the request's bandwidth is at most the link's bandwidth minus
+-- the bandwidth that the placements count on it.
 left_for : (base : Database) (placements : List Placement) (q : Request) (k : Key) (priority : ℕ) → q.setup ≡ 7 → priority < 8
     → AreLinksInRange base → HasRoomAt base placements q k → (free : ℕ) × (free < 2 ^ 64) × (q.bandwidth ≤ free - counted placements k priority)
 left_for base placements q k priority seven small range h =
@@ -127,8 +126,8 @@ left_for base placements q k priority seven small range h =
     let fits : q.bandwidth ≤ slice_index l.free priority - counted placements (key_of l) priority = omega (arith, at_seven, is_seventh, falls, left) in
     (slice_index l.free priority, (range l h.is).free priority small, subst (λ (j : Key). q.bandwidth ≤ slice_index l.free priority - counted placements j priority) h.key fits)
 
--- Take a sum below 2 ^ 64, and a placement whose bandwidth is at most what the sum leaves of some
--- bandwidth below 2 ^ 64. The sum with this placement is below 2 ^ 64.
+-- Let the sum `held` be below 2 ^ 64. If a placement's bandwidth is at most `free - held`, for some
+-- `free` below 2 ^ 64, the sum with this placement is below 2 ^ 64.
 sum_small : (counts has : Bool) (bandwidth held sum : ℕ) → (has ≡ true → (free : ℕ) × (free < 2 ^ 64) × (bandwidth ≤ free - held))
     → held < 2 ^ 64 → sum ≡ held + cond (counts && has) bandwidth 0 → sum < 2 ^ 64
 sum_small true true bandwidth held sum room small is =
@@ -160,19 +159,17 @@ placing_small old new q hold (route walk) seven best is range small = (is.base, 
 
 -- ---- rows
 
--- A state is in range if its base, its open changes (those since the last end row) and its sums are
--- in range.
+-- A state is in range if the base, the open changes and the sums of counted bandwidth are in range.
 made : (t : BookRunState) → AreLinksInRange t.book.base → AllByRecursion IsChangeInRange t.changes → AreSumsSmall t.book.placements → IsBookInRange t
 made t base changes sums = record { base = base; changes = changes; sums = sums }
 
--- If a row doesn't change the book, and the open changes (those since the last end row) after the
--- row are in range, the state stays in range.
+-- Let a row leave the book unchanged. If the open changes after the row are in range, the state
+-- stays in range. Open changes are changes since the last end row.
 same_book : (s t : BookRunState) → t.book ≡ s.book → IsBookInRange s → AllByRecursion IsChangeInRange t.changes → IsBookInRange t
 same_book s t book range changes =
     made t (subst (λ (b : BookState). AreLinksInRange b.base) (sym book) range.base) changes (subst (λ (b : BookState). AreSumsSmall b.placements) (sym book) range.sums)
 
--- If a row changes neither the book nor the open changes (those since the last end row), the state
--- stays in range.
+-- If a row changes neither the book nor the open changes, the state stays in range.
 same_parts : (s t : BookRunState) → t.book ≡ s.book → t.changes ≡ s.changes → IsBookInRange s → IsBookInRange t
 same_parts s t book changes range = same_book s t book range (subst (AllByRecursion IsChangeInRange) (sym changes) range.changes)
 

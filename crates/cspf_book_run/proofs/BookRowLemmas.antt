@@ -15,7 +15,8 @@ use Rattle.cspf_book_run.specs.declared.book_row.BookRow.TheVariants as book_row
 use Rattle.cspf_book_run.specs.BookRows.{at_lowest_setup, placed_as_asked, place_row_of, release_row_of, book_row_of}
 use Rattle.cspf_book_run.specs.BookStates.{IsReadable}
 
--- A request that has the same fields as `q`, but setup priority 7, is `at_lowest_setup q`.
+-- A request with the setup priority 7, and otherwise with the fields of `q`, is `at_lowest_setup
+-- q`.
 pub lowest_setup : AreFieldsOfRequests → (q r : Request)
     → HasRequestFields r (request_fields q.id q.from q.to 7 q.bandwidth q.exclude_any q.include_any q.include_all q.hops) → r ≡ at_lowest_setup q
 lowest_setup requests q r h =
@@ -24,7 +25,8 @@ lowest_setup requests q r h =
     let other = ask-request requests (at_lowest_setup q) fields ((requests (at_lowest_setup q) fields).1 refl) in
     cc (sym one ∙ other)
 
--- The request of a `place` row has setup priority 7.
+-- If an `ask` row is turned into a `place` row, the setup priority is 7 and the holding priority is
+-- at most 7.
 pub readable_place : (r : Result Row RowError) → IfOk (placed_as_asked r) IsReadable
 readable_place (Err e) = tt
 readable_place (Ok (row.Ask q)) = (refl, q.priority)
@@ -50,7 +52,8 @@ readable_release : (r : Result ℕ RowError) → IfOk (result_map_both book_row.
 readable_release (Ok id) = tt
 readable_release (Err e) = tt
 
--- A request to place that is read from a record has setup priority 7, and its holding priority is at most 7.
+-- In a `place` row that is read from a record, the setup priority is 7 and the holding priority is
+-- at most 7.
 pub readable_row : (fields : List (List ℕ)) → IfOk (book_row_of fields) IsReadable
 unfolding book_row_of
 readable_row fields =

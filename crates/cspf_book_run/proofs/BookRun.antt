@@ -1,5 +1,5 @@
--- How the answers of the code make up the lines and the summary of a run of a book, and how such a
--- run stops.
+-- How the code's answers give the lines and the summary of a run of a book, and how a run is
+-- stopped by an error.
 use Rattle.std.proofs.Common.{◌≡◌, ◌≢◌, ℕ, suc, ◌+◌, ◌<◌, ◌≤◌, Bool, true, false, List, [], ◌∷◌, ◌++◌, take, length, length-append, Option, Some, None, IfSome, Result, Ok, Err, IfOk, IfErr, OnOk, inl, inr, refl, sym, ap, subst, ◌∙◌, append-nil, arith}
 use Rattle.std.proofs.KnownBytes.{Appends-nil, Appends-trans, Appends-kept}
 use Rattle.std.proofs.lemmas.Bool.{false≢true}
@@ -32,7 +32,8 @@ use Rattle.cspf_book_run.specs.KeptStates.{IsRowKept, IsRowNotKept}
 abbrev Rows : Type 0
 Rows = List (List (List ℕ))
 
--- The code answers these rows one after the other, which takes it from the state `k` to the state `k'`.
+-- The code answers these rows one after the other. This takes the code from the state `k` to the
+-- state `k'`.
 pub record IsCarried {K : Type 0} (contents : K → Option (List ℕ)) (place : ℕ) (k k' : KeptRows K) (s : BookRunState) (rows : List (List (List ℕ))) (lines : List ℕ) : Type 0 where
   pub after : BookRunState
   pub kept : KeepsBook k'.rows after
@@ -147,7 +148,7 @@ module _ {K : Type 0} (contents : K → Option (List ℕ)) (all left : Option (L
 abbrev pub IsBookWritten : Option (List (List (List ℕ))) → Option (List ℕ) → Option (List ℕ) → Summary → Type 0
 IsBookWritten all old new summary = IfSome all (λ rows. (lines : List ℕ) × IsBookRun rows lines summary × Appends old new lines)
 
--- The text that goes to the accepted rows' writer `keep` for all rows was written.
+-- The texts of all accepted rows were written to `keep`, the writer of accepted rows.
 abbrev pub IsBookKept : Option (List (List (List ℕ))) → Option (List ℕ) → Option (List ℕ) → Type 0
 IsBookKept all old new = IfSome all (λ rows. (text : List ℕ) × IsKeptText rows text × Appends old new text)
 
@@ -182,8 +183,8 @@ keeps (Some all) w k bytes too_many run =
 
 -- ---- how the run stops
 
--- The rows in `done` are a prefix of all rows. They are answered with the lines `out`, and `kept`
--- is what goes to the accepted rows' writer `keep` for them.
+-- The rows `done` are a prefix of all rows. They are answered with the lines `out`, and `kept` has
+-- the texts of their accepted rows.
 record IsBegun (all : Option (List (List (List ℕ)))) (w : Written) (done rest : List (List (List ℕ))) (s : BookRunState) (out kept : List ℕ) : Type 0 where
   split : IfSome all (λ rows. rows ≡ done ++ rest)
   few : length done ≤ 1000000
@@ -209,9 +210,9 @@ cut_text : (out line : List ℕ) (size written n : ℕ) → length out ≡ writt
 cut_text out line size written n is_out part is_n =
     length-append out (take size line) ∙ rw (length-take-le size line (omega (arith, part)), is_out, is_n) refl
 
--- `text` is what is written next: the lines of the next row, or the last line of the run. If
--- writing stops within `text`, the run stops with the error `Write`. `more` is what goes to the
--- accepted rows' writer `keep` for the next row.
+-- `text` is the text that is written next: the lines of the next row, or the last line of the run.
+-- If a write fails after a part of `text`, the run stops with the error `Write`. `more` is the next
+-- row's text for `keep`, the writer of accepted rows.
 cut_off : (all : Option Rows) (w : Written) (new keep_new : Option (List ℕ)) (done rest : Rows) (s : BookRunState) (out kept text more : List ℕ) (size written n : ℕ)
     → IsBegun all w done rest s out kept → IsNextBookText done s rest text more → size < length text
     → Appends w.after new (take size text) → Appends w.keep_after keep_new more → length out ≡ written → n ≡ written + size
@@ -248,8 +249,8 @@ in_row_split : (all left : Option Rows) (done rest : Rows) (fields : List (List 
 in_row_split None left done rest fields is = tt
 in_row_split (Some all) left done rest fields is = is.0
 
--- If writing to the accepted rows' writer `keep` stops within the text of a row, the run stops with
--- the error `Keep`.
+-- If a write to `keep`, the writer of accepted rows, fails after a part of a row's text, the run
+-- stops with the error `Keep`.
 keep_off : (all : Option Rows) (w : Written) (keep_new : Option (List ℕ)) (done rest : Rows) (fields : List (List ℕ)) (s next : BookRunState) (out kept line text : List ℕ) (written : ℕ)
     → IsBegun all w done (fields ∷ rest) s out kept → length done < 1000000 → book_answers (suc (length done)) s fields line next → text ≡ kept_of s fields next
     → written < length text → Appends w.keep_after keep_new (take written text)
@@ -281,8 +282,8 @@ module _ {K : Type 0} (contents : K → Option (List ℕ)) (all left : Option (L
   abbrev ends_with : Bool → Result Bool BookError → Type 0
   ends_with failed r = IsBookRowsEnd all (record { before = old; after = new; keep_before = contents k.keep; keep_after = contents k'.keep }) k'.rows bytes failed r
 
-  -- The rows `done`, which were answered before the run stopped, are a prefix of all rows. The text
-  -- `lines` answers them, and `c.text` is what goes to the accepted rows' writer `keep` for them.
+  -- The rows `done`, which were answered before the run stopped, are a prefix of all rows. `lines`
+  -- answers these rows, and `c.text` has the texts of their accepted rows.
   before_stop : (mid : KeptRows K) (done rest : Rows) (lines : List ℕ) (at : Option (List ℕ)) → IfSome all (λ rows. rows ≡ done ++ rest) → length done ≤ 1000000
       → Appends old at lines → (c : IsCarried contents 1 k mid book_start done lines)
       → IsBegun all (record { before = old; after = at; keep_before = contents k.keep; keep_after = contents mid.keep }) done rest c.after lines c.text
@@ -335,7 +336,7 @@ module _ {K : Type 0} (contents : K → Option (List ℕ)) (all left : Option (L
         λ e. absurd (cc e),
       )
 
-  -- A run doesn't flush, so no flush fails.
+  -- A run doesn't flush its writer, so no flush can fail.
   no_flush : StopsInRowAfter (IsRowKept contents) NeverFails 1000000 false bytes stream_error.Flush all left k k' old new → ⊥
   no_flush a = false≢true a.stops.1.2
 
@@ -373,8 +374,8 @@ most_done done rest true past = omega (arith, past.1)
 abbrev pub at_end : Written → Option (List ℕ) → Written
 at_end w new = record { before = w.before; after = new; keep_before = w.keep_before; keep_after = w.keep_after }
 
--- The rows `run.done`, which the run answered, are a prefix of all rows. The text `run.out` answers
--- them, and `run.keeps` is what goes to the accepted rows' writer `keep` for them.
+-- The rows `run.done`, which the run answered, are a prefix of all rows. `run.out` answers these
+-- rows, and `run.keeps` has the texts of their accepted rows.
 all_begun : (all : Option Rows) (w : Written) (at : Option (List ℕ)) (k : BookRows) (bytes : ℕ) (too_many : Bool) (run : HasRunBook all w k bytes too_many) → Appends w.before at run.out
     → IsBegun all (at_end w at) run.done run.rest run.state run.out run.keeps
 all_begun all w at k bytes too_many run text = record {
@@ -386,7 +387,7 @@ all_begun all w at k bytes too_many run text = record {
   keep = run.keep;
 }
 
--- If writing the last line stops with an error, the run stops with this error.
+-- If a write of the last line fails, the run stops with the error of this write.
 stops_at_end : (all : Option Rows) (w : Written) (new : Option (List ℕ)) (k : BookRows) (bytes : ℕ) (too_many : Bool) (error : BookError)
     → HasRunBook all w k bytes too_many → ((s : BookRunState) → KeepsBook k s → IsBookEndCut (last_line too_many s.changes) w.after new bytes error) → IsBookHalted all (at_end w new) error
 stops_at_end all w new k bytes too_many (book_error.Keep written) run cut = absurd (cut run.state run.kept)
@@ -399,15 +400,15 @@ stops_at_end all w new k bytes too_many (book_error.Run (run_error.Write n)) run
     cut_off all w new w.keep_after run.done run.rest run.state run.out run.keeps (last_line too_many run.state.changes) [] c.0 bytes n
     (all_begun all w w.after k bytes too_many run run.text) (end_next run.done run.rest run.state too_many run.past) c.1 c.2 (Appends-nil w.keep_after) run.size c.3
 
--- If writing the last line stops with an error, the error isn't `Read`.
+-- The error of a failed write of the last line isn't `Read`.
 end_not_read : (line : List ℕ) (old new : Option (List ℕ)) (written : ℕ) (error : BookError) → IsBookEndCut line old new written error → error ≢ book_error.Run run_error.Read
 end_not_read line old new written (book_error.Keep n) cut = absurd cut
 end_not_read line old new written (book_error.Run run_error.Memory) cut = λ e. cc e
 end_not_read line old new written (book_error.Run run_error.Read) cut = absurd cut
 end_not_read line old new written (book_error.Run (run_error.Write n)) cut = λ e. cc e
 
--- How the run ends if all rows that it read are answered: the last line is written, or writing it stops with an
--- error.
+-- This module states how the run ends once its rows are answered: the last line is written, or an
+-- error stops its write.
 module _ (all : Option (List (List (List ℕ)))) (w : Written) (new : Option (List ℕ)) (k : BookRows) (bytes : ℕ) (too_many : Bool) (run : HasRunBook all w k bytes too_many) where
   pub run_ends : (r : Result Summary BookError) → IfOk r (λ summary. IsBookEnded k too_many w.after new summary) → IfOk r (λ summary. IsBookWritten all w.before new summary)
   run_ends (Err error) ended = tt
@@ -427,8 +428,7 @@ module _ (all : Option (List (List (List ℕ)))) (w : Written) (new : Option (Li
   not_read (Ok summary) P cut = tt
   not_read (Err error) P cut = λ e. absurd (end_not_read (last_line too_many run.state.changes) w.after new bytes error (cut run.state run.kept) e)
 
--- A run that stops before its first row has written no lines, and nothing to the accepted rows'
--- writer `keep`.
+-- A run that stops before its first row has written no lines, and no text of accepted rows.
 pub halted_at_start : (bytes old keep : Option (List ℕ))
     → IfSome bytes (λ text. (out : List ℕ) × (kept : List ℕ) × IsBookBegun (rows_of text) out kept × Appends old old out × Appends keep keep kept)
 halted_at_start None old keep = tt

@@ -21,11 +21,11 @@ use Rattle.cspf_book_run.specs.BookScript.{BookRunState, IsBaseAccepted, IsBaseR
 use Rattle.cspf_book_run.specs.BookEnds.{IsRightBookEnd, IsWrongBookEnd, IsBatchApplied}
 use Rattle.cspf_book_run.specs.BookStates.{BookLeads}
 
--- The batch isn't accepted, for this reason.
+-- The batch isn't accepted, and `why` is the reason.
 abbrev pub IsNotApplied : BookRunState → ℕ → ℕ → BatchRefusal → Type 0
 IsNotApplied s number count why = (¬ IsBaseAccepted s number count) × IsBaseRefusal s number count why
 
--- If an end row is wrong for the reason `why`, its batch isn't accepted, for this same reason.
+-- If an end row is wrong for the reason `why`, its batch isn't accepted, and `why` is the reason.
 pub wrong_base_end : (s : BookRunState) (version batches number count changes : ℕ) (why : BatchRefusal) → version ≡ s.book.version → batches ≡ s.batches → changes ≡ length s.changes
     → IsWrongBookEnd version batches number count changes why → IsNotApplied s number count why
 wrong_base_end s version batches number count changes refusal.Stopped is_version is_batches is_count wrong = absurd wrong
@@ -43,7 +43,7 @@ wrong_base_end s version batches number count changes refusal.Memory is_version 
 wrong_base_end s version batches number count changes (refusal.Journal written) is_version is_batches is_count wrong = absurd wrong
 
 -- If an end row is wrong (`IsWrongBookEnd`) and the code refuses its batch, the row is answered as
--- `IsBaseEndAnswered` says.
+-- `IsBaseEndAnswered` states.
 pub end_refused : (k k' : BookRows) (number count : ℕ) (why : BatchRefusal) (line : List ℕ)
     → IsWrongBookEnd k.book.version k.batches number count k.changes.count why
     → BookLeads k k' (λ s t. (line ≡ refused_batch_line number why) × (t ≡ after_refused_base_batch s))
@@ -53,8 +53,8 @@ end_refused k k' number count why line wrong lead s kept =
     let w = wrong_base_end s k.book.version k.batches number count k.changes.count why (ap (λ (b : BookState). b.version) kept.book) kept.batches kept.changes.count wrong in
     (l.0, l.1, inr (why, w.0, w.1, l.2.0, l.2.1))
 
--- If an end row is right (`IsRightBookEnd`), and its batch is applied or doesn't fit
--- (`IsBatchApplied`), the row is answered as `IsBaseEndAnswered` says.
+-- Let an end row be right (`IsRightBookEnd`). If its batch is applied, or is refused because it
+-- doesn't fit (`IsBatchApplied`), the row is answered as `IsBaseEndAnswered` states.
 applied_answer : RefusedIsUnfit → (s t : BookRunState) (version batches number count changes : ℕ) (line : List ℕ) → version ≡ s.book.version → batches ≡ s.batches → changes ≡ length s.changes
     → IsRightBookEnd version batches number count changes → IsBatchApplied s number line t → IsBaseEndAnswered s number count line t
 applied_answer unfit s t version batches number count changes line is_version is_batches is_count right (inl (fits, lines, after)) = inl (
@@ -75,16 +75,16 @@ applied_answer unfit s t version batches number count changes line is_version is
   after,
 )
 
--- If an end row is right (`IsRightBookEnd`), and the code applies its batch or refuses it because
--- it doesn't fit, the row is answered as `IsBaseEndAnswered` says.
+-- Let an end row be right (`IsRightBookEnd`). If the code applies its batch, or refuses the batch
+-- because it doesn't fit, the row is answered as `IsBaseEndAnswered` states.
 pub end_applied : RefusedIsUnfit → (k k' : BookRows) (number count : ℕ) (line : List ℕ) → IsRightBookEnd k.book.version k.batches number count k.changes.count
     → BookLeads k k' (λ s t. IsBatchApplied s number line t) → BookLeads k k' (λ s t. IsBaseEndAnswered s number count line t)
 end_applied unfit k k' number count line right lead s kept =
     let l = lead s kept in
     (l.0, l.1, applied_answer unfit s l.0 k.book.version k.batches number count k.changes.count line (ap (λ (b : BookState). b.version) kept.book) kept.batches kept.changes.count right l.2)
 
--- In this module the batch with this number has the open changes (those since the last end row)
--- that the code stores.
+-- In this module, the batch with this number has the changes since the last end row that the code
+-- stores.
 module _ (k k' : BookRows) (number : ℕ) where
   pub batch_applied : (overs : List Over) (ids lines : List ℕ) (version : ℕ)
       → Fits k.book.base (record { number = number; changes = k.changes.batch.changes })
@@ -134,8 +134,8 @@ module _ (k k' : BookRows) (number : ℕ) where
       let whole = refusal_whole k.book.base number k.changes.batch.changes s.changes why kept.changes.changes is in
       (l.0, l.1, inr (why, subst (λ (b : BookState). IsRefusal b.base (open_base_batch s number) why) kept.book whole, l.2.0, l.2.1))
 
-  -- If the code drops the open changes (those since the last end row) and counts a refusal, the
-  -- state of the run becomes the state after a refused batch.
+  -- If the code drops the changes since the last end row and counts a refusal, the next state of
+  -- the run is `after_refused_base_batch`.
   pub batch_refused : (why : BatchRefusal) (lines : List ℕ) → lines ≡ refused_batch_line number why
       → k'.book ≡ k.book → k'.batches ≡ k.batches → AreOpen k'.changes [] → k'.answers ≡ k.answers → k'.refused ≡ k.refused + 1
       → BookLeads k k' (λ s t. (lines ≡ refused_batch_line number why) × (t ≡ after_refused_base_batch s))
@@ -151,8 +151,8 @@ module _ (k k' : BookRows) (number : ℕ) where
     (line_is, refl),
   )
 
--- If the code adds a change to its open changes (those since the last end row), the state of the
--- run becomes the state after this change.
+-- If the code adds a change to the changes since the last end row, the next state of the run is
+-- `after_open_change`.
 pub change_opened : (k k' : BookRows) (c : Change) (lines : List ℕ) → lines ≡ []
     → ((all : List Change) → AreOpen k.changes all → AreOpen k'.changes (all ++ c ∷ []))
     → k'.book ≡ k.book → k'.batches ≡ k.batches → k'.answers ≡ k.answers → k'.refused ≡ k.refused

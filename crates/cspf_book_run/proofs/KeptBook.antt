@@ -1,4 +1,4 @@
--- A run over the texts of accepted rows makes the same book as the run over all rows.
+-- A run over the texts of accepted rows ends with the same book as the run over all rows.
 use Rattle.std.proofs.Common.{◌≡◌, ◌==◌, ℕ, zero, suc, ◌+◌, ◌≤◌, ◌<◌, ◌^◌, ◌⊎◌, Bool, true, false, cond, List, [], ◌∷◌, ◌++◌, map, length, codes, slice_index, Result, Ok, Err, inl, inr, refl, sym, ap, subst, ◌∙◌, append_assoc, append-nil, eq-eqb, arith}
 use Rattle.std.proofs.lemmas.Bool.{cases_Bool, eqb-true}
 use Rattle.std.proofs.lemmas.Grind.{flat_map-append}
@@ -92,7 +92,7 @@ row_in_range fields (row.Ask q) s = tt
 
 -- ---- the kinds of rows
 
--- The first field of a record decides how the book reads it.
+-- The first field of a record decides which kind of row the book reads.
 abbrev pub IsOfKind : List (List ℕ) → Type 0
 IsOfKind fields =
     ((field fields 1 ≡ codes "place") × (book_row_of fields ≡ place_row_of fields))
@@ -112,7 +112,7 @@ counted : (b : Bool) (x : Result BookRow RowError) (r : BookRow) → cond b x (E
 counted true x r is = (refl, is)
 counted false x r is = absurd (cc)
 
--- the result of a record that is read as this row of a book
+-- the result of reading a record as this row
 abbrev read_as : BookRow → Result BookRow RowError
 read_as r = Ok r
 
@@ -135,8 +135,8 @@ of_base : (x : Result Row RowError) (r : BookRow) → result_map_both book_row.B
 of_base (Ok b) r is = (b, sym (ok_same (book_row.Base b) r is), refl)
 of_base (Err e) r is = absurd (cc)
 
--- The fields of a `place` row are read as a request and a holding priority, and there are 10 fields. The fields of
--- a `release` row are read as an id, and there are 2 fields.
+-- A `place` row has 10 fields, which are read as a request and a holding priority. The next lemma
+-- is for a `release` row, which has 2 fields and is read as an id.
 from_place : (fields : List (List ℕ)) (r : BookRow) → place_row_of fields ≡ Ok r → (q : Request) × (hold : ℕ) × (r ≡ book_row.Place q hold) × (length fields ≡ 10)
 from_place fields r is =
     let n = counted (length fields == 10) (placed_as_asked (ask_row_of fields)) r is in
@@ -149,7 +149,7 @@ from_release fields r is =
     let made = of_id (number_at fields 2) r n.1 in
     (made.0, made.1, eqb-true (length fields) 2 n.0)
 
--- If a record is read as a row of the base, then `row_of` reads the record as the same row.
+-- If the book reads a record as a row of the base, `row_of` reads this record as the same row.
 pub base_of : (fields : List (List ℕ)) (b : Row) → IsOfKind fields → book_row_of fields ≡ Ok (book_row.Base b) → row_of fields ≡ Ok b
 base_of fields b (inl place) is =
     let made = from_place fields (book_row.Base b) (sym place.1 ∙ is) in absurd (let e : book_row.Base b ≡ book_row.Place made.0 made.1 = made.2 in cc)
@@ -161,7 +161,8 @@ base_of fields b (inr (inr base)) is =
     let one : b ≡ made.0 = cc in
     made.2 ∙ ap Ok (sym one)
 
--- A record with at least two fields consists of its first field, a second field and the others.
+-- A record with at least two fields is a list of its first field, its second field and the other
+-- fields.
 word_first : (fields : List (List ℕ)) (word : List ℕ) → 2 ≤ length fields → field fields 1 ≡ word → (second : List ℕ) × (others : List (List ℕ)) × (fields ≡ word ∷ second ∷ others)
 unfolding field_at
 word_first [] word two is = absurd (omega arith)
@@ -206,7 +207,7 @@ none_answered : (p : ℕ) (s t : BookRunState) → t ≡ s → AreAnswered book_
 unfolding AreAnswered
 none_answered p s t same = (refl, same)
 
--- the state with these open changes (those since the last end row)
+-- the state with these open changes, which are the changes since the last end row
 abbrev opened : BookRunState → List Change → BookRunState
 opened s cs = record s { changes = cs }
 
@@ -214,7 +215,7 @@ module _ (laws : ReadsRows) where
   spelled : (bits : ℕ) → bits < 2 ^ 32 → SpellsMask (mask_text bits) bits
   spelled bits small = (laws.masks (mask_text bits) bits).0 (laws.back bits small)
 
-  -- The record of a change is answered without a line, and adds the change to the open changes.
+  -- The record of a change is answered with no line. It adds the change to the open changes.
   change_taken : (p : ℕ) (s : BookRunState) (c : Change) → IsChangeInRange c → book_answers p s (change_fields c) [] (after_open_change s c)
   unfolding book_row_of field_at
   change_taken p s (change.Put link) range = rw (laws.puts link (mask_text link.group) range.0 (spelled link.group range.1)) (refl, refl)
@@ -234,8 +235,8 @@ module _ (laws : ReadsRows) where
         (changes_taken cs (suc p) (after_open_change s c) range.1),
   )
 
-  -- The end row of an accepted batch gets the same lines in a run over the texts of accepted rows
-  -- as in the run that wrote these texts.
+  -- Take the end row of an accepted batch. A run over the texts of accepted rows answers it with
+  -- the same lines as the run that wrote these texts.
   end_taken : (p : ℕ) (s : BookRunState) (number count : ℕ) (line : List ℕ) → number < 2 ^ 32 → length s.changes < 2 ^ 32 → IsBaseAccepted s number count → AreBaseLines s number line
       → (answers : ℕ) → let from : BookRunState = record { book = s.book; batches = s.batches; changes = s.changes; answers = answers; refused = 0 } in
       book_answers p from (end_fields number (length s.changes)) line (after_base_batch from)
@@ -251,14 +252,15 @@ module _ (laws : ReadsRows) where
 
 -- ---- the texts of accepted rows
 
--- the state of a run over the texts of accepted rows, after the text of one row and before the next
+-- the state of a run over the texts of accepted rows, between the texts of two rows
 abbrev bare : BookState → ℕ → ℕ → BookRunState
 bare book batches answers = record { book = book; batches = batches; changes = []; answers = answers; refused = 0 }
 
--- `text` is what goes to the accepted rows' writer `keep` for n rows, which lead from the state `s`
--- to the state `t`. It is the text of records, and a run over these records leads from the book of
--- `s` to the book of `t`. The records and the open changes of `t` (since the last end row) are
--- together at most as many as the open changes of `s` and the n rows.
+-- Let n rows lead from the state `s` to the state `t`, and let `text` have the texts of their
+-- accepted rows. Then `text` is the text of some records, and a run over these records leads from
+-- the book of `s` to the book of `t`. The number of records plus the number of open changes of `t`
+-- is at most n plus the number of open changes of `s`. Open changes are changes since the last end
+-- row.
 record Remakes (n : ℕ) (s t : BookRunState) (text : List ℕ) : Type 0 where
   records : List (List (List ℕ))
   is : text ≡ flat_map (row_text default_writer) records
@@ -282,9 +284,8 @@ nothing_kept s t text book batches few = record {
 another_version : (old new : ℕ) → new ≡ old + 1 → (new == old) ≡ false
 another_version old new rises = elim (cases_Bool (new == old)) [ inl same ↦ absurd (omega (arith, eqb-true new old same, rises)) | inr other ↦ other ]
 
--- Take a row that makes a new version of the book, and whose text for the accepted rows' writer
--- `keep` is the row itself. A run over the record of this row alone leads to the same book as the
--- row does.
+-- Let a row make a new version of the book, and let its text for the writer `keep` be the text of
+-- the row itself. If a run over just this row leads to the same book, `Remakes` holds for this row.
 row_kept : (s t : BookRunState) (fields : List (List ℕ)) (line : List ℕ) (more : ℕ → ℕ) → t.book.version ≡ s.book.version + 1 → length t.changes ≤ length s.changes → StartsPlain fields
     → ((p a : ℕ) → book_answers p (bare s.book s.batches a) fields line (bare t.book t.batches (more a)))
     → Remakes 1 s t (cond (t.book.version == s.book.version) [] (row_text default_writer fields))
@@ -296,7 +297,7 @@ row_kept s t fields line more rises few starts answered = record {
   runs = λ a. (more a, line, λ p. one_answered p (bare s.book s.batches a) (bare t.book t.batches (more a)) fields line (answered p a));
 }
 
--- The numbers of the open changes (those since the last end row) are in the ranges of their types.
+-- The numbers of the changes since the last end row are in the ranges of their types.
 abbrev AreOpenInRange : BookRunState → Type 0
 AreOpenInRange s = AllByRecursion IsChangeInRange s.changes
 
@@ -355,8 +356,8 @@ module _ (laws : ReadsRows) where
         subst (AllByRecursion IsChangeInRange) (sym opens) tt,
       )
 
-  -- Take a `place` row that is answered. A run over the text that goes to the accepted rows' writer
-  -- `keep` for this row leads to the same book as the row.
+  -- If a `place` row is answered, a run over its text for the writer `keep` leads to the same book
+  -- as the row (`Remakes`).
   placed_remakes : (s t : BookRunState) (fields : List (List ℕ)) (q : Request) (hold : ℕ) (line : List ℕ) (x : IsPlaceAnswered s q hold line t.book) (answer : Answer) → IsAnswerPlaced s.book q hold answer t.book
       → t ≡ after_answer s t.book → book_row_of fields ≡ Ok (book_row.Place q hold) → Remakes 1 s t (cond (t.book.version == s.book.version) [] (row_text default_writer fields))
   placed_remakes s t fields q hold line x unknown_from placed after is =

@@ -1,5 +1,5 @@
--- What goes to the accepted rows' writer `keep` for a row: the row's text if the row changes the
--- version, and otherwise nothing.
+-- The text that goes to `keep`, the writer of accepted rows, for a row. It is the row's text if the
+-- row changes the version, and otherwise empty.
 use Rattle.std.proofs.Common.{◌≡◌, ◌==◌, ℕ, ◌+◌, ◌≤◌, Bool, true, false, cond, List, [], length, Result, Ok, Err, inl, inr, refl, sym, ap, subst, ◌∙◌, eq-eqb, arith}
 use Rattle.std.proofs.lemmas.Bool.{cases_Bool, false≢true}
 use Rattle.std.proofs.lemmas.List.{take_all}
@@ -19,12 +19,13 @@ use Rattle.cspf_book_run.specs.BookStates.{KeepsBook, IsAnsweredByBook}
 use Rattle.cspf_book_run.specs.Kept.{text_of_step, text_of_row, kept_of}
 use Rattle.cspf_book_run.specs.KeptStates.{IsTextOfStep, IsTextOfRow, IsRenumbered, IsAnsweredAndKept}
 
--- If the book stays the same, its version stays the same.
+-- If the book is unchanged, its version is unchanged, so a test that the versions differ can't
+-- hold.
 stays : (s t : BookRunState) (P : Type 0) → t.book ≡ s.book → (t.book.version == s.book.version) ≡ false → P
 stays s t P book other = absurd (false≢true (sym other ∙ eq-eqb t.book.version s.book.version (ap (λ (b : BookState). b.version) book)))
 
--- Suppose that a row of the base makes a new version of the book. The text that the code makes for
--- the accepted rows' writer `keep` is `text_of_step` of the row.
+-- Let a row of the base make a new version of the book. The text that the code makes for the writer
+-- `keep` is then `text_of_step` of this row.
 step_text : (s t : BookRunState) (row : Step) (line text : List ℕ) → IsBookStepAnswered s row line t → (t.book.version == s.book.version) ≡ false → IsTextOfStep s row text
     → text ≡ text_of_step s row
 step_text s t (step.Change c) line text a other is = is
@@ -57,8 +58,8 @@ renumbered_keeps old new s same kept = record {
   refused = same.refused ∙ kept.refused;
 }
 
--- If the code makes a row's text, then answers the row, and then empties the text unless the
--- version has changed, `IsAnsweredAndKept` holds.
+-- Suppose that the code makes a row's text, then answers the row, and then empties the text if the
+-- version is unchanged. Then `IsAnsweredAndKept` holds.
 pub answered_and_kept : (place : ℕ) (old numbered new : BookRows) (fields : List (List ℕ)) (line raw text : List ℕ) (version after : ℕ)
     → IsRenumbered old numbered → ((s : BookRunState) → KeepsBook old s → IsTextOfRow s fields (book_row_of fields) raw)
     → IsAnsweredByBook place numbered (book_row_of fields) line new → version ≡ numbered.book.version → after ≡ new.book.version → text ≡ cond (after == version) [] raw
@@ -80,8 +81,8 @@ answered_and_kept place old numbered new fields line raw text version after same
   };
 }
 
--- Suppose that at most as many changes are open (since the last end row) as a batch may have. Then
--- the text of the changes that the code stores is the text of all open changes.
+-- If the changes since the last end row are no more than a batch may have, the code stores all of
+-- them. The text of the stored changes is then the text of all these changes.
 pub batch_kept : (k : BookRows) (s : BookRunState) (number : ℕ) (text : List ℕ) → KeepsBook k s → length s.changes ≤ 4096
     → text ≡ batch_text (record { number = number; changes = k.changes.batch.changes }) → text ≡ batch_text (open_base_batch s number)
 batch_kept k s number text kept few is =

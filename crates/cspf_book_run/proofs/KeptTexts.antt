@@ -1,4 +1,4 @@
--- If records are written as text for the accepted rows' writer `keep`, this text is read as the
+-- If records are written as text for `keep`, the writer of accepted rows, this text is read as the
 -- same records.
 use Rattle.std.proofs.Common.{◌≡◌, ℕ, zero, suc, ◌≤◌, ◌<◌, ◌^◌, Bool, true, false, List, [], ◌∷◌, ◌++◌, length, refl, sym, ap, subst, ◌∙◌, append_assoc, arith}
 use Rattle.std.proofs.lemmas.List.{length-append}
@@ -20,8 +20,8 @@ use Rattle.cspf_rows.specs.Written.{end_fields}
 use Rattle.cspf_rows.proofs.Lines.{line_text-cons}
 use Rattle.cspf_rows.proofs.PlainFields.{IsUnquoted, AreUnquoted, decimal_unquoted, decimals_unquoted, address_unquoted, mask_unquoted}
 
--- A record of at least two fields. The first field begins with three letters that are no byte order mark, and it
--- needs no quotes.
+-- A record of at least two fields. The first field needs no quotes, and its first three bytes
+-- aren't a byte order mark.
 pub record StartsPlain (fields : List (List ℕ)) : Type 0 where
   pub a : ℕ
   pub b : ℕ
@@ -63,8 +63,8 @@ enough_bytes : (rs : List (List (List ℕ))) → length rs ≤ length (flat_map 
 enough_bytes [] = omega arith
 enough_bytes (r ∷ rs) = omega (arith, some_bytes r (flat_map (row_text default_writer) rs), enough_bytes rs)
 
--- If the first three letters of a row are no byte order mark, a text that begins with the row doesn't begin with a
--- byte order mark.
+-- Let the first three bytes of a row not be a byte order mark. Then a text that begins with this
+-- row has no byte order mark at its start.
 no_mark_text : (a b c : ℕ) (word second : List ℕ) (others : List (List ℕ)) (tail : List ℕ) → is_bom a b c ≡ false
     → field_text default_writer (a ∷ b ∷ c ∷ word) ≡ a ∷ b ∷ c ∷ word
     → strip_bom (row_text default_writer ((a ∷ b ∷ c ∷ word) ∷ second ∷ others) ++ tail) ≡ row_text default_writer ((a ∷ b ∷ c ∷ word) ∷ second ∷ others) ++ tail
@@ -81,7 +81,7 @@ unfolding strip_bom
 no_mark_rows [] h = refl
 no_mark_rows (r ∷ rs) h = no_mark_row r (flat_map (row_text default_writer) rs) h.0
 
--- If `StartsPlain` holds of each record, the text of the records is read as these records.
+-- If `StartsPlain` holds for each record, the text of these records is read as the same records.
 pub kept_cut : (rs : List (List (List ℕ))) → AllByRecursion StartsPlain rs → rows_of (flat_map (row_text default_writer) rs) ≡ rs
 unfolding rows_of
 kept_cut rs h = rw (no_mark_rows rs h) (cut_rows _ rs (omega (arith, enough_bytes rs)) h)
@@ -93,14 +93,15 @@ unfolding fields_text
 fields_text-unquoted [] h = refl
 fields_text-unquoted (x ∷ xs) h = rw h.0 (ap (λ rest. 44 ∷ (x ++ rest)) (fields_text-unquoted xs h.1))
 
--- If no field of a record needs quotes, the record's line is what `csv` writes for its fields.
+-- If no field of a record needs quotes, `record_line` gives the text that `csv` writes for this
+-- record.
 line_row : (x y : List ℕ) (ys : List (List ℕ)) → AreUnquoted (x ∷ y ∷ ys) → record_line (x ∷ y ∷ ys) ≡ row_text default_writer (x ∷ y ∷ ys)
 unfolding is_blank
 line_row x y ys h =
     line_text-cons x (y ∷ ys)
     ∙ rw (h.0, fields_text-unquoted (y ∷ ys) h.1) (sym (append_assoc x (fields_after (y ∷ ys)) (10 ∷ [])))
 
--- `StartsPlain` holds of the record, and the record's line is what `csv` writes for its fields
+-- `StartsPlain` holds for the record, and `record_line` gives the text that `csv` writes for it
 pub record IsPlainRecord (fields : List (List ℕ)) : Type 0 where
   pub starts : StartsPlain fields
   pub line : record_line fields ≡ row_text default_writer fields

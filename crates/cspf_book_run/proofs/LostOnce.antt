@@ -1,5 +1,5 @@
--- There is only one list of the placements that lose their routes: the database before admits the
--- route, and the database after doesn't.
+-- There is only one list of the placements that lose their routes. Such a route is admitted by the
+-- database before changes, and not by the database after them.
 use Rattle.std.proofs.Common.{◌≡◌, ℕ, zero, suc, ◌⊎◌, List, [], ◌∷◌, map, inl, inr, refl, sym, ap, ◌∙◌, subst, arith}
 use Rattle.std.specs.List.{AllPairs, Contains}
 use Rattle.cspf_model.specs.Database.{Database}
@@ -20,7 +20,8 @@ cases_in x xs p (suc k, within, at) = inr (k, omega arith, at)
 none_in : {A : Type 0} (p : A) → Contains [] p → ⊥
 none_in p (k, within, at) = omega arith
 
--- Two lists that have the same elements, and that are sorted by the same relation, are equal.
+-- In this module, two lists with the same elements are equal if both are sorted by the relation
+-- `R`.
 module _ {A : Type 0} (R : A → A → Type 0) (one_way : (a b : A) → R a b → R b a → ⊥) where
   later : (x : A) (xs : List A) (p : A) → AllPairs R (x ∷ xs) → Contains xs p → R x p
   later x xs p ordered (k, within, at) = subst (R x) at (ordered 0 (suc k) p (omega arith) (omega arith))

@@ -1,5 +1,5 @@
--- The `over` lines of a base batch are exactly those of the links that its changes set with too
--- little bandwidth for the placements.
+-- The `over` lines of a base batch are exactly the lines of the links that the batch sets with too
+-- little bandwidth.
 use Rattle.std.proofs.Common.{◌≡◌, ◌⊎◌, ℕ, zero, suc, ◌+◌, ◌<◌, true, false, cond, Some, None, List, [], ◌∷◌, ◌++◌, map, filter, slice_index, inl, inr, refl, sym, ap, subst, ◌∙◌, append_assoc, append-nil, lit<, arith}
 use Rattle.std.proofs.lemmas.Bool.{ltb-true}
 use Rattle.std.proofs.lemmas.List.Elements.{All-contains, All-from_recursion, Contains-append_cases, Contains-append_left, Contains-append_right}
@@ -34,7 +34,7 @@ all_below = (lit< tt, (lit< tt, (lit< tt, (lit< tt, (lit< tt, (lit< tt, (lit< tt
 module _ (placements : List Placement) where
   -- ---- each entry of the list is for a link that is set with too little bandwidth
 
-  -- the entry `y` is for this link at priority `p`, at which the link has less bandwidth than the
+  -- the entry `y` is for this link and priority `p`, and the link has less bandwidth there than the
   -- placements count
   abbrev IsShortAt : Link → Over → ℕ → Type 0
   IsShortAt m y p = (p < 8) × (is_over placements m p ≡ true) × (over_at m p ≡ y)
@@ -56,8 +56,8 @@ module _ (placements : List Placement) where
         | false ↦ λ _ has. kept m y ps all.1 has
       ] refl there
 
-  -- the changes set this link, and the entry `y` is for this link at a priority at which it has
-  -- less bandwidth than the placements count
+  -- The changes set this link, and the entry `y` is for this link and some priority. At this
+  -- priority, the link has less bandwidth than the placements count.
   abbrev IsEntry : List Change → Over → Link → Type 0
   IsEntry changes y m = Contains changes (Put m) × (p : ℕ) × IsShortAt m y p
 

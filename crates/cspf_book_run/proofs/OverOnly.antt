@@ -1,4 +1,4 @@
--- Only the lines of a base batch have `over` lines (they report too little bandwidth).
+-- Only the lines of a base batch include `over` lines, which report too little bandwidth.
 use Rattle.std.proofs.Common.{◌≡◌, ℕ, zero, suc, ◌+◌, ◌/◌, ◌%◌, ◌≤◌, Bool, true, false, cond, not, ◌&&◌, ◌==◌, List, [], ◌∷◌, ◌++◌, codes, slice_index, length, Result, Ok, Err, inl, inr, refl, sym, ap, subst, ◌∙◌, append_assoc, append-nil, arith}
 use Rattle.std.proofs.lemmas.Bool.{and_parts}
 use Rattle.std.specs.Fmt.{decimal}
@@ -39,7 +39,7 @@ use Rattle.cspf_book_run.proofs.OverTexts.{IsFree, each_false, letter_o, free_de
 
 -- ---- texts in which no `v` directly follows an `o`
 
--- The text has a first byte, and this byte isn't `v`.
+-- The text isn't empty, and its first byte isn't `v`.
 abbrev is_other : List ℕ → Bool
 is_other [] = false
 is_other (d ∷ text) = not (d == 118)
@@ -150,9 +150,9 @@ skips_unreleased unreleased.Absent = skips_plain (codes "absent") refl
 
 -- ---- the lines
 
--- Take a line that refuses something: a subject, a number, ` refused: ` and a reason. If `is_plain`
--- holds of the subject, and the letters `ov` begin nowhere within the reason, they begin nowhere
--- within the line.
+-- A line of a refusal consists of a subject, a number, ` refused: ` and a reason. If `is_plain`
+-- holds for the subject, and no `ov` starts within the reason (`Skips`), no `ov` starts within the
+-- line.
 skips_refused : (subject words : List ℕ) (n : ℕ) → is_plain subject ≡ true → Skips words → Skips (subject ++ decimal n ++ codes " refused: " ++ words ++ codes "\n")
 skips_refused subject words n plain skips =
     word_after (subject ++ decimal n ++ codes " refused: " ++ words) (codes "\n")
@@ -173,7 +173,7 @@ skips_measures cost hops again =
     (word_after (codes "route cost=" ++ decimal cost) (codes " hops=") (named (codes "route cost=") cost refl) refl) (skips_number hops)) refl)
     (skips_again again))
 
--- No `ov` begins within the text of an answer and its line feed.
+-- No `ov` starts within the text of an answer and its line feed (`Skips`).
 skips_answer : (answer : Answer) (text : List ℕ) → IsAnswerText answer text → Skips (text ++ codes "\n")
 skips_answer unknown_from text is = subst (λ (x : List ℕ). Skips (x ++ codes "\n")) (sym is) (skips_plain (codes "unknown-from\n") refl)
 skips_answer unknown_to text is = subst (λ (x : List ℕ). Skips (x ++ codes "\n")) (sym is) (skips_plain (codes "unknown-to\n") refl)
@@ -184,8 +184,8 @@ skips_answer (route links) text is =
     (word_after (measures ++ encode_lower (object_of links)) (codes "\n")
     (skips_append measures (encode_lower (object_of links)) (skips_measures (cost_of links) (length links) is.again) (skips_hex (object_of links))) refl)
 
--- Take a text of a word, a number, ` v` and a version. If `is_plain` holds of the word, the letters
--- `ov` begin nowhere within this text.
+-- A text consists of a word, a number, ` v` and a version. If `is_plain` holds for the word, no
+-- `ov` starts within the text (`Skips`).
 versioned : (name : List ℕ) (n version : ℕ) → is_plain name ≡ true → Skips (name ++ decimal n ++ codes " v" ++ decimal version)
 versioned name n version plain =
     skips_append (name ++ decimal n ++ codes " v") (decimal version) (word_after (name ++ decimal n) (codes " v") (named name n plain) refl) (skips_number version)
@@ -198,8 +198,7 @@ skips_reply id version answer line (text, is, whole) =
     (word_after (codes "ask " ++ decimal id ++ codes " v" ++ decimal version) (codes " ") (versioned (codes "ask ") id version refl) refl)
     (skips_answer answer text is))
 
--- If the letters `ov` begin nowhere within a text (`Skips`), they begin nowhere within what is left
--- of it after a first part is cut off.
+-- If no `ov` starts within a text (`Skips`), no `ov` starts within a suffix of this text.
 without_front : (front text : List ℕ) → Skips (front ++ text) → Skips text
 without_front front text skips rest before z same =
     skips rest (front ++ before) z
@@ -213,8 +212,7 @@ skips_placed id version answer line (rest, reply, is) =
 
 -- ---- rows
 
--- If the rows accept no base batch, their lines have no `over` line (it reports too little
--- bandwidth).
+-- If the rows accept no base batch, their lines include no `over` line.
 abbrev SaysNone : BookRunState → BookRunState → List ℕ → Type 0
 SaysNone s t lines = (s.batches ≤ t.batches) × (t.batches ≡ s.batches → Skips lines)
 

@@ -1,5 +1,5 @@
--- An `over` line (it reports too little bandwidth) is found among the lines of a base batch only
--- where it was written.
+-- If an `over` line is found in the lines of a base batch, it is one of the `over` lines that the
+-- batch wrote. An `over` line reports too little bandwidth.
 use Rattle.std.proofs.Common.{◌≡◌, ◌≢◌, ℕ, zero, suc, ◌+◌, ◌/◌, ◌%◌, ◌<◌, ◌^◌, Bool, true, false, cond, ◌||◌, ◌==◌, List, [], ◌∷◌, ◌++◌, map, codes, refl, sym, ◌∙◌, append_assoc, append-nil, lt-ltb, ne_eqb, arith}
 use Rattle.std.proofs.lemmas.Bool.{eqb-false}
 use Rattle.std.proofs.lemmas.Fmt.{decimal_injective}
@@ -26,7 +26,7 @@ pub each_false : (x y : Bool) → (x || y) ≡ false → (x ≡ false) × (y ≡
 each_false true y both = absurd (cc)
 each_false false y both = (refl, both)
 
--- The byte `mark` is no digit and no point.
+-- The byte `mark` is neither a digit nor a point.
 pub record IsMark (mark : ℕ) : Type 0 where
   digit : (d : ℕ) → d < 10 → 48 + d ≢ mark
   point : (46 == mark) ≡ false
@@ -81,7 +81,7 @@ module _ (mark : ℕ) (no : IsMark mark) where
   unfolding address_text
   free_address n = free_join (map decimal (to_be_bytes w32 n)) (free_decimals (to_be_bytes w32 n))
 
--- There is only one way to cut a text at its first byte `mark`.
+-- A text has only one split at its first byte `mark`.
 cut_once : (mark : ℕ) (u v r q : List ℕ) → IsFree mark u → IsFree mark v → u ++ mark ∷ r ≡ v ++ mark ∷ q → (u ≡ v) × (r ≡ q)
 cut_once mark [] [] r q a b same = let rest : r ≡ q = cc in (refl, rest)
 cut_once mark [] (d ∷ v) r q a b same =
@@ -97,8 +97,7 @@ cut_once mark (c ∷ u) (d ∷ v) r q a b same =
 
 -- ---- the words of an `over` line
 
--- the text of an `over` line (it reports too little bandwidth) between its first two letters and
--- its line feed
+-- the text of an `over` line between `ov` and the line feed
 abbrev pub words : Over → List ℕ
 words o = codes "er " ++ address_text o.from ++ codes "," ++ address_text o.local ++ codes " " ++ decimal o.priority
 
@@ -115,8 +114,8 @@ module _ (mark : ℕ) (no : IsMark mark) (word : IsFree mark (codes "er ")) (bet
       (free_append mark no (codes "er ") (address_text o.from) word (free_address mark no o.from)) between) (free_address mark no o.local)) blank)
       (free_decimal mark no o.priority)
 
--- the words are the text before the comma, the comma, the address after it, the last space, and the
--- priority
+-- The words of an `over` line: first the text before the comma, then the comma, and then the
+-- address, a space and the priority.
 words_cut : (o : Over) → words o ≡ (codes "er " ++ address_text o.from) ++ 44 ∷ (address_text o.local ++ 32 ∷ decimal o.priority)
 words_cut o =
     let first : List ℕ = codes "er " ++ address_text o.from in
@@ -124,8 +123,8 @@ words_cut o =
     ∙ append_assoc (first ++ codes ",") (address_text o.local) (32 ∷ decimal o.priority)
     ∙ append_assoc first (codes ",") (address_text o.local ++ 32 ∷ decimal o.priority)
 
--- If the words of two `over` lines (they report too little bandwidth) are equal, the lines have the
--- same router, address and priority.
+-- If two `over` lines have the same words, they have the same router, the same address and the same
+-- priority.
 pub words_once : IsAddressTextInjective → (x y : Over) → x.from < 2 ^ 32 → x.local < 2 ^ 32 → x.priority < 8 → y.from < 2 ^ 32 → y.local < 2 ^ 32 → y.priority < 8
     → words x ≡ words y → (x.from ≡ y.from) × (x.local ≡ y.local) × (x.priority ≡ y.priority)
 words_once one x y xf xl xp yf yl yp same =
@@ -138,8 +137,7 @@ words_once one x y xf xl xp yf yl yp same =
 
 -- ---- where an `over` line may begin
 
--- The letters `ov`, with which an `over` line begins, begin nowhere within this text, whatever text
--- comes after it.
+-- No `ov` starts within this text, whatever text follows it. Each `over` line begins with `ov`.
 abbrev pub Skips : List ℕ → Type 0
 Skips text = (rest before z : List ℕ) → text ++ rest ≡ before ++ 111 ∷ 118 ∷ z → (other : List ℕ) × (rest ≡ other ++ 111 ∷ 118 ∷ z)
 
@@ -159,8 +157,8 @@ pub skips_append : (v w : List ℕ) → Skips v → Skips w → Skips (v ++ w)
 skips_append v w first second rest before z same =
     let one = first (w ++ rest) before z (sym (append_assoc v w rest) ∙ same) in second rest one.0 z one.1
 
--- The letter `c` is neither `v` nor `o`. If the letters `ov` begin nowhere within a text (`Skips`),
--- they begin nowhere within an `o`, the letter `c` and this text together.
+-- Let the byte `c` be neither `v` nor `o`. If no `ov` starts within a text (`Skips`), no `ov`
+-- starts within an `o`, the byte `c` and this text together.
 skips_o : (c : ℕ) (text : List ℕ) → c ≢ 118 → (c == 111) ≡ false → Skips text → Skips (111 ∷ c ∷ text)
 skips_o c text other apart skips rest [] z same = let second : c ≡ 118 = cc in absurd (other second)
 skips_o c text other apart skips rest (b ∷ before) z same =
@@ -190,8 +188,8 @@ pub none_left : (other z : List ℕ) → [] ≡ other ++ 111 ∷ 118 ∷ z → �
 none_left [] z same = cc
 none_left (b ∷ other) z same = cc
 
--- Take `over` lines (they report too little bandwidth), and after them a text that has no `over`
--- line. An `over` line that is found in the whole text has the words of one of these lines.
+-- Let a text have some `over` lines, and then a tail in which no `ov` starts (`Skips`). If an
+-- `over` line is found in this text, it has the words of one of these `over` lines.
 found : (os : List Over) (tail : List ℕ) → Skips tail → (x : Over) (before after : List ℕ)
     → flat_map over_line os ++ tail ≡ before ++ 111 ∷ 118 ∷ ((words x ++ 10 ∷ []) ++ after) → (y : Over) × Contains os y × (words y ≡ words x)
 found [] tail skips x before after same =
@@ -215,8 +213,8 @@ found (y ∷ os) tail skips x (b ∷ before) after same =
     let more = found os tail skips x skipped.0 after skipped.1 in
     (more.0, (suc more.1.0, omega (arith, more.1.1), more.1.2), more.2)
 
--- An `over` line (it reports too little bandwidth) that is found among the lines of a base batch
--- has the words of an `over` line that the batch wrote.
+-- Let an `over` line be found in the lines of a base batch. Then the batch wrote an `over` line
+-- with the same words.
 pub named_among : (os : List Over) (ids : List ℕ) (number version : ℕ) (x : Over) (before after : List ℕ)
     → flat_map over_line os ++ flat_map lost_line ids ++ base_line number version ≡ before ++ over_line x ++ after
     → (y : Over) × Contains os y × (words y ≡ words x)

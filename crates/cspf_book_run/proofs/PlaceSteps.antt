@@ -19,8 +19,8 @@ use Rattle.cspf_book_run.specs.BookStates.{BookLeads, CountsAnswer, IsAnsweredBy
 use Rattle.cspf_book_run.specs.PlaceErrors.{place_refusal_of}
 use Rattle.cspf_book_run.specs.declared.refusals.PlaceRefusal.TheVariants as unplaced
 
--- If the book doesn't place a request because of the error `why`, the refusal for this error says
--- why the request isn't placed.
+-- If the book doesn't place a request because of the error `why`, the refusal for this error is the
+-- right reason (`IsPlaceRefusal`).
 pub refused_by : (s : BookRunState) (q : Request) (why : PlaceError) (refusal : PlaceRefusal) → place_refusal_of why ≡ Some refusal
     → s.book.version < 1000000 → IsPlaceError s.book q why → IsPlaceRefusal s q refusal
 refused_by s q Memory refusal is room error = absurd (cc is)
@@ -36,8 +36,8 @@ placed_version old new q hold no_route is = omega (arith, ap (λ (b : BookState)
 placed_version old new q hold (route walk) is = omega (arith, is.version)
 
 module _ (k k' : BookRows) where
-  -- If the code answers a request with its best answer at the book's version, the `ask` row is
-  -- answered as `IsAskAnswered` says.
+  -- If the code answers a request with the best answer, at the book's version, the `ask` row is
+  -- answered as `IsAskAnswered` states.
   pub ask_answered : (q : Request) (answer : Answer) (version : ℕ) (line : List ℕ)
       → IsBestAnswer (effective k.book.base k.book.placements) q answer → version ≡ k.book.version → IsReply q.id version answer line
       → k'.book ≡ k.book → k'.batches ≡ k.batches → k'.changes ≡ k.changes → k'.answers ≡ k.answers + 1 → k'.refused ≡ k.refused
@@ -59,8 +59,8 @@ module _ (k k' : BookRows) where
     ),
   )
 
-  -- If the code finds the best answer to a request and places it, the `place` row is answered as
-  -- `IsPlaceTaken` says.
+  -- If the code finds the best answer to a request, and the book places the request, the `place`
+  -- row is answered as `IsPlaceTaken` states.
   pub place_answered : (q : Request) (hold : ℕ) (answer : Answer) (version : ℕ) (line : List ℕ)
       → k.book.version < 1000000 → HasRoomFor k.book q.id → IsBestAnswer (effective_beside k.book q.id) q answer → IsAnswerPlaced k.book q hold answer k'.book
       → version ≡ k'.book.version → IsPlaceReply q.id version answer line
@@ -89,7 +89,7 @@ module _ (k k' : BookRows) where
   )
 
   -- If the code releases the placement with this id, the `release` row is answered as
-  -- `IsReleaseTaken` says.
+  -- `IsReleaseTaken` states.
   pub release_done : (id : ℕ) (line : List ℕ) → k.book.version < 1000000 → IsTrue (has_id id k.book.placements)
       → line ≡ released_line id (k.book.version + 1)
       → k'.book ≡ record { base = k.book.base; version = k.book.version + 1; placements = others id k.book.placements }
@@ -112,8 +112,8 @@ module _ (k k' : BookRows) where
     ),
   )
 
-  -- If the code counts a refusal and changes nothing else, the state of the run becomes the state
-  -- after a refusal.
+  -- If the code counts a refusal and changes nothing else, the next state of the run is
+  -- `after_refusal`.
   pub refusal_counted : (line text : List ℕ) → line ≡ text
       → k'.book ≡ k.book → k'.batches ≡ k.batches → k'.changes ≡ k.changes → k'.answers ≡ k.answers → k'.refused ≡ k.refused + 1
       → BookLeads k k' (λ s t. (line ≡ text) × (t ≡ after_refusal s))
@@ -130,7 +130,7 @@ module _ (k k' : BookRows) where
   )
 
   -- If the code refuses a `place` row for the reason `why`, the row is answered as `IsPlaceTaken`
-  -- says, and the book stays the same.
+  -- states, and the book is unchanged.
   pub place_refused : (mid : BookRows) (q : Request) (hold : ℕ) (why : PlaceRefusal) (line : List ℕ)
       → ((s : BookRunState) → k.book ≡ s.book → IsPlaceRefusal s q why)
       → mid.book ≡ k.book → mid.batches ≡ k.batches → mid.changes ≡ k.changes → mid.answers ≡ k.answers → mid.refused ≡ k.refused
@@ -147,7 +147,7 @@ module _ (k k' : BookRows) where
       (l.0, l.1, inr (why, is s kept.book, l.2.0, l.2.1))
 
   -- If the code refuses a `release` row for the reason `why`, the row is answered as
-  -- `IsReleaseTaken` says, and the book stays the same.
+  -- `IsReleaseTaken` states, and the book is unchanged.
   pub release_refused : (mid : BookRows) (id : ℕ) (why : ReleaseRefusal) (line : List ℕ)
       → ((s : BookRunState) → k.book ≡ s.book → IsReleaseRefusal s id why)
       → mid.book ≡ k.book → mid.batches ≡ k.batches → mid.changes ≡ k.changes → mid.answers ≡ k.answers → mid.refused ≡ k.refused
@@ -163,7 +163,8 @@ module _ (k k' : BookRows) where
       }) in
       (l.0, l.1, inr (why, is s kept.book, l.2.0, l.2.1))
 
--- If the code answers a row and counts it as read, the row is answered as `IsAnsweredByBook` says.
+-- If the code answers a row and counts this row as read, the row is answered as `IsAnsweredByBook`
+-- states.
 pub row_counted : (place : ℕ) (old mid new : BookRows) (row r : Result BookRow RowError) (line : List ℕ) → r ≡ row
     → BookLeads old mid (λ s t. IsBookRowAnswered place s r line t) → CountsAnswer old mid
     → new.book ≡ mid.book → new.batches ≡ mid.batches → new.changes ≡ mid.changes → new.answers ≡ mid.answers → new.refused ≡ mid.refused → new.read ≡ mid.read + 1

@@ -1,4 +1,4 @@
--- The weaker laws allow the wrong runs, and the laws of covered links refuse them. A covered link
+-- The weaker laws allow the wrong runs, but the laws of covered links refuse them. A covered link
 -- has at least the bandwidth that the placements count on it.
 use Rattle.std.proofs.Common.{◌≡◌, ◌⊎◌, ℕ, zero, suc, ◌<◌, ◌≤◌, ◌^◌, true, false, cond, Some, List, [], ◌∷◌, ◌++◌, map, slice_index, inl, inr, refl, sym, ap, subst, ◌∙◌, append_assoc, append-nil, lit<, arith}
 use Rattle.std.proofs.lemmas.List.Elements.{All-contains, All-from_recursion}
@@ -68,7 +68,7 @@ has_right left right =
 
 -- ---- the weaker laws allow the runs
 
--- The list of a link's entries at all priorities has the entry at each priority below 8.
+-- The list of a link's entries at all priorities contains the entry at each priority below 8.
 named_at : (m : Link) (p : ℕ) → p < 8 → Contains (map (over_at m) priorities) (over_at m p)
 named_at m zero small = (0, lit< tt, refl)
 named_at m (suc zero) small = (1, lit< tt, refl)
@@ -80,15 +80,14 @@ named_at m (suc (suc (suc (suc (suc (suc zero)))))) small = (6, lit< tt, refl)
 named_at m (suc (suc (suc (suc (suc (suc (suc zero))))))) small = (7, lit< tt, refl)
 named_at m (suc (suc (suc (suc (suc (suc (suc (suc p)))))))) small = absurd (omega arith)
 
--- If two links have the same key, an `over` line (it reports too little bandwidth) of the one is an
--- `over` line of the other.
+-- Two links with the same key have the same `over` lines.
 said_by_key : (lines : List ℕ) (m l : Link) (priority : ℕ) → key_of l ≡ key_of m → IsSaidOver lines m priority → IsSaidOver lines l priority
 said_by_key lines m l priority key said =
     let same : over_at m priority ≡ over_at l priority = ap (λ (k : Key). record { from = k.0; local = k.1; priority = priority }) (sym key) in
     subst (λ (o : Over). (before : List ℕ) × (after : List ℕ) × (lines ≡ before ++ over_line o ++ after)) same said
 
--- The `over` lines (they report too little bandwidth) of the first batch name both links at each
--- priority.
+-- The `over` lines of the first batch name both links at each priority. An `over` line reports too
+-- little bandwidth.
 both_named : (left right : ℕ) (l : Link) (priority : ℕ) → priority < 8 → IsLinkOf (base_with left right) l → IsSaidOver both_lowered.0 l priority
 both_named left right l priority small is =
     let first : List ℕ = over_lines (left_link 100) priorities in
@@ -103,8 +102,8 @@ both_named left right l priority small is =
     ] in
     said_first l priority both_lowered.0 (first ++ second) (base_line 2 3) refl all
 
--- The weaker laws hold between the first state and each later state, because `over` lines (they
--- report too little bandwidth) name both links at each priority.
+-- The weaker laws hold between the first state and each later state, because the `over` lines in
+-- between name both links at each priority.
 from_first : (lines more : List ℕ) (left right : ℕ) (t : BookRunState) → lines ≡ both_lowered.0 ++ more → t.book.base ≡ base_with left right → 1 < t.batches
     → ObeysWeakerLaws both_covered lines t
 from_first lines more left right t split base later = record {
@@ -113,8 +112,8 @@ from_first lines more left right t split base later = record {
       inr (said_first l priority lines both_lowered.0 more split (both_named left right l priority small (subst (λ (d : Database). IsLinkOf d l) base there)));
 }
 
--- The left link isn't covered: it has 100 bytes per second, and a placement holds 600 on it, which
--- is too much. So the weaker laws require nothing of what follows this state.
+-- The left link isn't covered: it has 100 bytes per second, and a placement holds 600 on it. So the
+-- weaker laws don't restrict what follows this state.
 left_short : (batches version right : ℕ) → ¬ IsBookCovered (book_with batches version 100 right (holding 1 ∷ [])).book
 left_short batches version right covered =
     let most : 600 ≤ 100 = covered (left_link 100) 0 (has_left 100 right) (lit< tt) in omega (arith, most)
@@ -143,8 +142,8 @@ allowed lines left right t base later = (
 
 -- ---- the law of covered links refuses the wrong runs
 
--- what the law of covered links (with enough bandwidth for the placements) says of the states after
--- the right link's bandwidth was raised
+-- what the law of covered links requires of the run after the step in which the right link's
+-- bandwidth is raised
 abbrev Last : List ℕ → BookRunState → Type 0
 Last lines t = CoversSince right_raised.1 lines t
 
@@ -163,7 +162,8 @@ excuse_ends lines =
           ],
     )
 
--- The base in which the right link has 1,000 bytes per second doesn't have the right link with 100.
+-- A base in which the right link has 1,000 bytes per second doesn't contain the right link with 100
+-- bytes per second.
 other_link : ¬ IsLinkOf (base_with 100 1000) (right_link 100)
 other_link is =
     let found : Some (right_link 1000) ≡ Some (right_link 100) = sym (has_right 100 1000) ∙ is in
@@ -171,9 +171,8 @@ other_link is =
     let numbers : 1000 ≡ 100 = ap (λ (m : Link). slice_index m.free 0) same in
     omega (arith, numbers)
 
--- Take a last step of the run that lowers the right link again. Its lines have no `over` line (it
--- reports too little bandwidth) of this link and priority. `IsRefusedAfterwards` holds of this
--- step.
+-- Let the last step of the run lower the bandwidth of the right link again. If its lines have no
+-- `over` line of this link and this priority, `IsRefusedAfterwards` holds for the step.
 lowered_again : (lines : List ℕ) (priority : ℕ) → priority < 8 → 100 < counted (holding 1 ∷ []) (key_of (right_link 100)) priority → slice_index (right_link 100).free priority ≡ 100
     → ¬ IsSaidOver lines (right_link 100) priority → IsRefusedAfterwards (lines, book_with 4 5 100 100 (holding 1 ∷ []))
 lowered_again lines priority small short free unsaid =
@@ -185,7 +184,7 @@ lowered_again lines priority small short free unsaid =
       ],
     )
 
--- The entry names this link, and a priority below 8.
+-- The entry is for this link and a priority below 8.
 abbrev IsOf : Link → Over → Type 0
 IsOf m o = (o.from ≡ m.from) × (o.local ≡ m.local) × (o.priority < 8)
 
@@ -193,8 +192,8 @@ all_of : (m : Link) (ps : List ℕ) → AllByRecursion (λ p. p < 8) ps → AllB
 all_of m [] all = tt
 all_of m (p ∷ ps) all = ((refl, refl, all.0), all_of m ps all.1)
 
--- An `over` line reports too little bandwidth. One that is found among the `over` lines and the
--- last line of a batch has the words of one of these `over` lines.
+-- Let a batch have the lines of some entries, and then its last line. If the `over` line of a link
+-- is found in this text, it has the words of the line of one of these entries.
 among : (os : List Over) (number version : ℕ) (l : Link) (priority : ℕ) → IsSaidOver (flat_map over_line os ++ base_line number version) l priority
     → (y : Over) × Contains os y × (words y ≡ words (over_at l priority))
 among os number version l priority said =

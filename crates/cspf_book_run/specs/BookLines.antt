@@ -10,7 +10,8 @@ use Rattle.cspf_book_run.specs.declared.refusals.PlaceRefusal.TheVariants as pla
 use Rattle.cspf_book_run.specs.declared.refusals.ReleaseRefusal.{ReleaseRefusal}
 use Rattle.cspf_book_run.specs.declared.refusals.ReleaseRefusal.TheVariants as release
 
--- the line that says that the placements count more bandwidth on this link at this priority than the link has
+-- the line which reports that the placements count more bandwidth on this link at this priority
+-- than the link has
 abbrev pub over_line : Over → List ℕ
 over_line o = codes "over " ++ address_text o.from ++ codes "," ++ address_text o.local ++ codes " " ++ decimal o.priority ++ codes "\n"
 
@@ -22,7 +23,8 @@ lost_line id = codes "lost " ++ decimal id ++ codes "\n"
 abbrev pub base_line : ℕ → ℕ → List ℕ
 base_line number version = codes "base " ++ decimal number ++ codes " v" ++ decimal version ++ codes "\n"
 
--- The line that answers a `place` row: the reply line of the request, but with the word `place` instead of `ask`.
+-- The line that answers a `place` row is the reply line of the request, with the word `place`
+-- instead of `ask`.
 abbrev pub IsPlaceReply : ℕ → ℕ → Answer → List ℕ → Type 0
 IsPlaceReply id version answer line = (rest : List ℕ) × IsReply id version answer (codes "ask" ++ rest) × (line ≡ codes "place" ++ rest)
 

@@ -13,19 +13,19 @@ use Rattle.cspf_rows.specs.declared.row_error.RowError.TheVariants as error
 use Rattle.cspf_book_run.specs.declared.book_row.BookRow.{BookRow}
 use Rattle.cspf_book_run.specs.declared.book_row.BookRow.TheVariants as book_row
 
--- the same request at setup priority 7
+-- the same request with the setup priority 7
 abbrev pub at_lowest_setup : Request → Request
 at_lowest_setup q = request_with (request_fields q.id q.from q.to 7 q.bandwidth q.exclude_any q.include_any q.include_all q.hops) (lit< tt) q.two_ends
 
--- The `place` row whose fields after its kind were read as an `ask` row. The setup priority that was read becomes
--- the holding priority, and the setup priority becomes 7.
+-- The `place` row whose fields were read as those of an `ask` row. The priority that was read as
+-- the setup priority is the holding priority. The setup priority is 7.
 abbrev pub placed_as_asked : Result Row RowError → Result BookRow RowError
 placed_as_asked (Err e) = Err e
 placed_as_asked (Ok (row.Ask q)) = Ok (book_row.Place (at_lowest_setup q) q.setup)
 placed_as_asked (Ok other) = Err error.Kind
 
--- How a record is read as a `place` row, or why it is refused. After its kind the record has the
--- fields of an `ask` row.
+-- How a record is read as a `place` row, or why it is refused. After the word `place`, the record
+-- has the fields of an `ask` row.
 abbrev pub place_row_of : List (List ℕ) → Result BookRow RowError
 place_row_of fields = if length fields == 10 then placed_as_asked (ask_row_of fields) else Err error.Fields
 

@@ -1,5 +1,5 @@
--- Which lines a run of a book writes for a stream of rows, both given as bytes, and the summary of
--- the run.
+-- Which lines a run of a book writes for a stream of rows, and the summary of the run. The stream
+-- and the lines are lists of bytes.
 use Rattle.std.specs.Prelude.{◌≡◌, ◌≢◌, ℕ, ◌+◌, ◌<◌, ◌≤◌, ◌⊎◌, Bool, IsTrue, List, [], ◌∷◌, ◌++◌, take, length, Result, Ok, Err}
 use Rattle.std.specs.List.{flat_map}
 use Rattle.cspf_model.specs.declared.batch.Change.{Change}
@@ -52,7 +52,6 @@ pub record BookRunState : Type 0 where
   pub refused : ℕ
 
 -- the state before the first row: version 0, the empty base, no placements and no open changes
--- (without an end row)
 abbrev pub book_start : BookRunState
 book_start = record {
   book = record { base = no_links; version = 0; placements = [] };
@@ -62,22 +61,22 @@ book_start = record {
   refused = 0;
 }
 
--- the base batch that has this number and the open changes (those since the last end row)
+-- the base batch that has this number and the open changes, which are the changes since the last
+-- end row
 abbrev pub open_base_batch : BookRunState → ℕ → NumberedChanges
 open_base_batch s number = record { number = number; changes = s.changes }
 
--- the state after the refusal of a row: the book and the open changes (those since the last end
--- row) stay the same
+-- the state after the refusal of a row: the book is unchanged, and so are the changes since the
+-- last end row
 abbrev pub after_refusal : BookRunState → BookRunState
 after_refusal s = record s { refused = s.refused + 1 }
 
--- the state after a change: the change is the last of the open changes (those since the last end
--- row)
+-- the state after a change: the change is appended to the changes since the last end row
 abbrev pub after_open_change : BookRunState → Change → BookRunState
 after_open_change s c = record s { changes = s.changes ++ c ∷ [] }
 
--- the state after an accepted base batch: the open changes (those since the last end row) are
--- applied to the base, no changes are open, and the placements stay the same
+-- The state after an accepted base batch: the changes since the last end row are applied to the
+-- base. The placements are unchanged.
 abbrev pub after_base_batch : BookRunState → BookRunState
 after_base_batch s = record s {
   book = record {
@@ -89,12 +88,13 @@ after_base_batch s = record s {
   changes = [];
 }
 
--- the state after a refused base batch: the open changes (those since the last end row) are
--- dropped, and the book stays the same
+-- the state after a refused base batch: the changes since the last end row are dropped, and the
+-- book is unchanged
 abbrev pub after_refused_base_batch : BookRunState → BookRunState
 after_refused_base_batch s = record s { changes = []; refused = s.refused + 1 }
 
--- the state after a request is answered: one more answer is counted, and the book becomes this book
+-- the state after a request is answered: one more answer is counted, and `book` is the book after
+-- the answer
 abbrev pub after_answer : BookRunState → BookState → BookRunState
 after_answer s book = record s { book = book; answers = s.answers + 1 }
 
@@ -108,18 +108,18 @@ after_release s id = record s {
   };
 }
 
--- The open changes (those since the last end row) are accepted as the base batch with this number
--- and count. The version is below 1,000,000, and the number is that of the next base batch. The
--- count is the number of open changes, and the batch fits the base.
+-- The changes since the last end row are accepted as the base batch with this number and count. The
+-- version is below 1,000,000, and `number` is the number of the next base batch. `count` is how
+-- many changes there are, and the batch fits the base.
 pub record IsBaseAccepted (s : BookRunState) (number count : ℕ) : Type 0 where
   pub room : s.book.version < MOST_VERSIONS
   pub next : number ≡ s.batches + 1
   pub counted : count ≡ length s.changes
   pub fits : Fits s.book.base (open_base_batch s number)
 
--- Why the open changes (those since the last end row) are refused as the base batch with this
--- number and count: the first of these reasons that applies. `Stopped`, `Memory` and `Journal`
--- never apply, because a run has no journal, and ends if memory is refused.
+-- Why the changes since the last end row are refused as the base batch with this number and count.
+-- The first of these reasons that applies is given. `Stopped`, `Memory` and `Journal` never apply,
+-- because a run has no journal and ends if memory is refused.
 abbrev pub IsBaseRefusal : BookRunState → ℕ → ℕ → BatchRefusal → Type 0
 IsBaseRefusal s number count refusal.Stopped = ⊥
 IsBaseRefusal s number count refusal.Exhausted = MOST_VERSIONS ≤ s.book.version
@@ -133,9 +133,9 @@ IsBaseRefusal s number count (refusal.Unfit why) =
 IsBaseRefusal s number count refusal.Memory = ⊥
 IsBaseRefusal s number count (refusal.Journal written) = ⊥
 
--- The lines of an accepted base batch. First comes an `over` line for each link and priority at which the
--- placements count more bandwidth than the link has. Then comes a `lost` line for each placement that loses its
--- route, and last the line of the batch.
+-- The lines of an accepted base batch. First comes an `over` line for each link and priority at
+-- which the placements count more bandwidth than the link has. Then comes a `lost` line for each
+-- placement that loses its route. The line of the batch is last.
 abbrev pub AreBaseLines : BookRunState → ℕ → List ℕ → Type 0
 AreBaseLines s number lines =
     (ids : List ℕ) × AreLost s.book.base (after_changes s.book.base s.changes) s.book.placements ids
@@ -148,24 +148,24 @@ IsBaseEndAnswered s number count line after =
     ⊎ ((why : BatchRefusal) × (¬ IsBaseAccepted s number count) × IsBaseRefusal s number count why
     × (line ≡ refused_batch_line number why) × (after ≡ after_refused_base_batch s))
 
--- An `ask` row is answered with the best answer in the effective database (the base's links with
--- what the placements leave).
+-- An `ask` row is answered with the best answer in the effective database. This is the base with
+-- the bandwidth that the placements leave on its links.
 abbrev pub IsAskAnswered : BookRunState → Request → List ℕ → BookRunState → Type 0
 IsAskAnswered s q line after =
     (answer : Answer) × IsBestAnswer (effective s.book.base s.book.placements) q answer
     × IsReply q.id s.book.version answer line × (after ≡ after_answer s s.book)
 
--- why a request isn't placed: the first of these reasons that applies
+-- why a request isn't placed; the first of these reasons that applies is given
 abbrev pub IsPlaceRefusal : BookRunState → Request → PlaceRefusal → Type 0
 IsPlaceRefusal s q unplaced.Exhausted = MOST_VERSIONS ≤ s.book.version
 IsPlaceRefusal s q unplaced.Full = (s.book.version < MOST_VERSIONS) × IsPlaceError s.book q Full
 IsPlaceRefusal s q unplaced.Links = (s.book.version < MOST_VERSIONS) × IsPlaceError s.book q TooManyLinks
 IsPlaceRefusal s q unplaced.Twice = (s.book.version < MOST_VERSIONS) × IsPlaceError s.book q Twice
 
--- A `place` row is answered with the best answer in the effective database (the base's links with
--- what the placements leave) without the request's earlier placement. If the answer is a route, it
--- is placed. The line has the version of the book after the row. Before the row the book has room
--- for one more placement and one more version.
+-- A `place` row is answered with the best answer in the effective database, in which the request's
+-- earlier placement isn't counted. If the answer is a route, the request is placed along this
+-- route. The line has the version of the book after the row. Before the row, the book has room for
+-- one more placement and one more version.
 pub record IsPlaceAnswered (s : BookRunState) (q : Request) (hold : ℕ) (line : List ℕ) (book : BookState) : Type 0 where
   pub room : s.book.version < MOST_VERSIONS
   pub few : HasRoomFor s.book q.id
@@ -174,38 +174,38 @@ pub record IsPlaceAnswered (s : BookRunState) (q : Request) (hold : ℕ) (line :
   pub placed : IsAnswerPlaced s.book q hold answer book
   pub reply : IsPlaceReply q.id book.version answer line
 
--- A `place` row is answered, or it is refused and the book stays the same.
+-- A `place` row is answered, or it is refused and the book is unchanged.
 abbrev pub IsPlaceTaken : BookRunState → Request → ℕ → List ℕ → BookRunState → Type 0
 IsPlaceTaken s q hold line after =
     (IsPlaceAnswered s q hold line after.book × (after ≡ after_answer s after.book))
     ⊎ ((why : PlaceRefusal) × IsPlaceRefusal s q why × (line ≡ refused_place_line q.id why) × (after ≡ after_refusal s))
 
--- why no placement with this id is released: the first of these reasons that applies
+-- why no placement with this id is released; the first of these reasons that applies is given
 abbrev pub IsReleaseRefusal : BookRunState → ℕ → ReleaseRefusal → Type 0
 IsReleaseRefusal s id unreleased.Exhausted = MOST_VERSIONS ≤ s.book.version
 IsReleaseRefusal s id unreleased.Absent = (s.book.version < MOST_VERSIONS) × (¬ IsTrue (has_id id s.book.placements))
 
--- A `release` row releases a placement, or it is refused and the book stays the same.
+-- A `release` row releases a placement, or it is refused and the book is unchanged.
 abbrev pub IsReleaseTaken : BookRunState → ℕ → List ℕ → BookRunState → Type 0
 IsReleaseTaken s id line after =
     ((s.book.version < MOST_VERSIONS) × IsTrue (has_id id s.book.placements)
     × (line ≡ released_line id (s.book.version + 1)) × (after ≡ after_release s id))
     ⊎ ((why : ReleaseRefusal) × IsReleaseRefusal s id why × (line ≡ refused_release_line id why) × (after ≡ after_refusal s))
 
--- A row of the base (a change, an end row or a request) is answered with this line. `after` is the
--- state afterwards.
+-- A row of the base is answered with this line: a change, an end row or a request. `after` is the
+-- state after the row.
 abbrev pub IsBookStepAnswered : BookRunState → Step → List ℕ → BookRunState → Type 0
 IsBookStepAnswered s (step.Change c) line after = (line ≡ []) × (after ≡ after_open_change s c)
 IsBookStepAnswered s (step.End number count) line after = IsBaseEndAnswered s number count line after
 IsBookStepAnswered s (step.Ask q) line after = IsAskAnswered s q line after
 
--- A row whose fields could be read is answered with this line. `after` is the state afterwards.
+-- A row whose fields could be read is answered with this line. `after` is the state after the row.
 abbrev pub IsBookRowTaken : BookRunState → BookRow → List ℕ → BookRunState → Type 0
 IsBookRowTaken s (book_row.Base row) line after = IsBookStepAnswered s (step_of row) line after
 IsBookRowTaken s (book_row.Place q hold) line after = IsPlaceTaken s q hold line after
 IsBookRowTaken s (book_row.Release id) line after = IsReleaseTaken s id line after
 
--- the lines that answer the row with this number, counted from 1, and the state afterwards
+-- Row `place`, counted from 1, is answered with these lines. `after` is the state after the row.
 abbrev pub IsBookRowAnswered : ℕ → BookRunState → Result BookRow RowError → List ℕ → BookRunState → Type 0
 IsBookRowAnswered place s (Err error) line after = (line ≡ refused_row_line place error) × (after ≡ after_refusal s)
 IsBookRowAnswered place s (Ok row) line after = IsBookRowTaken s row line after
@@ -218,7 +218,7 @@ book_answers place s fields line after = IsBookRowAnswered place s (book_row_of 
 abbrev pub AreBookRowsAnswered : List (List (List ℕ)) → List ℕ → BookRunState → Type 0
 AreBookRowsAnswered rows lines after = AreAnswered book_answers 1 book_start rows lines after
 
--- the summary of a run that has read this many rows and ends in this state
+-- the summary of a run that has read this many rows and whose last state is `s`
 abbrev pub book_summary_of : ℕ → BookRunState → Bool → Summary
 book_summary_of rows s too_many = record {
   rows = rows;

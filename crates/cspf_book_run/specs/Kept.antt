@@ -1,5 +1,5 @@
 -- The text of the rows that a run accepts, which the run writes to its writer `keep`. A run over
--- this text makes the same book as the run over all rows.
+-- this text ends with the same book as the run over all rows.
 use Rattle.std.specs.Prelude.{◌≡◌, ◌==◌, if◌then◌else◌, ℕ, List, [], take, Result, Ok, Err}
 use Rattle.csv.specs.Writing.{default_writer, row_text}
 use Rattle.cspf_rows.specs.declared.limits.TheConstants.{MOST_ROWS}
@@ -14,16 +14,16 @@ use Rattle.cspf_book_run.specs.BookScript.{BookRunState, book_answers, book_star
 use Rattle.cspf_book_run.specs.declared.book_row.BookRow.{BookRow}
 use Rattle.cspf_book_run.specs.declared.book_row.BookRow.TheVariants as book_row
 
--- The text that goes to the accepted rows' writer `keep` for a row of the base, if the row makes a
--- new version of the book. For an end row it is the text of its whole batch, and for other rows it
--- is empty.
+-- The text that goes to `keep`, the writer of accepted rows, for a row of the base that makes a new
+-- version of the book. For an end row, this is the text of its whole batch. For other rows, it is
+-- empty.
 abbrev pub text_of_step : BookRunState → Step → List ℕ
 text_of_step s (step.Change c) = []
 text_of_step s (step.End number count) = batch_text (open_base_batch s number)
 text_of_step s (step.Ask q) = []
 
--- The text that goes to the accepted rows' writer `keep` for a row, if the row makes a new version
--- of the book. For a `place` or `release` row it is the row itself.
+-- The text that goes to `keep`, the writer of accepted rows, for a row that makes a new version of
+-- the book. For a `place` or `release` row, this is the text of the row itself.
 abbrev pub text_of_row : BookRunState → List (List ℕ) → Result BookRow RowError → List ℕ
 text_of_row s fields (Err e) = []
 text_of_row s fields (Ok (book_row.Base row)) = text_of_step s (step_of row)
@@ -31,23 +31,23 @@ text_of_row s fields (Ok (book_row.Place q hold)) = row_text default_writer fiel
 text_of_row s fields (Ok (book_row.Release id)) = row_text default_writer fields
 
 -- The text that goes to the writer `keep` for the row with these fields. `s` is the state before
--- the row, and `t` the state after it. A row is accepted if it makes a new version of the book: an
--- end row whose batch is accepted, a `place` row that places a route, or a `release` row that
--- releases a placement. For other rows the text is empty.
+-- the row, and `t` is the state after the row. A row is accepted if it makes a new version of the
+-- book. Such a row is an end row whose batch is accepted, a `place` row that places a route, or a
+-- `release` row that releases a placement. For other rows, the text is empty.
 abbrev pub kept_of : BookRunState → List (List ℕ) → BookRunState → List ℕ
 kept_of s fields t = if t.book.version == s.book.version then [] else text_of_row s fields (book_row_of fields)
 
--- The row with this number, counted from 1, is answered, and `text` is what goes to the accepted
--- rows' writer `keep` for the row.
+-- Row `place`, counted from 1, is answered. `text` goes to `keep`, the writer of accepted rows, for
+-- this row.
 abbrev pub kept_answers : AnswersOf BookRunState
 kept_answers place s fields text t = (line : List ℕ) × book_answers place s fields line t × (text ≡ kept_of s fields t)
 
 -- The rows are answered one after the other, from the state before the first row to the state
--- `after`. `text` is what goes to the accepted rows' writer `keep` for these rows.
+-- `after`. `text` goes to `keep`, the writer of accepted rows, for these rows.
 abbrev pub AreBookRowsKept : List (List (List ℕ)) → List ℕ → BookRunState → Type 0
 AreBookRowsKept rows text after = AreAnswered kept_answers 1 book_start rows text after
 
--- `text` is what goes to the accepted rows' writer `keep` in a run over these rows. The run answers
--- the first 1,000,000 rows.
+-- `text` goes to `keep`, the writer of accepted rows, in a run over these rows. The run answers the
+-- first 1,000,000 rows.
 abbrev pub IsKeptText : List (List (List ℕ)) → List ℕ → Type 0
 IsKeptText rows text = (after : BookRunState) × AreBookRowsKept (take MOST_ROWS rows) text after

@@ -20,7 +20,8 @@ use Rattle.cspf_book_run.specs.BookStates.{KeepsBook, CountsBookRow}
 use Rattle.cspf_book_run.specs.Kept.{text_of_step, text_of_row, kept_of}
 
 -- `text` is the text that goes to the writer `keep` for a row of the base, if the row is accepted.
--- If more changes are open than a batch may have, the text of an end row may be any text.
+-- For an end row after more changes than a batch may have, `text` may be any text, because this
+-- batch isn't accepted.
 abbrev pub IsTextOfStep : BookRunState → Step → List ℕ → Type 0
 IsTextOfStep s (step.Change c) text = text ≡ text_of_step s (step.Change c)
 IsTextOfStep s (step.End number count) text = length s.changes ≤ MOST_CHANGES → text ≡ text_of_step s (step.End number count)
@@ -33,8 +34,8 @@ IsTextOfRow s fields (Ok (book_row.Base row)) text = IsTextOfStep s (step_of row
 IsTextOfRow s fields (Ok (book_row.Place q hold)) text = text ≡ text_of_row s fields (Ok (book_row.Place q hold))
 IsTextOfRow s fields (Ok (book_row.Release id)) text = text ≡ text_of_row s fields (Ok (book_row.Release id))
 
--- The two states are the same except for the number of the batch of open changes (those since the
--- last end row).
+-- The two states are the same, except for the number of the batch that stores the changes since the
+-- last end row.
 pub record IsRenumbered (old new : BookRows) : Type 0 where
   pub book : new.book ≡ old.book
   pub batches : new.batches ≡ old.batches
@@ -44,21 +45,21 @@ pub record IsRenumbered (old new : BookRows) : Type 0 where
   pub answers : new.answers ≡ old.answers
   pub refused : new.refused ≡ old.refused
 
--- The row with this number is answered, and `text` is what goes to the accepted rows' writer `keep`
--- for the row. The answer takes the code from the state `old` to the state `new`.
+-- Row `place` is answered, and `text` goes to `keep`, the writer of accepted rows, for this row.
+-- The answer takes the code from the state `old` to the state `new`.
 pub record IsAnsweredAndKept (place : ℕ) (old : BookRows) (fields : List (List ℕ)) (line text : List ℕ) (new : BookRows) : Type 0 where
   pub lead : (s : BookRunState) → KeepsBook old s
       → (t : BookRunState) × KeepsBook new t × book_answers place s fields line t × (text ≡ kept_of s fields t)
   pub counts : CountsBookRow old new
 
--- The row is answered, and its text for the accepted rows' writer `keep` is written to `keep`.
+-- The row is answered, and its text is written to `keep`, the writer of accepted rows.
 pub record IsRowKept {K : Type 0} (contents : K → Option (List ℕ)) (place : ℕ) (old : KeptRows K) (fields : List (List ℕ)) (line : List ℕ) (new : KeptRows K) : Type 0 where
   pub text : List ℕ
   pub answered : IsAnsweredAndKept place old.rows fields line text new.rows
   pub written : Appends (contents old.keep) (contents new.keep) text
 
--- The row isn't answered. Either memory was refused, and the accepted rows' writer `keep` wasn't
--- called for this row. Or a part of the row's text was written to `keep`, but not all of it.
+-- The row isn't answered. Either memory was refused, and `keep`, the writer of accepted rows,
+-- wasn't called for this row. Or a write to `keep` failed after a part of the row's text.
 abbrev pub IsRowNotKept : {K : Type 0} → (K → Option (List ℕ)) → BookError → ℕ → KeptRows K → List (List ℕ) → KeptRows K → Type 0
 IsRowNotKept contents (error.Run run_error.Memory) place old fields new = known.Keeps (contents old.keep) (contents new.keep) × (new.keep ≡ old.keep)
 IsRowNotKept contents (error.Run run_error.Read) place old fields new = ⊥

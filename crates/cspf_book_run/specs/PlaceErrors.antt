@@ -5,7 +5,8 @@ use Rattle.cspf_book.specs.declared.error.PlaceError.TheVariants as place_error
 use Rattle.cspf_book_run.specs.declared.refusals.PlaceRefusal.{PlaceRefusal}
 use Rattle.cspf_book_run.specs.declared.refusals.PlaceRefusal.TheVariants as unplaced
 
--- Each error except refused memory refuses the `place` row with a line. Refused memory ends the run.
+-- The refusal that the run writes for an error of the book. If memory is refused, there is no
+-- refusal, and the run ends.
 abbrev pub place_refusal_of : PlaceError → Option PlaceRefusal
 place_refusal_of place_error.Memory = None
 place_refusal_of place_error.Full = Some unplaced.Full

@@ -1,5 +1,5 @@
--- Four wrong runs of a book. Two weaker laws allow each run, and the laws of covered links refuse
--- it. A covered link has at least the bandwidth that the placements count on it.
+-- Four wrong runs of a book. Two weaker laws allow these runs, but the laws of covered links refuse
+-- each of them. A covered link has at least the bandwidth that the placements count on it.
 use Rattle.std.specs.Prelude.{◌≡◌, ◌<◌, ◌⊎◌, ℕ, List, [], ◌∷◌, ◌++◌, map, refl}
 use Rattle.std.specs.List.{flat_map}
 use Rattle.std.proofs.Common.{lit<}
@@ -18,9 +18,9 @@ use Rattle.cspf_book_run.specs.BookScript.{BookRunState}
 use Rattle.cspf_book_run.specs.BookScriptLaws.{IsBookCovered, IsSaidOver, CoversSince, SaysOverExactly}
 
 -- Two weaker laws of a state `s`, a later state `t` and the lines that are written between them.
--- Suppose that each link is covered in `s`. The first law: each link is covered in `t`, unless a
--- base batch was accepted in between. The second law: each link is covered in `t`, or the lines
--- have its `over` line (it reports too little bandwidth).
+-- Both suppose that each link is covered in `s`. The first law: if no base batch was accepted in
+-- between, each link is covered in `t`. The second law: each link is covered in `t`, or its `over`
+-- line, which reports too little bandwidth, is among the lines.
 pub record ObeysWeakerLaws (s : BookRunState) (lines : List ℕ) (t : BookRunState) : Type 0 where
   pub keeps : t.batches ≡ s.batches → IsBookCovered s.book → IsBookCovered t.book
   pub says : IsBookCovered s.book → (l : Link) (priority : ℕ) → IsLinkOf t.book.base l → priority < 8
@@ -34,19 +34,20 @@ WeakerLawsFollow = (s t : BookRunState) (lines : List ℕ) → CoversSince s lin
 abbrev pub RunStep : Type 0
 RunStep = List ℕ × BookRunState
 
--- For each state of these steps, `P` holds of the state `s`, of this state and of the lines that
--- are written between them. `lines` are the lines after `s` and before the first of these steps.
+-- `P` holds for the state `s`, the state after each of these steps, and the lines that are written
+-- between the two states. `lines` are the lines that are written after `s` and before these steps.
 abbrev pub HoldsFrom : (BookRunState → List ℕ → BookRunState → Type 0) → BookRunState → List ℕ → List RunStep → Type 0
 HoldsFrom P s lines [] = Unit {0}
 HoldsFrom P s lines (step ∷ steps) = P s (lines ++ step.0) step.1 × HoldsFrom P s (lines ++ step.0) steps
 
--- For each state of a run and each later state, `P` holds of the two and of the lines that are
--- written between them.
+-- `P` holds for each state of a run, each later state, and the lines that are written between the
+-- two states.
 abbrev pub HoldsThroughout : (BookRunState → List ℕ → BookRunState → Type 0) → BookRunState → List RunStep → Type 0
 HoldsThroughout P s [] = Unit {0}
 HoldsThroughout P s (step ∷ steps) = HoldsFrom P s [] (step ∷ steps) × HoldsThroughout P step.1 steps
 
--- the link from 1.1.1.1 to 2.2.2.2, and the link from 2.2.2.2 to 3.3.3.3, with this bandwidth at each priority
+-- the left link, from 1.1.1.1 to 2.2.2.2, and the right link, from 2.2.2.2 to 3.3.3.3, each with
+-- this bandwidth at each priority
 abbrev pub left_link : ℕ → Link
 left_link bandwidth = link (router 1) (address 10 0 12 1) (router 2) (address 10 0 12 2) 10 bandwidth (eqb-false (router 1) (router 2) refl)
 
@@ -67,7 +68,8 @@ holding id = record {
   priority = lit< tt;
 }
 
--- the state with these numbers of base batches and of versions, these bandwidths, and these placements
+-- the state after this many base batches, with this version, these bandwidths of the two links, and
+-- these placements
 abbrev pub book_with : ℕ → ℕ → ℕ → ℕ → List Placement → BookRunState
 book_with batches version left right placements = record {
   book = record { base = base_with left right; version = version; placements = placements };
@@ -77,54 +79,55 @@ book_with batches version left right placements = record {
   refused = 0;
 }
 
--- the `over` lines (they report too little bandwidth) of a link at these priorities
+-- the `over` lines of a link at these priorities, which report too little bandwidth
 abbrev pub over_lines : Link → List ℕ → List ℕ
 over_lines l at = flat_map over_line (map (over_at l) at)
 
--- Both links have 1,000 bytes per second, and a placement holds 600 bytes per second on each of
--- them.
+-- The first state of the runs: both links have 1,000 bytes per second, and a placement holds 600
+-- bytes per second on each of them.
 abbrev pub both_covered : BookRunState
 both_covered = book_with 1 2 1000 1000 (holding 1 ∷ [])
 
--- Then a base batch lowers both links to 100 bytes per second, and has an `over` line (it reports
--- too little bandwidth) for each link and priority.
+-- Step 1: a base batch lowers both links to 100 bytes per second. Its lines have an `over` line for
+-- each link and priority, which reports too little bandwidth.
 abbrev pub both_lowered : RunStep
 both_lowered =
     let lines : List ℕ = over_lines (left_link 100) priorities ++ over_lines (right_link 100) priorities ++ base_line 2 3 in
     (lines, book_with 2 3 100 100 (holding 1 ∷ []))
 
--- Then a base batch raises the right link to 1,000 bytes per second. The right link is covered
--- again (it has enough bandwidth for the placements), and the left link isn't.
+-- Step 2: a base batch raises the right link to 1,000 bytes per second. The right link then has
+-- enough bandwidth for the placements again, so it is covered. The left link isn't covered.
 abbrev pub right_raised : RunStep
 right_raised = (base_line 3 4, book_with 3 4 100 1000 (holding 1 ∷ []))
 
--- After this step the run is wrong: the weaker laws hold throughout the run, and the law of covered
--- links (`CoversSince`) doesn't.
+-- If this step follows steps 1 and 2, the run is wrong. The weaker laws hold throughout the run,
+-- but the law of covered links (`CoversSince`) doesn't.
 abbrev pub IsRefusedAfterwards : RunStep → Type 0
 IsRefusedAfterwards wrong =
     HoldsThroughout ObeysWeakerLaws both_covered (both_lowered ∷ right_raised ∷ wrong ∷ [])
     × ¬ HoldsThroughout CoversSince both_covered (both_lowered ∷ right_raised ∷ wrong ∷ [])
 
--- Wrong: 600 more bytes per second are placed on the right link, whatever the row's lines are. The
--- `over` line of this link was written earlier, before the link had enough bandwidth again.
+-- Wrong: a row places 600 more bytes per second on the right link, whatever its lines are. The
+-- `over` lines of the right link are older: they were written before the link had enough bandwidth
+-- again.
 abbrev pub ExcuseEndsWithCover : Type 0
 ExcuseEndsWithCover = (lines : List ℕ) → IsRefusedAfterwards (lines, book_with 3 5 100 1000 (holding 1 ∷ holding 2 ∷ []))
 
--- Wrong: a base batch lowers the bandwidth of the right link again, and its `over` lines (each names a
--- link with too little bandwidth) name only the left link.
+-- Wrong: a base batch lowers the bandwidth of the right link again, but its `over` lines name only
+-- the left link.
 abbrev pub OtherLinkIsNoExcuse : Type 0
 OtherLinkIsNoExcuse =
     IsRefusedAfterwards (over_lines (left_link 100) priorities ++ base_line 4 5, book_with 4 5 100 100 (holding 1 ∷ []))
 
--- Wrong: a base batch lowers the bandwidth of the right link again, and its `over` lines (each names a
--- link with too little bandwidth) name this link only at priority 0.
+-- Wrong: a base batch lowers the bandwidth of the right link again, but its one `over` line names
+-- this link at priority 0 only.
 abbrev pub OtherPriorityIsNoExcuse : Type 0
 OtherPriorityIsNoExcuse =
     IsRefusedAfterwards (over_lines (right_link 100) (0 ∷ []) ++ base_line 4 5, book_with 4 5 100 100 (holding 1 ∷ []))
 
 -- Wrong: a base batch gives the right link 1,000 bytes per second, of which 600 are held. Its
--- `over` line says that this is too little at priority 3. The weaker laws allow these lines, and
--- the law of exact `over` lines doesn't.
+-- `over` line reports that this is too little at priority 3. The weaker laws allow these lines, but
+-- the law of exact `over` lines (`SaysOverExactly`) doesn't.
 abbrev pub UntrueOverIsRefused : Type 0
 UntrueOverIsRefused =
     let before : BookRunState = record both_covered { changes = Put (right_link 1000) ∷ [] } in

@@ -1,4 +1,4 @@
-//! The rows that a book takes: the rows of a database, and the rows `place` and `release`.
+//! The rows of a book: the rows of a database, and the `place` and `release` rows.
 
 ghost use Rattle.std.specs.Prelude.{◌≡◌, ◌≤◌};
 ghost use Rattle.csv.specs.Records.{fields_of};
@@ -16,9 +16,9 @@ pub enum BookRow {
     Base(Row),
     /// A request to place.
     Place {
-        /// The request, at setup priority 7.
+        /// The request, with the setup priority 7.
         request: Request,
-        /// The holding priority, 0 (the highest) to 7.
+        /// The holding priority, from 0 (the most important) to 7.
         hold: u8,
     },
     /// The placement with this id is to be released.
@@ -32,8 +32,8 @@ impl BookRow {
     ghost use Rattle.cspf_book_run.specs.BookRows.{book_row_of, place_row_of, release_row_of};
 
     /// Reads a record as a row of a book, or returns the first reason to refuse the record. The
-    /// kind of the row is checked first, and then its fields as in `Row::read`. After its kind, a
-    /// `place` row has the same fields as an `ask` row.
+    /// kind of the row is checked first, and then the fields are checked as in `Row::read`. After
+    /// the word `place`, a `place` row has the same fields as an `ask` row.
     #[tactic(auto, unfolding(crate::specs::BookRows::book_row_of))]
     pub fn read(fields: &ByteRecord) -> Result<BookRow, RowError>
         ensures { result ≡ book_row_of (fields_of fields.now) }
@@ -62,7 +62,7 @@ impl BookRow {
                 request: at_lowest_setup(&request),
                 hold: request.setup,
             }),
-            // `Row::ask` returns no other row than a request.
+            // `Row::ask` returns only requests.
             _ => Err(RowError::Kind),
         }
     }
@@ -80,8 +80,8 @@ impl BookRow {
     }
 }
 
-/// The bytes of the field with this number. The first field has the number 1. If the record has no
-/// such field, the result is empty.
+/// The bytes of the field with this number, counted from 1. If the record has no such field, the
+/// result is empty.
 fn text(fields: &ByteRecord, place: usize) -> &[u8]
     requires { 1 ≤ place }
     ensures { result.now ≡ field (fields_of fields.now) place }
@@ -89,7 +89,7 @@ fn text(fields: &ByteRecord, place: usize) -> &[u8]
     fields.get(place - 1).unwrap_or(&[])
 }
 
-/// The same request at setup priority 7.
+/// The same request with the setup priority 7.
 fn at_lowest_setup(q: &Request) -> Request
     ensures { HasRequestFields result (request_fields q.now.id q.now.from q.now.to 7 q.now.bandwidth
         q.now.exclude_any q.now.include_any q.now.include_all q.now.hops) }

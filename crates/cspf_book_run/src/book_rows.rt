@@ -1,5 +1,5 @@
-//! The state of a run of a book: the book, the open changes (those since the last end row), and the
-//! counts of the run. Each row is answered from this state.
+//! The state of a run of a book: the book, the open changes, and the counts of the run. The open
+//! changes are the changes since the last end row. Each row is answered from this state.
 
 ghost use Rattle.std.specs.Prelude.{◌≡◌, ◌+◌, ◌<◌, ◌≤◌, [], length, IfOk, OnOk};
 ghost use Rattle.csv.specs.Records.{fields_of};
@@ -18,7 +18,7 @@ use cspf_stream::{BatchRefusal, OpenChanges, Step, StreamLine, refused_row};
 use csv::ByteRecord;
 use std::alloc::{AllocError, Global};
 
-/// The state of a run between two rows. As more rows are read, only the book takes more memory.
+/// The state of a run between two rows. Only the memory of the book grows with the number of rows.
 #[derive(Drop)]
 pub struct BookRows {
     book: Book,
@@ -35,13 +35,12 @@ pub struct BookRows {
     ghost fewer: { batches ≤ book.version },
 }
 
-/// The lines that answer a row, and the text that goes to the accepted rows' writer `keep` for the
-/// row.
+/// The lines that answer a row, and the row's text for `keep`, the writer of accepted rows.
 #[derive(Drop)]
 pub(crate) struct KeptLine {
     /// The lines that answer the row. They are empty if the row is a change.
     pub line: Vec<u8>,
-    /// The text that goes to the writer `keep` for the row. It is empty if the row isn't accepted.
+    /// The row's text for the writer `keep`. It is empty if the row isn't accepted.
     pub text: Vec<u8>,
 }
 
@@ -56,8 +55,8 @@ impl BookRows {
     ghost use Rattle.cspf_book_run.specs.BookStates.{IsReadable, KeepsBook, BookLeads, IsBookBefore, CanCountBookRow, CountsAnswer, AreBookCounts};
     ghost use Rattle.cspf_book_run.specs.KeptStates.{IsTextOfRow, IsTextOfStep, IsRenumbered, IsAnsweredAndKept};
 
-    /// The state before the first row: version 0, the empty base, no placements and no open changes
-    /// (without an end row).
+    /// The state before the first row: version 0, the empty base, no placements and no open
+    /// changes.
     pub(crate) fn new(alloc: Global) -> Result<BookRows, AllocError>
         ensures start { IfOk result (λ rows. KeepsBook rows book_start) }
         ensures none { IfOk result (λ rows. rows.read ≡ 0) }
@@ -72,8 +71,8 @@ impl BookRows {
         })
     }
 
-    /// Answers the row with these fields. `place` is the row's number, counted from 1. Returns the
-    /// lines of the answer, and the text that goes to the accepted rows' writer `keep` for the row.
+    /// Answers the row with these fields. `place` is the number of the row, counted from 1. Returns
+    /// the lines of the answer, and the row's text for `keep`, the writer of accepted rows.
     pub(crate) fn answer(
         &mut self,
         alloc: Global,
@@ -144,9 +143,8 @@ impl BookRows {
         }
     }
 
-    /// The text of the batch that has this number and the open changes (those since the last end
-    /// row). Of the open changes the text has only those that `changes` stores, which are at most
-    /// the first 4097.
+    /// The text of the batch that has this number and the changes since the last end row. The text
+    /// has only the changes that `changes` stores, which are at most the first 4097.
     fn text_of_batch(&mut self, alloc: Global, number: u32) -> Result<Vec<u8>, AllocError>
         ensures text { IfOk result (λ text. (s : BookRunState) → KeepsBook self.old s
             → length s.changes ≤ MOST_CHANGES → text.items ≡ batch_text (open_base_batch s number)) }
@@ -156,8 +154,8 @@ impl BookRows {
         batch_text(alloc, &self.changes.batch)
     }
 
-    /// Answers the row with this number, counted from 1. Returns the lines of the answer. A change
-    /// is answered with no lines.
+    /// Answers row `place`, counted from 1, and returns the lines of the answer. A change is
+    /// answered with no lines.
     fn line_of(
         &mut self,
         alloc: Global,
@@ -209,7 +207,7 @@ impl BookRows {
         }
     }
 
-    /// Adds a change to the open changes, which wait for the next end row.
+    /// Adds a change to the open changes, which are applied at the next end row.
     fn change(&mut self, alloc: Global, change: Change) -> Result<Vec<u8>, AllocError>
         requires few { CanCountBookRow self.old }
         ensures answered { IfOk result (λ line. BookLeads self.old self.new
@@ -220,8 +218,8 @@ impl BookRows {
         Ok(Vec::new(alloc))
     }
 
-    /// Answers a request in the effective database (the base's links with what the placements
-    /// leave).
+    /// Answers a request in the effective database: the base, with the bandwidth that the
+    /// placements leave on its links.
     fn ask(&mut self, alloc: Global, request: &Request) -> Result<Vec<u8>, AllocError>
         requires few { CanCountBookRow self.old }
         ensures answered { IfOk result (λ line. BookLeads self.old self.new
@@ -234,16 +232,16 @@ impl BookRows {
         Ok(line)
     }
 
-    /// Applies the open changes to the base as the batch with this number, or refuses the batch.
-    /// `count` is how many changes the batch has, as its end row says. Afterwards no changes are
-    /// open (without an end row).
+    /// Applies the changes since the last end row to the base as the batch with this number, or
+    /// refuses the batch. `count` is the number of changes that the end row gives. Afterwards no
+    /// changes are open.
     fn end(&mut self, alloc: Global, number: u32, count: u32) -> Result<Vec<u8>, AllocError>
         requires few { CanCountBookRow self.old }
         ensures answered { IfOk result (λ line. BookLeads self.old self.new
             (λ s t. IsBaseEndAnswered s number count line.items t)) }
         ensures counts { CountsAnswer self.old self.new }
     {
-        // Law: if the table refuses a batch, the batch doesn't fit.
+        // Law: a batch that the table refuses doesn't fit.
         one_refusal();
         let (version, changes) = (self.book.version(), self.changes.count);
         if let Some(refusal) = wrong_end(version, self.batches, number, count, changes) {
@@ -252,9 +250,9 @@ impl BookRows {
         self.apply(alloc, number)
     }
 
-    /// Applies the open changes (those since the last end row) to the base as the batch with this
-    /// number, if they fit, or refuses the batch. The lines that answer the end row are made before
-    /// the batch is applied.
+    /// Applies the changes since the last end row to the base as the batch with this number, or
+    /// refuses the batch if it doesn't fit. The lines that answer the end row are made before the
+    /// batch is applied.
     fn apply(&mut self, alloc: Global, number: u32) -> Result<Vec<u8>, AllocError>
         requires few { CanCountBookRow self.old }
         requires room { self.old.book.version < MOST_VERSIONS }
@@ -277,8 +275,7 @@ impl BookRows {
         }
     }
 
-    /// Drops the open changes (those since the last end row) and refuses them as the batch with
-    /// this number.
+    /// Drops the changes since the last end row, and refuses them as the batch with this number.
     fn refuse_batch(
         &mut self,
         alloc: Global,
@@ -297,7 +294,7 @@ impl BookRows {
         Ok(line)
     }
 
-    /// Places a request with a holding priority, or refuses the `place` row.
+    /// Places a request with the holding priority `hold`, or refuses the `place` row.
     fn place(&mut self, alloc: Global, request: &Request, hold: u8) -> Result<Vec<u8>, AllocError>
         requires few { CanCountBookRow self.old }
         requires setup { request.now.setup ≡ 7 }
@@ -340,8 +337,8 @@ impl BookRows {
         Ok(line)
     }
 
-    /// Releases the placement with this id, or refuses the `release` row. The line is made before
-    /// the release.
+    /// Releases the placement with this id, or refuses the `release` row. The line that answers the
+    /// row is made before the release.
     fn release(&mut self, alloc: Global, id: u64) -> Result<Vec<u8>, AllocError>
         requires few { CanCountBookRow self.old }
         ensures answered { IfOk result (λ line. BookLeads self.old self.new
@@ -375,8 +372,8 @@ impl BookRows {
         Ok(line)
     }
 
-    /// The last line of the run. If there are too many rows, the line says this, and doesn't say
-    /// whether changes are still open (without an end row).
+    /// The last line of the run. If there are too many rows, the line reports only this, even if
+    /// changes without an end row are left.
     pub(crate) fn last_line(&self, alloc: Global, too_many: bool) -> Result<Vec<u8>, AllocError>
         ensures { IfOk result (λ line. (s : BookRunState) → KeepsBook self.now s
             → line.items ≡ last_line too_many s.changes) }
@@ -388,7 +385,7 @@ impl BookRows {
         }
     }
 
-    /// The summary of the run, if the run ends after the rows that were read so far.
+    /// The summary of a run that ends after the rows that were read so far.
     pub(crate) fn summary(&self, too_many: bool) -> Summary
         requires { AreBookCounts self.now }
         ensures { (s : BookRunState) → KeepsBook self.now s

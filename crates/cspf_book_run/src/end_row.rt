@@ -4,10 +4,10 @@ ghost use Rattle.cspf_book_run.specs.BookEnds.{IsRightBookEnd, IsWrongBookEnd};
 use cspf_model::MOST_VERSIONS;
 use cspf_stream::BatchRefusal;
 
-/// Why an end row is refused even before it is checked whether its batch fits. `None` if there is
-/// no such reason. `version` is the book's version, and `batches` is how many base batches were
-/// accepted. `number` and `count` are what the end row says: the number of its batch, and how many
-/// changes the batch has. `changes` is how many changes are open.
+/// Why an end row is refused before the run checks whether its batch fits. The result is `None` if
+/// there is no such reason. `version` is the book's version, and `batches` is how many base batches
+/// were accepted. `number` and `count` are the fields of the end row: the number of its batch, and
+/// the number of changes in the batch. `changes` is the number of changes since the last end row.
 pub(crate) fn wrong_end(
     version: u32,
     batches: u32,

@@ -2,13 +2,13 @@ use cspf_solve::SolveError;
 use std::alloc::AllocError;
 use thiserror::Error;
 
-/// Why a run of a book stops before the end of its rows.
+/// The error that stops a run of a book.
 #[derive(Clone, Copy, Debug, PartialEq, Eq, Error)]
 pub enum BookError {
     /// Memory was refused, a read of rows failed, or a write of lines failed.
     #[error("{0}")]
     Run(SolveError),
-    /// The text of an accepted row wasn't written whole to the writer `keep`.
+    /// A write of an accepted row's text to the writer `keep` failed.
     #[error("a write of an accepted row failed after {written} bytes")]
     Keep {
         /// How many bytes of the row's text were written to `keep`.

@@ -25,7 +25,7 @@ impl<K: Write> Answering<()> for KeptRows<K> {
 
     ghost fails = { IsRowNotKept K.contents };
 
-    // Each row adds at most one to each count of the run.
+    // Each row adds at most 1 to each count of the run.
     ghost may_stand = { λ place k. IsBookBefore place k.rows };
 
     fn answer(
@@ -53,14 +53,14 @@ impl<K> KeptRows<K> {
         KeptRows { rows, keep }
     }
 
-    /// The state of the run without the accepted rows' writer `keep`.
+    /// The state of the run without `keep`, the writer of accepted rows.
     pub(crate) fn rows(&self) -> &BookRows
         ensures { result.now ≡ self.now.rows }
     {
         &self.rows
     }
 
-    /// The accepted rows' writer `keep`, in the state after its last call.
+    /// `keep`, the writer of accepted rows, in its state after the last call.
     pub(crate) fn into_keep(self) -> K
         ensures { result ≡ self.keep }
     {

@@ -22,41 +22,42 @@ pub fn one_reply_of_books()
     one_refusal();
 }
 
-/// Law: each link stays covered, or an `over` line says otherwise. A link is covered at a priority
-/// if the placements count at most its unreserved bandwidth there. At the start each link is
-/// covered. Take a link that is covered in some state, or that the base doesn't have there. After
-/// any further rows the link is covered, or these rows have its `over` line. A base batch has the
-/// `over` line of a link and a priority exactly if it sets the link with less bandwidth there than
-/// the placements count. No other row has an `over` line.
+/// Law: each link stays covered, or its `over` line is written. A link is covered at a priority if
+/// the placements count at most its unreserved bandwidth at this priority. At the start, each link
+/// is covered. Suppose that a link is covered in some state, or isn't in the base in this state.
+/// After any further rows, the link is covered, or the lines of these rows include its `over` line.
+/// A base batch has the `over` line of a link and a priority exactly if it sets this link with too
+/// little bandwidth at this priority. No other row has an `over` line.
 pub fn covered_books()
     ensures start { IsBookCovered book_start.book }
     ensures since { RowsCoverSince }
     ensures exact { BaseLinesAreExact }
     ensures only { OnlyBatchesSayOver }
 {
-    // Laws: a covered link has enough bandwidth for the placements. Placing a request, releasing a
-    // placement and changes of the base keep covered links covered, or `over` lists the links. No
-    // two addresses have the same text.
+    // Law: a covered link stays covered when a request is placed or a placement is released. When
+    // the base changes, a covered link stays covered, or is in the list `over`. Law: no two
+    // addresses have the same text.
     cspf_book::covered_links();
     addresses_are_spelled_once();
 }
 
-/// Law: from the start on, the bandwidth that the placements count on a link's key at a priority is
-/// below 2^64. So this sum would fit `u64`, the type of the base's bandwidths. This holds even if
-/// base batches lower links on which placements hold more than is left.
+/// Law: in each state of a run, the bandwidth that the placements count on a link's key at a
+/// priority is below 2^64. So this sum would fit into a `u64`, which is the type of the base's
+/// bandwidths. This is true even if base batches lower the bandwidth of links below what the
+/// placements hold.
 pub fn sums_stay_small()
     ensures start { IsBookInRange book_start }
     ensures kept { RowsKeepRange }
 {
-    // Law: a record is read as a row exactly if its fields give the row's kind and values (`Says`).
+    // Law: a record is read as a row exactly if the record says this row (`Says`).
     rows_are_read();
 }
 
-/// Four wrong runs that two weaker laws of covered links allow. A covered link has enough bandwidth
-/// for the placements. The weaker laws follow from `covered_books`, which refuses each of the runs.
-/// In three of them a link isn't covered at the end. Either its `over` line was written before it
-/// was covered again, or the new `over` lines name another link or another priority. In the fourth
-/// an `over` line isn't true.
+/// Four wrong runs show what `covered_books` adds to two weaker laws. The weaker laws follow from
+/// `covered_books` and allow each of these runs, but `covered_books` refuses them. In three of the
+/// runs, a link isn't covered at the end: it has too little bandwidth for the placements. Its
+/// `over` line was written too early, or the last `over` lines name another link, or only another
+/// priority. In the fourth run, an `over` line isn't true.
 pub fn worked_covers()
     ensures weaker { WeakerLawsFollow }
     ensures ended { ExcuseEndsWithCover }
@@ -68,16 +69,15 @@ pub fn worked_covers()
     addresses_are_spelled_once();
 }
 
-/// Law: the texts of accepted rows, which a run writes to its writer `keep`, restore the book. A
-/// run over these texts ends with the same base, version and placements as the run over the rows.
-/// The run over the texts refuses nothing, and no changes are open (without an end row) at its end.
-/// The texts have at most as many rows as were read.
+/// Law: the texts of accepted rows, which a run writes to `keep`, restore the book. A run over
+/// these texts ends with the same base, version and placements as the run over the rows. The run
+/// over the texts refuses no row, and at its end no changes are open. The texts have at most as
+/// many rows as were answered.
 pub fn kept_is_the_book()
     ensures { KeptIsTheBook }
 {
-    // Laws: a record is read as a row exactly if its fields give the row's kind and values
-    // (`Says`). The record that is written for a row is read as that row. The text of a mask is
-    // read as that mask.
+    // Law: a record is read as a row exactly if the record says this row (`Says`). Law: the record
+    // that is written for a row is read as this row. Law: the text of a mask is read as this mask.
     rows_are_read();
     rows_are_read_back();
     masks_are_spelled();

@@ -3,8 +3,8 @@
 //! `specs/BookRows.antt` defines how a record is read as a row. `specs/BookScript.antt` defines the
 //! lines of a run and its summary, from the bytes of the stream. `specs/Kept.antt` defines the text
 //! of accepted rows, which goes to the writer `keep`. `specs/BookOutput.antt` defines the output of
-//! a run that ends by an error. `specs/BookScriptLaws.antt` and `specs/KeptLaws.antt` say what
-//! holds of every run, and `specs/WrongRuns.antt` has wrong runs that these laws refuse.
+//! a run that an error stops. `specs/BookScriptLaws.antt` and `specs/KeptLaws.antt` have the laws
+//! of each run, and `specs/WrongRuns.antt` has wrong runs that these laws refuse.
 #![tactic(auto)]
 
 mod book_row;

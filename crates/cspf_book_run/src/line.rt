@@ -1,4 +1,4 @@
-//! The lines that a run of a book writes. Each ends with a line feed.
+//! The lines that a run of a book writes. Each line ends with a line feed.
 
 ghost use Rattle.std.specs.Prelude.{◌≡◌, ◌≤◌, ◌++◌, drop, length, IfOk, OnOk};
 ghost use Rattle.std.specs.List.{flat_map};
@@ -13,7 +13,7 @@ use std::alloc::{AllocError, Global};
 
 /// The lines of an accepted base batch. First comes an `over` line for each link and priority at
 /// which the link has less bandwidth than the placements count on it. Then comes a `lost` line for
-/// each placement that loses its route, and last the line of the batch.
+/// each placement that loses its route. The line of the batch is last.
 pub(crate) fn base_lines(
     alloc: Global,
     over: &[Over],
@@ -44,7 +44,7 @@ fn write_over(alloc: Global, lines: &mut Vec<u8>, over: &[Over]) -> Result<(), A
     Ok(())
 }
 
-/// The `over` line (it reports too little bandwidth) of a link and a priority.
+/// The `over` line of a link and a priority, which reports that the link has too little bandwidth.
 fn line_of_over(alloc: Global, over: &Over) -> Result<Vec<u8>, AllocError>
     ensures { IfOk result (λ line. line.items ≡ over_line over.now) }
 {
@@ -52,7 +52,8 @@ fn line_of_over(alloc: Global, over: &Over) -> Result<Vec<u8>, AllocError>
     Ok(format!(in alloc; "over {from},{local} {priority}\n")?.into_bytes())
 }
 
-/// Writes a `lost` line for each placement that loses its route (the base no longer admits it).
+/// Writes a `lost` line for each placement that loses its route: the base no longer admits the
+/// route.
 fn write_lost(alloc: Global, lines: &mut Vec<u8>, lost: &[u64]) -> Result<(), AllocError>
     ensures { OnOk result (lines.new.items ≡ lines.old.items ++ flat_map lost_line lost.now) }
 {
@@ -63,7 +64,7 @@ fn write_lost(alloc: Global, lines: &mut Vec<u8>, lost: &[u64]) -> Result<(), Al
     Ok(())
 }
 
-/// The `lost` line of a placement that loses its route (the base no longer admits it).
+/// The `lost` line of a placement that loses its route: the base no longer admits the route.
 fn line_of_lost(alloc: Global, id: u64) -> Result<Vec<u8>, AllocError>
     ensures { IfOk result (λ line. line.items ≡ lost_line id) }
 {
@@ -94,7 +95,7 @@ fn after_word(line: &[u8]) -> &[u8]
     &line[3..]
 }
 
-/// The line that says why the request with this id isn't placed.
+/// The line that reports why the request with this id isn't placed.
 pub(crate) fn refused_place(
     alloc: Global,
     id: u64,
@@ -105,15 +106,15 @@ pub(crate) fn refused_place(
     Ok(format!(in alloc; "place {id} refused: {why}\n")?.into_bytes())
 }
 
-/// The line that says that the placement with this id is released. `version` is the version that
-/// the release makes.
+/// The line that reports the release of the placement with this id. `version` is the book's version
+/// after the release.
 pub(crate) fn released(alloc: Global, id: u64, version: u32) -> Result<Vec<u8>, AllocError>
     ensures { IfOk result (λ line. line.items ≡ released_line id version) }
 {
     Ok(format!(in alloc; "released {id} v{version}\n")?.into_bytes())
 }
 
-/// The line that says why no placement with this id is released.
+/// The line that reports why no placement with this id is released.
 pub(crate) fn refused_release(
     alloc: Global,
     id: u64,

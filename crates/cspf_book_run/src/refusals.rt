@@ -38,8 +38,8 @@ impl fmt::Display for PlaceRefusal {
 impl Error for PlaceRefusal {}
 
 impl PlaceRefusal {
-    /// The refusal that the run reports for an error of the book. `None` if memory was refused,
-    /// which ends the run.
+    /// The refusal that the run reports for an error of the book. The result is `None` if memory
+    /// was refused; this ends the run.
     pub(crate) fn of(why: PlaceError) -> Option<PlaceRefusal>
         ensures { result ≡ place_refusal_of why }
     {

@@ -1,4 +1,4 @@
-//! The text of an accepted row, which goes to the writer `keep`.
+//! Makes the text of an accepted row, which goes to the writer `keep`.
 
 ghost use Rattle.std.specs.Prelude.{◌≡◌, ◌==◌, ◌++◌, [], if◌then◌else◌, IfOk};
 ghost use Rattle.csv.specs.Records.{fields_of};

@@ -1,5 +1,5 @@
-//! The run of `book`: it reads a stream of rows, writes the lines of each row, and writes the text
-//! of accepted rows to a second writer, `keep`.
+//! The run of `routed book`. It reads a stream of rows, writes the lines that answer each row, and
+//! writes the text of accepted rows to a second writer, `keep`.
 
 ghost use Rattle.std.specs.Prelude.{◌≡◌, ℕ, ◌+◌, ◌*◌, ◌^◌, ◌≤◌, List, true, IfOk, IfErr, IfSome};
 ghost use Rattle.std.specs.Io.KnownBytes.{Appends};
@@ -24,18 +24,17 @@ use csv::Reader;
 use std::alloc::Global;
 use std::io::{Read, Write};
 
-/// Reads a stream of rows for a book. Writes the lines that answer each row as soon as they are
-/// known, in one write if the writer takes all their bytes at once. `IsBookScript` defines the
-/// lines, and when something is refused. At most 1,000,000 rows are read. The text of an accepted
-/// row goes to `keep` before the row's lines are written. `IsKeptText` defines this text. The
-/// function also returns `keep`.
+/// Reads a stream of rows for a book, and writes the lines that answer each row before it reads the
+/// next row. The lines of a row are written in one write, if the writer accepts all their bytes at
+/// once. `IsBookScript` defines these lines and the refusals. At most 1,000,000 rows are answered.
+/// The text of an accepted row is written to `keep` before the row's lines are written.
+/// `IsKeptText` defines this text. The function also returns `keep`.
 ///
-/// After an error the lines that answer a prefix of the rows are written. After a failed write of
-/// lines, the first bytes of the next text may follow, but never the whole of it. The next text is
-/// the lines of the next row, or the run's last line. `Read` means that a read failed. `Write`
-/// means that a write of lines failed or took no bytes. `Keep` means that a write to `keep` failed
-/// or took no bytes. After `Keep`, the writer `keep` may have a part of the next row's text, and
-/// the next row isn't answered. Nothing is flushed.
+/// After an error, the lines that answer a prefix of the rows are written. `Read` means that a read
+/// failed. `Write` means that a write of lines failed or wrote no byte. A part of the next row's
+/// lines, or of the last line, may then be written, but never all of it. `Keep` means that a write
+/// to `keep` failed or wrote no byte. A part of the next row's text may then be written to `keep`,
+/// and this row isn't answered. The function flushes neither writer.
 pub fn run_book<R: Read + Drop, W: Write, K: Write>(
     alloc: Global,
     reader: R,
@@ -84,15 +83,15 @@ fn answer_all<R: Read, W: Write, K: Write>(
         (out : List ℕ) × (text : List ℕ) × IsBookOutputAtError error all out text
         × Appends (W.contents writer.old) (W.contents writer.new) out
         × Appends (K.contents book.old.keep) (K.contents book.new.keep) text)) }
-    // `Read` is returned only if the reader itself failed.
+    // If the error is `Read`, the reader itself failed.
     ensures read { IfErr result (λ error. error ≡ IsOfRun IsRead → has_failed rows.new ≡ true) }
 {
     let (written, ended) = answer_most(alloc, rows, book, writer);
     finish(alloc, book.rows(), writer, written, ended?)
 }
 
-/// Answers at most 1,000,000 rows of the reader. Returns how many bytes of lines were written. Also
-/// returns whether more rows follow, or which error stopped the run.
+/// Answers at most 1,000,000 rows of the reader. Returns two results: how many bytes of lines were
+/// written, and whether more rows follow or which error stopped the run.
 fn answer_most<R: Read, W: Write, K: Write>(
     alloc: Global,
     rows: &mut Reader<R>,

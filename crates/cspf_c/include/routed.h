@@ -1,10 +1,11 @@
-/* The solver of `routed solve` as a library for C: rows in, lines out.
+/* The solver of `routed solve` as a library for C.
  *
- * A session takes rows one after the other, and answers each with the line that `routed solve` writes
- * for it, if any. All lines of a session's calls, one behind the other, with the last line behind
- * them, are byte for byte what `routed solve` writes for all rows of the calls (docs/run/FORMATS.md has
- * the formats of rows and lines). That is proved of the library, under what is asked of the caller
- * below, which nothing checks.
+ * The caller gives rows to a session. The session answers each row with the line that `routed solve`
+ * writes for this row, if any. Take the lines of all calls of a session in order, and then the last
+ * line, which routed_end gives. Together these lines are byte for byte what `routed solve` writes for
+ * all rows of these calls. This is proved, provided that the caller follows the rules below. The
+ * library doesn't check whether the caller does. docs/run/FORMATS.md has the formats of rows and
+ * lines.
  *
  *     routed_handle handle = ROUTED_CLOSED_HANDLE;
  *     size_t size;
@@ -13,15 +14,16 @@
  *         size = routed_lines(&handle, buffer, sizeof buffer);
  *     routed_close(&handle);
  *
- * What the caller owes:
- * - A handle begins as ROUTED_CLOSED_HANDLE, is changed by these calls alone, and is not copied.
- * - A handle is in one call at a time. Calls on one handle stay on one thread; calls on two handles
- *   may run at once, for there is no global state.
- * - No pointer is null, also for no bytes. `rows` has `length` bytes that can be read, `buffer` has
- *   `room` bytes that are initialized and can be written, and neither overlaps the handle or `size`.
- *   `length` and `room` are below 2^63.
- * - `malloc`, `realloc` and `free` are those of one allocator, and align to 16 bytes as C's do. No
- *   call is made from a signal handler.
+ * The rules for the caller:
+ * - Initialize each handle with ROUTED_CLOSED_HANDLE. Don't copy a handle, and let only these calls
+ *   change it.
+ * - Make all calls on one handle from one thread, one call at a time. Calls on different handles may
+ *   run at the same time, because the library has no global state.
+ * - Pass no null pointer, even if `length` or `room` is 0. `rows` points to `length` bytes that can
+ *   be read. `buffer` points to `room` bytes that are initialized and can be written. Neither
+ *   overlaps the handle or `size`. `length` and `room` are below 2^63.
+ * - `malloc`, `realloc` and `free` have to belong to the same allocator, and memory has to be aligned
+ *   to 16 bytes, as in the C library. Make no call from a signal handler.
  */
 #ifndef ROUTED_H
 #define ROUTED_H
@@ -33,50 +35,54 @@
 extern "C" {
 #endif
 
-/* Holds a session or none. */
+/* A handle holds one session, or no session. */
 typedef struct {
     void *session;
 } routed_handle;
 
 #define ROUTED_CLOSED_HANDLE {NULL}
 
-/* What a call answers. */
+/* The codes that calls return. */
 enum {
-    /* It did what it says. */
+    /* The call has done its work. */
     ROUTED_ANSWERED = 0,
-    /* Memory was refused. The session is closed and its memory free, and the call has no lines.
-     * `*size` stays as it was. */
+    /* Memory was refused. The session is closed, its memory is freed, and the call gives no lines.
+     * `*size` is unchanged. */
     ROUTED_MEMORY = 1,
-    /* The handle held no session and holds none. `*size` stays as it was. */
+    /* The handle holds no session, so the call did nothing. `*size` is unchanged. */
     ROUTED_CLOSED = 2
 };
 
-/* Opens a session: version 0, the empty database, no open changes, and no row was given. A session
- * that the handle held is closed, with either code. ROUTED_ANSWERED or ROUTED_MEMORY. */
+/* Opens a session, which begins at version 0 with the empty database and no open changes. If the
+ * handle already holds a session, that session is closed, even if memory is refused. Returns
+ * ROUTED_ANSWERED or ROUTED_MEMORY. */
 uint32_t routed_open(routed_handle *handle);
 
-/* Gives rows to the session. The bytes are read as `routed solve` reads a stream of its own: no, one
- * or more rows stand in them, a line feed or a carriage return ends a row, and the end of the bytes
- * ends the last one. An empty line is no row, and a byte order mark at the front of the bytes is left
- * out. So a row is given whole: one with a line end in a quoted field in one call. Rows are counted on
- * from call to call. Of a session 1,000,000 rows are answered, and those behind them are not: they
- * have no line, and routed_end answers `too many rows`.
+/* Gives rows to the session. The bytes of each call are read as `routed solve` reads a whole stream.
+ * They may have any number of rows, including 0. A line feed or a carriage return ends a row, and the
+ * end of the bytes ends the last row. An empty line is no row, and a byte order mark at the start of
+ * the bytes is skipped. So each row has to be given in one call, even if a quoted field of the row
+ * contains a line break. Rows are counted through all calls of a session. The first 1,000,000 rows of
+ * a session are answered. Later rows get no line, and routed_end then gives the line
+ * `too many rows`.
  *
- * Where it answers ROUTED_ANSWERED the session holds the lines of these rows until the next call, in
- * place of those before, and `*size` is how many bytes they have: 0 where every row is a change. */
+ * If the code is ROUTED_ANSWERED, the session holds the lines of these rows instead of its earlier
+ * lines. `*size` is then the number of bytes of these lines: 0 if every row is a change. The session
+ * holds the lines until the next call of routed_open, routed_rows, routed_end or routed_close. */
 uint32_t routed_rows(routed_handle *handle, const uint8_t *rows, size_t length, size_t *size);
 
-/* Lets the session hold the last line of `routed solve`, in place of the lines before, were there no
- * more rows: `unended N` where changes are open, `too many rows`, or none. Where it answers
- * ROUTED_ANSWERED `*size` is how many bytes that line has, and the session may be given more rows. */
+/* Asks for the last line that `routed solve` would write if no more rows came. This is `unended N` if
+ * changes are open, `too many rows`, or no line. If the code is ROUTED_ANSWERED, the session holds
+ * this line instead of its earlier lines, and `*size` is the number of bytes of this line. More rows
+ * may be given to the session afterwards. */
 uint32_t routed_end(routed_handle *handle, size_t *size);
 
-/* Copies the lines that the session holds to the front of the buffer, at most `room` bytes of them,
- * and answers how many it copied: 0 where no session is open. The rest of the buffer stays as it was,
- * and the session holds the lines still. */
+/* Copies the lines that the session holds to the start of the buffer, but at most `room` bytes.
+ * Returns the number of bytes that it copied, which is 0 if no session is open. The rest of the
+ * buffer is unchanged, and the session still holds the lines. */
 size_t routed_lines(routed_handle *handle, uint8_t *buffer, size_t room);
 
-/* Closes the session that the handle holds, if any, and frees all its memory. */
+/* Closes the session that the handle holds, if any, and frees all memory of this session. */
 void routed_close(routed_handle *handle);
 
 #ifdef __cplusplus

@@ -1,5 +1,6 @@
--- How a call passes its arguments to a generic function whose type parameters are a session and the
--- allocator of the session's box. Assumes `Logic`.
+-- How a call passes its arguments to a generic function. The type parameters of this function are a
+-- session and the allocator of the session's box. The lemmas assume the laws of the program logic
+-- (`Logic`).
 use Rattle.std.proofs.Common.{[], ◌∷◌, refl}
 use seplogic.Ra.Ura.{Ura}
 use types.Logic.{Logic}
@@ -31,7 +32,7 @@ use Rattle.cspf_c.proofs.cspf_c++opened++Opened+Destruct.drop.Met.{met}
 use Rattle.cspf_c.proofs.opened.Opened.TheLaws as opened_facts
 use Rattle.cspf_c.proofs.Pointers.{Opened, Memory}
 
--- how a call passes a value of this type
+-- the form in which a call passes a value of this type
 abbrev pub passed : RattleType → RattleType
 passed R = arg (bare (layout R)) no R
 
@@ -52,7 +53,7 @@ pub memory_glue : {M : Type 1} (𝓤 : Ura M) (𝓛 : Logic 𝓤) (𝓜 : Model 
 unfolding none_drop.code
 memory_glue 𝓤 𝓛 𝓜 𝓡 wired = glues "cspf_c::Destruct++none::drop" 𝓡.env wired (passed Memory) memory_laws _ 𝓤 𝓛 𝓜 𝓡
 
--- dropping a session frees all that the session owns, for any lifetime that the call is given
+-- dropping a session frees all memory that the session owns, whatever lifetime the call is given
 pub opened_glue : {M : Type 1} (𝓤 : Ura M) (𝓛 : Logic 𝓤) (𝓜 : Model 𝓤 𝓛.H) (𝓡 : Running 𝓤 𝓛.H 𝓜) → Wired 𝓡.env code → glue.Met 𝓛 𝓜 𝓡 𝓡.env (passed Opened) opened_drop
 opened_glue 𝓤 𝓛 𝓜 𝓡 wired =
     let k : Callee = method opened_drop 0 no_args in let run = 𝓡.run (𝓡.env k) in let framed = run_framed 𝓤 𝓛.H 𝓜 𝓡 (𝓡.env k) in

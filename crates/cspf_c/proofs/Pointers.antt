@@ -1,5 +1,5 @@
--- The machine values of a handle and of a box, and the session that a handle holds. Assumes
--- `Logic`.
+-- The machine values of a handle and of a box, and the session that a handle holds. The lemmas
+-- assume the laws of the program logic (`Logic`).
 use Rattle.std.proofs.Common.{◌≡◌, ℕ, List, [], ◌∷◌, refl, sym, ap, ◌∙◌, lit<}
 use Prim.Native.Nat.{zero}
 use seplogic.Ra.Ura.{Ura}
@@ -43,7 +43,7 @@ Handle = handle.the_row
 abbrev pub Opened : RattleType
 Opened = opened.the_row
 
--- the allocator that takes memory from the C library
+-- the type of the allocator, which allocates memory from the C library
 abbrev pub Memory : RattleType
 Memory = global.the_row
 
@@ -98,14 +98,14 @@ memory_words m = global_laws.the_told.val m ∷ []
 pub memory_tells : Tells Memory (Is Memory) memory_words
 memory_tells = global_laws.the_told.tells
 
--- the type of the memory block in which a session is held; `may_free room p` is the right to free
--- the block at `p`
+-- the type of the memory block of a session; `may_free room p` is the right to free the block at
+-- `p`
 abbrev room : Ty
 room = bare (lone Opened.mir)
 
 module _ {M : Type 1} {𝓤 : Ura M} {𝓛 : Logic 𝓤} {K : Type 0} {Γ : List (Item 𝓤)} {G : Goal 𝓤 𝓛.H} where
-  -- Either the pointer is null and no session is held, or the pointer is that of the first byte of
-  -- a block in which the session is held.
+  -- A proof about a handle's pointer has two cases. Either the pointer is null, and the handle has
+  -- no session. Or the pointer is to the first byte of a block that has the session.
   pub what_is_held : K → (p : Ptr) (value : Option Opened.Denot) → (value ≡ None → p ≡ null_ptr → Seq K 𝓛 Γ G)
       → ((x : Opened.Denot) (b : ℕ) → value ≡ Some x → p ≡ block_ptr b 0 → Seq K 𝓛 (‵ (box_owns may_free Opened (block_ptr b 0) x) ∷ Γ) G) → Seq K 𝓛 (‵ (holds Opened p value) ∷ Γ) G
   what_is_held t p None none some = feq_l t (λ e. none refl e)
@@ -117,7 +117,7 @@ module _ {M : Type 1} {𝓤 : Ura M} {𝓛 : Logic 𝓤} {K : Type 0} {Γ : List
       fjoin t $ some x b refl at))
 
 module _ {M : Type 1} {𝓤 : Ura M} {𝓛 : Logic 𝓤} {K : Type 0} {Γ : List (Item 𝓤)} {G : Goal 𝓤 𝓛.H} where
-  -- a handle consists of a pointer and of the session that is held at this pointer, if any
+  -- a handle consists of a pointer, and of the session at this pointer, if any
   pub handle_of : K → (p : Ptr) (value : Option Opened.Denot)
       → Step K 𝓛 (‵ (Handle.own_val (record { at = p; value = value }) (handle_word p ∷ [])) ∷ Γ) G (‵ (holds Opened p value) ∷ Γ) G
   handle_of t p value = step (λ s.

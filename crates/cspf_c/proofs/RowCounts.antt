@@ -10,7 +10,7 @@ use Rattle.cspf_solve.specs.SolverStates.{KeepsRun, AreFew}
 use Rattle.cspf_c.specs.History.{IsCounted}
 use Rattle.cspf_c.specs.declared.session.TakenRows.{TakenRows}
 
--- before a row, each count of the solver can grow by one and stay below 2^64
+-- before each row, every count of the solver can be incremented without reaching 2^64
 pub few : (taken : TakenRows) → ∥ IsCounted taken ∥₁ → AreFew taken.solver
 few taken truly = record {
   rows = ∥∥₁_elim truly le_prop (λ counted. omega (arith, counted.kept.rows, counted.rows, counted.most));
@@ -19,8 +19,8 @@ few taken truly = record {
   refused = ∥∥₁_elim truly le_prop (λ counted. omega (arith, counted.kept.refused, counted.refused, counted.most));
 }
 
--- if no count was above the number of answered rows, and one more row is answered, no count is
--- above the new number
+-- If each count was at most the number of answered rows, it is at most the new number after one
+-- more row is answered.
 pub counted_more : CountsByOne → (old new : TakenRows) (r : Result Row RowError) (line : List ℕ) → new.answered ≡ old.answered + 1 → old.answered < 1000000
     → ((s : RunState) → KeepsRun old.solver s → (t : RunState) × KeepsRun new.solver t × IsRowAnswered (at_next_row s) r line t)
     → IsCounted old → IsCounted new

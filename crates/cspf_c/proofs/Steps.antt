@@ -17,7 +17,7 @@ use Rattle.cspf_c.proofs.RowCounts.{counted_more}
 abbrev Rows : Type 0
 Rows = List (List (List ℕ))
 
--- a new session was given no rows, and so it has answered with no lines
+-- a new session was given no rows, and has answered with no lines
 pub none_given : (taken : TakenRows) → KeepsRun taken.solver start → taken.answered ≡ 0 → taken.too_many ≡ false → HasAnswered taken [] []
 none_given taken kept none few = record {
   done = [];
@@ -43,7 +43,7 @@ none_counted taken kept none = record {
 
 -- ---- a row that is answered
 
--- if fewer than 1,000,000 rows of a session are answered, each row that it was given is answered
+-- if a session has answered fewer than 1,000,000 rows, it has answered each row that it was given
 none_past : (too_many : Bool) (count : ℕ) (rest : Rows) → IsPast too_many count rest → count < 1000000 → (rest ≡ []) × (too_many ≡ false)
 none_past false count rest past room = (past.0, refl)
 none_past true count rest past room = let wrong : ⊥ = omega (arith, past.1, room) in absurd wrong
@@ -75,8 +75,8 @@ one_more more counts place old new fields line one same room step = record {
 
 -- ---- a row past the 1,000,000th
 
--- if 1,000,000 rows are answered, and one more row is given, there are rows without an answer, and
--- there are too many rows
+-- if a session has answered 1,000,000 rows, and one more row is given, this row isn't answered, and
+-- the session has too many rows
 one_past : (too_many : Bool) (count : ℕ) (rest : Rows) (fields : List (List ℕ)) → IsPast too_many count rest → 1000000 ≤ count → IsPast true count (rest ++ (fields ∷ []))
 one_past false count rest fields past full = (omega (arith, length-append rest (fields ∷ [])), omega (arith, past.1, full))
 one_past true count rest fields past full = (omega (arith, length-append rest (fields ∷ [])), past.1)

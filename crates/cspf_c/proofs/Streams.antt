@@ -1,5 +1,5 @@
--- What holds after all rows of a call's bytes are answered and their lines are written to an empty
--- buffer.
+-- What is true of a session once it has answered all rows of a call, and their lines are written to
+-- an empty buffer.
 use Rattle.std.proofs.Common.{◌≡◌, ℕ, List, [], ◌++◌, Option, Some, IfSome, option_map, subst}
 use Rattle.cspf_rows.specs.Records.{rows_of}
 use Rattle.cspf_stream.specs.RowAnswers.{AreAllAnswered}

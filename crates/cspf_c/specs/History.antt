@@ -1,12 +1,12 @@
--- The rows that a session was given, and the lines that answer these rows.
+-- The rows that a session was given, and the lines with which it answered them.
 use Rattle.std.specs.Prelude.{◌≡◌, ℕ, ◌≤◌, List, [], ◌∷◌, ◌++◌, length}
 use Rattle.cspf_rows.specs.declared.limits.TheConstants.{MOST_ROWS}
 use Rattle.cspf_solve.specs.Script.{RunState, start, AreRowsAnswered}
 use Rattle.cspf_solve.specs.SolverStates.{KeepsRun, IsPast}
 use Rattle.cspf_c.specs.declared.session.TakenRows.{TakenRows}
 
--- The session was given these rows, one after the other, and these lines answer the first 1,000,000
--- of them.
+-- The session was given these rows, one after the other. The lines answer the first 1,000,000 rows,
+-- or all rows if there are fewer.
 pub record HasAnswered (taken : TakenRows) (rows : List (List (List ℕ))) (lines : List ℕ) : Type 0 where
   pub done : List (List (List ℕ))
   pub rest : List (List (List ℕ))
@@ -17,7 +17,7 @@ pub record HasAnswered (taken : TakenRows) (rows : List (List (List ℕ))) (line
   pub count : length done ≡ taken.answered
   pub past : IsPast taken.too_many taken.answered rest
 
--- Private: the solver is in a state of a run (`KeepsRun`), and no count of this state is above the
+-- Private: the solver is in a state of a run (`KeepsRun`). Each count of this state is at most the
 -- number of answered rows.
 pub record IsCounted (taken : TakenRows) : Type 0 where
   pub state : RunState

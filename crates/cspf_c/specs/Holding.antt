@@ -17,8 +17,8 @@ heap = record { memory = record { seal = tt } }
 abbrev pub may_free : Ty → Ptr → Fml
 may_free = ghosts.dealloc_token heap
 
--- if the pointer is null, no session is held; any other pointer is that of a box in this heap, and
--- the session is in this box
+-- If the pointer is null, the handle has no session. Any other pointer points to a box in this
+-- heap, and the session is in this box.
 abbrev pub holds : (R : RattleType) → Ptr → Option R.Denot → Fml
 holds R p None = feq Ptr p null_ptr
 holds R p (Some x) = box_owns may_free R p x

@@ -1,5 +1,5 @@
-//! The functions that C calls. Each takes the session out of its handle. If the session stays open,
-//! the function then puts it back into the handle.
+//! The functions that C calls. Each of these functions takes the session out of its handle. If the
+//! session stays open, the function then puts it back into the handle.
 
 ghost use Rattle.std.specs.Prelude.{◌≡◌, ◌≢◌, MatchOption};
 ghost use Rattle.std.specs.declared.option.Option.TheVariants.{None, Some};
@@ -27,8 +27,8 @@ fn hold_session(alloc: Global, handle: &mut Handle, session: Box<Opened>)
     drop(replace(handle, Handle::of(session)).into_session(alloc));
 }
 
-/// Closes the session that the handle held. Puts the new session into the handle if this session
-/// was made and there is memory for its box. Returns the code of the call.
+/// Closes the session that the handle holds. If `made` is a session, and there is memory for its
+/// box, puts it into the handle. Returns the code of the call.
 fn keep_session(alloc: Global, handle: &mut Handle, made: Result<Opened, AllocError>) -> u32
     ensures { IsHeld result made handle.new.value }
 {
@@ -43,7 +43,7 @@ fn keep_session(alloc: Global, handle: &mut Handle, made: Result<Opened, AllocEr
     ANSWERED
 }
 
-/// How many bytes the lines of a session have, or 0 if memory was refused.
+/// The number of bytes of the session's lines, or 0 if memory was refused.
 fn lines_size(made: &Result<Opened, AllocError>) -> usize
     ensures { result ≡ size_of_lines made.now }
 {
@@ -54,8 +54,8 @@ fn lines_size(made: &Result<Opened, AllocError>) -> usize
 }
 
 /// Opens a session with the empty database and no open changes. The new session is made before the
-/// old session of the handle is closed, so for a moment both sessions take memory. If memory is
-/// refused, the old session is closed as well. Returns `ANSWERED` or `MEMORY`.
+/// old session of the handle is closed, so for a moment both sessions are in memory. If memory is
+/// refused, the old session is closed all the same. Returns `ANSWERED` or `MEMORY`.
 #[unsafe(no_mangle)]
 pub extern "C" fn routed_open(alloc: Global, handle: &mut Handle) -> u32
     ensures { IsOpened result handle.new.value }
@@ -63,7 +63,7 @@ pub extern "C" fn routed_open(alloc: Global, handle: &mut Handle) -> u32
     keep_session(alloc, handle, Opened::new(alloc))
 }
 
-/// Gives rows to the session, which then holds the lines that answer them. Sets `size` to the
+/// Gives rows to the session, which then holds the lines that answer these rows. Sets `size` to the
 /// number of bytes of these lines. `size` is unchanged if the call doesn't return `ANSWERED`.
 #[unsafe(no_mangle)]
 pub extern "C" fn routed_rows(
@@ -87,9 +87,9 @@ pub extern "C" fn routed_rows(
     code
 }
 
-/// Replaces the lines that the session holds by the last line of a run over all rows that the
-/// session was given. Sets `size` to the number of bytes of this line. `size` is unchanged if the
-/// call doesn't return `ANSWERED`.
+/// Replaces the session's lines with the last line of a run over all rows that the session was
+/// given. Sets `size` to the number of bytes of this line. `size` is unchanged if the call doesn't
+/// return `ANSWERED`.
 #[unsafe(no_mangle)]
 pub extern "C" fn routed_end(alloc: Global, handle: &mut Handle, size: &mut usize) -> u32
     ensures called { IsCalled (IsEnded size.new) result handle.old.value handle.new.value }
@@ -108,7 +108,7 @@ pub extern "C" fn routed_end(alloc: Global, handle: &mut Handle, size: &mut usiz
 }
 
 /// Copies the lines that the session holds to the start of the buffer, as many bytes as fit.
-/// Returns how many bytes it copied, or 0 if no session is open.
+/// Returns the number of copied bytes, which is 0 if no session is open.
 #[unsafe(no_mangle)]
 pub extern "C" fn routed_lines(alloc: Global, handle: &mut Handle, buffer: &mut [u8]) -> usize
     ensures same { handle.new.value ≡ handle.old.value }

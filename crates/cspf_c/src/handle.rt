@@ -10,8 +10,8 @@ use std::alloc::Global;
 use std::marker::Model;
 use std::ptr::null_mut;
 
-/// A pointer that C keeps: null, or the pointer of a session's box. It has the type of a pointer to
-/// bytes, because an exported function may not take a type that contains a `Vec`.
+/// A pointer that C keeps: null, or a pointer to the box of a session. The pointer has the type
+/// `*mut u8`, because no argument of an exported function may have a type that contains a `Vec`.
 #[repr(C)]
 pub struct Handle {
     at: *mut u8,
@@ -23,7 +23,7 @@ impl Model for Handle {
 }
 
 impl Handle {
-    /// A handle of the null pointer, which holds no session.
+    /// A handle without a session. Its pointer is null.
     pub(crate) fn none() -> Handle
         ensures { result.value ≡ None }
     {

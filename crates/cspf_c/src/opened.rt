@@ -5,7 +5,7 @@ ghost use Rattle.cspf_c.specs.History.{HasAnswered};
 use crate::session::SolveSession;
 use std::alloc::{AllocError, Global};
 
-/// What a handle holds: a session, and the lines of the last call.
+/// A session, together with the lines of the last call.
 #[derive(Drop)]
 pub struct Opened {
     pub(crate) session: SolveSession,
@@ -13,7 +13,7 @@ pub struct Opened {
 }
 
 impl Opened {
-    /// A session that was given no row and that holds no lines.
+    /// A new session, which was given no row and holds no lines.
     pub(crate) fn new(alloc: Global) -> Result<Opened, AllocError>
         ensures { IfOk result (λ opened. HasAnswered opened.session.taken [] [] × (opened.lines.items ≡ [])) }
     {
@@ -23,8 +23,8 @@ impl Opened {
         })
     }
 
-    /// Gives the rows of these bytes to the session. The result holds the session and the lines
-    /// that answer these rows.
+    /// Gives the rows of these bytes to the session. Returns the session, which then holds the
+    /// lines that answer these rows.
     pub(crate) fn answer(self, alloc: Global, bytes: &[u8]) -> Result<Opened, AllocError>
         ensures { IfOk result (λ opened. AreGiven bytes.now (length opened.lines.items) self opened) }
     {
@@ -33,8 +33,8 @@ impl Opened {
         Ok(Opened { session, lines })
     }
 
-    /// The session, which now holds the last line of a run over the rows that the session was
-    /// given. The session may be given more rows afterwards.
+    /// Returns the session, which then holds the last line of a run over all rows that it was
+    /// given. More rows may be given to the session afterwards.
     pub(crate) fn end(self, alloc: Global) -> Result<Opened, AllocError>
         ensures { IfOk result (λ opened. IsEnded (length opened.lines.items) self opened) }
     {

@@ -1,5 +1,4 @@
-//! The session that a handle holds, as a value: a solver, and how many rows the solver has
-//! answered.
+//! A session: a solver, and how many rows the solver has answered.
 
 ghost use Rattle.std.specs.Prelude.{◌≡◌, ◌++◌, ℕ, List, [], IfOk};
 ghost use Rattle.cspf_rows.specs.Records.{rows_of};
@@ -13,7 +12,7 @@ use cspf_stream::{Answering, answer_rows};
 use csv::ByteRecord;
 use std::alloc::{AllocError, Global};
 
-/// What a session keeps about the rows that it was given.
+/// The state of a session after the rows that it was given.
 #[derive(Drop)]
 pub struct TakenRows {
     /// The solver, which answers the first 1,000,000 rows.
@@ -41,8 +40,8 @@ impl<C> Answering<C> for TakenRows {
         _place: u64,
         fields: &ByteRecord,
     ) -> Result<Vec<u8>, AllocError> {
-        // Laws: if rows and then one more row are answered, the list of all these rows is answered.
-        // The answer to a row adds at most one to each count of a run.
+        // Law: if a run answers some rows and then one more row, it answers the list of all these
+        // rows. Law: the answer to a row adds at most 1 to each count of a run.
         runs_go_on_row_by_row();
         if self.answered >= MOST_ROWS {
             self.too_many = true;
@@ -54,8 +53,8 @@ impl<C> Answering<C> for TakenRows {
     }
 }
 
-/// A session: the solver, with its database and open changes, after the rows that the session was
-/// given.
+/// A session. Its solver has the database and the open changes that result from the rows that the
+/// session was given.
 #[derive(Drop)]
 pub struct SolveSession {
     taken: TakenRows,
@@ -75,8 +74,8 @@ impl SolveSession {
         Ok(SolveSession { taken })
     }
 
-    /// Reads the bytes as a stream of rows and answers them. Returns the session and the lines that
-    /// answer the rows. If memory is refused, the session is dropped.
+    /// Reads the bytes as a stream of rows and answers these rows. Returns the session and the
+    /// lines that answer the rows. If memory is refused, the session is dropped.
     pub(crate) fn answer(
         self,
         alloc: Global,
@@ -91,13 +90,13 @@ impl SolveSession {
         let mut rows = open_records(alloc, bytes);
         match answer_rows(&(), alloc, &mut rows, &mut lines, &mut taken) {
             Ok(()) => Ok((SolveSession { taken }, lines)),
-            // Reading a slice can't fail, and no slice has 2^64 rows, so the error is that memory
-            // was refused.
+            // Memory was refused. No other error can occur: reading a slice can't fail, and no
+            // slice has 2^64 rows.
             Err(_) => Err(AllocError),
         }
     }
 
-    /// The last line of a run over the rows that the session was given.
+    /// The last line of a run over all rows that the session was given.
     pub(crate) fn last_line(&self, alloc: Global) -> Result<Vec<u8>, AllocError>
         ensures { IfOk result (λ line. (rows : List (List (List ℕ))) (lines : List ℕ)
             → HasAnswered self.now.taken rows lines

@@ -1,4 +1,5 @@
--- The batches that a client knows, and the steps that it has seen, never become fewer.
+-- A client goes forward: what it knew and had seen before is a prefix of what it knows and has seen
+-- later (`HasGoneForward`).
 use Rattle.std.proofs.Common.{◌≡◌, ℕ, suc, Bool, List, [], ◌∷◌, length, Option, Result, Ok, Err, OnOk, IfErr, inl, inr, sym, ap, subst}
 use Rattle.cspf_publish.specs.JournalSteps.{KnownSteps}
 use Rattle.cspf_publish.specs.KnownBatches.{KnownBatches, AreFirstOf}
@@ -20,7 +21,7 @@ use Rattle.cspf_client.specs.declared.error.ClientError.{ClientError}
 use Rattle.cspf_client.specs.SessionStates.{SessionState, AreFirstSteps, HasGoneForward}
 use Rattle.cspf_client.proofs.Prefixes.{HasGoneForward-self, HasGoneForward-trans, HasGoneForward-count}
 
--- a client that knows the same batches and has seen the same steps knows no less than before
+-- a client that still knows the same batches and has seen the same steps has gone forward
 forward_same : (s t : SessionState) → t.known ≡ s.known → t.steps ≡ s.steps → HasGoneForward s t
 forward_same s t known steps =
     let self = HasGoneForward-self s in record {
@@ -60,7 +61,7 @@ forward place s t (fields ∷ rows) lines a =
 abbrev Rows : Type 0
 Rows = List (List (List ℕ))
 
--- No client knows less after an answer that fails in this way.
+-- A client goes forward even if the answer to a row fails in this way.
 abbrev pub FailsForward : FailsOf SessionState → Type 0
 FailsForward fails = (place : ℕ) (s t : SessionState) (fields : List (List ℕ)) → fails place s fields t → HasGoneForward s t
 
@@ -70,7 +71,7 @@ never_forward place s t fields a = absurd a
 pub unanswered_forward : (fault : AskError) → FailsForward (IsClientUnanswered fault)
 unanswered_forward fault place s t fields a = forward_unanswered fault place s t (row_of fields) a
 
--- after a row that stops its stream, a client knows no less than before this row
+-- a client goes forward even at a row that stops its stream
 pub forward_row_stopped : (fails : FailsOf SessionState) → FailsForward fails → (why : StreamError) (place : ℕ) (fields : List (List ℕ)) (s t : SessionState) (old new : Option (List ℕ))
     → IsRowStopped IsClientAnswered fails why place fields s t old new → HasGoneForward s t
 forward_row_stopped fails known stream_error.Memory place fields s t old new a = known place s t fields a.0
@@ -97,8 +98,7 @@ module _ (all left : Option Rows) (failed : Bool) (s t : SessionState) (old new 
   forward_stopped (stop.Stream stream_error.TooManyRows) a = forward 1 s t a.done a.lines a.answered
   forward_stopped (stop.Answer fault) a = in_row (IsClientUnanswered fault) (unanswered_forward fault) stream_error.Memory a
 
--- a client that has run over its stream knows no less than before the run, whether the stream ended
--- or stopped
+-- a client goes forward in a run over its stream, whether the stream ends or stops
 pub forward_stream : (all : Option Rows) (s t : SessionState) (old new : Option (List ℕ)) (ended : Result (Unit {0}) ClientError)
     → OnOk ended (AreAllAnswered IsClientAnswered all s t old new) → IfErr ended (λ why. IsClientStopped why all s t old new) → HasGoneForward s t
 forward_stream all s t old new (Ok done) whole stopped = forward 1 s t whole.done whole.lines whole.answered

@@ -27,7 +27,7 @@ pub IsPrefix-trans : {A : Type 0} (a b c : List A) → IsPrefix a b → IsPrefix
 IsPrefix-trans {A} a b c p q =
     (p.0 ++ q.0, sym (append_assoc a p.0 q.0) ∙ (ap (λ (x : List A). x ++ q.0) p.1 ∙ q.1))
 
--- if the list `all` is `first`, then other items, and then one last item, `first` is a prefix of `all`
+-- if `all` is `first` followed by other elements and one last element, `first` is a prefix of `all`
 IsPrefix-last : {A : Type 0} (first others all : List A) (last : A) → all ≡ (first ++ others) ++ last ∷ [] → IsPrefix first all
 IsPrefix-last first others all last is = (others ++ last ∷ [], sym (append_assoc first others (last ∷ [])) ∙ sym is)
 
@@ -49,7 +49,7 @@ HasGoneForward-trans s t u p q = record {
   steps = AreFirstSteps-trans s.steps t.steps u.steps p.steps q.steps;
 }
 
--- a client that has read the count of published batches knows no less than before
+-- a client goes forward when it reads the count of published batches (`HasGoneForward`)
 pub HasGoneForward-count : (place : ℕ) (s t : SessionState) → ReadsCount place s t → HasGoneForward s t
 HasGoneForward-count place s t reads =
     let up = reads.caught_up in record {

@@ -14,7 +14,7 @@ use Rattle.cspf_model.specs.Outcome.{answer_of}
 use Rattle.cspf_client.specs.ClientRows.{ReadsCount, IsRequestAnswered, IsRequestUnanswered}
 use Rattle.cspf_client.specs.SessionStates.{SessionState}
 
--- the state of a client's session, in the form in which contracts describe it
+-- the state of a client with these parts
 abbrev pub session : ℕ → KnownBatches → KnownSteps → ℕ → SessionState
 session client asker steps refused = record { client = client; known = asker; steps = steps; refused = refused }
 
@@ -39,14 +39,15 @@ module _ (client place : ℕ) (a b c : KnownBatches) (old new : KnownSteps) (cou
     reply = rw (is.id, is.version) at reply;
   }
 
-  -- the request isn't answered, since memory is refused for the line of its reply
+  -- if memory is refused for the line of the reply, the request isn't answered
+  -- (`IsRequestUnanswered`)
   pub memory_refused : (why : AskError) → why ≡ ask_error.Memory → IsRequestUnanswered place why (session client a old refused) (session client c new refused)
   memory_refused why is = record {
     reads = reads;
     entry = λ e. let wrong : ask_error.Memory ≡ ask_error.NoEntry = sym is ∙ e in absurd (cc wrong);
   }
 
-  -- the request isn't answered, because its asker returned this error
+  -- if the asker returned an error, the request isn't answered (`IsRequestUnanswered`)
   pub unanswered : (why : AskError) → (why ≡ ask_error.NoEntry → c ≡ b) → IsRequestUnanswered place why (session client a old refused) (session client c new refused)
   unfolding reads
   unanswered why same = record { reads = reads; entry = same }

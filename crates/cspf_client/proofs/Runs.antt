@@ -1,5 +1,4 @@
--- What a client's run has answered, if the client's stream ended, and if the stream stopped before
--- its end.
+-- What a client's run has answered if the client's stream has ended, or has stopped before its end.
 use Rattle.std.proofs.Common.{◌≡◌, ℕ, List, Option, Some, Result, Ok, Err, OnOk, IfErr, MatchResult, sym, subst}
 use Rattle.std.specs.Option.{option_map}
 use Rattle.cspf_rows.specs.Records.{rows_of}

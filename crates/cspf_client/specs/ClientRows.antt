@@ -18,11 +18,11 @@ use Rattle.cspf_stream.specs.RefusedRows.{refused_row_line}
 use Rattle.cspf_stream.specs.StreamStops.{FailsOf}
 use Rattle.cspf_client.specs.SessionStates.{SessionState}
 
--- Before the client answers the row at this place, it reads the count of published batches. This
--- reading is a step of the journal, and comes after all steps that the client has seen. The step
--- names the client and the place of the row. The client's asker, which computes its replies, then
--- knows at least as many batches as the count says. It may know more batches after it has entered
--- the published replica (a copy of the table).
+-- Before the client answers row `place`, it reads the count of published batches. This reading is a
+-- step of the journal, and follows all steps that the client has seen. The step has the number of
+-- the client and the number of the row. Afterwards the client's asker, which computes the replies,
+-- knows at least this many batches. It may learn of more batches when it enters the published
+-- replica, which is a copy of the table.
 pub record ReadsCount (place : ℕ) (s t : SessionState) : Type 0 where
   pub mid : KnownBatches
   pub count : ℕ
@@ -31,31 +31,32 @@ pub record ReadsCount (place : ℕ) (s t : SessionState) : Type 0 where
   pub client : t.client ≡ s.client
   pub refused : t.refused ≡ s.refused
 
--- The row is refused with the words of `why`. Of the client's state only the count of refused rows
--- changes.
+-- The row is refused, and its line has the words for the error `why`. In the client's state, only
+-- the count of refused rows changes.
 pub record IsRefusedRow (place : ℕ) (why : RowError) (s : SessionState) (line : List ℕ) (t : SessionState) : Type 0 where
   pub written : line ≡ refused_row_line place why
   pub after : t ≡ record s { refused = s.refused + 1 }
 
--- The request in the row at this place is answered with the best answer in the database of the
--- batches that the client then knows. The number of these batches is the reply's version. They
--- include all batches that the client knew before. They also include all batches that were counted
--- as published when the client read the count of published batches before this answer.
+-- The request of row `place` is answered with the best answer in the database of the batches that
+-- the client then knows. The number of these batches is the version of the reply. These batches
+-- include all batches that the client knew before. There are at least as many of them as the count
+-- that the client read before this answer (`ReadsCount`).
 pub record IsRequestAnswered (place : ℕ) (q : Request) (s : SessionState) (line : List ℕ) (t : SessionState) : Type 0 where
   pub reads : ReadsCount place s t
   pub answer : Answer
   pub best : IsBestAnswer (database_after t.known.batches) q answer
   pub reply : IsReply q.id (length t.known.batches) answer line
 
--- The version of a reply is at least the count of published batches that the client read before it
--- answered the request. The client had already seen some of the journal's steps, and the count is
--- at least the count that these steps give.
+-- The version of a reply is at least the count of published batches that the client read before
+-- this reply. This count is at least the count that follows from the steps of the journal that the
+-- client had already seen (`count_of`).
 abbrev pub RepliesAreFresh : Type 0
 RepliesAreFresh =
     (place : ℕ) (q : Request) (s t : SessionState) (line : List ℕ) (a : IsRequestAnswered place q s line t)
     → (count_of s.steps.steps ≤ a.reads.count) × (a.reads.count ≤ length t.known.batches)
 
--- the line that answers the row at this place (counted from 1), and the states before and after this row
+-- row `place`, counted from 1, is answered with this line; `s` and `t` are the states before and
+-- after the row
 abbrev pub IsClientRowAnswered : ℕ → SessionState → Result Row RowError → List ℕ → SessionState → Type 0
 IsClientRowAnswered place s (Err why) line t = IsRefusedRow place why s line t
 IsClientRowAnswered place s (Ok (row.Put link)) line t = IsRefusedRow place error.Kind s line t
@@ -64,21 +65,23 @@ IsClientRowAnswered place s (Ok (row.Node router transit)) line t = IsRefusedRow
 IsClientRowAnswered place s (Ok (row.End number count)) line t = IsRefusedRow place error.Kind s line t
 IsClientRowAnswered place s (Ok (row.Ask q)) line t = IsRequestAnswered place q s line t
 
--- the line that answers the row with these fields, and the states before and after this row
+-- the row with these fields is answered with this line; `s` and `t` are the states before and after
+-- the row
 abbrev pub IsClientAnswered : ℕ → SessionState → List (List ℕ) → List ℕ → SessionState → Type 0
 IsClientAnswered place s fields line t = IsClientRowAnswered place s (row_of fields) line t
 
--- The line that refuses a row can't be made, because memory is refused. The state stays as it was.
+-- Memory is refused for the line that refuses a row. The state is unchanged.
 abbrev pub IsRefusalMissing : AskError → SessionState → SessionState → Type 0
 IsRefusalMissing fault s t = (fault ≡ ask_error.Memory) × (t ≡ s)
 
--- The request at this place isn't answered, because of this fault. If the client couldn't enter the
--- published replica (a copy of the table), it learnt of no batch after it read the count.
+-- The request of row `place` isn't answered, because of this fault. The fault `NoEntry` means that
+-- the client couldn't enter the published replica, which is a copy of the table. The client has
+-- then learnt of no further batch since it read the count.
 pub record IsRequestUnanswered (place : ℕ) (fault : AskError) (s t : SessionState) : Type 0 where
   pub reads : ReadsCount place s t
   pub entry : fault ≡ ask_error.NoEntry → t.known ≡ reads.mid
 
--- the state after a row that isn't answered, because of this fault
+-- the row isn't answered because of this fault; `t` is the state afterwards
 abbrev pub IsClientRowUnanswered : AskError → ℕ → SessionState → Result Row RowError → SessionState → Type 0
 IsClientRowUnanswered fault place s (Err why) t = IsRefusalMissing fault s t
 IsClientRowUnanswered fault place s (Ok (row.Put link)) t = IsRefusalMissing fault s t
@@ -87,6 +90,6 @@ IsClientRowUnanswered fault place s (Ok (row.Node router transit)) t = IsRefusal
 IsClientRowUnanswered fault place s (Ok (row.End number count)) t = IsRefusalMissing fault s t
 IsClientRowUnanswered fault place s (Ok (row.Ask q)) t = IsRequestUnanswered place fault s t
 
--- the state after a row that has these fields and isn't answered, because of this fault
+-- the row with these fields isn't answered because of this fault; `t` is the state afterwards
 abbrev pub IsClientUnanswered : AskError → FailsOf SessionState
 IsClientUnanswered fault place s fields t = IsClientRowUnanswered fault place s (row_of fields) t

@@ -1,4 +1,5 @@
--- The answers to a client and its state after its stream, whether that ended or stopped early.
+-- The answers to a client, and the client's state after its stream of requests has ended or stopped
+-- early.
 use Rattle.std.specs.Prelude.{◌≡◌, ℕ, Bool, List, Option, MatchResult}
 use Rattle.cspf_publish.specs.declared.errors.AskError.{AskError}
 use Rattle.cspf_stream.specs.RowAnswers.{AreAnswered, AreAllAnswered}
@@ -10,9 +11,9 @@ use Rattle.cspf_client.specs.ErrorNames.{client_error_of}
 use Rattle.cspf_client.specs.ServingStates.{ServingState, unread_rows}
 use Rattle.cspf_client.specs.declared.error.ClientError.{ClientError}
 
--- A client's stream of requests stops, and this is the client's error. The rows that are left and
--- whether a read failed may be anything. The error isn't `Ahead` yet: the batches that the client
--- knows are checked later.
+-- A client's stream of requests stops, and `why` is the client's error. Any rows may be left, and a
+-- read may have failed or not. The error isn't `Ahead`, because the check for this error comes
+-- later.
 pub record IsClientStopped (why : ClientError) (all : Option (List (List (List ℕ)))) (s t : SessionState) (old new : Option (List ℕ)) : Type 0 where
   pub stop : StreamStop AskError
   pub error : why ≡ client_error_of stop
@@ -27,8 +28,9 @@ IsClientRun bytes contents old new =
     (λ done. AreAllAnswered IsClientAnswered (unread_rows bytes old.requests) old.state new.state (contents old.replies) (contents new.replies))
     (λ why. IsClientStopped why (unread_rows bytes old.requests) old.state new.state (contents old.replies) (contents new.replies))
 
--- The batches that a client knew before some rows are a prefix of those that it knows after them. The same
--- holds of the journal's steps that the client has seen. So the versions of its replies never fall.
+-- Let a client answer some rows. The batches that it knew before are a prefix of the batches that
+-- it knows afterwards. The same is true of the steps of the journal that it has seen. So the
+-- versions of its replies never fall.
 abbrev pub ClientsGoForward : Type 0
 ClientsGoForward =
     (place : ℕ) (s t : SessionState) (rows : List (List (List ℕ))) (lines : List ℕ) → AreAnswered IsClientAnswered place s rows lines t

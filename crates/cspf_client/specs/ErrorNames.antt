@@ -1,4 +1,4 @@
--- How a client's error is named.
+-- The error of a client whose stream stops.
 use Rattle.cspf_publish.specs.declared.errors.AskError.{AskError}
 use Rattle.cspf_publish.specs.declared.errors.AskError.TheVariants as ask_error
 use Rattle.cspf_stream.specs.declared.error.StreamError.TheVariants as stream_error
@@ -8,7 +8,7 @@ use Rattle.cspf_client.specs.declared.error.ClientError.{ClientError}
 use Rattle.cspf_client.specs.declared.error.ClientError.TheVariants as error
 
 -- The error of a client whose stream stops in this way. `NoEntry` means that the client couldn't
--- enter the published replica (a copy of the table) for a request.
+-- enter the published replica, which is a copy of the table.
 abbrev pub client_error_of : StreamStop AskError → ClientError
 client_error_of (stop.Stream why) = error.Stream why
 client_error_of (stop.Answer ask_error.Memory) = error.Stream stream_error.Memory

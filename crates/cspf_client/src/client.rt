@@ -1,4 +1,4 @@
-//! A client of a server: its streams, the run over its rows, and its result.
+//! A client of a server: its streams, the run that answers its rows, and its result.
 
 ghost use Rattle.std.specs.Prelude.{◌≡◌, ◌<◌, None, Some, OnOk, IfErr};
 ghost use Rattle.cspf_publish.specs.AskerStates.{known_of};
@@ -34,9 +34,10 @@ pub struct Client<Q, V> {
 #[derive(Drop)]
 pub struct ServingClient<Q, V> {
     session: Session,
-    /// The stream of requests. Its reader of rows is made only when the client runs, since
-    /// otherwise the reader's buffer would be moved with each client. The stream is dropped once it
-    /// has ended, so that the program that writes the requests isn't left waiting for a reader.
+    /// The stream of requests, until the client runs. Its `Reader` is made only when the client
+    /// runs, because the buffer of a `Reader` would otherwise be moved together with the client.
+    /// The stream is dropped once it has ended, so that the program that writes the requests isn't
+    /// left waiting.
     requests: Option<Q>,
     replies: V,
     end: Result<(), ClientError>,
@@ -64,8 +65,8 @@ pub struct ServedClient<V> {
     pub end: Result<(), ClientError>,
     /// How many rows of the client were refused.
     pub refused: u64,
-    /// The steps of the journal that the client has seen, up to its last reading of the count of published
-    /// batches.
+    /// The steps of the journal that the client has seen, up to the step in which it last read the
+    /// count of published batches.
     pub steps: SeenSteps,
     /// The batches that the client knew after its last row.
     pub known: Known,
@@ -110,21 +111,21 @@ impl<Q: Read + Drop, V: Replies> ServingClient<Q, V> {
         }
     }
 
-    /// Answers all rows of the requests, one by one. For an `ask` row the client reads the count of published
-    /// batches, and then answers at a version that is at least this count. The line of any other row is its
-    /// refusal. Each line is flushed before the next row is read. The client waits only for its streams. At the
-    /// end it drops the reader of the requests, and then calls `end` of the replies.
+    /// Answers all rows of the stream of requests, one by one. For an `ask` row, the client reads the
+    /// count of published batches, and then answers at a version that is at least this count. Any
+    /// other row is refused with a line. Each line is flushed before the next row is read. The client
+    /// waits only for its own streams. At the end it drops the reader of the requests, and then calls
+    /// `end` of the replies' writer.
     pub fn run(&mut self, alloc: Global)
         requires { IsReady self.old }
         ensures run { IsClientRun Q.remaining V.contents self.old self.new }
         ensures forward { HasGoneForward self.old.state self.new.state }
         ensures closed { self.new.requests ≡ None }
-        // `end` of the replies' writer is called after the last line is written.
+        // The run calls `end` of the replies' writer after the last line is written.
         ensures ended { V.has_ended self.new.replies }
     {
         let Some(requests) = self.requests.take() else {
-            // This doesn't happen: the client hasn't run yet, so its stream of requests is still
-            // there.
+            // This can't happen: a client that hasn't run yet still has its stream of requests.
             return;
         };
         let mut rows = open_records(alloc, requests);
@@ -132,8 +133,8 @@ impl<Q: Read + Drop, V: Replies> ServingClient<Q, V> {
         self.replies.end(EndOfRequests::drop_reader(rows));
     }
 
-    /// The steps of the journal that the client has seen, up to its last reading of the count of published
-    /// batches.
+    /// The steps of the journal that the client has seen, up to the step in which it last read the
+    /// count of published batches.
     pub fn steps(&self) -> &SeenSteps
         ensures { result.now ≡ self.now.state.steps }
     {
@@ -147,8 +148,8 @@ impl<Q: Read + Drop, V: Replies> ServingClient<Q, V> {
         self.session.known()
     }
 
-    /// Learns of all published batches from `told`, after the last row. A client that knows more
-    /// batches than these ends with the error `Ahead`.
+    /// Learns of all published batches, `told`, after the last row. A client that already knows more
+    /// batches ends with the error `Ahead`.
     pub fn meet(&mut self, told: Told)
         requires { told.source ≡ self.old.state.known.source }
         ensures others { self.new ≡ record self.old {
@@ -163,7 +164,7 @@ impl<Q: Read + Drop, V: Replies> ServingClient<Q, V> {
         }
     }
 
-    /// The client's result. `known` are the batches that it knew after its last row.
+    /// The client's result. `known` has the batches that the client knew after its last row.
     pub fn close(self, known: Known) -> ServedClient<V>
         ensures { result ≡ record {
           replies = self.replies;

@@ -11,11 +11,11 @@ pub enum ClientError {
     /// The client's stream stopped.
     #[error("{0}")]
     Stream(StreamError),
-    /// The client couldn't enter the published replica (a copy of the table of links). This error
-    /// was seen in no run.
+    /// The client couldn't enter the published replica, which is a copy of the table of links. No
+    /// run has shown this error yet.
     #[error("no entry")]
     NoEntry,
-    /// The client knows more batches than are published. This error was seen in no run.
+    /// The client knows more batches than are published. No run has shown this error yet.
     #[error("ahead of what is published")]
     Ahead,
 }

@@ -3,8 +3,8 @@ ghost use Rattle.std.specs.Prelude.{◌≡◌};
 use csv::Reader;
 use std::io::{Read, Write};
 
-/// Shows that the requests of a client have ended and that their reader is dropped. This value can't be
-/// copied, so there is at most one for each reader.
+/// A proof that the requests of a client have ended and that their reader is dropped. The value can't
+/// be copied, so there is at most one such value for each reader.
 #[derive(Drop)]
 pub struct EndOfRequests {
     ended: (),
@@ -18,19 +18,19 @@ impl EndOfRequests {
     }
 }
 
-/// A writer of replies. A call of `end` says to it that no more replies come.
+/// A writer of replies. A call of `end` tells the writer that no more replies come.
 pub trait Replies: Write {
     /// `end` was called, and nothing was written after it.
     ghost has_ended: { Self → Type 0 };
 
-    /// Tells the writer that no more replies come. The writer may then signal their end to its reader. The
-    /// call uses up `requests`, so it is made at most once.
+    /// Tells the writer that no more replies come. The writer may then signal the end to the program
+    /// that reads the replies. The call consumes `requests`, so it is made at most once.
     fn end(&mut self, requests: EndOfRequests)
         ensures same { Self.contents self.new ≡ Self.contents self.old }
         ensures ended { has_ended self.new };
 }
 
-/// A vector has no reader to which it signals the end: the vector is read after it was given back.
+/// `end` does nothing for a vector: its replies are read only after the run has returned it.
 impl Replies for Vec<u8> {
     ghost has_ended = { λ _. Unit {0} };
 

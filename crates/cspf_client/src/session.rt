@@ -1,4 +1,5 @@
-//! How a client's asker, which computes its replies, answers one row.
+//! The state of a client between two rows, and how the client answers one row. The client's asker
+//! computes the replies.
 
 ghost use Rattle.std.specs.Prelude.{◌≡◌, ◌+◌, ◌<◌, ◌≤◌, Ok, IfOk, IfErr, IsTrue, IsFalse, length};
 ghost use Rattle.cspf_ero.specs.ReplyLine.{IsReply};
@@ -22,7 +23,8 @@ pub struct Session {
     /// The number of the client.
     client: u64,
     asker: Asker,
-    /// The steps of the journal up to the client's last reading of the count of published batches.
+    /// The steps of the journal, up to the step in which the client last read the count of
+    /// published batches.
     steps: SeenSteps,
     /// How many rows of the client were refused.
     refused: u64,
@@ -75,8 +77,8 @@ impl Session {
         }
     }
 
-    /// The steps of the journal that the client has seen: batches recorded or counted as published,
-    /// and readings of that count.
+    /// The steps of the journal that the client has seen. In such a step, a batch is recorded or
+    /// counted as published, or the count of published batches is read.
     pub(crate) fn steps(&self) -> &SeenSteps
         ensures { result.now ≡ self.now.steps }
     {
@@ -97,8 +99,8 @@ impl Session {
         self.refused
     }
 
-    /// Learns of the published batches from `told`. Returns whether the client then knows only
-    /// these batches. The result is false if the client had known more.
+    /// Learns of the published batches `told`. Returns true if the client then knows exactly these
+    /// batches. Returns false if the client already knew more batches.
     pub(crate) fn meet(&mut self, told: Told) -> bool
         requires { told.source ≡ self.old.known.source }
         ensures others { self.new ≡ record self.old { known = self.new.known } }
@@ -111,8 +113,8 @@ impl Session {
         self.asker.meet(told) == published
     }
 
-    /// Reads the count of published batches, in a step of the journal that names the row at this
-    /// place. Then asks the request, and returns the line of the reply.
+    /// Reads the count of published batches, in a step of the journal that has the number of the
+    /// row, `place`. Then answers the request, and returns the line of the reply.
     fn ask(&mut self, alloc: Global, place: u64, request: &Request) -> Result<Vec<u8>, AskError>
         ensures answered { IfOk result (λ line.
             IsRequestAnswered place request.now self.old line.items self.new) }
@@ -131,7 +133,7 @@ impl Session {
         line_of(alloc, answer)
     }
 
-    /// Refuses the row at this place, and returns the line of the refusal.
+    /// Refuses row `place`, and returns the line of the refusal.
     fn refuse(&mut self, alloc: Global, place: u64, why: RowError) -> Result<Vec<u8>, AskError>
         requires { self.old.refused < place }
         ensures answered { IfOk result (λ line.
@@ -144,7 +146,7 @@ impl Session {
         Ok(line)
     }
 
-    /// Answers the row at this place, whose fields were read as `row`.
+    /// Answers row `place`, whose fields were read as `row`.
     fn answer_read(&mut self, alloc: Global, place: u64, row: &Row) -> Result<Vec<u8>, AskError>
         requires { self.old.refused < place }
         ensures answered { IfOk result (λ line.

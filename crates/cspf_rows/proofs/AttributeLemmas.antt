@@ -1,5 +1,5 @@
--- A link is equal to the link that is made of its attributes, and a request to the request that is
--- made of its attributes.
+-- The attributes of a link make this same link again, and the attributes of a request make this
+-- same request again.
 use Rattle.std.proofs.Common.{◌≡◌, suc, ◌<◌, length, Ok, Err, refl, subst}
 use Rattle.std.proofs.Math.Decide.{ℕ_discrete, dec_le}
 use Rattle.std.proofs.Math.Nat.{ℕ_set}
@@ -13,8 +13,8 @@ use Rattle.cspf_rows.specs.declared.row_error.RowError.TheVariants as error
 use Rattle.cspf_rows.specs.Rows.{link_with, request_with, put_between, put, ask_between, ask}
 
 -- From the attributes of a link, `put_between` makes a row that puts this link. This holds for each
--- proof `eight` that there are eight bandwidths, and each decision `ends` whether both ends are one
--- router.
+-- proof `eight` that there are eight bandwidths. It also holds for each decision `ends` on whether
+-- both endpoints are the same router.
 pub put_between-link : (l : Link) (eight : length l.free ≡ 8) (ends : Dec (l.from ≡ l.to)) → put_between (fields_of_link l) eight ends ≡ Ok (row.Put l)
 put_between-link l eight (yes same) = absurd (l.two_ends same)
 put_between-link l eight (no apart) = λ i.
@@ -39,8 +39,8 @@ unfolding put
 put-self fields eight one = put_between-self fields eight (ℕ_discrete fields.from fields.to) one
 
 -- From the fields of a request, `ask_between` makes a row that asks for this request. This holds
--- for each decision `low` whether the priority is below 8, and each decision `ends` whether both
--- ends are one router.
+-- for each decision `low` on whether the setup priority is below 8. It also holds for each decision
+-- `ends` on whether both endpoints are the same router.
 pub ask_between-request : (q : Request) (low : Dec (q.setup < 8)) (ends : Dec (q.from ≡ q.to)) → ask_between (fields_of_request q) low ends ≡ Ok (row.Ask q)
 ask_between-request q (no above) ends = absurd (above q.priority)
 ask_between-request q (yes below) (yes same) = absurd (q.two_ends same)

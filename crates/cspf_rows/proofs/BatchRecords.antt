@@ -24,8 +24,8 @@ use Rattle.cspf_rows.proofs.Lines.{line_text-cons}
 use Rattle.cspf_rows.proofs.PlainFields.{IsUnquoted, decimal_unquoted, decimals_unquoted, address_unquoted, mask_unquoted}
 use Rattle.cspf_rows.proofs.CutLines.{AreUnquotedRecords, rows_of-lines}
 
--- The rows of a journal are changes and `end` rows. The records that are written for these rows are
--- read as the same rows.
+-- The records that are written for changes and for `end` rows are read as the same rows. Batches
+-- have no other rows.
 pub record AreRowsReadBack : Type 0 where
   pub puts : ArePutsReadBack
   pub drops : AreDropsReadBack
@@ -114,13 +114,13 @@ module _ (laws : AreRowsReadBack) where
   pub written_read : (batches : List NumberedChanges) → AreWritable batches → AreRead (flat_map batch_records batches) (journal_rows batches)
   written_read batches h = batches_read 1 batches h.in_range h.numbers (omega (arith, h.few))
 
--- the text of batches consists of one line for each of their records
+-- the text of a list of batches has one line for each record of these batches
 journal_text-lines : (batches : List NumberedChanges) → journal_text batches ≡ flat_map record_line (flat_map batch_records batches)
 journal_text-lines [] = refl
 journal_text-lines (b ∷ bs) = rw (flat_map-append record_line (batch_records b) (flat_map batch_records bs)) (ap (λ more. batch_text b ++ more) (journal_text-lines bs))
 
--- if the first three bytes of a line aren't a byte order mark, no byte is skipped at the start of a
--- text that begins with this line
+-- Let the first three bytes of a line not be a byte order mark. Then no byte is skipped at the
+-- start of a text that begins with this line.
 no_mark_line : (a b c : ℕ) (x : List ℕ) (xs : List (List ℕ)) (tail : List ℕ) → is_bom a b c ≡ false
     → strip_bom (record_line ((a ∷ b ∷ c ∷ x) ∷ xs) ++ tail) ≡ record_line ((a ∷ b ∷ c ∷ x) ∷ xs) ++ tail
 unfolding strip_bom

@@ -1,4 +1,4 @@
--- Lines of fields that need no quotes are cut into these fields.
+-- If no field needs quotes, the lines that are written for records are cut into these records.
 use Rattle.std.proofs.Common.{◌≡◌, ℕ, zero, suc, ◌≤◌, List, [], ◌∷◌, ◌++◌, length, refl, sym, ap, ◌∙◌, append_assoc, arith}
 use Rattle.std.proofs.lemmas.List.{length-append}
 use Rattle.std.specs.List.{flat_map}
@@ -12,7 +12,7 @@ use Rattle.cspf_rows.specs.Records.{rows_of}
 use Rattle.cspf_rows.proofs.Lines.{line_text-cons}
 use Rattle.cspf_rows.proofs.PlainFields.{AreUnquoted}
 
--- a record of two fields or more, none of which needs quotes
+-- a record of at least two fields, where no field needs quotes
 abbrev pub IsUnquotedRecord : List (List ℕ) → Type 0
 IsUnquotedRecord [] = ⊥
 IsUnquotedRecord (x ∷ []) = ⊥
@@ -27,8 +27,8 @@ unfolding fields_text
 fields_text-unquoted [] h = refl
 fields_text-unquoted (x ∷ xs) h = rw h.0 (ap (λ rest. 44 ∷ (x ++ rest)) (fields_text-unquoted xs h.1))
 
--- if no field of a record needs quotes, `record_line` of this record is the text that `csv` writes
--- for its fields
+-- if no field of a record needs quotes, `record_line` gives the text that `csv` writes for this
+-- record
 line_text-row_text : (x y : List ℕ) (ys : List (List ℕ)) → AreUnquoted (x ∷ y ∷ ys) → record_line (x ∷ y ∷ ys) ≡ row_text default_writer (x ∷ y ∷ ys)
 unfolding is_blank
 line_text-row_text x y ys h =
@@ -53,7 +53,7 @@ cut_lines n [] few h = none_left n
 cut_lines zero (r ∷ rs) few h = absurd (omega arith)
 cut_lines (suc n) (r ∷ rs) few h = next_line n r (flat_map record_line rs) h.0 ∙ ap (λ more. r ∷ more) (cut_lines n rs (omega arith) h.1)
 
--- a text that is a line and further bytes has at least one byte more than these further bytes
+-- a line followed by a text has at least one byte more than this text alone
 line_text-some : (r : List (List ℕ)) (tail : List ℕ) → suc (length tail) ≤ length (record_line r ++ tail)
 unfolding record_line
 line_text-some r tail = simp length-append (omega arith)
@@ -62,8 +62,8 @@ lines_enough : (rs : List (List (List ℕ))) → length rs ≤ length (flat_map 
 lines_enough [] = omega arith
 lines_enough (r ∷ rs) = omega (arith, line_text-some r (flat_map record_line rs), lines_enough rs)
 
--- the lines of records that need no quotes are cut into these records, if the text of the lines
--- doesn't begin with a byte order mark
+-- Let no field of the records need quotes. If the text of their lines doesn't begin with a byte
+-- order mark, it is cut into these records.
 pub rows_of-lines : (rs : List (List (List ℕ))) → AreUnquotedRecords rs → strip_bom (flat_map record_line rs) ≡ flat_map record_line rs → rows_of (flat_map record_line rs) ≡ rs
 unfolding rows_of
 rows_of-lines rs h no_mark = rw no_mark (cut_lines _ rs (omega (arith, lines_enough rs)) h)

@@ -1,4 +1,4 @@
--- A field is read as a value exactly if its text spells that value.
+-- A field is read as a value exactly if the field's text spells this value.
 use Rattle.std.proofs.Common.{◌≡◌, ℕ, zero, suc, ltb, ◌^◌, ◌<◌, Bool, true, false, cond, eqb, inl, inr, List, ◌++◌, codes, drop, ap, Option, Some, None, Result, Ok, Err, refl, arith}
 use Rattle.std.proofs.lemmas.Bool.{ltb-true, lt-ltb, false_from_ne_true}
 use Rattle.std.proofs.lemmas.Bool.Decides.{Decides-eqb}
@@ -22,8 +22,8 @@ use Rattle.cspf_rows.specs.FieldValues.{field, number_at, small_number_at, prior
 use Rattle.cspf_rows.specs.FieldTexts.{AreTextsRead}
 use Rattle.cspf_rows.specs.Says.{SpellsNumber, SpellsFlag, SpellsAddress, SpellsHops}
 
--- if two steps, one after the other, gave the value `y`, the first step gave a value, and the
--- second step made `y` from this value
+-- Let two reading steps, one after the other, give the value `y`. Then the first step gave a value,
+-- and the second step made `y` from this value.
 pub first_step : {A B : Type 0} (r : Result A RowError) (f : A → Result B RowError) (y : B) → (r >>= f) ≡ Ok y → (x : A) × (r ≡ Ok x) × (f x ≡ Ok y)
 first_step (Ok x) f y found = (x, refl, found)
 first_step (Err e) f y found = absurd (cc)
@@ -33,23 +33,23 @@ found : {A : Type 0} (o : Option A) (e : RowError) (x : A) → ok_or o e ≡ Ok 
 found None e x same = absurd (cc)
 found (Some y) e x same = cc
 
--- if a choice between the value `v` and an error gave a value, the test of the choice was true, and
--- the value is `v`
+-- Let a test choose between the value `v` and an error. If the result is the value `n`, the test
+-- was true and `n` is `v`.
 passed : {A : Type 0} (b : Bool) (v n : A) (e : RowError) → cond b (Ok v) (Err e) ≡ Ok n → (b ≡ true) × (v ≡ n)
 passed true v n e same = (refl, cc)
 passed false v n e same = absurd (cc)
 
--- if a number is below 2, and a flag says whether the number is 1, the number is that of this flag
+-- a number n below 2 is the number of the flag `n == 1`
 small_flag : (n : ℕ) (flag : Bool) → n < 2 → eqb n 1 ≡ flag → n ≡ flag_number flag
 small_flag zero flag small is = rw (← is) refl
 small_flag (suc zero) flag small is = rw (← is) refl
 small_flag (suc (suc n)) flag small is = absurd (omega arith)
 
--- if a number is read as a flag, it is the number of that flag
+-- a number that is read as a flag is the number of this flag
 flag_passed : (n : ℕ) (flag : Bool) (e : RowError) → cond (ltb n 2) (Ok (eqb n 1)) (Err e) ≡ Ok flag → n ≡ flag_number flag
 flag_passed n flag e same = let test = passed _ _ _ _ same in small_flag n flag (ltb-true n 2 test.0) test.1
 
--- the number of a flag is read as that flag
+-- the number of a flag is read as this flag
 flag_of_number : (flag : Bool) (e : RowError) → cond (ltb (flag_number flag) 2) (Ok (eqb (flag_number flag) 1)) (Err e) ≡ Ok flag
 flag_of_number true e = refl
 flag_of_number false e = refl
@@ -125,12 +125,13 @@ module _ (texts : AreTextsRead) (fields : List (List ℕ)) (place : ℕ) where
   unfolding mask_at
   spelled-mask_at n read = (texts.masks (field fields place) n).0 (found _ _ n read)
 
--- if mapping the errors of a result gives a list of hops, the result itself is this list of hops
+-- if a result is a list of hops once its errors are mapped, the result was this list of hops before
 kept : {A B : Type 0} (r : Result (List Hop) A) (f : A → B) (hops : List Hop) → result_map_both (λ (h : List Hop). h) f r ≡ Ok hops → r ≡ Ok hops
 kept (Ok h) f hops same = cc
 kept (Err e) f hops same = absurd (cc)
 
--- the test `starts_with` says whether a text is `ero:` and other bytes after it
+-- `starts_with` is true exactly for a text that is `ero:` followed by other bytes, and `drop 4`
+-- gives these bytes
 pub begins : (text : List ℕ) (test : Bool) → test ≡ starts_with eqb text (codes "ero:")
     → (test ≡ true → text ≡ codes "ero:" ++ drop 4 text) × ((rest : List ℕ) → text ≡ codes "ero:" ++ rest → test ≡ true)
 begins text test is = starts_is Decides-eqb text (codes "ero:") test is

@@ -1,4 +1,4 @@
--- Why a text spells no hops.
+-- A text is refused for a fault exactly if it has this fault (`IsHopsFault`).
 use Rattle.std.proofs.Common.{◌≡◌, ◌≢◌, ℕ, Bool, true, false, cond, eqb, List, ◌++◌, codes, drop, Result, Ok, Err, refl, ap, subst}
 use Rattle.std.proofs.lemmas.Bool.{false_from_ne_true}
 use Rattle.std.specs.List.{starts_with}
@@ -13,19 +13,18 @@ use Rattle.cspf_rows.specs.FieldValues.{object_hops_of, hex_hops_of, either_hops
 use Rattle.cspf_rows.specs.RowRefusals.{IsHopsFault}
 use Rattle.cspf_rows.proofs.FieldLemmas.{begins}
 
--- if mapping the errors of a result by `f` gives the error `e`, the result itself is an error, and
--- `f` maps this error to `e`
+-- Let `f` map the errors of a result. If the mapped result is the error `e`, the result was an
+-- error, and `f` maps this error to `e`.
 pub mapped_error : {A B : Type 0} (r : Result (List Hop) A) (f : A → B) (e : B) → result_map_both (λ (h : List Hop). h) f r ≡ Err e → (why : A) × (r ≡ Err why) × (f why ≡ e)
 mapped_error (Ok h) f e same = absurd (cc)
 mapped_error (Err why) f e same = (why, refl, cc)
 
--- if the decoder refuses digits, it doesn't decode them to bytes
+-- a result of the decoder isn't both an error and bytes
 no_bytes : (r : Result (List ℕ) FromHexError) (e : FromHexError) (bytes : List ℕ) → r ≡ Err e → r ≡ Ok bytes → ⊥
 no_bytes (Ok b) e bytes bad good = cc bad
 no_bytes (Err f) e bytes bad good = cc good
 
--- if a text is `ero:` and digits, and these digits are refused for the fault `why`, the text has
--- this fault
+-- if the digits after `ero:` are refused for the fault `why`, the whole text has this fault
 hex_told : (text digits : List ℕ) (why : HopsFault) → text ≡ codes "ero:" ++ digits → hex_hops_of digits ≡ Err why → IsHopsFault text why
 unfolding hex_hops_of
 hex_told text digits why whole read = cases (decode_of digits) refl read

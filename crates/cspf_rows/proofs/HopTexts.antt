@@ -17,8 +17,8 @@ record BeginsWithDigit (text : List ℕ) : Type 0 where
   whole : text ≡ first ∷ behind
   digit : digit_value first < 10
 
--- `number_of` gives the number of a text, or nothing if one of its tests fails; if it gives a
--- number, the test `first` was true: the text's first byte is a digit
+-- `number_of` gives a number only for a text that passes all its tests. So if it gives a number,
+-- the test `first` was true: the first byte of the text is a digit.
 first_passed : (plain first others small : Bool) (v n : ℕ) → cond ((plain && (first && others)) && small) (Some v) None ≡ Some n → first ≡ true
 first_passed true true others small v n read = refl
 first_passed true false others small v n read = absurd (cc)
@@ -50,7 +50,7 @@ other text rest begins whole =
     let digit : digit_value 101 < 10 = subst (λ byte. digit_value byte < 10) letter begins.digit in
     omega (arith, digit)
 
--- the text of a hop list never begins with `ero:`, as that of an EXPLICIT_ROUTE object does
+-- the text of a hop list never begins with `ero:`, which is the prefix of an EXPLICIT_ROUTE object
 pub no_object : AreSpelledOnce → (hops : List Hop) (rest : List ℕ) → hops_text hops ≢ codes "ero:" ++ rest
 unfolding hops_text
 no_object numbers [] rest whole = cc whole

@@ -1,5 +1,5 @@
--- How one more record changes the parts of a journal: its whole batches, the open changes after
--- them, and the records after these. An open change is one whose `end` row hasn't come.
+-- How one more record changes the three parts of a journal: the whole batches, the open changes,
+-- and the records after the open changes. An open change is a change whose `end` row hasn't come.
 use Rattle.std.proofs.Common.{◌≡◌, ◌≢◌, ℕ, ◌+◌, ◌≤◌, Bool, true, false, List, [], ◌∷◌, ◌++◌, map, length, Result, Ok, refl, sym, ap, ◌∙◌, append_assoc, append-nil, arith}
 use Rattle.std.proofs.lemmas.Grind.{flat_map-append}
 use Rattle.std.proofs.lemmas.List.{map-append, length-append, length-map}
@@ -38,7 +38,7 @@ module _ (bs : List NumberedChanges) (cs : List Change) (seen : List (List (List
   seen_more : seen ++ (fields ∷ []) ≡ h.whole ++ (h.open_ones ++ (fields ∷ []))
   seen_more = ap (λ (s : Records). s ++ (fields ∷ [])) h.split ∙ one_more h.whole h.open_ones h.behind fields h.ended
 
-  -- if the next record is a change, it is one more open change
+  -- if the next record is a change, there is one more open change
   pub parts_change : (change : Change) → row_of fields ≡ Ok (change_row change) → AreJournalParts bs (cs ++ (change ∷ [])) false (seen ++ (fields ∷ []))
   parts_change change row = record {
     numbers = h.numbers;
@@ -56,8 +56,8 @@ module _ (bs : List NumberedChanges) (cs : List Change) (seen : List (List (List
   numbered-push first [] b numbers next = (omega (arith, next), tt)
   numbered-push first (x ∷ xs) b numbers next = (numbers.0, numbered-push (first + 1) xs b numbers.1 (omega (arith, next)))
 
-  -- if the next record is the `end` row of the open changes, these changes become one more whole
-  -- batch, and no change is open any more
+  -- if the next record is the `end` row of the open changes, these changes become a whole batch,
+  -- and no change stays open
   pub parts_batch : (batch : NumberedChanges) → batch.number ≡ 1 + length bs → batch.changes ≡ cs
       → row_of fields ≡ Ok (row.End batch.number (length batch.changes)) → AreJournalParts (bs ++ (batch ∷ [])) [] false (seen ++ (fields ∷ []))
   parts_batch batch number same row = record {
@@ -79,7 +79,7 @@ module _ (bs : List NumberedChanges) (cs : List Change) (seen : List (List (List
   some_one e = cc
 
   -- if the next record is neither a change nor the `end` row of the open changes, it is the first
-  -- record after these changes that is in no batch
+  -- record after the open changes
   pub parts_end : EndsBatches (1 + length bs) (length cs) (row_of fields) → AreJournalParts bs cs true (seen ++ (fields ∷ []))
   parts_end last = record {
     numbers = h.numbers;
@@ -101,7 +101,7 @@ some_more : (more : Records) (fields : List (List ℕ)) → more ++ (fields ∷ 
 some_more [] fields e = cc
 some_more (r ∷ more) fields e = cc
 
--- if some record after the open changes is in no batch, the next record is in no batch either
+-- once a record has followed the open changes, the next record follows them too, and is in no batch
 pub parts_behind : (bs : List NumberedChanges) (cs : List Change) (seen : List (List (List ℕ))) (fields : List (List ℕ)) → AreJournalParts bs cs true seen
     → AreJournalParts bs cs true (seen ++ (fields ∷ []))
 parts_behind bs cs seen fields h = record {
@@ -116,8 +116,8 @@ parts_behind bs cs seen fields h = record {
   ended = some_more h.behind fields;
 }
 
--- if records are `whole` followed by `left`, and `whole` is read as `rows`, the records are read as
--- `rows` followed by what `left` is read as
+-- Let `seen` be the records `whole` followed by the records `left`. If `whole` is read as `rows`,
+-- `seen` is read as `rows` followed by the results of reading `left`.
 said : (whole left seen : Records) (rows : List Row) → seen ≡ whole ++ left → map row_of whole ≡ read_rows rows → map row_of seen ≡ read_rows rows ++ map row_of left
 said whole left seen rows split read = rw (split, map-append row_of whole left, read) refl
 
@@ -133,7 +133,7 @@ module _ (bs : List NumberedChanges) (cs : List Change) (ended : Bool) (seen : L
       omega (arith, less, length-map more row_of, length-map (h.open_ones ++ h.behind) row_of, ap length opens)
 
   -- If no more records come, the records that were read are a journal of these batches. `rest` says
-  -- whether records are left after the batches.
+  -- whether records follow these batches.
   journal_of_parts : (rest : Rest) → IsRest (h.open_ones ++ h.behind) rest → IsJournal seen bs rest
   journal_of_parts rest is_rest = record {
     left = h.open_ones ++ h.behind;
@@ -155,17 +155,16 @@ some_open [] behind [] rows some e = some refl
 some_open [] behind (c ∷ cs) rows some e = cc
 some_open (o ∷ opens) behind cs rows some e = cc
 
--- if a journal has no open changes, and all its records are in batches, it is clean: no record is
--- left after its batches
+-- a journal is clean if it has no open changes, and no record after them
 pub journal_clean : (bs : List NumberedChanges) (seen : List (List (List ℕ))) → AreJournalParts bs [] false seen → IsJournal seen bs rest.Clean
 journal_clean bs seen h = journal_of_parts bs [] false seen h rest.Clean (rw (h.ended, no_records h.open_ones h.open_rows) refl)
 
--- if a journal ends with open changes, it is torn: records are left after its batches
+-- a journal that ends with open changes is torn, because these changes follow its last whole batch
 pub journal_open : (bs : List NumberedChanges) (cs : List Change) (seen : List (List (List ℕ))) → AreJournalParts bs cs false seen → cs ≢ [] → IsJournal seen bs rest.Torn
 journal_open bs cs seen h some = journal_of_parts bs cs false seen h rest.Torn (some_open h.open_ones h.behind cs h.open_rows some)
 
--- if a row that is in no batch follows the open changes of a journal, the journal is torn: records
--- are left after its whole batches
+-- a journal with a record after its open changes is torn, because this record follows the last
+-- whole batch
 pub journal_behind : (bs : List NumberedChanges) (cs : List Change) (seen : List (List (List ℕ))) → AreJournalParts bs cs true seen → IsJournal seen bs rest.Torn
 journal_behind bs cs seen h = journal_of_parts bs cs true seen h rest.Torn (some_behind h.open_ones h.behind h.ended)
 
@@ -179,8 +178,8 @@ same_rest (l ∷ left) [] one two count a b = absurd (omega arith)
 same_rest (l ∷ left) (m ∷ more) rest.Clean rest.Torn count a b = absurd (cc)
 same_rest (l ∷ left) (m ∷ more) rest.Torn rest.Clean count a b = absurd (cc)
 
--- If the same records are a journal of one list of batches and also of another, the two lists are
--- the same. Records are left after the batches of both, or of neither.
+-- A journal has only one reading: if the same records are read as two lists of batches, the two
+-- lists are the same. Both readings are clean, or both are torn.
 pub one_journal : (records : List (List (List ℕ))) (batches others : List NumberedChanges) (rest other : Rest)
     → IsJournal records batches rest → IsJournal records others other → (batches ≡ others) × (rest ≡ other)
 one_journal records batches others rest other a b =
@@ -197,7 +196,7 @@ rows_enough : (batches : List NumberedChanges) → length batches ≤ length (jo
 rows_enough [] = omega arith
 rows_enough (b ∷ bs) = simp length-append (omega (arith, rows_enough bs))
 
--- a journal has at most as many whole batches as records
+-- the number of whole batches in a journal is at most the number of its records
 pub few_batches : (bs : List NumberedChanges) (cs : List Change) (ended : Bool) (seen : List (List (List ℕ))) → AreJournalParts bs cs ended seen → length bs ≤ length seen
 few_batches bs cs ended seen h =
     let whole : length h.whole ≡ length (journal_rows bs) =

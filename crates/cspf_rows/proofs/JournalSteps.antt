@@ -1,5 +1,5 @@
--- How one more row changes what a reader of a journal has read: whole batches, and then open
--- changes.
+-- How one more row changes which whole batches and which open changes a reader of a journal has
+-- read.
 use Rattle.std.proofs.Common.{◌≡◌, ◌≢◌, ℕ, ◌+◌, ◌<◌, ◌≤◌, Bool, true, false, List, [], ◌∷◌, ◌++◌, length, length-append, Option, Some, None, IfSome, IfOk, OnOk, Result, Ok, Err, refl, sym, ◌∙◌, arith}
 use Rattle.std.specs.Option.{option_map}
 use Rattle.cspf_model.specs.declared.batch.Change.{Change}
@@ -55,14 +55,14 @@ module _ {R : Type 0} (rem : R → Option (List ℕ)) (all : Option (List (List 
         (λ seen counted parts. more seen parts));
   }
 
-  -- if the row is a change, the reader after this row, `new`, has read one more open change
+  -- if the row is a change, the reader `new`, after this row, has read one more open change
   pub read_change : (next : ℕ) (b c : NumberedChanges) → ReadsOne rem old new fields → HasRead rem all old bs b.changes false → new.count ≡ old.count
       → IsTaken (row_of fields) next b c taken.Change → HasRead rem all new bs c.changes false
   read_change next b c one h same is =
       rw is.2 (read_next b.changes (b.changes ++ (is.0 ∷ [])) false false bs one h (same ∙ h.count) (λ seen parts. parts_change bs b.changes seen fields parts is.0 is.1))
 
-  -- if the row is the `end` row of the open changes, the reader after this row, `new`, has read one
-  -- more whole batch, and no change is open
+  -- Let the row be the `end` row of the open changes. Then the reader `new`, after this row, has
+  -- read one more whole batch and no open change.
   pub read_batch : (b c : NumberedChanges) → ReadsOne rem old new fields → HasRead rem all old bs b.changes false → new.count ≡ old.count + 1
       → IsTaken (row_of fields) new.count b c taken.Batch → HasRead rem all new (bs ++ (c ∷ [])) [] false
   read_batch b c one h more is =
@@ -71,8 +71,8 @@ module _ {R : Type 0} (rem : R → Option (List ℕ)) (all : Option (List (List 
       read_next b.changes [] false false (bs ++ (c ∷ [])) one h (omega (arith, length-append bs (c ∷ [])))
       (λ seen parts. parts_batch bs b.changes seen fields parts c number is.2 (rw (is.2, is.1) is.0))
 
-  -- if the row is neither a change nor the `end` row of the open changes, the reader after it,
-  -- `new`, has read a row that is in no batch
+  -- Let the row be neither a change nor the `end` row of the open changes. Then the reader `new`,
+  -- after this row, has read a row that is in no batch.
   pub read_end : (b c : NumberedChanges) → ReadsOne rem old new fields → HasRead rem all old bs b.changes false → new.count ≡ old.count
       → IsTaken (row_of fields) (new.count + 1) b c taken.Behind → HasRead rem all new bs b.changes true
   read_end b c one h same is =
@@ -80,19 +80,18 @@ module _ {R : Type 0} (rem : R → Option (List ℕ)) (all : Option (List (List 
       let next : new.count + 1 ≡ 1 + length bs = omega arith in
       read_next b.changes b.changes false true bs one h (same ∙ h.count) (λ seen parts. parts_end bs b.changes seen fields parts (rw next at is.0))
 
-  -- if the reader before the row, `old`, has read a row that is in no batch, the reader after it,
-  -- `new`, has the same whole batches and open changes
+  -- Let the reader `old` have read a row that is in no batch. Then one more row changes neither the
+  -- whole batches nor the open changes.
   pub read_behind : (cs : List Change) → ReadsOne rem old new fields → HasRead rem all old bs cs true → new.count ≡ old.count → HasRead rem all new bs cs true
   read_behind cs one h same = read_next cs cs true true bs one h (same ∙ h.count) (λ seen parts. parts_behind bs cs seen fields parts)
 
-  -- if 1,000,000 rows were read, and there is one more, the journal has too many rows
+  -- if the reader has read 1,000,000 rows, and there is one more row, the journal has too many rows
   pub read_too_many : (cs : List Change) (ended : Bool) → HasRead rem all old bs cs ended → old.rows ≡ 1000000
       → Takes (rows_left rem old.records) (rows_left rem new.records) true fields → IfSome all (λ rows. 1000000 < length rows)
   read_too_many cs ended h most takes =
       rw most at (sees_more (AreJournalParts bs cs ended) all (rows_left rem old.records) (rows_left rem new.records) old.rows fields h.seen takes)
 
-  -- if no row is left, and the records that were read are a journal, all records of the stream are
-  -- this journal
+  -- if no row is left, the journal of the records that were read is the journal of the whole stream
   read_all : (cs : List Change) (ended : Bool) (rest : Rest) → HasRead rem all old bs cs ended → old.rows ≤ 1000000
       → Takes (rows_left rem old.records) (rows_left rem new.records) false fields
       → ((seen : List (List (List ℕ))) → AreJournalParts bs cs ended seen → IsJournal seen bs rest) → IfSome all (λ rows. IsJournal rows bs rest × (length rows ≤ 1000000))
@@ -108,15 +107,15 @@ module _ {R : Type 0} (rem : R → Option (List ℕ)) (all : Option (List (List 
       → Takes (rows_left rem old.records) (rows_left rem new.records) false fields → IfSome all (λ rows. IsJournal rows bs rest.Torn × (length rows ≤ 1000000))
   read_open cs some h few takes = read_all cs false rest.Torn h few takes (λ seen parts. journal_open bs cs seen parts some)
 
-  -- If no row is left after the open changes, the stream is a journal of the whole batches. It is
-  -- clean (no row follows these batches) exactly if no change is open.
+  -- If no row is left after the open changes, the stream is a journal of the whole batches. The
+  -- journal is clean if no change is open, and torn otherwise.
   pub read_rest : (cs : List Change) (left : Rest) → (left ≡ rest.Clean → cs ≡ []) → (left ≡ rest.Torn → cs ≢ []) → HasRead rem all old bs cs false → old.rows ≤ 1000000
       → Takes (rows_left rem old.records) (rows_left rem new.records) false fields → IfSome all (λ rows. IsJournal rows bs left × (length rows ≤ 1000000))
   read_rest cs rest.Clean clean torn h few takes = read_clean cs (clean refl) h few takes
   read_rest cs rest.Torn clean torn h few takes = read_open cs (torn refl) h few takes
 
-  -- If no row is left, and a row that is in no batch was read, the stream is a journal of the whole
-  -- batches. The journal is torn: rows follow these batches.
+  -- Let the reader have read a row that is in no batch. If no row is left, the stream is a torn
+  -- journal of the whole batches.
   pub read_torn : (cs : List Change) → HasRead rem all old bs cs true → old.rows ≤ 1000000
       → Takes (rows_left rem old.records) (rows_left rem new.records) false fields → IfSome all (λ rows. IsJournal rows bs rest.Torn × (length rows ≤ 1000000))
   read_torn cs h few takes = read_all cs true rest.Torn h few takes (journal_behind bs cs)
@@ -129,7 +128,7 @@ module _ {R : Type 0} (rem : R → Option (List ℕ)) (all : Option (List (List 
   pub came_end : (come : JournalStep) (left : Rest) → come ≡ step.End left → ComesTo rem all reader bs b come → IfSome all (λ rows. IsJournal rows bs left × (length rows ≤ 1000000))
   came_end come left e came = rw e at came
 
--- if a function returns the error of a function that it calls, the two errors are the same
+-- if a function passes on the error of a call, the function and the call have the same error
 pub same_fault : {A B : Type 0} (r : Result A ReadError) (s : Result B ReadError) (e f k : ReadError) → r ≡ Err k → r ≡ Err f → f ≡ e → s ≡ Err e → s ≡ Err k
 same_fault r s e f k is ends same was = cc
 

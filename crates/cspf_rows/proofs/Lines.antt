@@ -10,8 +10,7 @@ use Rattle.cspf_model.specs.Numbered.{NumberedChanges}
 use Rattle.cspf_rows.specs.Written.{put_fields, end_fields}
 use Rattle.cspf_rows.specs.BatchText.{record_line, batch_text, change_fields, fields_after, attributes}
 
--- joining fields by commas gives the first field, and then a comma and the field for each other
--- field
+-- fields joined by commas are the first field, followed by the other fields, each after a comma
 join_with_byte-cons : (x : List ℕ) (xs : List (List ℕ)) → join_with_byte 44 (x ∷ xs) ≡ x ++ fields_after xs
 join_with_byte-cons x [] = sym (append-nil x)
 join_with_byte-cons x (y ∷ ys) = ap (λ rest. x ++ (44 ∷ rest)) (join_with_byte-cons y ys)
@@ -20,8 +19,8 @@ pub line_text-cons : (x : List ℕ) (xs : List (List ℕ)) → record_line (x �
 unfolding record_line
 line_text-cons x xs = rw (join_with_byte-cons x xs, append_assoc x (fields_after xs) (10 ∷ [])) refl
 
--- the first field, and two others that are each appended after a comma, make a line when a line
--- feed follows
+-- a field, two more fields after a comma each, and a line feed are the line of a record of three
+-- fields
 pub line_of_three : (old x a b : List ℕ) → (((old ++ x) ++ (44 ∷ a)) ++ (44 ∷ b)) ++ (10 ∷ []) ≡ old ++ record_line (x ∷ a ∷ b ∷ [])
 line_of_three old x a b = rw (line_text-cons x (a ∷ b ∷ [])) (simp (append_assoc))
 
@@ -29,8 +28,8 @@ line_of_three old x a b = rw (line_text-cons x (a ∷ b ∷ [])) (simp (append_a
 line_text-append : (old x : List ℕ) (xs ys : List (List ℕ)) → ((old ++ (x ++ fields_after xs)) ++ fields_after ys) ++ (10 ∷ []) ≡ old ++ record_line (x ∷ (xs ++ ys))
 line_text-append old x xs ys = simp (line_text-cons, flat_map-append, append_assoc)
 
--- appending `put` and the attributes of a link, then its bandwidths and then a line feed, appends
--- the line of this link
+-- Appending `put`, the attributes of a link, its bandwidths and a line feed appends the line of
+-- this link.
 pub line_text-put : (old mid new : List ℕ) (link : Link) → mid ≡ old ++ (codes "put" ++ fields_after (attributes link))
     → new ≡ mid ++ fields_after (map decimal link.free) → new ++ (10 ∷ []) ≡ old ++ record_line (put_fields link (mask_text link.group))
 line_text-put old mid new link a b = rw (b, a) (line_text-append old (codes "put") (attributes link) (map decimal link.free))

@@ -7,8 +7,8 @@ use Rattle.std.specs.List.{flat_map, AllByRecursion}
 use Rattle.hex.specs.Hex.{encode_with, encode_lower, lower_digits}
 use Rattle.cspf_addr.specs.MaskText.{byte_digits, mask_text}
 
--- whether `hex` and the text of a mask write the same digit for each number below `n`; for a given
--- `n` this can be computed
+-- whether `hex` and `mask_text` write the same digit for each number below `n`; a computation
+-- proves this for a given `n`
 abbrev are_alike : ℕ → Bool
 are_alike zero = true
 are_alike (suc n) = (slice_index lower_digits n == digit_glyph false n) && are_alike n
@@ -30,8 +30,7 @@ bytes_digits [] small = refl
 bytes_digits (byte ∷ bytes) small =
     rw (are_alike-at 16 (byte / 16) refl (omega (arith, small.0)), are_alike-at 16 (byte % 16) refl (omega arith), bytes_digits bytes small.1) refl
 
--- appending a comma and `0x`, and then the digits that `hex` writes for a mask, is the same as
--- appending a comma and the text of this mask
+-- A comma, `0x` and the digits that `hex` writes for a mask are a comma and the text of this mask.
 pub mask_digits : (bits : ℕ) (old mid new digits : List ℕ) → digits ≡ encode_lower (to_be_bytes w32 bits) → mid ≡ old ++ codes ",0x"
     → new ≡ mid ++ digits → new ≡ old ++ (44 ∷ mask_text bits)
 unfolding mask_text

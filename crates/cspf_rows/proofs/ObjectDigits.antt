@@ -13,14 +13,14 @@ use Rattle.hex.proofs.HexLemmas.{decode_of-digits, decode_of-even, decode_of-ok,
 use Rattle.cspf_rows.specs.declared.row_error.HopsFault.TheVariants as fault
 use Rattle.cspf_rows.specs.FieldValues.{object_hops_of, hex_hops_of}
 
--- if two steps together gave a value, the first step gave a value, and the second step gave the
--- final value for it
+-- Let two decoding steps, one after the other, give the value `b`. Then the first step gave a
+-- value, and the second step made `b` from this value.
 both_decoded : {A B : Type 0} (r : Result A FromHexError) (more : A → Result B FromHexError) (b : B) → (r >>= more) ≡ Ok b → (a : A) × (r ≡ Ok a) × (more a ≡ Ok b)
 both_decoded (Ok a) more b same = (a, refl, same)
 both_decoded (Err e) more b same = absurd (cc)
 
--- if two digits decode to `byte`, and the next `2 * count` digits to the first `count` bytes of
--- `rest`, all these digits decode to `byte` and these bytes
+-- Let two digits decode to `byte`, and the next `2 * count` digits to the first `count` bytes of
+-- `rest`. Then all these digits decode to `byte` followed by these `count` bytes.
 pair_more : (at count high low byte : ℕ) (digits rest : List ℕ) → pair_value high low at ≡ Ok byte → decode_pairs (at + 2) (take (2 * count) digits) ≡ Ok (take count rest)
     → decode_pairs at (take (2 * suc count) (high ∷ low ∷ digits)) ≡ Ok (take (suc count) (byte ∷ rest))
 unfolding decode_pairs
@@ -52,7 +52,7 @@ front_decoded count digits bytes found within =
     ∙ (decode_of-even (take (2 * count) digits) (omega arith)
     ∙ decode_pairs-take 0 count digits bytes (sym (decode_of-even digits parts.0) ∙ found))
 
--- if a text isn't an even number of hexadecimal digits, it is refused as `Hex`
+-- a text that doesn't consist of an even number of hexadecimal digits is refused as `Hex`
 pub not_pairs : (digits : List ℕ) → ((length digits % 2 ≡ 0) × AllPass is_hex_digit digits → ⊥) → hex_hops_of digits ≡ Err fault.Hex
 unfolding hex_hops_of
 not_pairs digits other = refused (decode_of digits) refl
@@ -67,8 +67,8 @@ pairs_decoded digits pairs =
     let (bytes, found) = decode_of-digits digits pairs.0 pairs.1 in
     (bytes, found, (decode_of-ok digits bytes found).2)
 
--- if `count` is the size of an object, or 64 if the object is longer, the first `count` bytes of
--- the object are its first 64 bytes
+-- Let `count` be the smaller of 64 and the size of an object. The first `count` bytes of the object
+-- are then its first 64 bytes.
 pub front_taken : (size count : ℕ) (bytes : List ℕ) → length bytes ≡ size → count ≡ min size 64 → take 64 bytes ≡ take count bytes
 front_taken size count bytes same least =
     elim (cases_lt 64 (length bytes)) [
@@ -78,7 +78,7 @@ front_taken size count bytes same least =
       | inr short ↦ take_all 64 bytes (omega arith) ∙ sym (take_all count bytes (omega arith))
     ]
 
--- if a result is a value, `is_ok` of this result isn't false
+-- `is_ok` isn't false for a result that is a value
 pub no_error : {A E : Type 0} (r : Result A E) (x : A) → r ≡ Ok x → false ≡ is_ok r → ⊥
 no_error (Ok y) x same told = cc
 no_error (Err e) x same told = cc
@@ -91,8 +91,8 @@ hex_hops_of-pairs digits read pairs each =
     let (bytes, found, size) = pairs_decoded digits pairs in
     ap object_hops_of found ∙ sym (ap (λ r. result_map_both (λ (hops : List Hop). hops) fault.Ero r) (each bytes found))
 
--- if the decoded bytes are written at the start of their buffer, the buffer begins with the first
--- `count` of these bytes
+-- Let a buffer have room for `count` bytes. If decoded bytes are written to its start, the buffer
+-- begins with the first `count` of these bytes.
 pub front_placed : (count : ℕ) (bytes front place back : List ℕ) → count ≤ length place → count ≤ length bytes → front ≡ take (length (take count place)) bytes
     → take count (front ++ back) ≡ take count bytes
 front_placed count bytes front place back room within written =

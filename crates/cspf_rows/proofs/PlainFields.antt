@@ -1,4 +1,4 @@
--- The texts of numbers, addresses and masks have no byte for which `csv` would write quotes.
+-- The texts of numbers, addresses and masks need no quotes in `csv`.
 use Rattle.std.proofs.Common.{◌≡◌, ℕ, ◌^◌, ◌<◌, ◌≤◌, Bool, true, false, ◌||◌, ◌&&◌, ◌==◌, List, [], ◌∷◌, ◌++◌, map, length, codes, slice_index, suc, refl, inl, inr, arith}
 use Rattle.std.proofs.lemmas.Bool.{cases_Bool, eqb-true, ltb-true}
 use Rattle.std.proofs.lemmas.Fmt.{decimal_is_IsNumeral}
@@ -22,7 +22,7 @@ abbrev pub AreUnquoted : List (List ℕ) → Type 0
 AreUnquoted [] = Unit {0}
 AreUnquoted (x ∷ xs) = IsUnquoted x × AreUnquoted xs
 
--- a byte that is no digit or letter differs from each digit and letter
+-- a byte that is neither a digit nor a letter differs from each digit and each letter
 other_byte : (b k : ℕ) → 36 ≤ digit_value k → digit_value b < 36 → (b == k) ≡ false
 other_byte b k none some = elim (cases_Bool (b == k)) [
   | inl same ↦ absurd (let h : digit_value k < 36 = rw (eqb-true b k same) at some in omega arith)

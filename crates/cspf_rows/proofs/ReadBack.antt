@@ -12,7 +12,8 @@ use Rattle.cspf_rows.specs.FieldTexts.{AreTextsRead}
 use Rattle.cspf_rows.proofs.HopTexts.{no_object}
 use Rattle.cspf_rows.proofs.RowLaws.{row_of-said}
 
--- in a list of the texts of numbers, the field at an index is the text of the number at this index
+-- Let each number of a list be written as a field. The field at an index is then the text of the
+-- number at the same index.
 decimal_at : (xs : List ℕ) (place : ℕ) → place < length xs → unwrap_or (field_at (map decimal xs) place) [] ≡ decimal (slice_index xs place)
 unfolding field_at
 decimal_at [] place within = absurd (omega (arith, within))

@@ -18,8 +18,8 @@ use Rattle.cspf_rows.proofs.ProgressLemmas.{sees_another, if_some_more}
 abbrev Records : Type 0
 Records = List (List (List ℕ))
 
--- if the records that were read ask for `requests`, and the next record asks for `request`, then
--- all these records ask for `requests` followed by `request`
+-- Let the records that were read ask for `requests`, and the next record for `request`. Then all
+-- these records ask for `requests` followed by `request`.
 pub requests_more : (seen : List (List (List ℕ))) (requests : List Request) (fields : List (List ℕ)) (request : Request)
     → AreRequests seen requests → row_of fields ≡ Ok (row.Ask request) → AreRequests (seen ++ (fields ∷ [])) (requests ++ (request ∷ []))
 requests_more seen requests fields request are read =
@@ -27,7 +27,7 @@ requests_more seen requests fields request are read =
 
 module _ (requests : List Request) (all left next : Option (List (List (List ℕ)))) (count : ℕ) (fields : List (List ℕ))
     (h : HasSeen (λ rows. AreRequests rows requests) all left count) (takes : Takes left next true fields) where
-  -- before the next record there are `count` records, each of which asks for a request
+  -- `count` records precede the next record, and each of them asks for a request
   behind_requests : IfSome all (λ rows. HasRequestsBefore rows count fields)
   behind_requests =
       if_some_more all (λ rows more. record { before = more.0; requests = requests; after = more.1; split = more.2; are_requests = more.3; counted = more.4 })
@@ -37,8 +37,8 @@ module _ (requests : List Request) (all left next : Option (List (List (List ℕ
       → IsFirstOther rows (count + 1) read
   first_other read rows few said asked = record { count = count; fields = fields; asked = asked; is_there = refl; is_read = said; within = omega arith }
 
-  -- if the next record is no row or no request, and so gives the fault `why`, then `why` is a fault
-  -- of the whole stream
+  -- if the stream is refused with the error `why` because of the next record, `why` is a valid
+  -- error of the whole stream
   pub refused_at : (why : RequestsError) → count < MOST_ROWS → IsRefusedAt (count + 1) (row_of fields) why → IfSome all (λ rows. IsRequestsFault rows why)
   refused_at fault.Memory few refused = absurd refused
   refused_at fault.Device few refused = absurd refused
@@ -49,7 +49,7 @@ module _ (requests : List Request) (all left next : Option (List (List (List ℕ
       let other = refused.1 in
       if_some_more all (λ rows asked. rw refused.0 (other.0, other.1, first_other (Ok other.0) rows few other.2 asked)) behind_requests
 
-  -- if there is one more record after `MOST_ROWS` records, the stream has too many rows
+  -- if one more record follows `MOST_ROWS` records, the stream has too many rows
   pub one_too_many : count ≡ MOST_ROWS → IfSome all (λ rows. IsRequestsFault rows fault.TooManyRows)
   one_too_many whole =
       if_some_more all (λ rows asked. record { fields = fields; asked = subst (λ n. HasRequestsBefore rows n fields) whole asked }) behind_requests

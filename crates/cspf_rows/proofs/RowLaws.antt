@@ -1,4 +1,4 @@
--- A record is read as a row exactly if it says that row.
+-- A record is read as a row exactly if it says this row.
 use Rattle.std.proofs.Common.{◌≡◌, ℕ, ◌<◌, Bool, true, false, cond, eqb, List, [], ◌∷◌, length, slice_index, Result, Ok, Err, refl, sym, ap, ◌∙◌, subst, arith}
 use Rattle.std.proofs.lemmas.Bool.{eqb-true}
 use Rattle.std.proofs.lemmas.Slice.Eq.{bytes_eq-Decides}
@@ -18,7 +18,7 @@ use Rattle.cspf_rows.specs.Says.{SaysPut, SaysRemove, SaysNode, SaysEnd, SaysAsk
 use Rattle.cspf_rows.proofs.AttributeLemmas.{put-link, ask-fields}
 use Rattle.cspf_rows.proofs.FieldLemmas.{first_step, number_at-spelled, spelled-number_at, small_number_at-spelled, spelled-small_number_at, priority_at-spelled, spelled-priority_at, flag_at-spelled, spelled-flag_at, address_at-spelled, spelled-address_at, mask_at-spelled, spelled-mask_at, hops_at-spelled, spelled-hops_at}
 
--- a list of eight numbers is the list of its items 0 to 7
+-- a list of eight numbers is the list of its elements at the indices 0 to 7
 eight_items : (xs : List ℕ) → length xs ≡ 8
     → xs ≡ slice_index xs 0 ∷ slice_index xs 1 ∷ slice_index xs 2 ∷ slice_index xs 3 ∷ slice_index xs 4 ∷ slice_index xs 5 ∷ slice_index xs 6 ∷ slice_index xs 7 ∷ []
 eight_items [] n = absurd (omega (arith, n))
@@ -32,7 +32,7 @@ eight_items (a ∷ b ∷ c ∷ d ∷ e ∷ f ∷ g ∷ []) n = absurd (omega (ar
 eight_items (a ∷ b ∷ c ∷ d ∷ e ∷ f ∷ g ∷ h ∷ []) n = refl
 eight_items (a ∷ b ∷ c ∷ d ∷ e ∷ f ∷ g ∷ h ∷ i ∷ rest) n = absurd (omega (arith, n))
 
--- the lemmas by which a field that spells a value is read as this value
+-- the lemmas which state that a field is read as the value that it spells
 ruleset fields_said = (number_at-spelled, small_number_at-spelled, priority_at-spelled, address_at-spelled, mask_at-spelled)
 
 -- if a record says a `put` row, the record is read as that row
@@ -90,8 +90,8 @@ said-ask request (yes below) (no apart) r made = (
   record { id = refl; from = refl; to = refl; setup = refl; bandwidth = refl; exclude_any = refl; include_any = refl; include_all = refl; hops = refl },
 )
 
--- if the fields of a record are read as the attributes of a link, the record says the row that puts
--- that link
+-- if the fields of a record are read as the attributes of a link, the record says the `put` row of
+-- this link
 said-link : AreTextsRead → (fields : List (List ℕ)) (l : Link) (link : LinkFields) → HasLinkFields l link → length fields ≡ 15 → field fields 1 ≡ codes "put"
     → address_at fields 2 ≡ Ok link.from
     → address_at fields 3 ≡ Ok link.local
@@ -127,8 +127,8 @@ said-link texts fields l link has count kind from local to remote metric group u
   free_7 = spelled-number_at texts fields 15 (slice_index l.free 7) (u7 ∙ ap (λ free. Ok (slice_index free 7)) (sym has.free));
 }
 
--- if two reading steps, one after the other, gave a value, each claim that follows from the values
--- of both steps holds
+-- Let two reading steps, one after the other, give a value. A claim holds if it follows from the
+-- values of the two steps.
 stepped : {A B : Type 0} {G : Type 0} (r : Result A RowError) (f : A → Result B RowError) (y : B) → (r >>= f) ≡ Ok y → ((x : A) → r ≡ Ok x → f x ≡ Ok y → G) → G
 stepped r f y found next = let step = first_step r f y found in next step.0 step.1 step.2
 
@@ -207,20 +207,21 @@ said-ask_row_of texts fields r count kind read =
     } in
     subst (Says fields) made.1 said
 
--- if a choice between a row and an error gave a row, the test of the choice was true
+-- Let a test choose between the result `x` and an error. If the outcome is a row, the test was true
+-- and `x` is this row.
 passed_row : (b : Bool) (x : Result Row RowError) (e : RowError) (r : Row) → cond b x (Err e) ≡ Ok r → (b ≡ true) × (x ≡ Ok r)
 passed_row true x e r read = (refl, read)
 passed_row false x e r read = absurd (cc)
 
--- if a record is read as a row of its kind, it has the number of fields of this kind
+-- if a record is read as a row of some kind, it has the number of fields of this kind
 counted : (fields : List (List ℕ)) (count : ℕ) (x : Result Row RowError) (e : RowError) (r : Row) → cond (eqb (length fields) count) x (Err e) ≡ Ok r
     → (length fields ≡ count) × (x ≡ Ok r)
 counted fields count x e r read =
     let h = passed_row (eqb (length fields) count) x e r read in
     (eqb-true (length fields) count h.0, h.1)
 
--- Let a record be read as `x` if its first field is the word `name`, and as `y` otherwise. A claim
--- about the row that is read holds if it holds in both cases.
+-- Let a record be read as `x` if its first field is the word `name`, and as `y` otherwise. If the
+-- record is read as a row, a claim follows once it is shown for each of the two cases.
 by_word : {G : Type 0} (text name : List ℕ) (x y : Result Row RowError) (r : Row) (b : Bool) → b ≡ bytes_eq text name → cond b x y ≡ Ok r
     → (text ≡ name → x ≡ Ok r → G) → (y ≡ Ok r → G) → G
 by_word text name x y r true is read here there = here ((bytes_eq-Decides text name).0 (sym is)) read
@@ -240,7 +241,7 @@ said-row_of texts fields r read =
 pub rows_read : AreTextsRead → AreRowsRead
 rows_read texts fields r = (said-row_of texts fields r, row_of-said texts fields r)
 
--- if a record says two rows, the two rows are the same, because the record is read as each of them
+-- a record says at most one row: the row as which it is read
 pub one_row : AreTextsRead → SaysOneRow
 one_row texts fields r other first second =
     let read = row_of-said texts fields r first in

@@ -22,16 +22,16 @@ use Rattle.cspf_rows.proofs.HopRefusalLemmas.{mapped_error, fault_told, told_fau
 use Rattle.cspf_rows.proofs.AttributeLemmas.{put-self, ask-same}
 use Rattle.cspf_rows.proofs.FieldLemmas.{number_at-spelled, spelled-number_at, small_number_at-spelled, spelled-small_number_at, priority_at-spelled, spelled-priority_at, flag_at-spelled, spelled-flag_at, address_at-spelled, spelled-address_at, mask_at-spelled, spelled-mask_at, hops_at-spelled, spelled-hops_at}
 
--- a field is read as a value exactly if its text spells a value of the field's sort, and it is
--- refused exactly as `Refused` says
+-- `read` is the result of reading a field. It is a value exactly if the field's text spells a value
+-- of the field's sort (`Spelled`). It is the error `e` exactly if `Refused e` holds.
 pub record IsSortRead {A : Type 0} (read : Result A RowError) (Spelled : Type 0) (Refused : RowError → Type 0) : Type 0 where
   pub ok : (x : A) → read ≡ Ok x → Spelled
   pub some : Spelled → (x : A) × (read ≡ Ok x)
   pub err : (e : RowError) → read ≡ Err e → Refused e
   pub refused : (e : RowError) → Refused e → read ≡ Err e
 
--- Let reading a field give a value exactly if the field's text spells this value, and otherwise
--- only the error `why`. Then a field is refused with `why` exactly if its text spells no value.
+-- Let a field be read as a value exactly if its text spells this value, and let `why` be the only
+-- error of this reading. Then the field is refused with `why` exactly if its text spells no value.
 one_error : {A : Type 0} (read : Result A RowError) (Value : A → Type 0) (why : RowError) → ((x : A) → read ≡ Ok x → Value x) → ((x : A) → Value x → read ≡ Ok x)
     → ((e : RowError) → read ≡ Err e → e ≡ why) → IsSortRead read ((x : A) × Value x) (λ e. (e ≡ why) × ¬ ((x : A) × Value x))
 one_error (Ok x) Value why spelled read only = record {
@@ -47,28 +47,29 @@ one_error (Err found) Value why spelled read only = record {
   refused = λ e (same, none). ap Err (only found refl ∙ sym same);
 }
 
--- if `ok_or` turns a missing value into the error `why`, each error of the result is `why`
+-- if `ok_or` turns a missing value into the error `why`, the result has no error other than `why`
 only_error : {A : Type 0} (o : Option A) (why e : RowError) → ok_or o why ≡ Err e → e ≡ why
 only_error (Some x) why e same = absurd (cc)
 only_error None why e same = cc
 
--- if two steps together gave an error, either the first step gave this error, or it gave a value
--- and the second step gave this error for this value
+-- If two reading steps together gave an error, one of the steps gave it. This is the first step, or
+-- the second step with the value of the first.
 first_error : {A B : Type 0} (r : Result A RowError) (f : A → Result B RowError) (e : RowError) → (r >>= f) ≡ Err e → (r ≡ Err e) ⊎ ((x : A) × (r ≡ Ok x) × (f x ≡ Err e))
 first_error (Ok x) f e same = inr (x, refl, same)
 first_error (Err found) f e same = inl (cc)
 
--- if a choice between a value and the error `why` gives an error, this error is `why`
+-- Let a test choose between a value and the error `why`. If the result is an error, this error is
+-- `why`.
 limit_error : {A : Type 0} (b : Bool) (n : A) (why e : RowError) → cond b (Ok n) (Err why) ≡ Err e → e ≡ why
 limit_error true n why e same = absurd (cc)
 limit_error false n why e same = cc
 
--- a result isn't both a value and an error
+-- a result can't be both a value and an error
 different : {A : Type 0} (r : Result A RowError) (x : A) (e : RowError) → r ≡ Ok x → r ≡ Err e → ⊥
 different (Ok y) x e value refusal = cc refusal
 different (Err f) x e value refusal = cc value
 
--- a number that isn't below 8 is refused as a priority
+-- a number that isn't below 8 is refused with the error `Priority`
 above : (b : Bool) (n : ℕ) → ltb n 8 ≡ b → (n < 8 → ⊥) → cond b (Ok n) (Err error.Priority) ≡ Err error.Priority
 above true n is high = absurd (high (ltb-true n 8 is))
 above false n is high = refl
@@ -82,8 +83,8 @@ same_refusal : {A : Type 0} (r : Result A RowError) (e f : RowError) → r ≡ E
 same_refusal (Ok v) e f one other = absurd (cc one)
 same_refusal (Err found) e f one other = cc
 
--- in this part, a field of each sort is read as a value if its text spells one, and otherwise it is
--- refused with the error of its sort
+-- The lemmas of this module are `IsSortRead` for each sort: a field is read as a value if its text
+-- spells one. Otherwise it is refused with the error of its sort.
 module _ (texts : AreTextsRead) (fields : List (List ℕ)) (place : ℕ) where
   number_error : (e : RowError) → number_at fields place ≡ Err e → e ≡ error.Number place
   unfolding number_at
@@ -158,8 +159,8 @@ module _ (texts : AreTextsRead) (fields : List (List ℕ)) (place : ℕ) where
     refused = λ e (why, is, told). rw (told_fault (field fields place) why told, is) refl;
   }
 
--- a record is refused for the error of its next field, or, if this field is read, for the error of
--- the fields after it
+-- A record is refused with the error of its next field. If this field is read as a value, the
+-- record is refused with the error of the fields after it.
 step : {A : Type 0} (read : Result A RowError) (f : A → Result Row RowError) {Spelled : Type 0} {Refused Rest : RowError → Type 0} → IsSortRead read Spelled Refused
     → ((x : A) → read ≡ Ok x → (e : RowError) → (f x ≡ Err e) ↔ Rest e) → (e : RowError) → ((read >>= f) ≡ Err e) ↔ (Refused e ⊎ (Spelled × Rest e))
 step (Ok x) f sort rest e = (
@@ -179,8 +180,8 @@ step (Err found) f sort rest e = (
   ],
 )
 
--- A record is refused for the error of its next field. If this field is read, the record is refused
--- for the error of the field after it. If both are read, the error is that of a later check.
+-- As `step`, for two fields at once. If both fields are read as values, the error is the error of
+-- the later checks.
 two_steps : {A B : Type 0} (first : Result A RowError) (second : Result B RowError) (f : A → B → Result Row RowError) {One Two : Type 0} {NotOne NotTwo Rest : RowError → Type 0}
     → IsSortRead first One NotOne → IsSortRead second Two NotTwo → ((x : A) → first ≡ Ok x → (y : B) → second ≡ Ok y → (e : RowError) → (f x y ≡ Err e) ↔ Rest e)
     → (e : RowError) → ((first >>= (λ x. second >>= (λ y. f x y))) ≡ Err e) ↔ (NotOne e ⊎ (One × (NotTwo e ⊎ (Two × Rest e))))
@@ -194,8 +195,8 @@ one_address texts fields place other a b first second = (
   λ (n, one, two). same_value _ a n first (address_at-spelled texts fields place n one) ∙ sym (same_value _ b n second (address_at-spelled texts fields other n two)),
 )
 
--- a `put` row whose fields spell the attributes of a link is refused exactly if the two ends of the
--- link are the same router
+-- a `put` row whose fields spell the attributes of a link is refused exactly if both endpoints of
+-- the link are the same router
 put_ends : AreTextsRead → (fields : List (List ℕ)) (link : LinkFields) (eight : length link.free ≡ 8) → address_at fields 2 ≡ Ok link.from → address_at fields 4 ≡ Ok link.to
     → (e : RowError) → (put link eight ≡ Err e) ↔ AreEndsRefused put_kind fields e
 unfolding put
@@ -208,7 +209,8 @@ put_ends texts fields link eight from to e = (self (ℕ_discrete link.from link.
     self (yes same) refused = (cc, one.0 same)
     self (no apart) refused = absurd (cc)
 
--- a request with a valid priority is refused exactly if its two ends are the same router
+-- a request with a valid setup priority is refused exactly if head-end and tail-end are the same
+-- router
 ask_ends : AreTextsRead → (fields : List (List ℕ)) (request : RequestFields) → address_at fields 3 ≡ Ok request.from → address_at fields 4 ≡ Ok request.to → priority_at fields 5 ≡ Ok request.setup
     → (e : RowError) → (ask request ≡ Err e) ↔ AreEndsRefused ask_kind fields e
 unfolding ask
@@ -225,7 +227,7 @@ ask_ends texts fields request from to setup e = (same_ends (dec_le (suc request.
     same_ends (yes below) (yes same) refused = (cc, one.0 same)
     same_ends (yes below) (no apart) refused = absurd (cc)
 
--- a record that is read as a row has no error: it isn't refused
+-- a record that is read as a row isn't refused with any error
 read_whole : (r : Row) (e : RowError) → (Ok r ≡ Err e) ↔ ⊥
 read_whole r e = (λ same. cc, λ none. absurd none)
 
@@ -241,8 +243,9 @@ put_refused texts fields =
     two_steps _ _ _ (number_read texts fields 14) (number_read texts fields 15) (λ u6 is_u6 u7 is_u7.
     put_ends texts fields _ _ is_from is_to)))))))
 
--- `row_of_two` refuses a record exactly for the error of the first of its two fields or, if the
--- first field is read, for the error of the second
+-- If the first of two fields is refused, `row_of_two` refuses the record with the same error. If
+-- the first field is read as a value, `row_of_two` refuses the record exactly with the error of the
+-- second field.
 two_refused : {A B : Type 0} {first : Result A RowError} {second : Result B RowError} (make : A → B → Row) {One Two : Type 0} {NotOne NotTwo : RowError → Type 0}
     → IsSortRead first One NotOne → IsSortRead second Two NotTwo → (e : RowError) → (row_of_two first second make ≡ Err e) ↔ (NotOne e ⊎ (One × (NotTwo e ⊎ (Two × ⊥))))
 two_refused make one two = two_steps _ _ _ one two (λ x is_x y is_y. read_whole (make x y))
@@ -269,8 +272,8 @@ ask_refused texts fields =
     two_steps _ _ _ (mask_read texts fields 9) (hops_read texts fields 10) (λ include_all is_include_all list is_list.
     ask_ends texts fields _ is_from is_to is_setup)))))
 
--- A record is refused for its number of fields if rows of its kind have another number of fields.
--- Otherwise it is refused exactly with the error that reading its fields gives.
+-- A record is refused with `Fields` if it doesn't have the number of fields of its kind. Otherwise
+-- the record is refused exactly with the error that reading its fields gives.
 counted : (fields : List (List ℕ)) (count : ℕ) (read : Result Row RowError) (Rest : RowError → Type 0) (e : RowError) → (read ≡ Err e) ↔ Rest e
     → (cond (eqb (length fields) count) read (Err error.Fields) ≡ Err e) ↔ (((e ≡ error.Fields) × (length fields ≢ count)) ⊎ ((length fields ≡ count) × Rest e))
 counted fields count read Rest e rest = (there (eqb (length fields) count) refl, back)
@@ -284,8 +287,8 @@ counted fields count read Rest e rest = (there (eqb (length fields) count) refl,
     back (inl (is, other)) = rw (ne_eqb _ _ other, is) refl
     back (inr (same, why)) = rw (eq-eqb _ _ same) (rest.1 why)
 
--- the reader of `put` rows refuses a record with the error `e` exactly if `IsRefusedAs` says so;
--- the next lemmas say the same of the other kinds of rows
+-- The reader of `put` rows refuses a record with the error `e` exactly if `IsRefusedAs` holds for
+-- `e`. The next lemmas state the same for the other kinds of rows.
 put_record : AreTextsRead → (fields : List (List ℕ)) (e : RowError) → (of_count 15 put_row_of fields ≡ Err e) ↔ IsRefusedAs put_kind fields e
 put_record texts fields e = counted fields 15 (put_row_of fields) (AreFieldsRefused put_kind 2 (sorts_of put_kind) fields) e (put_refused texts fields e)
 
@@ -301,8 +304,8 @@ end_record texts fields e = counted fields 3 (end_row_of fields) (AreFieldsRefus
 ask_record : AreTextsRead → (fields : List (List ℕ)) (e : RowError) → (of_count 10 ask_row_of fields ≡ Err e) ↔ IsRefusedAs ask_kind fields e
 ask_record texts fields e = counted fields 10 (ask_row_of fields) (AreFieldsRefused ask_kind 2 (sorts_of ask_kind) fields) e (ask_refused texts fields e)
 
--- Let reading a record give `x` if its first field is the word `name`, and `y` otherwise. If this
--- gives the error `e`, a claim holds if it follows in both cases.
+-- Let a record be read as `x` if its first field is the word `name`, and as `y` otherwise. If the
+-- result is the error `e`, a claim follows once it is shown for each of the two cases.
 at_word : {G : Type 0} (text name : List ℕ) (x y : Result Row RowError) (e : RowError) (b : Bool) → b ≡ bytes_eq text name → cond b x y ≡ Err e
     → (text ≡ name → x ≡ Err e → G) → (text ≢ name → y ≡ Err e → G) → G
 at_word text name x y e true is read here there = here ((bytes_eq-Decides text name).0 (sym is)) read

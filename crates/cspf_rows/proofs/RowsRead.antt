@@ -9,8 +9,8 @@ use Rattle.csv.specs.declared.parser.State.TheVariants as st
 use Rattle.csv.specs.declared.reader.Reader.{Reader}
 use Rattle.cspf_rows.specs.Records.{rest_of, rows_left, rows_of, Takes}
 
--- after a read either fewer bytes are left, or no bytes are left and the reader is at the start of
--- a record
+-- `IsShorter xs` states one of two things about a read from the bytes `xs`. Either fewer bytes are
+-- left after the read, or no bytes are left and the reader is at the start of a record.
 abbrev IsShorter : List ℕ → Read → Type 0
 IsShorter xs p = (length p.2 < length xs) ⊎ ((p.1 ≡ st.StartRecord) × (p.2 ≡ []))
 
@@ -36,8 +36,9 @@ unfolding records_from next_record
 none_left zero = refl
 none_left (suc n) = refl
 
--- Let the rest of a text, after one record is read, be cut into at most `n` or at most `m` records.
--- If both limits give the same records for each shorter text, they give the same records here.
+-- Cut a text into records, with a limit of `n` or of `m` on the records after the first record. If
+-- both limits give the same records for each shorter text, they give the same records for this
+-- text.
 same_after : (n m : ℕ) (xs : List ℕ) (o : Option Read) → IfSome o (IsShorter xs)
     → ((s : State) (ys : List ℕ) → length ys < length xs → records_from default_config n s ys ≡ records_from default_config m s ys)
     → records_next (records_from default_config n) o ≡ records_next (records_from default_config m) o
@@ -52,8 +53,8 @@ enough (suc n) zero s xs a b = absurd (omega arith)
 enough (suc n) (suc m) s xs a b =
     same_after n m xs _ (shorter default_config s [] [] xs) (λ t ys h. enough n m t ys (omega arith) (omega arith))
 
--- after one record is read, the rows that are left are `rest_of` the reader's new state and the
--- bytes that are left
+-- after one record is read, `rest_of` gives the rows that are left, from the reader's new state and
+-- the bytes that are left
 left_after : (xs : List ℕ) (o : Option Read) → IfSome o (IsShorter xs) → records_next (records_from default_config (length xs)) o ≡ records_next rest_of o
 unfolding rest_of
 left_after xs None h = refl
@@ -78,7 +79,7 @@ takes s s2 None after found fields h = tt
 takes s s2 (Some xs) None found fields h = absurd h
 takes s s2 (Some xs) (Some ys) found fields h = takes_known _ _ found fields s2 ys (rest_next s xs) h
 
--- reading a record either takes the first of the rows that are left, or finds that no row is left
+-- reading a record either returns the first of the rows that are left, or finds that no row is left
 pub takes_read : {R : Type 0} (rem : R → Option (List ℕ)) (old new : Reader R) (found : Bool) (fields : List (List ℕ))
     → old.config ≡ default_config → ReadRecord rem old new found fields → Takes (rows_left rem old) (rows_left rem new) found fields
 takes_read rem old new found fields config h =

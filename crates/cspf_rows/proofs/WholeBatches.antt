@@ -1,4 +1,4 @@
--- Which prefixes of a list of rows consist of whole batches.
+-- Lemmas on the prefixes of a list of rows that consist of whole batches.
 use Rattle.std.proofs.Common.{◌≡◌, ◌≢◌, ℕ, ◌+◌, ◌≤◌, List, [], ◌∷◌, ◌++◌, map, length, Result, Ok, refl, sym, ap, ◌∙◌, append_assoc, arith}
 use Rattle.std.proofs.lemmas.List.{map-append, length-append, length-map}
 use Rattle.cspf_model.specs.declared.batch.Change.{Change}
@@ -13,13 +13,12 @@ use Rattle.cspf_rows.specs.JournalReading.{EndsBatches, AreBehind}
 abbrev ReadRow : Type 0
 ReadRow = Result Row RowError
 
--- the results of reading these rows, each without an error
+-- the results of reading records that say these rows: each result is a row, and none is an error
 abbrev pub read_rows : List Row → List (Result Row RowError)
 read_rows rows = map {B = Result Row RowError} Ok rows
 
--- If a list of rows begins with the rows of one batch, and also with those of another, the two
--- batches have the same changes and the same number. The rows after the two batches are then the
--- same, too.
+-- If two batches are both at the start of the same list of rows, they have the same changes and the
+-- same number. The rows after them are also the same.
 pub same_batch : (cs ds : List Change) (m k n l : ℕ) (xs ys : List (Result Row RowError))
     → read_rows (map change_row cs ++ (row.End m k ∷ [])) ++ xs ≡ read_rows (map change_row ds ++ (row.End n l ∷ [])) ++ ys
     → (cs ≡ ds) × (m ≡ n) × (xs ≡ ys)
@@ -57,8 +56,8 @@ split_first : (b : NumberedChanges) (bs : List NumberedChanges) (xs : List ReadR
     → read_rows (journal_rows (b ∷ bs)) ++ xs ≡ read_rows (batch_rows b) ++ (read_rows (journal_rows bs) ++ xs)
 split_first b bs xs = rw (map-append {B = ReadRow} Ok (batch_rows b) (journal_rows bs), append_assoc (read_rows (batch_rows b)) (read_rows (journal_rows bs)) xs) refl
 
--- if two lists of batches have the same rows, their first batches are the same, and the rows after
--- the first batches are the same
+-- If two lists of batches have the same rows, their first batches have the same changes and number.
+-- The rows after the first batches are also the same.
 first_two : (b o : NumberedChanges) (bs os : List NumberedChanges) (xs ys : List ReadRow)
     → read_rows (journal_rows (b ∷ bs)) ++ xs ≡ read_rows (journal_rows (o ∷ os)) ++ ys
     → (b.changes ≡ o.changes) × (b.number ≡ o.number) × (read_rows (journal_rows bs) ++ xs ≡ read_rows (journal_rows os) ++ ys)
@@ -69,9 +68,9 @@ first_two b o bs os xs ys e =
 abbrev pub HasNoBatch : ℕ → List (Result Row RowError) → Type 0
 HasNoBatch number xs = (batch : NumberedChanges) (rest : List (Result Row RowError)) → batch.number ≡ number → xs ≢ read_rows (batch_rows batch) ++ rest
 
--- Let rows be those of the batches `bs` followed by `xs`, and also those of the batches `os`
--- followed by `ys`. If `xs` doesn't begin with a whole batch of the next number, `ys` has at least
--- as many rows as `xs`.
+-- Let the rows of the batches `bs` followed by `xs` be the same list as the rows of the batches
+-- `os` followed by `ys`. If `xs` doesn't begin with a whole batch of the next number, `xs` has at
+-- most as many rows as `ys`.
 pub longest_prefix : (first : ℕ) (bs os : List NumberedChanges) (xs ys : List (Result Row RowError)) → AreNumberedFrom first bs → AreNumberedFrom first os
     → read_rows (journal_rows bs) ++ xs ≡ read_rows (journal_rows os) ++ ys → HasNoBatch (first + length bs) xs → length xs ≤ length ys
 longest_prefix first [] [] xs ys numbers others e none = omega (arith, ap length e)
@@ -87,8 +86,8 @@ equal_batches b o number changes =
     ap (λ n. let x : NumberedChanges = record { number = n; changes = b.changes } in x) number
     ∙ ap (λ cs. let x : NumberedChanges = record { number = o.number; changes = cs } in x) changes
 
--- Let a list of rows begin with the rows of one list of batches, and also with those of another. If
--- equally many rows follow both, the two lists of batches are the same.
+-- Let the rows of two lists of batches both be at the start of one list of rows. If the same number
+-- of rows follows each, the two lists of batches are the same.
 pub same_prefix : (bs os : List NumberedChanges) (xs ys : List (Result Row RowError))
     → read_rows (journal_rows bs) ++ xs ≡ read_rows (journal_rows os) ++ ys → length xs ≡ length ys → bs ≡ os
 same_prefix [] [] xs ys e count = refl
@@ -98,8 +97,9 @@ same_prefix (b ∷ bs) (o ∷ os) xs ys e count =
     let two = first_two b o bs os xs ys e in
     rw (equal_batches b o two.1 two.0, same_prefix bs os xs ys two.2 count) refl
 
--- Let rows begin with open changes. If no row comes after these changes, or the next row is neither
--- a change nor their `end` row, the rows don't begin with a whole batch.
+-- Let rows begin with open changes. If no row follows these changes, the rows don't begin with a
+-- whole batch. The same holds if the next row is neither a change nor the `end` row of these
+-- changes.
 no_batch : (opens cs : List Change) (done n k number count : ℕ) (xs rest : List ReadRow)
     → AreBehind n k xs → done + length opens ≡ k → done + length cs ≡ count → number ≡ n
     → read_rows (map change_row opens) ++ xs ≡ read_rows (map change_row cs ++ (row.End number count ∷ [])) ++ rest → ⊥

@@ -29,11 +29,11 @@ batch_records batch = map change_fields batch.changes ++ (end_fields batch.numbe
 abbrev pub batch_text : NumberedChanges → List ℕ
 batch_text batch = flat_map record_line (batch_records batch)
 
--- private: a comma and the field, for each of the fields
+-- private: the fields, each after a comma
 abbrev pub fields_after : List (List ℕ) → List ℕ
 fields_after fields = flat_map (λ field. 44 ∷ field) fields
 
--- private: the fields of a `put` row after its first field and before its unreserved bandwidths
+-- private: the fields of a `put` row between the word `put` and the unreserved bandwidths
 abbrev pub attributes : Link → List (List ℕ)
 attributes link =
     address_text link.from ∷ address_text link.local ∷ address_text link.to ∷ address_text link.remote ∷ decimal link.metric ∷ mask_text link.group ∷ []

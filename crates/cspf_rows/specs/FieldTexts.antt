@@ -1,12 +1,13 @@
--- Private: the laws of fields that the proofs about reading rows use.
+-- Private: the laws of field texts, which the proofs about reading rows use.
 use Rattle.cspf_addr.specs.Numbers.{AreSpelledOnce}
 use Rattle.cspf_addr.specs.AddressText.{AreAddressesSpelledOnce}
 use Rattle.cspf_addr.specs.MaskText.{AreMasksRead}
 use Rattle.cspf_model.specs.Fields.{AreFieldsOfLinks}
 use Rattle.cspf_ero.specs.Laws.{AreObjectsRead}
 
--- A number, address, mask or EXPLICIT_ROUTE object is read from exactly the texts that spell it. A
--- link has the attributes that were read, and no others.
+-- A number, an address or a mask is read from exactly the texts that spell it. Hops are read from
+-- exactly the EXPLICIT_ROUTE objects that spell these hops. A link has exactly the attributes that
+-- were read.
 pub record AreTextsRead : Type 0 where
   pub numbers : AreSpelledOnce
   pub addresses : AreAddressesSpelledOnce

@@ -19,21 +19,21 @@ use Rattle.cspf_rows.specs.declared.row_error.HopsFault.TheVariants as fault
 use Rattle.cspf_rows.specs.declared.row_error.RowError.{RowError}
 use Rattle.cspf_rows.specs.declared.row_error.RowError.TheVariants as error
 
--- the field with this number; a field past the last one is empty
+-- field `place`, counted from 1; a field past the last one is empty
 abbrev pub field : List (List ℕ) → ℕ → List ℕ
 field fields place = unwrap_or (field_at fields (place - 1)) []
 
--- the number below 2^64 that the field spells
+-- the number below 2^64 that field `place` spells
 unfoldable pub number_at : List (List ℕ) → ℕ → Result ℕ RowError
 number_at fields place = ok_or (number_of (field fields place)) (error.Number place)
 
--- the number below 2^32 that the field spells
+-- the number below 2^32 that field `place` spells
 unfoldable pub small_number_at : List (List ℕ) → ℕ → Result ℕ RowError
 small_number_at fields place = do
   n ← number_at fields place
   if nat_lt n (2 ^ 32) then Ok n else Err (error.Number place)
 
--- the setup priority, 0 to 7, that the field spells; a number from 8 to 2^32 - 1 is refused as
+-- the setup priority, 0 to 7, that field `place` spells; a number from 8 to 2^32 - 1 is refused as
 -- `Priority`
 unfoldable pub priority_at : List (List ℕ) → ℕ → Result ℕ RowError
 priority_at fields place = do
@@ -45,22 +45,22 @@ abbrev pub flag_number : Bool → ℕ
 flag_number false = 0
 flag_number true = 1
 
--- the flag that the field spells; a number other than 0 and 1 is refused as `Number`
+-- the flag that field `place` spells; a number other than 0 and 1 is refused as `Number`
 unfoldable pub flag_at : List (List ℕ) → ℕ → Result Bool RowError
 flag_at fields place = do
   n ← small_number_at fields place
   if nat_lt n 2 then Ok (n == 1) else Err (error.Number place)
 
--- the address that the field spells
+-- the address that field `place` spells
 unfoldable pub address_at : List (List ℕ) → ℕ → Result ℕ RowError
 address_at fields place = ok_or (address_of (field fields place)) (error.Address place)
 
--- the mask that the field spells
+-- the mask that field `place` spells
 unfoldable pub mask_at : List (List ℕ) → ℕ → Result ℕ RowError
 mask_at fields place = ok_or (mask_of (field fields place)) (error.Mask place)
 
--- the hops of an EXPLICIT_ROUTE object whose digits were decoded, or the fault of its digits or its
--- bytes
+-- The hops of an EXPLICIT_ROUTE object, if the argument has the decoded bytes of this object. If
+-- the digits weren't decoded, or the bytes spell no hops, this is a fault.
 abbrev pub object_hops_of : Result (List ℕ) FromHexError → Result (List Hop) HopsFault
 object_hops_of (Ok bytes) = result_map_both (λ hops. hops) fault.Ero (ero_of bytes)
 object_hops_of (Err e) = Err fault.Hex
@@ -69,13 +69,14 @@ object_hops_of (Err e) = Err fault.Hex
 unfoldable pub hex_hops_of : List ℕ → Result (List Hop) HopsFault
 hex_hops_of digits = object_hops_of (decode_of digits)
 
--- the hops that a text spells: as an EXPLICIT_ROUTE object after `ero:`, or else as a hop list
+-- The hops that a text spells. A text that begins with `ero:` is read as an EXPLICIT_ROUTE object,
+-- and any other text as a hop list.
 unfoldable pub either_hops_of : List ℕ → Result (List Hop) HopsFault
 either_hops_of text =
     if starts_with nat_eq text (codes "ero:")
     then hex_hops_of (drop 4 text)
     else result_map_both (λ hops. hops) fault.Text (hops_of text)
 
--- the hops that the field spells
+-- the hops that field `place` spells
 unfoldable pub hops_at : List (List ℕ) → ℕ → Result (List Hop) RowError
 hops_at fields place = result_map_both (λ hops. hops) error.Hops (either_hops_of (field fields place))

@@ -11,8 +11,8 @@ use Rattle.cspf_rows.specs.Records.{IsPlain}
 abbrev pub rows_read : {R : Type 0} → JournalReader R → ℕ
 rows_read reader = reader.rows
 
--- A reader can be asked for the next batch: it hasn't failed, and it hasn't come to the end of its
--- batches.
+-- The reader can be asked for the next batch: it hasn't failed, and it hasn't reached the end of
+-- the batches.
 pub record CanRead {R : Type 0} (reader : JournalReader R) : Type 0 where
   pub plain : IsPlain reader.records
   pub rows : rows_read reader ≤ MOST_ROWS
@@ -22,8 +22,8 @@ pub record CanRead {R : Type 0} (reader : JournalReader R) : Type 0 where
 abbrev pub HasFailed : {R : Type 0} → JournalReader R → Type 0
 HasFailed reader = has_failed reader.records ≡ true
 
--- The reader has returned these batches, which have the numbers 1, 2, 3 and so on, and has read no
--- row after them. `all` has the records of the journal, if they are known.
+-- The reader has returned these batches, and has read no row after them. The batches are numbered
+-- 1, 2, 3 and so on. `all` has all records of the journal, if the bytes of the journal are known.
 pub record HasGiven {R : Type 0} (rem : R → Option (List ℕ)) (all : Option (List (List (List ℕ))))
     (reader : JournalReader R) (batches : List NumberedChanges) : Type 0 where
   pub numbers : AreNumberedFrom 1 batches

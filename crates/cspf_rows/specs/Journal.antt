@@ -16,8 +16,8 @@ change_row (change.Put link) = row.Put link
 change_row (change.Remove from local) = row.Remove from local
 change_row (change.Node router transit) = row.Node router transit
 
--- the rows of a whole batch: a row for each change, in order, and an `end` row that says how many
--- changes the batch has
+-- The rows of a whole batch: one row for each change, in order, and then an `end` row. The `end`
+-- row has the number of the batch, and the number of its changes.
 abbrev pub batch_rows : NumberedChanges → List Row
 batch_rows batch = map change_row batch.changes ++ (row.End batch.number (length batch.changes) ∷ [])
 
@@ -25,22 +25,22 @@ batch_rows batch = map change_row batch.changes ++ (row.End batch.number (length
 abbrev pub journal_rows : List NumberedChanges → List Row
 journal_rows batches = flat_map batch_rows batches
 
--- The records begin with those of whole batches with the numbers 1, 2, 3 and so on, and `left` are
--- the records after these. A record that is no row is in no batch, and a request isn't in a batch
--- either.
+-- The records begin with the records of whole batches, which are numbered 1, 2, 3 and so on. `left`
+-- has the records after these batches. Neither a request nor a record that is no row is ever part
+-- of a batch.
 pub record BeginsWithBatches (records : List (List (List ℕ))) (batches : List NumberedChanges) (left : List (List (List ℕ))) : Type 0 where
   pub numbers : AreNumberedFrom 1 batches
   pub front : List (List (List ℕ))
   pub split : records ≡ front ++ left
   pub rows : map row_of front ≡ map Ok (journal_rows batches)
 
--- a journal is clean if no record is left after its batches, and torn otherwise
+-- a journal is clean if no record follows its batches, and torn otherwise
 abbrev pub IsRest : List (List (List ℕ)) → Rest → Type 0
 IsRest left rest.Clean = left ≡ []
 IsRest left rest.Torn = left ≢ []
 
--- The batches of a journal are those of the longest prefix of its records that consists of whole
--- batches with the numbers 1, 2, 3 and so on. A batch need not fit a database.
+-- The batches of a journal are numbered 1, 2, 3 and so on. They are the longest prefix of the
+-- journal's records that consists of whole batches. A batch of a journal need not fit a database.
 pub record IsJournal (records : List (List (List ℕ))) (batches : List NumberedChanges) (rest : Rest) : Type 0 where
   pub left : List (List (List ℕ))
   pub begins : BeginsWithBatches records batches left

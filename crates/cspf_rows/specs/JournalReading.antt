@@ -1,4 +1,5 @@
--- Private: which rows a reader of a journal has read, and which batches and changes they are.
+-- Private: which rows a reader of a journal has read, and to which batches and changes these rows
+-- belong.
 use Rattle.std.specs.Prelude.{◌≡◌, ◌≢◌, ◌+◌, ◌≤◌, ℕ, Bool, false, Option, IfSome, List, [], ◌∷◌, ◌++◌, map, length, Result, Ok, Err}
 use Rattle.std.specs.Bool.{MatchBool}
 use Rattle.cspf_model.specs.declared.batch.Change.{Change}
@@ -17,7 +18,7 @@ use Rattle.cspf_rows.specs.Records.{rows_left}
 use Rattle.cspf_rows.specs.Journal.{IsJournal, journal_rows, change_row}
 use Rattle.cspf_rows.specs.Progress.{HasSeen}
 
--- the row isn't a change, and it doesn't end the batch with this number and this many changes
+-- the row is neither a change nor the `end` row of the batch with this number and this many changes
 abbrev pub EndsBatches : ℕ → ℕ → Result Row RowError → Type 0
 EndsBatches number count (Ok (row.Put link)) = ⊥
 EndsBatches number count (Ok (row.Remove from local)) = ⊥
@@ -26,14 +27,14 @@ EndsBatches number count (Ok (row.End n k)) = ¬ ((n ≡ number) × (k ≡ count
 EndsBatches number count (Ok (row.Ask request)) = Unit {0}
 EndsBatches number count (Err error) = Unit {0}
 
--- either there are no rows, or the first row is neither a change nor the `end` row of the batch
--- with this number and this many changes
+-- There are no rows, or the first row doesn't belong to the batch with this number and this many
+-- changes. Such a row is neither a change nor the `end` row of this batch.
 abbrev pub AreBehind : ℕ → ℕ → List (Result Row RowError) → Type 0
 AreBehind number count [] = Unit {0}
 AreBehind number count (row ∷ rows) = EndsBatches number count row
 
--- how a row changes the batch that is being read: `old` has the batch's changes before the row, and
--- `new` has its changes after the row
+-- How a row changes the batch that is being read, which has the number `next`. `old` is the batch
+-- before the row, and `new` is the batch after the row.
 abbrev pub IsTaken : Result Row RowError → ℕ → NumberedChanges → NumberedChanges → Taken → Type 0
 IsTaken read next old new taken.Change =
     (change : Change) × (read ≡ Ok (change_row change)) × (new.changes ≡ old.changes ++ change ∷ [])
@@ -42,8 +43,10 @@ IsTaken read next old new taken.Batch =
 IsTaken read next old new taken.Behind =
     EndsBatches next (length old.changes) read × (new.changes ≡ old.changes)
 
--- The records are those of whole batches, followed by those of open changes, whose `end` row hasn't
--- come. If a row that is in no batch follows, any records may come after this row.
+-- The records consist of three parts: the records of whole batches, the records of open changes,
+-- and the rest. An open change is a change whose `end` row hasn't come. `has_ended` says whether
+-- there is a rest. The rest begins with a record that is in no batch, and any records may follow
+-- this record.
 pub record AreJournalParts (batches : List NumberedChanges) (changes : List Change) (has_ended : Bool)
     (seen : List (List (List ℕ))) : Type 0 where
   pub numbers : AreNumberedFrom 1 batches
@@ -56,16 +59,16 @@ pub record AreJournalParts (batches : List NumberedChanges) (changes : List Chan
   pub ends : AreBehind (1 + length batches) (length changes) (map row_of behind)
   pub ended : MatchBool has_ended (behind ≢ []) (behind ≡ [])
 
--- A reader has read the records of these batches and of these open changes, whose `end` row hasn't
--- come. If `has_ended` is set, the reader has also read a row that is in no batch, and perhaps rows
--- after this row.
+-- The reader has read the records of these batches, and then the records of these open changes,
+-- whose `end` row hasn't come. If `has_ended` is true, the reader has also read a row that is in no
+-- batch, and perhaps further rows after it.
 pub record HasRead {R : Type 0} (rem : R → Option (List ℕ)) (all : Option (List (List (List ℕ))))
     (reader : JournalReader R) (batches : List NumberedChanges) (changes : List Change)
     (has_ended : Bool) : Type 0 where
   pub count : reader.count ≡ length batches
   pub seen : HasSeen (AreJournalParts batches changes has_ended) all (rows_left rem reader.records) reader.rows
 
--- what a reader finds after it has read `batches`: one more whole batch, or the end of the stream
+-- what a reader that has read `batches` finds next: one more whole batch, or the end of the batches
 abbrev pub ComesTo : {R : Type 0} → (R → Option (List ℕ)) → Option (List (List (List ℕ))) → JournalReader R
     → List NumberedChanges → NumberedChanges → JournalStep → Type 0
 ComesTo rem all reader batches batch step.Batch = HasRead rem all reader (batches ++ batch ∷ []) [] false

@@ -1,7 +1,7 @@
--- Private: which records of a stream were read, and which are left.
+-- Private: which records of a stream were read, and which are still to be read.
 use Rattle.std.specs.Prelude.{◌≡◌, ℕ, List, ◌++◌, length, Option, Some, None}
 
--- all records are those that were read, followed by those that are left
+-- `all` has the records that were read, followed by the records that are left
 abbrev pub AreSplit : Option (List (List (List ℕ))) → Option (List (List (List ℕ))) → List (List (List ℕ)) → Type 0
 AreSplit None left seen = Unit {0}
 AreSplit (Some all) None seen = ⊥

@@ -1,12 +1,12 @@
--- Which fault a record has for each error of `csv`.
+-- The reason why a record can't be read, for each error of `csv`.
 use Rattle.csv.specs.declared.error.ErrorKind.{ErrorKind}
 use Rattle.csv.specs.declared.error.ErrorKind.TheVariants as kind
 use Rattle.cspf_rows.specs.declared.record_error.RecordError.{RecordError}
 use Rattle.cspf_rows.specs.declared.record_error.RecordError.TheVariants as error
 
--- The fault is `Memory` if memory was refused, and `Device` otherwise. The reader takes no record
--- as a header, and a record may have any number of fields. So no bytes can be wrong, and every
--- other error is a failed read.
+-- The reason is `Memory` if memory was refused, and `Device` otherwise. The reader has no header
+-- and accepts any number of fields in a record. So any bytes are valid, and every other error is a
+-- failed read.
 abbrev pub fault_of : ErrorKind → RecordError
 fault_of kind.OutOfMemory = error.Memory
 fault_of (kind.Io why) = error.Device

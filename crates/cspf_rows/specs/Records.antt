@@ -16,15 +16,15 @@ Records = List (List (List ℕ))
 unfoldable pub rows_of : List ℕ → List (List (List ℕ))
 rows_of bytes = records default_config (strip_bom bytes)
 
--- the rows of the bytes that aren't read yet, if the reader is in state `s`
+-- the rows in the bytes that are left, if the reader of these bytes is in state `s`
 unfoldable pub rest_of : State → List ℕ → List (List (List ℕ))
 rest_of s bytes = records_from default_config (length bytes + 1) s bytes
 
--- the rows that a reader hasn't read yet, if the bytes that it hasn't read yet are known
+-- the rows that a reader hasn't read yet, or nothing if its unread bytes aren't known
 abbrev pub rows_left : {R : Type 0} → (R → Option (List ℕ)) → Reader R → Option (List (List (List ℕ)))
 rows_left rem r = option_map (λ bytes. rest_of (reader_state r) bytes) (source_of rem r)
 
--- The reader has the default settings and hasn't failed. It takes no record as a header, and a
+-- The reader has the default settings and hasn't failed. No record is read as a header, and a
 -- record may have any number of fields.
 pub record IsPlain {R : Type 0} (r : Reader R) : Type 0 where
   pub trim : reader_trim r ≡ trim.None
@@ -33,8 +33,8 @@ pub record IsPlain {R : Type 0} (r : Reader R) : Type 0 where
   pub flexible : is_flexible r ≡ true
   pub going : has_failed r ≡ false
 
--- if a row was found, it was the first of the rows, and `after` are the others; if none was found,
--- there was no row
+-- What one read does to the rows that are left. If it found a row, this was the first of these
+-- rows, and `after` has the others. If it found no row, no row was left.
 abbrev pub Takes : Option (List (List (List ℕ))) → Option (List (List (List ℕ))) → Bool → List (List ℕ) → Type 0
 Takes None after found fields = Unit {0}
 Takes (Some rows) after false fields = rows ≡ []

@@ -1,4 +1,4 @@
--- Private: with which error a stream of requests is refused because of one of its records.
+-- Private: the error with which a stream of requests is refused because of one of its records.
 use Rattle.std.specs.Prelude.{◌≡◌, ℕ, Result, Ok, Err}
 use Rattle.cspf_rows.specs.declared.row.Row.{Row}
 use Rattle.cspf_rows.specs.declared.row_error.RowError.{RowError}
@@ -6,8 +6,7 @@ use Rattle.cspf_rows.specs.declared.requests_error.RequestsError.{RequestsError}
 use Rattle.cspf_rows.specs.declared.requests_error.RequestsError.TheVariants as fault
 use Rattle.cspf_rows.specs.Requests.{IsNoRequest}
 
--- because of the row with this number, which is read as `read`, the stream is refused with this
--- fault
+-- The stream is refused with this error because of row `place`, which is read as `read`.
 abbrev pub IsRefusedAt : ℕ → Result Row RowError → RequestsError → Type 0
 IsRefusedAt place read fault.Memory = ⊥
 IsRefusedAt place read fault.Device = ⊥

@@ -1,4 +1,4 @@
--- Which requests a stream has, or because of which row the stream is refused.
+-- Which requests a stream has, or for which of its rows the stream is refused.
 use Rattle.std.specs.Prelude.{◌≡◌, ◌+◌, ◌≤◌, ℕ, List, ◌∷◌, ◌++◌, map, length, Result, Ok, Err}
 use Rattle.cspf_model.specs.declared.request.Request.{Request}
 use Rattle.cspf_rows.specs.declared.limits.TheConstants.{MOST_ROWS}
@@ -9,11 +9,11 @@ use Rattle.cspf_rows.specs.declared.requests_error.RequestsError.{RequestsError}
 use Rattle.cspf_rows.specs.declared.requests_error.RequestsError.TheVariants as fault
 use Rattle.cspf_rows.specs.Rows.{row_of}
 
--- there are as many records as requests, and each record asks for the request at the same index
+-- each record asks for the request at the same index, and the two lists have the same length
 abbrev pub AreRequests : List (List (List ℕ)) → List Request → Type 0
 AreRequests records requests = map row_of records ≡ map (λ request. Ok (row.Ask request)) requests
 
--- a row of the stream that isn't a request
+-- the row isn't a request
 abbrev pub IsNoRequest : Row → Type 0
 IsNoRequest (row.Put link) = Unit {0}
 IsNoRequest (row.Remove from local) = Unit {0}
@@ -30,8 +30,8 @@ pub record HasRequestsBefore (records : List (List (List ℕ))) (count : ℕ) (f
   pub are_requests : AreRequests before requests
   pub counted : length before ≡ count
 
--- The record with this number, counted from 1, is the first that is no request, and `read` is what
--- this record is read as.
+-- Record `place`, counted from 1, is the first record that is no request. `read` is the row or the
+-- error as which this record is read.
 pub record IsFirstOther (records : List (List (List ℕ))) (place : ℕ) (read : Result Row RowError) : Type 0 where
   pub count : ℕ
   pub fields : List (List ℕ)
@@ -45,8 +45,8 @@ pub record AreTooMany (records : List (List (List ℕ))) : Type 0 where
   pub fields : List (List ℕ)
   pub asked : HasRequestsBefore records MOST_ROWS fields
 
--- why these records aren't read as requests; refused memory and a failed read may happen with any
--- records
+-- The error with which these records aren't read as requests. Memory may be refused, and a read may
+-- fail, whatever the records are.
 abbrev pub IsRequestsFault : List (List (List ℕ)) → RequestsError → Type 0
 IsRequestsFault records fault.Memory = Unit {0}
 IsRequestsFault records fault.Device = Unit {0}

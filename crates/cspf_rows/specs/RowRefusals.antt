@@ -1,5 +1,5 @@
--- Why a record is refused: the first reason that applies. The kind comes first, then the number of
--- fields, each field in order, and the two ends.
+-- Why a record is refused. The kind is checked first, then the number of fields, then each field in
+-- order, and then whether the two endpoints differ. The first check that fails gives the reason.
 use Rattle.std.specs.Prelude.{◌≡◌, ◌≢◌, ℕ, Bool, ◌+◌, ◌^◌, ◌↔◌, ◌⊎◌, List, [], ◌∷◌, ◌++◌, length, codes, Ok, Err}
 use Rattle.hex.specs.Hex.{decode_of}
 use Rattle.cspf_addr.specs.MaskText.{SpellsMask}
@@ -22,7 +22,7 @@ pub data Kind : Type 0 where
   end_kind : Kind
   ask_kind : Kind
 
--- the sorts of fields: what a field's text has to spell
+-- the sorts of fields: the text of a field has to spell a value of the field's sort
 pub data Sort : Type 0 where
   address : Sort
   number : Sort
@@ -40,7 +40,7 @@ word_of node_kind = codes "node"
 word_of end_kind = codes "end"
 word_of ask_kind = codes "ask"
 
--- the sorts of the fields of a row of this kind, from field 2 on: what each field has to spell
+-- the sorts of the fields of a row of this kind, from field 2 on; field 1 is the word of the kind
 abbrev pub sorts_of : Kind → List Sort
 sorts_of put_kind = address ∷ address ∷ address ∷ address ∷ small_number ∷ mask ∷ number ∷ number ∷ number ∷ number ∷ number ∷ number ∷ number ∷ number ∷ []
 sorts_of drop_kind = address ∷ address ∷ []
@@ -58,16 +58,16 @@ SpellsSort flag text = (b : Bool) × SpellsFlag text b
 SpellsSort mask text = (n : ℕ) × SpellsMask text n
 SpellsSort hops text = (list : List Hop) × SpellsHops text list
 
--- Why a text spells no hops. If it doesn't begin with `ero:`, the reason is that it isn't a hop
--- list. If it does, the reason is that the text after `ero:` doesn't decode to bytes, or that these
--- bytes aren't an EXPLICIT_ROUTE object that spells hops.
+-- Why a text spells no hops. A text that doesn't begin with `ero:` is refused because it isn't a
+-- hop list. A text that begins with `ero:` has one of two faults. Either the digits after `ero:`
+-- don't decode to bytes, or these bytes aren't an EXPLICIT_ROUTE object that spells hops.
 abbrev pub IsHopsFault : List ℕ → HopsFault → Type 0
 IsHopsFault text (fault.Text why) = ((rest : List ℕ) → text ≢ codes "ero:" ++ rest) × (hops_of text ≡ Err why)
 IsHopsFault text fault.Hex = (digits : List ℕ) × (text ≡ codes "ero:" ++ digits) × ((bytes : List ℕ) → decode_of digits ≢ Ok bytes)
 IsHopsFault text (fault.Ero why) =
     (digits : List ℕ) × (bytes : List ℕ) × (text ≡ codes "ero:" ++ digits) × (decode_of digits ≡ Ok bytes) × (ero_of bytes ≡ Err why)
 
--- the field with this number is refused with the error `e`, because its text spells no value of the
+-- field `place` of a record is refused with the error `e`, because its text spells no value of the
 -- field's sort
 abbrev pub IsFieldRefused : Sort → ℕ → List ℕ → RowError → Type 0
 IsFieldRefused address place text e = (e ≡ error.Address place) × ¬ SpellsSort address text
@@ -84,8 +84,8 @@ IsFieldRefused hops place text e = (why : HopsFault) × (e ≡ error.Hops why) �
 abbrev pub SpellOneAddress : List ℕ → List ℕ → Type 0
 SpellOneAddress text other = (n : ℕ) × SpellsAddress text n × SpellsAddress other n
 
--- a record whose fields all spell values is refused with the error `e`, because its two ends are
--- the same router
+-- A record is refused with the error `e`, because its two endpoints are the same router. All its
+-- fields spell values.
 abbrev pub AreEndsRefused : Kind → List (List ℕ) → RowError → Type 0
 AreEndsRefused put_kind fields e = (e ≡ error.SelfLink) × SpellOneAddress (field fields 2) (field fields 4)
 AreEndsRefused drop_kind fields e = ⊥
@@ -93,22 +93,24 @@ AreEndsRefused node_kind fields e = ⊥
 AreEndsRefused end_kind fields e = ⊥
 AreEndsRefused ask_kind fields e = (e ≡ error.SameEnds) × SpellOneAddress (field fields 3) (field fields 4)
 
--- The record is refused for the first field from number `place` on that spells no value of its
--- sort. If each field spells a value, the record is refused because its ends are the same router.
+-- The fields from field `place` on are checked in order. The record is refused for the first of
+-- them that spells no value of its sort. If each of them spells a value, the record is refused
+-- because its two endpoints are the same router.
 abbrev pub AreFieldsRefused : Kind → ℕ → List Sort → List (List ℕ) → RowError → Type 0
 AreFieldsRefused kind place [] fields e = AreEndsRefused kind fields e
 AreFieldsRefused kind place (sort ∷ sorts) fields e =
     IsFieldRefused sort place (field fields place) e
     ⊎ (SpellsSort sort (field fields place) × AreFieldsRefused kind (place + 1) sorts fields e)
 
--- a record of this kind is refused with the error `e`: for its number of fields, for one of its
--- fields, or because its two ends are the same router
+-- A record of this kind is refused with the error `e`. The reason is its number of fields, one of
+-- its fields, or that its two endpoints are the same router.
 abbrev pub IsRefusedAs : Kind → List (List ℕ) → RowError → Type 0
 IsRefusedAs kind fields e =
     ((e ≡ error.Fields) × (length fields ≢ 1 + length (sorts_of kind)))
     ⊎ ((length fields ≡ 1 + length (sorts_of kind)) × AreFieldsRefused kind 2 (sorts_of kind) fields e)
 
--- Why a record is refused: its first field names no kind, or it is refused as a record of its kind.
+-- Why a record is refused: its first field names no kind, or the record is refused as a record of
+-- its kind.
 abbrev pub IsRefused : List (List ℕ) → RowError → Type 0
 IsRefused fields e =
     ((e ≡ error.Kind) × ((kind : Kind) → field fields 1 ≢ word_of kind))

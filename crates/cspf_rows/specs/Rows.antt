@@ -12,13 +12,13 @@ use Rattle.cspf_rows.specs.declared.row_error.RowError.TheVariants as error
 use Rattle.cspf_addr.specs.ResultSteps.{◌>>=◌}
 use Rattle.cspf_rows.specs.FieldValues.{field, number_at, small_number_at, priority_at, flag_at, address_at, mask_at, hops_at}
 
--- the link with these attributes; its two ends have to be different routers
+-- the link with these attributes; its two endpoints have to be different routers
 abbrev pub link_with : (link : LinkFields) → length link.free ≡ 8 → link.from ≢ link.to → Link
 link_with link eight apart =
     record { from = link.from; local = link.local; to = link.to; remote = link.remote; metric = link.metric; group = link.group; free = link.free; eight = eight; two_ends = apart }
 
--- the row that puts the link with these attributes, or a refusal if both ends of the link are the
--- same router
+-- the row that puts the link with these attributes, or a refusal if both endpoints of the link are
+-- the same router
 abbrev pub put_between : (link : LinkFields) → length link.free ≡ 8 → Dec (link.from ≡ link.to) → Result Row RowError
 put_between link eight (yes same) = Err error.SelfLink
 put_between link eight (no apart) =
@@ -28,22 +28,22 @@ put_between link eight (no apart) =
 unfoldable pub put : (link : LinkFields) → length link.free ≡ 8 → Result Row RowError
 put link eight = put_between link eight (ℕ_discrete link.from link.to)
 
--- the request with these fields: its setup priority is below 8, and its two ends are different
--- routers
+-- the request with these fields; its setup priority has to be below 8, and its head-end has to
+-- differ from its tail-end
 abbrev pub request_with : (request : RequestFields) → request.setup < 8 → request.from ≢ request.to → Request
 request_with request below apart =
     record { id = request.id; from = request.from; to = request.to; setup = request.setup; bandwidth = request.bandwidth; exclude_any = request.exclude_any; include_any = request.include_any; include_all = request.include_all; hops = request.hops; priority = below; two_ends = apart }
 
--- the row that asks for this request, if the request's priority is below 8 and its two ends are
--- different routers
+-- The row that asks for this request. The request is refused if its setup priority isn't below 8,
+-- or if head-end and tail-end are the same router.
 abbrev pub ask_between : (request : RequestFields) → Dec (request.setup < 8) → Dec (request.from ≡ request.to) → Result Row RowError
 ask_between request (no above) ends = Err error.Priority
 ask_between request (yes below) (yes same) = Err error.SameEnds
 ask_between request (yes below) (no apart) =
     Ok (row.Ask (request_with request below apart))
 
--- the row that asks for this request; a priority above 7 is refused, and so is a request from a
--- router to itself
+-- the row that asks for this request; a setup priority above 7 is refused, and so is a request from
+-- a router to itself
 unfoldable pub ask : RequestFields → Result Row RowError
 ask request = ask_between request (dec_le (suc request.setup) 8) (ℕ_discrete request.from request.to)
 
@@ -66,8 +66,8 @@ put_row_of fields = do
   u7 ← number_at fields 15
   put (record { from = from; local = local; to = to; remote = remote; metric = metric; group = group; free = u0 ∷ u1 ∷ u2 ∷ u3 ∷ u4 ∷ u5 ∷ u6 ∷ u7 ∷ [] }) refl
 
--- the row that `make` makes of the values of two fields, or, if a field has an error instead of a
--- value, the first such error
+-- The row that `make` makes of the values of two fields. If a field has an error instead of a
+-- value, the result is the first such error.
 abbrev pub row_of_two : {A B : Type 0} → Result A RowError → Result B RowError → (A → B → Row) → Result Row RowError
 row_of_two first second make = do
   one ← first
@@ -100,7 +100,7 @@ ask_row_of fields = do
   hops ← hops_at fields 10
   ask (record { id = id; from = from; to = to; setup = setup; bandwidth = bandwidth; exclude_any = exclude_any; include_any = include_any; include_all = include_all; hops = hops })
 
--- a record with `count` fields is read, and any other record is refused
+-- reads a record that has `count` fields, and refuses any other record
 abbrev pub of_count : ℕ → (List (List ℕ) → Result Row RowError) → List (List ℕ) → Result Row RowError
 of_count count read fields = if length fields == count then read fields else Err error.Fields
 

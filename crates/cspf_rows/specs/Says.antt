@@ -1,4 +1,4 @@
--- What the fields of a record have to be so that the record says a row.
+-- Which fields a record must have in order to say a given row.
 use Rattle.std.specs.Prelude.{◌≡◌, ◌≢◌, ℕ, Bool, ◌^◌, ◌<◌, ◌↔◌, ◌⊎◌, List, ◌++◌, length, slice_index, codes, Ok}
 use Rattle.std.specs.Fmt.{decimal}
 use Rattle.cspf_addr.specs.AddressText.{address_text}
@@ -14,7 +14,7 @@ use Rattle.cspf_rows.specs.declared.row.Row.TheVariants as row
 use Rattle.cspf_rows.specs.FieldValues.{field, flag_number}
 use Rattle.cspf_rows.specs.Rows.{row_of}
 
--- the text is the decimal text of the number `n`, which is below `bound`; a bound is at most 2^64
+-- the number `n` is below `bound`, and the text is the decimal text of `n`
 pub record SpellsNumber (bound : ℕ) (text : List ℕ) (n : ℕ) : Type 0 where
   pub small : n < bound
   pub written : text ≡ decimal n
@@ -28,13 +28,13 @@ pub record SpellsAddress (text : List ℕ) (n : ℕ) : Type 0 where
   pub small : n < 2 ^ 32
   pub written : text ≡ address_text n
 
--- the text is a hop list, which never begins with `ero:`
+-- the text is a hop list of these hops; the text doesn't begin with `ero:`
 pub record SpellsHopList (text : List ℕ) (hops : List Hop) : Type 0 where
   pub other : (rest : List ℕ) → text ≢ codes "ero:" ++ rest
   pub read : hops_of text ≡ Ok hops
 
--- the text is `ero:` and then the hexadecimal digits, of either case, of an EXPLICIT_ROUTE object
--- that spells the hops
+-- The text is `ero:` followed by hexadecimal digits of either case. These digits decode to an
+-- EXPLICIT_ROUTE object that spells the hops.
 pub record SpellsObject (text : List ℕ) (hops : List Hop) : Type 0 where
   pub digits : List ℕ
   pub bytes : List ℕ
@@ -67,8 +67,8 @@ pub record SaysPut (fields : List (List ℕ)) (link : Link) : Type 0 where
   pub free_6 : SpellsNumber (2 ^ 64) (field fields 14) (slice_index link.free 6)
   pub free_7 : SpellsNumber (2 ^ 64) (field fields 15) (slice_index link.free 7)
 
--- the fields of a `drop` row: the word `drop`, and the router and the local address of the link to
--- remove
+-- The fields of a `drop` row: the word `drop`, the router, and the local address. Router and local
+-- address are the key of the link to remove.
 pub record SaysRemove (fields : List (List ℕ)) (router address : ℕ) : Type 0 where
   pub count : length fields ≡ 3
   pub kind : field fields 1 ≡ codes "drop"
@@ -90,8 +90,8 @@ pub record SaysEnd (fields : List (List ℕ)) (version changes : ℕ) : Type 0 w
   pub has : SpellsNumber (2 ^ 32) (field fields 3) changes
 
 -- The fields of an `ask` row: the word `ask`, the id, the head-end, the tail-end, the setup
--- priority, the bandwidth, the three affinities, and the hops. Hops may be spelled in more than one
--- way.
+-- priority, the bandwidth, the three affinities, and the hops. The same hops may be spelled in more
+-- than one way.
 pub record SaysAsk (fields : List (List ℕ)) (request : Request) : Type 0 where
   pub count : length fields ≡ 10
   pub kind : field fields 1 ≡ codes "ask"
@@ -117,6 +117,6 @@ Says fields (row.Ask request) = SaysAsk fields request
 abbrev pub AreRowsRead : Type 0
 AreRowsRead = (fields : List (List ℕ)) (row : Row) → (row_of fields ≡ Ok row) ↔ Says fields row
 
--- a `csv` record says only one row of the text formats
+-- a record says at most one row
 abbrev pub SaysOneRow : Type 0
 SaysOneRow = (fields : List (List ℕ)) (row other : Row) → Says fields row → Says fields other → row ≡ other

@@ -1,4 +1,4 @@
--- The words that name the reason for which a row is refused.
+-- The words that name the reason for which a record is refused.
 use Rattle.std.specs.Prelude.{ℕ, List, ◌++◌, codes}
 use Rattle.std.specs.Fmt.{decimal}
 use Rattle.cspf_addr.specs.declared.hop_reader.HopsError.TheVariants as hops
@@ -20,8 +20,9 @@ ero_words (ero.Unsupported at kind) = codes "unsupported"
 ero_words (ero.Sublength at) = codes "sublength"
 ero_words (ero.PrefixLength at) = codes "prefix-length"
 
--- the words for hops that are refused: the number of the first bad hop, or that there are too many
--- hops, or why an EXPLICIT_ROUTE object is refused
+-- The words for the reason why hops are refused. For a hop list they are the number of the first
+-- bad hop, or `count` if there are too many hops. For an EXPLICIT_ROUTE object they say why the
+-- object is refused.
 abbrev pub hops_words : HopsFault → List ℕ
 hops_words (fault.Text (hops.BadHop at)) = decimal at
 hops_words (fault.Text hops.TooManyHops) = codes "count"

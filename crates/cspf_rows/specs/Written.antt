@@ -1,4 +1,5 @@
--- The records that are written for rows, and the laws that these records are read as the same rows.
+-- The records that are written for rows. The laws below state that each such record is read as the
+-- row for which it was written.
 use Rattle.std.specs.Prelude.{◌≡◌, ℕ, Bool, ◌^◌, ◌<◌, ◌≤◌, List, [], ◌∷◌, map, length, slice_index, codes, Ok}
 use Rattle.std.specs.Fmt.{decimal}
 use Rattle.std.specs.List.{AllByRecursion}
@@ -13,7 +14,8 @@ use Rattle.cspf_rows.specs.declared.row.Row.TheVariants as row
 use Rattle.cspf_rows.specs.FieldValues.{flag_number}
 use Rattle.cspf_rows.specs.Rows.{row_of}
 
--- the numbers of a link are in the ranges of their types
+-- the addresses and the metric of a link are below 2^32, and its unreserved bandwidths are below
+-- 2^64
 pub record IsLinkInRange (link : Link) : Type 0 where
   pub from : link.from < 2 ^ 32
   pub local : link.local < 2 ^ 32
@@ -22,8 +24,8 @@ pub record IsLinkInRange (link : Link) : Type 0 where
   pub metric : link.metric < 2 ^ 32
   pub free : (priority : ℕ) → priority < 8 → slice_index link.free priority < 2 ^ 64
 
--- the numbers of a request are in the ranges of their types, and the request has at most
--- `MOST_HOPS` hops
+-- The id and the bandwidth of a request are below 2^64, and its two addresses are below 2^32. The
+-- request has at most `MOST_HOPS` hops, and each hop is a prefix.
 pub record IsRequestInRange (request : Request) : Type 0 where
   pub id : request.id < 2 ^ 64
   pub from : request.from < 2 ^ 32
@@ -37,7 +39,7 @@ abbrev pub put_fields : Link → List ℕ → List (List ℕ)
 put_fields link group =
     codes "put" ∷ address_text link.from ∷ address_text link.local ∷ address_text link.to ∷ address_text link.remote ∷ decimal link.metric ∷ group ∷ map decimal link.free
 
--- the record of the removal of a link
+-- the record that removes a link
 abbrev pub drop_fields : ℕ → ℕ → List (List ℕ)
 drop_fields from local = codes "drop" ∷ address_text from ∷ address_text local ∷ []
 
@@ -45,7 +47,7 @@ drop_fields from local = codes "drop" ∷ address_text from ∷ address_text loc
 abbrev pub node_fields : ℕ → Bool → List (List ℕ)
 node_fields router transit = codes "node" ∷ address_text router ∷ decimal (flag_number transit) ∷ []
 
--- the record of the end of a batch
+-- the record that ends a batch
 abbrev pub end_fields : ℕ → ℕ → List (List ℕ)
 end_fields number count = codes "end" ∷ decimal number ∷ decimal count ∷ []
 

@@ -1,4 +1,4 @@
-//! Writes the text of a batch: a line for each change, and the line of its `end` row.
+//! Writes the text of a batch: a line for each change, and then the line of the `end` row.
 
 ghost use Rattle.std.specs.Prelude.{◌≡◌, ◌++◌, ◌∷◌, [], ℕ, List, ◌^◌, ◌<◌, map, codes, IfOk, OnOk};
 ghost use Rattle.std.specs.Fmt.{decimal};
@@ -14,9 +14,9 @@ use cspf_model::{Batch, Change, Link};
 use itoa::Buffer;
 use std::alloc::{AllocError, Global};
 
-/// The text of a batch: one line for each change, in order, and then its `end` row. The group of a
-/// link is written as `0x` and eight lower-case hexadecimal digits, and each line ends with a line
-/// feed.
+/// The text of a batch: one line for each change, in order, and then its `end` row. Each line ends
+/// with a line feed. The group of a link is written as `0x` and eight lower-case hexadecimal
+/// digits.
 pub fn batch_text(alloc: Global, batch: &Batch) -> Result<Vec<u8>, AllocError>
     ensures { IfOk result (λ text. text.items ≡ batch_text batch.now) }
 {
@@ -51,7 +51,7 @@ fn write_put(text: &mut Vec<u8>, link: &Link) -> Result<(), AllocError>
     text.extend_from_slice(b"\n")
 }
 
-/// Writes the fields of a `put` change, except for the unreserved bandwidths.
+/// Writes the fields of a `put` change that precede the unreserved bandwidths.
 fn write_attributes(text: &mut Vec<u8>, link: &Link) -> Result<(), AllocError>
     ensures { OnOk result (text.new.items
         ≡ text.old.items ++ (codes "put" ++ fields_after (attributes link.now))) }

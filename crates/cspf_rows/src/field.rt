@@ -1,5 +1,5 @@
-//! Reads the fields of a record: the number, address, mask, flag or list of hops that a field
-//! spells.
+//! Reads the fields of a record. A field spells a number, an address, a mask, a flag or a list of
+//! hops.
 
 ghost use Rattle.std.specs.Prelude.{◌≡◌, ◌≢◌, ◌<◌, ◌≤◌, length, IfOk, IfErr, OnOk};
 ghost use Rattle.csv.specs.Records.{fields_of};
@@ -23,8 +23,7 @@ pub(crate) fn expect_count(fields: &ByteRecord, count: usize) -> Result<(), RowE
     }
 }
 
-/// The bytes of the field with this number; fields count from 1. A field past the last one is
-/// empty.
+/// The bytes of field `place`, counted from 1. A field past the last one is empty.
 pub(crate) fn text(fields: &ByteRecord, place: usize) -> &[u8]
     requires { 1 ≤ place }
     ensures { result.now ≡ field (fields_of fields.now) place }
@@ -97,8 +96,8 @@ pub(crate) fn mask(fields: &ByteRecord, place: usize) -> Result<Mask, RowError>
     Mask::parse(text(fields, place)).map_err(|_| RowError::Mask { field: place })
 }
 
-/// The hops that a field spells, as a hop list, or as an EXPLICIT_ROUTE object in hexadecimal
-/// digits after `ero:`.
+/// The hops that a field spells. The field is a hop list, or `ero:` and the hexadecimal digits of
+/// an EXPLICIT_ROUTE object.
 #[tactic(auto, unfolding(crate::specs::FieldValues::hops_at))]
 pub(crate) fn hops(fields: &ByteRecord, place: usize) -> Result<Hops, RowError>
     requires { 1 ≤ place }
@@ -107,7 +106,7 @@ pub(crate) fn hops(fields: &ByteRecord, place: usize) -> Result<Hops, RowError>
     read_hops(text(fields, place)).map_err(RowError::Hops)
 }
 
-/// The hops that a text spells.
+/// The hops that the text of a field spells.
 #[tactic(auto, unfolding(crate::specs::FieldValues::either_hops_of))]
 fn read_hops(text: &[u8]) -> Result<Hops, HopsFault>
     ensures { result ≡ either_hops_of text.now }

@@ -1,5 +1,5 @@
-//! Journals. The batches of a journal are those of the longest prefix of its rows that consists of
-//! whole batches with the numbers 1, 2, 3 and so on. Rows may follow this prefix.
+//! Journals. The batches of a journal are numbered 1, 2, 3 and so on. They are the longest prefix
+//! of the journal's rows that consists of whole batches. Rows may follow this prefix.
 
 mod laws;
 mod reader;
@@ -16,25 +16,26 @@ pub use whole::read_journal;
 pub enum Rest {
     /// No row of the journal follows its last whole batch.
     Clean,
-    /// One row or more follow the last whole batch. They don't begin with a whole batch of the next
-    /// number.
+    /// At least one row follows the last whole batch. The rows after this batch don't begin with a
+    /// whole batch of the next number.
     Torn,
 }
 
-/// What the next read of a journal finds: a batch, or the end.
+/// What the next read of a journal finds: a batch, or the end of the batches.
 #[derive(Clone, Copy, Debug, PartialEq, Eq)]
 pub enum JournalStep {
     /// One more whole batch.
     Batch,
-    /// No batch is left. The value is what follows the last batch.
+    /// No batch is left. The value says whether rows follow the last batch.
     End(Rest),
 }
 
-/// The contents of a journal: its batches, numbered 1, 2, 3 and so on, and what follows them.
+/// The contents of a journal: its batches, numbered 1, 2, 3 and so on, and whether rows follow the
+/// batches.
 #[derive(Debug, Drop)]
 pub struct Journal {
     /// The batches, in order.
     pub batches: Vec<Batch>,
-    /// What follows the journal's last batch: no row, or rows that are in no batch.
+    /// Whether rows follow the last batch. Such rows are in no batch.
     pub rest: Rest,
 }

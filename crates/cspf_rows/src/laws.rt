@@ -10,7 +10,7 @@ use cspf_addr::{
 use cspf_ero::objects_are_read;
 use cspf_model::fields_of_links_and_requests;
 
-/// The laws of fields that the laws of rows use (`AreTextsRead`).
+/// The laws of field texts, on which the laws of rows rest.
 fn texts_are_read()
     ensures { AreTextsRead }
 {
@@ -21,7 +21,8 @@ fn texts_are_read()
     fields_of_links_and_requests();
 }
 
-/// Law: a `csv` record is read as a row exactly if it says that row, and it says only one row.
+/// Law: a `csv` record is read as a row exactly if the record says this row. A record says at most
+/// one row.
 pub fn rows_are_read()
     ensures read { AreRowsRead }
     ensures one { SaysOneRow }
@@ -41,8 +42,8 @@ pub fn rows_are_read_back()
     hop_lists_are_read_back();
 }
 
-/// Law: the reader refuses a record exactly for the first reason that applies, and for only one
-/// reason.
+/// Law: the reader refuses a record exactly with the error of the first check that fails
+/// (`IsRefused`). A record has at most one such error.
 pub fn rows_are_refused()
     ensures refused { AreRowsRefused }
     ensures one { IsRefusedOnce }

@@ -1,15 +1,17 @@
-//! Rows of the text formats: which row a `csv` record says, or why it says none.
+//! Rows of the text formats: which row a `csv` record says, or why the record says no row.
 //!
-//! `specs/Rows.antt` defines the row of a record, `specs/FieldValues.antt` what a field spells, and
-//! `specs/Words.antt` the words of a refusal. `specs/Says.antt` has the formats of the rows, and
-//! `specs/RowRefusals.antt` the reasons why a record is refused. Reading a row takes no memory.
+//! `specs/Rows.antt` defines the row of a record. `specs/FieldValues.antt` defines the value that a
+//! field spells, and `specs/Words.antt` defines the words of a refusal. `specs/Says.antt` has the
+//! formats of the rows, and `specs/RowRefusals.antt` has the reasons why a record is refused.
+//! Reading a row allocates no memory.
 //!
 //! `specs/Records.antt` defines how a stream of bytes is cut into records. `put_all` writes a whole
-//! text to a writer; all texts of this repository are written by it.
+//! text to a writer. This repository writes all its texts with `put_all`.
 //!
-//! `specs/BatchText.antt` defines the text of a batch, `specs/Journal.antt` the batches of a
-//! journal, and `specs/Requests.antt` the requests of a stream. `specs/GivenBatches.antt` defines
-//! which batches a reader has returned, and `specs/JournalLaws.antt` has the laws of journals.
+//! `specs/BatchText.antt` defines the text of a batch. `specs/Journal.antt` defines the batches of
+//! a journal, and `specs/JournalLaws.antt` has the laws of journals. `specs/GivenBatches.antt`
+//! defines which batches a reader has returned. `specs/Requests.antt` defines the requests of a
+//! stream.
 #![tactic(auto)]
 
 mod batch;

@@ -1,4 +1,4 @@
 //! The limit on the rows (records) of a stream.
 
-/// The most rows (records) that a stream may have.
+/// The greatest number of rows (records) in a stream.
 pub const MOST_ROWS: u32 = 1_000_000;

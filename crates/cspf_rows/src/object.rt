@@ -1,5 +1,5 @@
-//! Reads the hops of an EXPLICIT_ROUTE object that a field spells in hexadecimal digits. Takes no
-//! memory.
+//! Reads the hops of an EXPLICIT_ROUTE object that a field spells in hexadecimal digits. No memory
+//! is allocated.
 
 ghost use Rattle.std.specs.Prelude.{◌≡◌, ◌*◌, ◌%◌, ◌≤◌, ◌↔◌, IsTrue, ℕ, List, length, take};
 ghost use Rattle.std.specs.List.{AllPass};
@@ -13,7 +13,7 @@ use cspf_ero::{EroError, FIRST_BYTES, read_ero_front};
 
 /// The hops of an EXPLICIT_ROUTE object that is written in hexadecimal digits of either case. Only
 /// the object's first bytes are decoded, into a buffer on the stack. These bytes and the object's
-/// size decide which hops the object spells.
+/// size are enough to find the hops.
 pub(crate) fn read_object(digits: &[u8]) -> Result<Hops, HopsFault>
     ensures { result ≡ hex_hops_of digits.now }
 {
@@ -38,7 +38,7 @@ fn read_pairs(digits: &[u8]) -> Result<Hops, EroError>
     read_ero_front(&front[..count], size)
 }
 
-/// Decodes the digits of the first bytes into `front`, which has room for exactly these bytes.
+/// Decodes as many bytes as `front` has room for.
 fn decode_first_bytes(digits: &[u8], front: &mut [u8])
     requires pairs { (length digits.now % 2 ≡ 0) × AllPass is_hex_digit digits.now }
     requires within { 2 * length front.old ≤ length digits.now }
@@ -50,7 +50,7 @@ fn decode_first_bytes(digits: &[u8], front: &mut [u8])
     prove!(decoded.is_ok());
 }
 
-/// Whether the text is an even number of hexadecimal digits.
+/// Whether the text consists of an even number of hexadecimal digits.
 fn are_pairs(digits: &[u8]) -> bool
     ensures { IsTrue result ↔ ((length digits.now % 2 ≡ 0) × AllPass is_hex_digit digits.now) }
 {

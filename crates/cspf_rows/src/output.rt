@@ -8,8 +8,8 @@ ghost use Rattle.std.specs.Io.KnownBytes.{Appends};
 use crate::output::open_writer::OpenWriter;
 use std::io::Write;
 
-/// Writes the whole text. If a write fails in any way or takes no byte, the error is how many bytes
-/// of the text were taken before this write. The function takes no memory, and doesn't flush the
+/// Writes the whole text. If a write fails in any way or accepts no byte, the error is the number
+/// of bytes that were written before. The function allocates no memory, and doesn't flush the
 /// writer.
 pub fn put_all<W: Write>(to: &mut W, text: &[u8]) -> Result<(), usize>
     ensures all { OnOk result (Appends (W.contents to.old) (W.contents to.new) text.now) }
@@ -20,8 +20,8 @@ pub fn put_all<W: Write>(to: &mut W, text: &[u8]) -> Result<(), usize>
     put_through(&mut OpenWriter::new(to), text)
 }
 
-/// Writes the whole text, or returns how many of its bytes were taken before a write failed. `to`
-/// can be used only for writing, and not again after a failed write.
+/// Writes the whole text. If a write fails, the error is the number of bytes that were written
+/// before. `to` can't be used again after a failed write.
 fn put_through<W: Write>(to: &mut OpenWriter<W>, text: &[u8]) -> Result<(), usize>
     requires { to.old.has_failed ≡ false }
     ensures writer { to.new.to.ghost_name ≡ to.old.to.ghost_name }

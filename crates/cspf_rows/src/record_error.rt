@@ -18,8 +18,8 @@ pub enum RecordError {
 }
 
 impl RecordError {
-    /// The error of a stream if one of its records can't be read for this reason. It is `memory` if
-    /// memory was refused, and `device` if a read failed.
+    /// The error of a stream in which a record can't be read for this reason: `memory` if memory
+    /// was refused, and `device` if a read failed.
     pub fn of_stream<E: Copy>(self, memory: E, device: E) -> E
         ensures { result ≡ stream_fault_of memory device self }
     {

@@ -9,8 +9,8 @@ use csv::{ByteRecord, Reader, ReaderBuilder};
 use std::alloc::Global;
 use std::io::Read;
 
-/// Opens a reader of the rows of a stream. It takes no record as a header, and a record may have
-/// any number of fields.
+/// Opens a reader of the rows of a stream. The stream has no header, and a record may have any
+/// number of fields.
 pub fn open_records<R: Read>(alloc: Global, reader: R) -> Reader<R>
     ensures plain { IsPlain result }
     ensures rows { rows_left R.remaining result ≡ option_map rows_of (R.remaining reader) }
@@ -21,8 +21,8 @@ pub fn open_records<R: Read>(alloc: Global, reader: R) -> Reader<R>
         .from_reader(alloc, reader)
 }
 
-/// Reads the fields of the next row, and returns whether there was one. After an error a reader
-/// gives no more rows.
+/// Reads the fields of the next row, and returns whether there was a next row. After an error the
+/// reader can't be used again.
 pub fn next_record<R: Read>(
     rows: &mut Reader<R>,
     fields: &mut ByteRecord,

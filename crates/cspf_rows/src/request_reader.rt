@@ -18,8 +18,8 @@ use csv::{ByteRecord, Reader};
 use std::alloc::{AllocError, Global};
 use std::io::Read;
 
-/// Reads a stream of requests, one in each row. Returns an error for the first row that is refused
-/// or is no request, and for a stream of more than `MOST_ROWS` rows.
+/// Reads a stream of requests, one in each row. The first row that is refused or isn't a request
+/// ends the reading with an error. A stream of more than `MOST_ROWS` rows also gives an error.
 pub fn read_requests<R: Read + Drop>(
     alloc: Global,
     reader: R,

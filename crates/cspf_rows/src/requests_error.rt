@@ -1,7 +1,7 @@
 use crate::row_error::RowError;
 use thiserror::Error;
 
-/// Why requests can't be read. Rows count from 1.
+/// Why requests can't be read. Rows are counted from 1.
 #[derive(Clone, Copy, Debug, PartialEq, Eq, Error)]
 pub enum RequestsError {
     /// Memory was refused.

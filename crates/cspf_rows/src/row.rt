@@ -12,7 +12,7 @@ use csv::ByteRecord;
 /// What a record of a stream says: a change, the end of a batch, or a request.
 #[derive(Clone, Copy, Debug, PartialEq, Eq)]
 pub enum Row {
-    /// A change that puts the link.
+    /// A change that puts the link into the database.
     Put(Link),
     /// A change that removes the link with this key.
     Remove {
@@ -28,7 +28,7 @@ pub enum Row {
         /// Whether routes may pass through the router.
         transit: bool,
     },
-    /// The end of a batch: the changes since the last `end` row are the batch.
+    /// The end of a batch, which consists of the changes since the last `end` row.
     End {
         /// The version of the database that the batch makes.
         number: u32,
@@ -42,9 +42,9 @@ pub enum Row {
 impl Row {
     ghost use Rattle.cspf_rows.specs.Rows.{row_of, put_row_of, drop_row_of, node_row_of, end_row_of, ask_row_of};
 
-    /// The row that the fields of a record say, or the first refusal. The checks come in this
-    /// order: the kind, the number of fields, each field, and whether both ends are the same
-    /// router.
+    /// The row that the fields of a record say, or the error of the first check that fails. The
+    /// checks come in this order: the kind, the number of fields, each field, and whether the two
+    /// endpoints differ.
     #[tactic(auto, unfolding(crate::specs::Rows::row_of))]
     pub fn read(fields: &ByteRecord) -> Result<Row, RowError>
         ensures { result ≡ row_of (fields_of fields.now) }
@@ -128,8 +128,8 @@ impl Row {
         Ok(Row::End { number, count })
     }
 
-    /// The row of 10 fields that asks for a route. The first field isn't checked, so another format
-    /// can have rows with these fields after another word.
+    /// The row of 10 fields that asks for a route. The first field isn't checked, so that another
+    /// format can use these fields after a word of its own.
     #[tactic(auto, using(crate::proofs::AttributeLemmas::refused_ends), unfolding(crate::specs::Rows::ask_row_of))]
     pub fn ask(fields: &ByteRecord) -> Result<Row, RowError>
         ensures { result ≡ ask_row_of (fields_of fields.now) }

@@ -7,12 +7,13 @@ use cspf_ero::EroError;
 use std::error::Error;
 use std::fmt;
 
-/// Why a record is no row. Fields count from 1: field 1 is the word that names the row's kind.
+/// Why a record is no row. Fields are counted from 1, and field 1 is the word that names the row's
+/// kind.
 #[derive(Clone, Copy, Debug, PartialEq, Eq)]
 pub enum RowError {
     /// The first field names no kind of row.
     Kind,
-    /// The record doesn't have the number of fields of its kind.
+    /// The number of fields is wrong for a row of this kind.
     Fields,
     /// A field isn't a number in its range.
     Number {
@@ -33,18 +34,18 @@ pub enum RowError {
     Priority,
     /// The field of the hops spells no hops.
     Hops(HopsFault),
-    /// The link begins and ends at the same router.
+    /// Both endpoints of the link are the same router.
     SelfLink,
     /// The request is from a router to itself.
     SameEnds,
 }
 
-/// Why a field spells no hops, neither as a hop list nor as an EXPLICIT_ROUTE object.
+/// Why a field spells no hops.
 #[derive(Clone, Copy, Debug, PartialEq, Eq)]
 pub enum HopsFault {
     /// The text spells no hop list.
     Text(HopsError),
-    /// The text after `ero:` isn't an even number of hexadecimal digits.
+    /// The text after `ero:` doesn't consist of an even number of hexadecimal digits.
     Hex,
     /// The bytes after `ero:` aren't an EXPLICIT_ROUTE object that spells hops.
     Ero(EroError),

@@ -1,5 +1,5 @@
-//! With which error the reading of a journal or of requests ends if a record can't be read or
-//! memory is refused.
+//! The errors of a journal or of a stream of requests if a record can't be read or memory is
+//! refused.
 
 ghost use Rattle.std.specs.Prelude.{◌≡◌};
 ghost use Rattle.cspf_rows.specs.ReadFaults.{stream_fault_of};

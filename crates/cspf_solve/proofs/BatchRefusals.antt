@@ -9,13 +9,11 @@ use Rattle.cspf_stream.specs.declared.batch_refusal.BatchRefusal.{BatchRefusal}
 use Rattle.cspf_stream.specs.declared.batch_refusal.BatchRefusal.TheVariants as refusal
 use Rattle.cspf_solve.specs.Script.{RunState, IsAccepted, IsBatchRefusal, current_version, current_database, open_batch}
 
--- the batch of an `end` row with this number and count isn't accepted, and `why` is the reason for
--- which it is refused
+-- the batch of an `end` row with this number and count isn't accepted, and `why` is the reason
 abbrev pub IsKept : RunState → ℕ → ℕ → BatchRefusal → Type 0
 IsKept s number count why = (¬ IsAccepted s number count) × IsBatchRefusal s number count why
 
--- if an `end` row is wrong for the reason `why`, the batch of the open changes is refused for this
--- reason `why`, and isn't accepted
+-- if an `end` row is wrong for the reason `why`, its batch isn't accepted, and `why` is the reason
 pub wrong_end : (s : RunState) (stopped : Bool) (version number count changes : ℕ) (why : BatchRefusal) → stopped ≡ false → version ≡ current_version s → changes ≡ length s.changes
     → IsWrongEnd stopped version number count changes why → IsKept s number count why
 wrong_end s stopped version number count changes refusal.Stopped going is_version is_count wrong = absurd (false≢true (sym going ∙ wrong))
@@ -32,8 +30,8 @@ wrong_end s stopped version number count changes (refusal.Unfit why) going is_ve
 wrong_end s stopped version number count changes refusal.Memory going is_version is_count wrong = absurd wrong
 wrong_end s stopped version number count changes (refusal.Journal written) going is_version is_count wrong = absurd wrong
 
--- if an `end` row is right, and its batch doesn't fit the database, the batch is refused for the
--- reason why it doesn't fit
+-- if an `end` row is right, and its batch doesn't fit the database for the reason `why`, the batch
+-- is refused for this reason
 pub unfit_end : RefusedIsUnfit → (s : RunState) (stopped : Bool) (version number count changes : ℕ) (why : Refusal) → version ≡ current_version s → changes ≡ length s.changes
     → IsRightEnd stopped version number count changes → IsRefusal (current_database s) (open_batch s number) why → IsKept s number count (refusal.Unfit why)
 unfit_end unfit s stopped version number count changes why is_version is_count right is = (

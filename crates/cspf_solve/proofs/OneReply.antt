@@ -76,7 +76,8 @@ run_once best reply one rows l m a b x y =
     let same = all_once best reply one start (take 1000000 rows) x.replies y.replies x.after y.after x.answered y.answered in
     (x.whole ∙ rw (same.0, same.1) (sym y.whole), x.counts ∙ rw same.1 (sym y.counts))
 
--- the lines `l` are those that answer the rows `xs`, followed by those that answer the rows `ys`
+-- the lines `l` are the lines that answer the rows `xs`, followed by the lines that answer the rows
+-- `ys`
 pub record IsSplit (s : RunState) (xs ys : List (List (List ℕ))) (l : List ℕ) (t : RunState) : Type 0 where
   pub first : List ℕ
   pub mid : RunState

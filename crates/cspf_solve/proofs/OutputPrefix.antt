@@ -18,7 +18,8 @@ Rows = List (List (List ℕ))
 abbrev IsFront : List ℕ → List ℕ → Type 0
 IsFront out lines = (more : List ℕ) × (lines ≡ out ++ more)
 
--- the rows of `rest` that a run answers after the rows `done`, until it has answered 1,000,000 rows
+-- the rows of `rest` that a run answers after the rows `done`; it answers at most 1,000,000 rows in
+-- all
 abbrev next_rows : Rows → Rows → Rows
 next_rows done rest = take (1000000 - length done) rest
 
@@ -27,8 +28,8 @@ take_done rows done rest split few =
     let count : 1000000 ≡ length done + (1000000 - length done) = omega (arith, few) in
     rw split (ap (λ n. take n (done ++ rest)) count ∙ take-append-add done rest (1000000 - length done))
 
--- the output `whole` of the whole run is `lines`, then the lines of the rows that are answered
--- after `done`, and then the last line
+-- The output `whole` of the whole run consists of three parts: `lines`, the lines that answer the
+-- rows after `done`, and the last line.
 pub record IsContinued (done rest : List (List (List ℕ))) (lines whole : List ℕ) (after : RunState) : Type 0 where
   pub second : List ℕ
   pub last : RunState
@@ -58,8 +59,8 @@ by_rows_front best reply one rows out lines summary begun run =
     let c = continued best reply one rows begun.done begun.rest out lines begun.after summary begun.first run in
     (c.second ++ last_line c.too_many c.last.changes, c.is_whole ∙ append_assoc out c.second _)
 
--- if the whole output is `lines`, the next text and more bytes, then `lines` and the first bytes of
--- the next text are a prefix of it
+-- Let the whole output begin with `lines` followed by the next text. Then `lines` followed by the
+-- first bytes of the next text is a prefix of the whole output.
 part_front : (lines text rest out whole : List ℕ) (size : ℕ) → whole ≡ lines ++ (text ++ rest) → out ≡ lines ++ take size text → IsFront out whole
 part_front lines text rest out whole size is_whole is_out = (
   drop size text ++ rest,
@@ -74,7 +75,7 @@ take-nil : (n : ℕ) → take {A = List (List ℕ)} n [] ≡ []
 take-nil zero = refl
 take-nil (suc n) = refl
 
--- if no more rows are answered, no line of a row is left to write, and the state stays the same
+-- if no more rows are answered, there are no more lines of rows, and the state is unchanged
 none_next : (s t : RunState) (rows : Rows) (second : List ℕ) → rows ≡ [] → AreRowsAnswered s rows second t → (second ≡ []) × (t ≡ s)
 unfolding AreRowsAnswered
 none_next s t rows second none answered = rw none at answered
@@ -89,8 +90,8 @@ take-cons : (n : ℕ) (x : List (List ℕ)) (xs : Rows) → 0 < n → take n (x 
 take-cons zero x xs some = absurd (omega arith)
 take-cons (suc n) x xs some = ap (λ k. x ∷ take k xs) (omega arith)
 
--- If a run answers no row after the rows `done`, its next text is its last line. If its output is
--- then `lines` and the first `size` bytes of this text, it is a prefix of the whole output.
+-- Let a run answer no row after the rows `done`, so that its next text is its last line. Then an
+-- output of `lines` and the first `size` bytes of this text is a prefix of the whole output.
 last_front : (done rest : Rows) (lines whole : List ℕ) (after : RunState) (text out : List ℕ) (size : ℕ)
     → (c : IsContinued done rest lines whole after) → take (1000000 - length done) rest ≡ [] → text ≡ last_line c.too_many after.changes
     → out ≡ lines ++ take size text → IsFront out whole

@@ -1,4 +1,4 @@
--- Each row of a stream adds at most one to each count of a run: the counts of rows, of open
+-- Each row of a stream adds at most 1 to each count of a run. These are the counts of rows, of open
 -- changes, of answers and of refusals.
 use Rattle.std.proofs.Common.{ℕ, ◌≤◌, List, [], ◌∷◌, length, length-append, Result, Ok, Err, inl, inr, refl, arith}
 use Rattle.cspf_model.specs.declared.batch.Change.{Change}

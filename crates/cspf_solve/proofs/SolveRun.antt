@@ -1,5 +1,5 @@
--- How the lines and the summary of a run follow from the solver's answers, and what the output is
--- if the run stops.
+-- How the lines and the summary of a run follow from the solver's answers. Also: the output of a
+-- run that stops before its end.
 use Rattle.std.proofs.Common.{◌≡◌, ◌≢◌, ℕ, suc, ◌+◌, ◌<◌, ◌≤◌, Bool, true, false, List, [], ◌∷◌, ◌++◌, take, length, length-append, Option, Some, None, IfSome, option_map, Result, Ok, Err, IfOk, IfErr, OnOk, inl, inr, refl, sym, ap, subst, ◌∙◌, append_assoc, append-nil, arith}
 use Rattle.std.proofs.KnownBytes.{Appends-nil, Appends-trans, Appends-kept}
 use Rattle.std.proofs.lemmas.Bool.{lt-ltb, le-ltb, false≢true}
@@ -27,8 +27,7 @@ use Rattle.cspf_solve.proofs.RowCounts.{counted_rows}
 abbrev Rows : Type 0
 Rows = List (List (List ℕ))
 
--- how the solver answers the row with the number `place`; `SolverFails` says what holds if memory
--- is refused at this row
+-- How the solver answers row `place`. `SolverFails` is for a row at which memory is refused.
 abbrev pub SolverAnswers : AnswersOf Solver
 SolverAnswers place old fields = IsAnsweredBySolver old (row_of fields)
 
@@ -110,8 +109,8 @@ pub counted_run : (all : Option (List (List (List ℕ)))) (old new : Option (Lis
 counted_run all old new solver bytes false run = counted_rows solver run.state run.done run.out run.answered run.past.1 run.kept
 counted_run all old new solver bytes true run = counted_rows solver run.state run.done run.out run.answered (omega (arith, run.past.1)) run.kept
 
--- if a run has answered the rows `done`, they are the first 1,000,000 rows or all rows, and
--- `too_many` says whether there are more
+-- The rows `done` that a run has answered are the first 1,000,000 rows, or all rows if there are
+-- fewer. `too_many` says whether more rows follow.
 pub rows_read : (too_many : Bool) (count : ℕ) (rows done rest : List (List (List ℕ))) → rows ≡ done ++ rest → length done ≡ count → IsPast too_many count rest
     → (take 1000000 rows ≡ done) × (is_too_many rows ≡ too_many)
 rows_read false count rows done rest split same past =
@@ -220,7 +219,7 @@ module _ (all left : Option (List (List (List ℕ)))) (old new : Option (List �
       cut_off all a.done (a.fields ∷ a.rest) old a.mid new c.0 a.lines cut.0 cut.1 (length a.lines) bytes (in_row_split all left a.done a.rest a.fields a.split)
       (omega (arith, a.stops.0)) c.2 (inl (a.stops.0, step.0, step.2)) cut.3 a.written cut.4 refl cut.5
 
-  -- a run can't stop with a failed flush, because it makes no flush
+  -- a run can't stop with a failed flush, because it doesn't flush
   no_flush : (failed : Bool) → HasStoppedAfter SolverAnswers NeverFails 1000000 false bytes stream_error.Flush all left failed k k' old new → ⊥
   no_flush failed a = false≢true a.stops.1.2
 
@@ -251,8 +250,8 @@ most_done : (done rest : Rows) (too_many : Bool) → IsPast too_many (length don
 most_done done rest false past = past.1
 most_done done rest true past = omega (arith, past.1)
 
--- if a run stops while it writes its last line, its output is what `IsOutputAtError` defines for
--- the error of the run
+-- if a run stops while it writes its last line, its output is as `IsOutputAtError` states for the
+-- error of the run
 stops_at_end : (all : Option Rows) (old mid new : Option (List ℕ)) (solver : Solver) (bytes : ℕ) (too_many : Bool) (error : SolveError)
     → HasRun all old mid solver bytes too_many → ((s : RunState) → KeepsRun solver s → IsEndCut (last_line too_many s.changes) mid new bytes error) → IsHalted all old new error
 stops_at_end all old mid new solver bytes too_many solve_error.Memory run cut =
@@ -270,7 +269,7 @@ pub run_stops : (all : Option (List (List (List ℕ)))) (old mid new : Option (L
 run_stops all old mid new solver bytes too_many (Ok summary) run cut = tt
 run_stops all old mid new solver bytes too_many (Err error) run cut = stops_at_end all old mid new solver bytes too_many error run cut
 
--- if a run stops while it writes its last line, the error isn't `Read`, because nothing is read
+-- if a run stops while it writes its last line, the error isn't `Read`
 end_not_read : (line : List ℕ) (old new : Option (List ℕ)) (written : ℕ) (error : SolveError) → IsEndCut line old new written error → error ≢ solve_error.Read
 end_not_read line old new written solve_error.Memory cut = λ e. cc e
 end_not_read line old new written solve_error.Read cut = absurd cut
@@ -283,8 +282,8 @@ not_read all old mid new solver bytes too_many (Ok summary) P run cut = tt
 not_read all old mid new solver bytes too_many (Err error) P run cut =
     λ e. absurd (end_not_read (last_line too_many run.state.changes) mid new bytes error (cut run.state run.kept) e)
 
--- if a run stops before it reads a row of its stream, it has written nothing, because it has
--- answered no rows
+-- if a run stops before it reads its first row, its output is empty, which is the output for no
+-- rows
 pub halted_at_start : (bytes old : Option (List ℕ)) → IfSome bytes (λ text. (out : List ℕ) × IsBegunByRows (rows_of text) out × Appends old old out)
 halted_at_start None old = tt
 halted_at_start (Some text) old = (
@@ -298,9 +297,9 @@ halted_at_start (Some text) old = (
   Appends-nil old,
 )
 
--- Let `p` be the rows that `f` makes of the bytes `o` of a stream, if these bytes are known. If `Q`
--- holds of the value of a result and of `p`, `Q` holds of this value and of the rows that `f` makes
--- of the bytes. The next lemma says the same of a result's error.
+-- Let `o` be the bytes of a stream, if they are known, and let `p` be the rows that `f` makes of
+-- them. If `Q` holds for the value of a result and the rows `p`, it holds for this value and `f` of
+-- the bytes. The next lemma states the same for the error of a result.
 
 pub ok_of_rows : {T E A B : Type 0} (r : Result T E) (o : Option A) (p : Option B) (f : A → B) (Q : T → B → Type 0) → p ≡ option_map f o
     → IfOk r (λ x. IfSome p (Q x)) → IfOk r (λ x. IfSome o (λ a. Q x (f a)))

@@ -17,8 +17,8 @@ use Rattle.cspf_solve.specs.SolverStates.{KeepsRun}
 use Rattle.cspf_solve.specs.TableSinks.{table_spec}
 use Rattle.cspf_solve.proofs.BatchRefusals.{wrong_end, unfit_end}
 
--- the solver's rows are in the state `r`, and the run in the state `s`: both have the same
--- database, version, open changes and counts
+-- The state `r` of the solver's rows agrees with the state `s` of the run. Both have the same
+-- database, version and open changes, and the same counts of answers and refusals.
 pub record IsOfRun (r : RowsState TableSink) (s : RunState) : Type 0 where
   pub table : r.sink.table.database ≡ database_after s.accepted
   pub version : r.sink.version ≡ length s.accepted
@@ -26,8 +26,9 @@ pub record IsOfRun (r : RowsState TableSink) (s : RunState) : Type 0 where
   pub answers : r.answers ≡ s.answers
   pub refused : r.refused ≡ s.refused
 
--- The answer to a row takes a run from the state `s` to a state `after` with the same count of
--- rows. `Says` holds for `after`. The solver's rows, in the state `t`, agree with `after`.
+-- The answer to a row takes a run from the state `s` to some state `after` with the same count of
+-- rows. `Says` holds for `after`, and the state `t` of the solver's rows agrees with `after`
+-- (`IsOfRun`).
 abbrev Answered : RunState → (RunState → Type 0) → RowsState TableSink → Type 0
 Answered s Says t = (after : RunState) × IsOfRun t after × Says after × (after.rows ≡ s.rows)
 
@@ -82,8 +83,8 @@ module _ (more : OneMoreBatch) (unfit : RefusedIsUnfit) (r t : RowsState TableSi
         refl,
       )
 
--- if the solver's rows agree with a run, they still agree after the same change is added to the
--- open changes of both
+-- if the solver's rows agree with a run (`IsOfRun`), they still agree after the same change is
+-- added to the open changes of both
 changed : (r : RowsState TableSink) (s : RunState) (c : Change) → IsOfRun r s → IsOfRun (record r { changes = r.changes ++ c ∷ [] }) (after_change_row s c)
 changed r s c of = record { table = of.table; version = of.version; changes = ap (λ cs. cs ++ c ∷ []) of.changes; answers = of.answers; refused = of.refused }
 
@@ -104,8 +105,8 @@ row_taken more unfit r t s (Ok (row.End number count)) line of (inr a) = refused
 row_taken more unfit r t s (Ok (row.Ask q)) line of a =
     (after_reply s, rw a.1 (replied r s of), (a.0.0, rw of.table at a.0.1, rw of.version at a.0.2, refl), refl)
 
--- if the solver's rows answer a row as `IsRowTaken` of `cspf_stream` defines, the solver answers
--- this row as `IsRowAnswered` defines for a run
+-- if the solver's rows answer a row as `IsRowTaken` of `cspf_stream` states, the solver answers
+-- this row as `IsRowAnswered` states for a run
 pub run_row : OneMoreBatch → RefusedIsUnfit → (k k' : Solver) (row : Result Row RowError) (line : List ℕ) → k'.read ≡ k.read + 1
     → RowsLead k.rows k'.rows (λ r t. IsRowTaken table_spec (k.read + 1) r row line t)
     → (s : RunState) → KeepsRun k s → (after : RunState) × KeepsRun k' after × IsRowAnswered (at_next_row s) row line after

@@ -7,30 +7,30 @@ use Rattle.cspf_solve.specs.Script.{RunState, start, at_next_row, IsRowAnswered,
 use Rattle.cspf_solve.specs.declared.error.SolveError.{SolveError}
 use Rattle.cspf_solve.specs.declared.error.SolveError.TheVariants as error
 
--- the rows `done` are the first rows of a stream, at most 1,000,000, and a run answers them with
--- the lines `lines`
+-- The rows `done` are the first rows of a stream, and a run answers them with the lines `lines`.
+-- They are at most 1,000,000 rows.
 pub record AreFirstAnswered (rows done rest : List (List (List ℕ))) (lines : List ℕ) (after : RunState) : Type 0 where
   pub split : rows ≡ done ++ rest
   pub few : length done ≤ MOST_ROWS
   pub answered : AreRowsAnswered start done lines after
 
--- the output consists of whole lines: those that answer a prefix of the rows
+-- the output is exactly the lines that answer a prefix of the rows
 pub record IsBegunByRows (rows : List (List (List ℕ))) (out : List ℕ) : Type 0 where
   pub done : List (List (List ℕ))
   pub rest : List (List (List ℕ))
   pub after : RunState
   pub first : AreFirstAnswered rows done rest out after
 
--- the text that a run writes after the lines that answer the rows `done`: the line that answers the
--- next row, or the last line of the run
+-- `text` is the text that a run writes after the lines of the rows `done`: the line of the next
+-- row, or the last line of the run
 abbrev pub IsNextText : List (List (List ℕ)) → RunState → List (List (List ℕ)) → List ℕ → Type 0
 IsNextText done s [] text = text ≡ end_line s.changes
 IsNextText done s (fields ∷ rest) text =
     ((length done < MOST_ROWS) × (after : RunState) × IsRowAnswered (at_next_row s) (row_of fields) text after)
     ⊎ ((length done ≡ MOST_ROWS) × (text ≡ too_many_line))
 
--- the output is the lines of a prefix of the rows, followed by the first bytes of the next text,
--- though not by the whole text
+-- The output is the lines of a prefix of the rows, followed by a part of the next text. This text
+-- is cut off: at least its last byte is missing.
 pub record IsCutOff (rows : List (List (List ℕ))) (out : List ℕ) : Type 0 where
   pub done : List (List (List ℕ))
   pub rest : List (List (List ℕ))
@@ -43,8 +43,8 @@ pub record IsCutOff (rows : List (List (List ℕ))) (out : List ℕ) : Type 0 wh
   pub part : size < length text
   pub whole : out ≡ lines ++ take size text
 
--- After the errors `Memory` and `Read` the output has whole lines only. After the error `Write` the
--- output may end within a line, and it has `written` bytes.
+-- After the errors `Memory` and `Read`, the output has only whole lines. After the error `Write`,
+-- the output may be cut off within a line, and it has `written` bytes.
 abbrev pub IsOutputAtError : SolveError → List (List (List ℕ)) → List ℕ → Type 0
 IsOutputAtError error.Memory rows out = IsBegunByRows rows out
 IsOutputAtError error.Read rows out = IsBegunByRows rows out

@@ -1,4 +1,4 @@
--- Private: how a run ends reading the rows of its stream.
+-- Private: the state of a run after the last row that it answers.
 use Rattle.std.specs.Prelude.{◌≡◌, ℕ, Bool, true, List, ◌++◌, length, Option, IfSome, Result, MatchResult}
 use Rattle.std.specs.Io.KnownBytes.{Appends}
 use Rattle.cspf_solve.specs.Script.{RunState, start, AreRowsAnswered}
@@ -8,8 +8,8 @@ use Rattle.cspf_solve.specs.declared.solver.Solver.{Solver}
 use Rattle.cspf_solve.specs.declared.error.SolveError.{SolveError}
 use Rattle.cspf_solve.specs.declared.error.SolveError.TheVariants as solve_error
 
--- all rows are answered, or the first 1,000,000 if there are more; `too_many` says whether there
--- are more
+-- The rows `done` are answered. These are all rows, or the first 1,000,000 rows if there are more
+-- (`too_many`).
 pub record HasRun (all : Option (List (List (List ℕ)))) (old new : Option (List ℕ)) (solver : Solver) (bytes : ℕ) (too_many : Bool) : Type 0 where
   pub done : List (List (List ℕ))
   pub rest : List (List (List ℕ))
@@ -26,8 +26,8 @@ pub record HasRun (all : Option (List (List (List ℕ)))) (old new : Option (Lis
 abbrev pub IsHalted : Option (List (List (List ℕ))) → Option (List ℕ) → Option (List ℕ) → SolveError → Type 0
 IsHalted all old new error = IfSome all (λ rows. (out : List ℕ) × IsOutputAtError error rows out × Appends old new out)
 
--- Either all rows are answered, or the first 1,000,000 if there are more, or the run stops with an
--- error. The run stops with `Read` only if a read failed.
+-- Either all rows are answered, or the first 1,000,000 rows if there are more. Otherwise the run
+-- stops with an error. If this error is `Read`, a read failed.
 abbrev pub IsRowsEnd : Option (List (List (List ℕ))) → Option (List ℕ) → Option (List ℕ) → Solver → ℕ → Bool → Result Bool SolveError → Type 0
 IsRowsEnd all old new solver bytes failed ended =
     MatchResult ended (HasRun all old new solver bytes) (λ error. IsHalted all old new error × (error ≡ solve_error.Read → failed ≡ true))

@@ -27,7 +27,7 @@ pub record RunState : Type 0 where
   pub rows : ℕ
   -- the batches that were accepted, in order
   pub accepted : List NumberedChanges
-  -- the open changes, after which no `end` row has come yet
+  -- the open changes: the changes since the last `end` row
   pub changes : List Change
   -- how many requests were answered
   pub answers : ℕ
@@ -46,7 +46,8 @@ current_version s = length s.accepted
 abbrev pub current_database : RunState → Database
 current_database s = database_after s.accepted
 
--- the batch that has this number and the open changes
+-- the batch that has this number and the open changes, which are the changes since the last `end`
+-- row
 abbrev pub open_batch : RunState → ℕ → NumberedChanges
 open_batch s number = record { number = number; changes = s.changes }
 
@@ -54,8 +55,8 @@ open_batch s number = record { number = number; changes = s.changes }
 abbrev pub at_next_row : RunState → RunState
 at_next_row s = record s { rows = s.rows + 1 }
 
--- the state after a refused row of the stream: the database, the version and the open changes stay
--- as they are
+-- the state after a refused row of the stream: the database, the version and the open changes are
+-- unchanged
 abbrev pub after_refused_row : RunState → RunState
 after_refused_row s = record s { refused = s.refused + 1 }
 
@@ -64,32 +65,32 @@ abbrev pub after_change_row : RunState → Change → RunState
 after_change_row s c = record s { changes = s.changes ++ c ∷ [] }
 
 -- the state after an accepted batch: the batch has the changes that were open, and no change is
--- open any more
+-- open afterwards
 abbrev pub after_batch : RunState → ℕ → RunState
 after_batch s number = record s { accepted = s.accepted ++ open_batch s number ∷ []; changes = [] }
 
 -- the state after a refused batch: the open changes are dropped, and the database and the version
--- stay as they are
+-- are unchanged
 abbrev pub after_refused_batch : RunState → RunState
 after_refused_batch s = record s { changes = []; refused = s.refused + 1 }
 
--- the state after the reply to a request: the database, the version and the open changes stay as
--- they are
+-- the state after the reply to a request: the database, the version and the open changes are
+-- unchanged
 abbrev pub after_reply : RunState → RunState
 after_reply s = record s { answers = s.answers + 1 }
 
--- An `end` row with this number and count is accepted. The version is below 1,000,000, and the
--- number is that of the next version. The count is how many changes are open, and these fit the
--- database as a batch.
+-- An `end` row with this number and count is accepted. The version is below 1,000,000, and `number`
+-- is the next version. `count` is the number of open changes, and these changes fit the database as
+-- a batch.
 pub record IsAccepted (s : RunState) (number count : ℕ) : Type 0 where
   pub room : current_version s < MOST_VERSIONS
   pub next : number ≡ current_version s + 1
   pub counted : count ≡ length s.changes
   pub fits : Fits (current_database s) (open_batch s number)
 
--- Why the batch of an `end` row with this number and count is refused: the first reason that
--- applies. `Stopped`, `Journal` and `Memory` never apply: a run has no journal, and it ends if
--- memory is refused.
+-- Why the batch of an `end` row with this number and count is refused. The first reason that
+-- applies is given. `Stopped`, `Journal` and `Memory` never apply, because a run has no journal and
+-- ends if memory is refused.
 abbrev pub IsBatchRefusal : RunState → ℕ → ℕ → BatchRefusal → Type 0
 IsBatchRefusal s number count refusal.Stopped = ⊥
 IsBatchRefusal s number count refusal.Exhausted = MOST_VERSIONS ≤ current_version s
@@ -110,7 +111,7 @@ IsEndAnswered s number count line after =
     ⊎ ((why : BatchRefusal) × (¬ IsAccepted s number count) × IsBatchRefusal s number count why
     × (line ≡ refused_batch_line number why) × (after ≡ after_refused_batch s))
 
--- the row with the number `s.rows` is answered with this line, and leads to the state `after`
+-- row `s.rows`, counted from 1, is answered with this line, and leads to the state `after`
 abbrev pub IsRowAnswered : RunState → Result Row RowError → List ℕ → RunState → Type 0
 IsRowAnswered s (Err error) line after = (line ≡ refused_row_line s.rows error) × (after ≡ after_refused_row s)
 IsRowAnswered s (Ok (row.Put link)) line after = (line ≡ []) × (after ≡ after_change_row s (change.Put link))
@@ -131,14 +132,14 @@ AreRowsAnswered s (fields ∷ rows) lines after =
 abbrev pub is_too_many : List (List (List ℕ)) → Bool
 is_too_many rows = nat_lt MOST_ROWS (length rows)
 
--- the last line of a run: it says that there are too many rows, or else how many changes are still
--- open
+-- The last line of a run. If there are too many rows, the line reports only this. Otherwise it says
+-- how many changes are still open, and is empty if no changes are open.
 abbrev pub last_line : Bool → List Change → List ℕ
 last_line true changes = too_many_line
 last_line false changes = end_line changes
 
--- how much the open changes add to the count of refusals at the end: 1 if changes are open and
--- there aren't too many rows, and otherwise 0
+-- The number that is added to the count of refusals at the end of a run: 1 if changes are still
+-- open, and 0 otherwise. If there are too many rows, the number is always 0.
 abbrev pub unended_count : Bool → List Change → ℕ
 unended_count true changes = 0
 unended_count false changes = if nat_lt 0 (length changes) then 1 else 0
@@ -153,8 +154,8 @@ summary_of s too_many = record {
   too_many = too_many;
 }
 
--- A run over rows: the first 1,000,000 of them are answered one after the other, and then comes the
--- last line.
+-- A run over rows: the first 1,000,000 rows are answered one after the other, and the last line
+-- follows.
 pub record IsSolveRun (rows : List (List (List ℕ))) (lines : List ℕ) (summary : Summary) : Type 0 where
   pub replies : List ℕ
   pub after : RunState

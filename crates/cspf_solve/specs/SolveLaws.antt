@@ -18,20 +18,20 @@ abbrev pub StopsAtAPrefix : Type 0
 StopsAtAPrefix = (error : SolveError) (rows : List (List (List ℕ))) (out lines : List ℕ) (summary : Summary)
     → IsOutputAtError error rows out → IsSolveRun rows lines summary → (more : List ℕ) × (lines ≡ out ++ more)
 
--- if rows are answered, and then one more row is answered, the list of all these rows is answered,
--- with the line of the last row at the end
+-- Let rows be answered with `lines`, and let one more row then be answered with `line`. The list of
+-- all these rows is then answered with `lines` followed by `line`.
 abbrev pub GoesOnByOneRow : Type 0
 GoesOnByOneRow = (s t u : RunState) (rows : List (List (List ℕ))) (fields : List (List ℕ)) (lines line : List ℕ) → AreRowsAnswered s rows lines t
     → IsRowAnswered (at_next_row t) (row_of fields) line u → AreRowsAnswered s (rows ++ (fields ∷ [])) (lines ++ line) u
 
--- Between the states `s` and `t` the count of rows grew by `n`, and every other count grew by at
--- most `n`.
+-- From the state `s` to the state `t`, the count of rows grows by `n`, and each other count grows
+-- by at most `n`.
 pub record AreWithin (s t : RunState) (n : ℕ) : Type 0 where
   pub rows : t.rows ≡ s.rows + n
   pub changes : length t.changes ≤ length s.changes + n
   pub answers : t.answers ≤ s.answers + n
   pub refused : t.refused ≤ s.refused + n
 
--- the answer to a row adds at most one to each count of a run
+-- the answer to a row adds at most 1 to each count of a run
 abbrev pub CountsByOne : Type 0
 CountsByOne = (s t : RunState) (row : Result Row RowError) (line : List ℕ) → IsRowAnswered (at_next_row s) row line t → AreWithin s t 1

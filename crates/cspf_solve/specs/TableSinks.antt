@@ -1,4 +1,4 @@
--- Private: which batches a table, together with its version, accepts or refuses, and how it answers
+-- Private: which batches a table accepts or refuses as the sink of a solver, and how it answers
 -- requests.
 use Rattle.std.specs.Prelude.{◌≡◌, ◌+◌, false}
 use Rattle.cspf_model.specs.Best.{Answer, IsBestAnswer}

@@ -13,7 +13,7 @@ pub enum SolveError {
     /// A read failed.
     #[error("a read failed")]
     Read,
-    /// A write failed, or took no bytes.
+    /// A write failed, or wrote no byte.
     #[error("a write failed after {written} bytes")]
     Write {
         /// How many bytes the whole run wrote. The type is large enough for every run.

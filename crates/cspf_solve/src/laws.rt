@@ -26,9 +26,9 @@ pub fn stops_at_a_prefix()
     one_refusal();
 }
 
-/// Law: a run answers its rows one by one. If rows are answered, and then one more row is answered,
-/// the list of all these rows is answered, with the line of the last row at the end. The answer to
-/// a row adds at most one to each count of the run.
+/// Law: a run answers its rows one by one. If a run answers some rows and then one more row, it
+/// answers the list of all these rows. The line of the last row then follows the other lines. The
+/// answer to a row adds at most 1 to each count of the run.
 pub fn runs_go_on_row_by_row()
     ensures more { GoesOnByOneRow }
     ensures counts { CountsByOne }

@@ -1,15 +1,16 @@
-//! How many trees of lower bounds a run may keep.
+//! The options of a run: how many trees of lower bounds it may keep.
 
 ghost use Rattle.std.specs.Prelude.{◌*◌, ◌+◌, ◌<◌, ◌≤◌};
 ghost use Rattle.cspf_trees.specs.declared.limits.TheConstants.{TREE_BYTES, TREE_MEGABYTES};
 
 use cspf_trees::{TREE_BYTES, TREE_MEGABYTES, trees_in};
 
-/// How many trees a run may keep, and so how much memory they take. A tree has lower bounds of the
-/// costs to one tail-end. The lines of the run don't depend on how many trees it keeps.
+/// How many trees a run may keep, which limits the memory of the trees. A tree has lower bounds of
+/// the costs to one tail-end. The lines of the run don't depend on the number of trees.
 #[derive(Clone, Copy, Debug, PartialEq, Eq)]
 pub struct RunOptions {
-    /// The most trees that all threads of the run together keep. With 0 no trees are kept.
+    /// The greatest number of trees that all threads of the run keep together. If it is 0, no trees
+    /// are kept.
     pub trees: usize,
 }
 

@@ -17,15 +17,15 @@ use csv::Reader;
 use std::alloc::{AllocError, Global};
 use std::io::{Read, Write};
 
-/// Reads a stream of rows and writes the line of each row as soon as it is known, in one write if
-/// the writer takes it whole. `IsScript` defines the lines, and when a row or a batch is refused.
-/// At most 1,000,000 rows are answered. However many rows there are, memory is taken only for the
-/// longest row, the database, the open changes and the trees of lower bounds. `run_solve_with` says
-/// how many trees there are.
+/// Reads a stream of rows, and writes the line that answers each row before it reads the next row.
+/// A line is written in one write, if the writer accepts all its bytes at once. `IsScript` defines
+/// the lines, and when a row or a batch is refused. At most 1,000,000 rows are answered. Memory is
+/// needed only for the longest row, the database, the open changes and the trees of lower bounds.
+/// `RunOptions::new` limits the number of these trees.
 ///
-/// After an error the writer has the lines of a prefix of the rows. After a failed write it may
-/// also have a part of the next line, but not all of it. The error `Read` means that a read failed.
-/// The error `Write` means that a write failed or took no bytes. The writer isn't flushed.
+/// After an error, the lines of a prefix of the rows are written. The error `Read` means that a
+/// read failed. The error `Write` means that a write failed or wrote no byte. A part of the next
+/// line may then be written, but never all of it. The function doesn't flush the writer.
 pub fn run_solve<R: Read + Drop, W: Write>(
     alloc: Global,
     reader: R,
@@ -41,8 +41,8 @@ pub fn run_solve<R: Read + Drop, W: Write>(
     run_solve_with(alloc, reader, writer, RunOptions::new())
 }
 
-/// Does the same as `run_solve`, but the table has at most `options.trees` trees of lower bounds,
-/// and never more than `MOST_TREES` of `cspf_trees`.
+/// As `run_solve`, but the table keeps at most `options.trees` trees of lower bounds, and never
+/// more than `MOST_TREES` of `cspf_trees`.
 pub fn run_solve_with<R: Read + Drop, W: Write>(
     alloc: Global,
     reader: R,
@@ -76,15 +76,15 @@ fn solve_rows<R: Read, W: Write>(
     ensures stopped { IfErr result (λ error. IfSome (rows_left R.remaining rows.old) (λ all.
         (out : List ℕ) × IsOutputAtError error all out
         × Appends (W.contents writer.old) (W.contents writer.new) out)) }
-    // The run ends with the error `Read` only if a read failed.
+    // If the error is `Read`, a read failed.
     ensures read { IfErr result (λ error. error ≡ IsRead → has_failed rows.new ≡ true) }
 {
     let (written, ended) = answer_most(alloc, rows, solver, writer);
     finish(alloc, solver, writer, written, ended?)
 }
 
-/// Answers the rows that the reader still has, but at most 1,000,000 of them. Returns how many
-/// bytes were written, and whether there are more rows or why the run stops.
+/// Answers at most 1,000,000 of the rows that the reader still has. Returns two results: how many
+/// bytes were written, and whether more rows follow or which error stops the run.
 fn answer_most<R: Read, W: Write>(
     alloc: Global,
     rows: &mut Reader<R>,
@@ -102,8 +102,8 @@ fn answer_most<R: Read, W: Write>(
     (written, end_after_rows(written, ended))
 }
 
-/// How the reading of the rows ends, after `written` bytes of output: whether there are more than
-/// 1,000,000 rows, or the error that stops the run.
+/// Whether there are more than 1,000,000 rows, or the error that stops the run. `written` is the
+/// number of bytes of output.
 fn end_after_rows(
     written: u128,
     ended: Result<(), StreamStop<AllocError>>,
@@ -122,8 +122,8 @@ fn end_after_rows(
     }
 }
 
-/// Writes the last line of the run and returns the summary. `written` is how many bytes the run
-/// wrote before.
+/// Writes the last line of the run and returns the summary. `written` is the number of bytes that
+/// the run wrote before this line.
 fn finish<W: Write>(
     alloc: Global,
     solver: &Solver,

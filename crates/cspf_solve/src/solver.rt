@@ -12,9 +12,9 @@ use cspf_trees::{MOST_TREES, TreeTable};
 use csv::ByteRecord;
 use std::alloc::{AllocError, Global};
 
-/// The state of a run between two rows of its stream. However long the stream is, this state takes
-/// no more memory than the database, the open changes and the trees of lower bounds that the table
-/// keeps.
+/// The state of a run between two rows of its stream. Its memory doesn't grow with the length of
+/// the stream. The state has only the database, the open changes, and the trees of lower bounds
+/// that the table keeps.
 #[derive(Drop)]
 pub struct Solver {
     /// The database of the accepted batches, and the open changes.
@@ -34,8 +34,8 @@ impl Answering<()> for Solver {
 
     ghost fails = { λ fault place old fields new. Unit {0} };
 
-    // The answer to a row adds at most one to each count of the solver, so each count stays below
-    // the number of the next row.
+    // Each count of the solver is below the number of the next row, because the answer to a row
+    // adds at most 1 to each count.
     ghost may_stand = { λ place solver. AreBelow place solver };
 
     fn answer(
@@ -63,9 +63,8 @@ impl Solver {
         Solver::with_trees(alloc, MOST_TREES)
     }
 
-    /// A solver before the first row of its stream, like that of `new`, but whose table keeps at
-    /// most `most` trees of lower bounds, and never more than `MOST_TREES`. If `most` is 0, the
-    /// table keeps no trees. The answers don't depend on `most`.
+    /// As `new`, but the table keeps at most `most` trees of lower bounds, and never more than
+    /// `MOST_TREES`. If `most` is 0, the table keeps no trees. The answers don't depend on `most`.
     pub fn with_trees(alloc: Global, most: usize) -> Result<Solver, AllocError>
         ensures start { IfOk result (λ solver. KeepsRun solver start) }
         ensures trees { IfOk result (λ solver. solver.rows.sink.table.most_trees ≡ most) }
@@ -80,8 +79,8 @@ impl Solver {
         })
     }
 
-    /// Answers one more row of the stream, and returns the line that answers it. The line of a
-    /// change is empty.
+    /// Answers one more row of the stream, and returns the line that answers this row. The line of
+    /// a change is empty.
     pub fn answer(
         &mut self,
         alloc: Global,
@@ -92,16 +91,17 @@ impl Solver {
             × KeepsRun self.new after × IsRowAnswered (at_next_row s) row.now line.items after) }
         ensures counts { AreWithinOne self.old self.new }
     {
-        // Laws: one more batch changes the database that the batches before it made, and a batch
-        // that is refused for a reason doesn't fit the database.
+        // Law: the database after one more batch is the database after the batches before it, with
+        // the changes of this batch made. Law: a batch that is refused for a reason doesn't fit the
+        // database.
         absorbing();
         one_refusal();
         self.read += 1;
         self.rows.answer(&(), alloc, self.read, row)
     }
 
-    /// The last line: it says that there are too many rows, or else how many changes are still
-    /// open.
+    /// The last line of the run. If there are too many rows, the line reports only this. Otherwise
+    /// it says how many changes are still open, and is empty if no changes are open.
     pub fn last_line(&self, alloc: Global, too_many: bool) -> Result<Vec<u8>, AllocError>
         ensures { IfOk result (λ line. (s : RunState) → KeepsRun self.now s
             → line.items ≡ last_line too_many s.changes) }

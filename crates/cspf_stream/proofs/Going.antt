@@ -1,4 +1,4 @@
--- What holds of a stream of rows after its first rows were read and answered.
+-- What is true of a stream of rows after its first rows are read and answered.
 use Rattle.std.proofs.Common.{◌≡◌, ℕ, suc, ◌+◌, ◌<◌, ◌≤◌, Bool, true, false, List, [], ◌∷◌, ◌++◌, length, length-append, Option, Some, None, IfSome, Result, Ok, Err, OnOk, IfErr, inl, inr, refl, sym, ap, ◌∙◌, append_assoc, append-nil, arith}
 use Rattle.std.proofs.KnownBytes.{Appends-nil, Appends-trans}
 use Rattle.std.specs.Io.KnownBytes.{Appends}
@@ -18,7 +18,7 @@ use Rattle.cspf_stream.specs.declared.error.StreamStop.TheVariants as stop
 abbrev Rows : Type 0
 Rows = List (List (List ℕ))
 
--- All rows of the stream are the rows that were read, followed by the rows that are left.
+-- The stream has the rows that were read, followed by the rows that are left.
 abbrev pub IsReadUpTo : Option (List (List (List ℕ))) → List (List (List ℕ)) → Option (List (List (List ℕ))) → Type 0
 IsReadUpTo all done left = IfSome all (λ rows. (rest : List (List (List ℕ))) × (left ≡ Some rest) × (rows ≡ done ++ rest))
 
@@ -121,8 +121,8 @@ module _ {S : Type 0} (answers : AnswersOf S) where
   }
 
   module _ (all left next : Option (List (List (List ℕ)))) (s t : S) (old mid : Option (List ℕ)) (read bytes : ℕ) (fields : List (List ℕ)) (going : IsGoing answers all left s t old mid read bytes) where
-    -- If one more row is read and answered, and its line is written, one row more of the stream is
-    -- answered.
+    -- If one more row is read and answered, and its line is written, `IsGoing` holds for one more
+    -- row.
     pub steps : (u : S) (new : Option (List ℕ)) (line : List ℕ) (after : ℕ) → Takes left next true fields → answers (read + 1) t fields line u → Appends mid new line
         → after ≡ bytes + length line → IsGoing answers all next s u old new (read + 1) after
     steps u new line after takes answered written size =
@@ -201,8 +201,8 @@ module _ {S : Type 0} (answers : AnswersOf S) where
       stops_in_row u new failed stream_error.Flush after few takes stops = stops_at_row u new stream_error.Flush after few takes stops
       stops_in_row u new failed stream_error.TooManyRows after few takes stops = absurd stops
 
-      -- If as many rows are answered as the limit allows, and one more row is read, the stream
-      -- stops with `TooManyRows`.
+      -- If `limit` rows are answered, and one more row is read, the stream stops with
+      -- `TooManyRows`.
       pub too_many : (failed : Bool) → read ≡ limit → Takes left next true fields → HasStoppedAfter answers fails limit flush bytes stream_error.TooManyRows all next failed s t old mid
       too_many failed most takes = record {
         more = record {
@@ -288,7 +288,8 @@ module _ {S : Type 0} (answers : AnswersOf S) (fails : FailsOf S) (all left : Op
     stops = is (suc (length a.done)) a.fields a.before a.mid a.stops;
   }
 
-  -- If each fault leaves the same state, the stream stops as with refused memory.
+  -- If the state after a fault doesn't depend on the fault, each fault stops the stream as refused
+  -- memory does.
   pub stopped_of : {F : Type 0} (why : StreamStop F) → IsStreamStopped answers (λ fault. fails) why all left failed s t old new → HasStopped answers fails (stream_error_of why) all left failed s t old new
   stopped_of (stop.Answer fault) a = inr a
   stopped_of (stop.Stream stream_error.Memory) (inl a) = inl a

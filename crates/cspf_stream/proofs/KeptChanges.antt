@@ -1,5 +1,5 @@
--- Only the first 4,097 open changes are kept. They fit a database as a batch exactly if all open
--- changes do.
+-- Only the first 4,097 open changes are kept. These changes fit a database as a batch exactly if
+-- all open changes fit this database as a batch.
 use Rattle.std.proofs.Common.{◌≡◌, ℕ, zero, suc, ◌<◌, ◌≤◌, List, [], ◌∷◌, ◌++◌, take, length, refl, ap, ◌∙◌, sym, subst, arith}
 use Rattle.std.proofs.lemmas.List.{take_all}
 use Rattle.cspf_model.specs.declared.batch.Change.{Change}
@@ -14,14 +14,14 @@ take-nil : {A : Type 0} (n : ℕ) → take {A = A} n [] ≡ []
 take-nil zero = refl
 take-nil (suc n) = refl
 
--- If a list's first n elements are fewer than n, they are the whole list.
+-- If the list of a list's first n elements is shorter than n, it is the whole list.
 take_short : {A : Type 0} (n : ℕ) (xs : List A) → length (take n xs) < n → take n xs ≡ xs
 take_short zero xs short = absurd (omega arith)
 take_short (suc n) [] short = refl
 take_short (suc n) (x ∷ xs) short = ap (λ ys. x ∷ ys) (take_short n xs (omega arith))
 
--- Let a list's first n elements be fewer than n. If one more element is appended to the list, it is
--- appended to these first elements, too.
+-- Let a list have fewer than n elements. If an element is appended to the list, it is also appended
+-- to the list of its first n elements.
 take-append-short : {A : Type 0} (n : ℕ) (xs : List A) (x : A) → length (take n xs) < n → take n xs ++ x ∷ [] ≡ take n (xs ++ x ∷ [])
 take-append-short zero xs x short = absurd (omega arith)
 take-append-short (suc n) [] x short = ap (λ ys. x ∷ ys) (sym (take-nil n))
@@ -66,8 +66,8 @@ fits_kept d number kept all front fits =
 longer : (kept all : List Change) → kept ≡ take 4097 all → 4096 < length kept → 4096 < length all
 longer kept all front long = omega (arith, length-take-most 4097 all, ap length front)
 
--- If the first 4,097 open changes are refused as a batch for a reason, all open changes are refused
--- as a batch for the same reason.
+-- Let the first 4,097 open changes be refused as a batch. Then all open changes are refused as a
+-- batch for the same reason.
 pub refusal_whole : (d : Database) (number : ℕ) (kept all : List Change) (why : Refusal) → kept ≡ take 4097 all
     → IsRefusal d (record { number = number; changes = kept }) why → IsRefusal d (record { number = number; changes = all }) why
 refusal_whole d number kept all unfit.TooLong front h = longer kept all front h

@@ -1,5 +1,5 @@
--- In which state the code is after it has answered an `end` row of a stream. The state has the
--- sink, the open changes, and the counts of answers and refusals.
+-- The state of the code after it has answered an `end` row of a stream. The state has the sink, the
+-- open changes, and the counts of answers and refusals.
 use Rattle.std.proofs.Common.{◌≡◌, ℕ, ◌+◌, ◌⊎◌, List, [], Result, Ok, Err, IfOk, OnErr, inr, refl, ap, subst, ◌∙◌}
 use Rattle.cspf_model.specs.declared.batch.Change.{Change}
 use Rattle.cspf_stream.specs.Lines.{version_line, refused_batch_line}
@@ -15,8 +15,8 @@ at_error P (Ok x) holds = tt
 at_error P (Err e) holds = holds
 
 module _ {S : Type 0} (spec : SinkSpec S) (k k' : Rows S) (number count : ℕ) (none : AreOpen k'.changes []) (answers : k'.answers ≡ k.answers) where
-  -- If the sink accepts the batch of an `end` row, the code's value `k'` is in the state after the
-  -- row, as `KeepsRows` defines it. In this state the batch is accepted, and no change is open.
+  -- Let the sink accept the batch of an `end` row. Then the code's new value `k'` stores a state in
+  -- which the batch is accepted, and no change is open.
   pub accepted : k'.refused ≡ k.refused → ((all : List Change) → AreOpen k.changes all → IsBatchTaken spec k.sink number count all k'.sink)
       → RowsLead k k' (λ s t. IsEndAccepted spec s number count (version_line number) t)
   accepted refused taken = λ s kept. (
@@ -29,8 +29,8 @@ module _ {S : Type 0} (spec : SinkSpec S) (k k' : Rows S) (number count : ℕ) (
     },
   )
 
-  -- If the batch of an `end` row is refused, the code's value `k'` is in the state after the row,
-  -- as `KeepsRows` defines it. In this state one more batch is refused, and no change is open.
+  -- Let the batch of an `end` row be refused. Then the code's new value `k'` stores a state in
+  -- which one more batch is refused, and no change is open.
   dropped : (why : BatchRefusal) → k'.refused ≡ k.refused + 1 → ((all : List Change) → AreOpen k.changes all → IsBatchDropped spec k.sink number count all why k'.sink)
       → RowsLead k k' (λ s t. IsEndRefused spec s number count (refused_batch_line number why) t)
   dropped why refused is = λ s kept. (
@@ -44,8 +44,8 @@ module _ {S : Type 0} (spec : SinkSpec S) (k k' : Rows S) (number count : ℕ) (
     },
   )
 
-  -- If the batch of an `end` row is refused, the code's value `k'` is in the state after this
-  -- refusal, as `KeepsRows` defines it. This also holds if there is no memory for the row's line.
+  -- Let the batch of an `end` row be refused. Then the code's new value `k'` stores the state after
+  -- this refusal, even if memory is refused for the row's line.
   pub refused_said : {T E : Type 0} (r : Result T E) (text : T → List ℕ) (why : BatchRefusal) → k'.refused ≡ k.refused + 1
       → ((all : List Change) → AreOpen k.changes all → IsBatchDropped spec k.sink number count all why k'.sink) → IfOk r (λ line. text line ≡ refused_batch_line number why)
       → IfOk r (λ line. RowsLead k k' (λ s t. IsEndAccepted spec s number count (text line) t ⊎ IsEndRefused spec s number count (text line) t))

@@ -1,5 +1,5 @@
--- If two rows of a stream ask for the same step (a change, the end of a batch, or an answer), they
--- are the same row.
+-- Rows of a stream that ask for the same step are equal. A step is a change, the end of a batch, or
+-- the answer to a request.
 use Rattle.std.proofs.Common.{◌≡◌, refl, subst}
 use Rattle.cspf_model.specs.declared.batch.Change.TheVariants as change
 use Rattle.cspf_rows.specs.declared.row.Row.{Row}
@@ -8,8 +8,7 @@ use Rattle.cspf_stream.specs.Steps.{step_of}
 use Rattle.cspf_stream.specs.declared.step.Step.{Step}
 use Rattle.cspf_stream.specs.declared.step.Step.TheVariants as step
 
--- the row of a stream that asks for this step: a change, the end of a batch, or the answer to a
--- request
+-- the row of a stream that asks for this step
 abbrev pub row_with : Step → Row
 row_with (step.Change (change.Put link)) = row.Put link
 row_with (step.Change (change.Remove from local)) = row.Remove from local

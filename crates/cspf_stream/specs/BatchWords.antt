@@ -1,4 +1,4 @@
--- The words that say why a batch is refused.
+-- The words for the reason why a batch is refused.
 use Rattle.std.specs.Prelude.{ℕ, List, ◌++◌, codes}
 use Rattle.std.specs.Fmt.{decimal}
 use Rattle.cspf_model.specs.declared.refusal.Refusal.{Refusal}
@@ -6,7 +6,7 @@ use Rattle.cspf_model.specs.declared.refusal.Refusal.TheVariants as unfit
 use Rattle.cspf_stream.specs.declared.batch_refusal.BatchRefusal.{BatchRefusal}
 use Rattle.cspf_stream.specs.declared.batch_refusal.BatchRefusal.TheVariants as refusal
 
--- the words that say why a batch doesn't fit the database
+-- the words for the reason why a batch doesn't fit the database
 abbrev pub unfit_words : Refusal → List ℕ
 unfit_words unfit.TooLong = codes "long"
 unfit_words (unfit.Duplicate at) = codes "duplicate " ++ decimal at

@@ -16,8 +16,8 @@ pub record AreFirstRowsAnswered {S : Type 0} (answers : AnswersOf S) (limit byte
   pub few : length whole.done ≤ limit
   pub size : length whole.lines ≡ bytes
 
--- How the writing of a row's line stops after `size` bytes of this line. A flush can fail only if
--- `flush` is set.
+-- How the writing of a row's line stops after `size` bytes of this line. If `flush` isn't set, no
+-- flush can fail.
 abbrev pub IsLineStoppedAfter : Bool → ℕ → StreamError → List ℕ → Option (List ℕ) → Option (List ℕ) → Type 0
 IsLineStoppedAfter flush size error.Memory line old new = ⊥
 IsLineStoppedAfter flush size error.Read line old new = ⊥
@@ -25,8 +25,8 @@ IsLineStoppedAfter flush size error.Write line old new = (size < length line) ×
 IsLineStoppedAfter flush size error.Flush line old new = (flush ≡ true) × (size ≡ length line) × Appends old new line
 IsLineStoppedAfter flush size error.TooManyRows line old new = ⊥
 
--- How the answer to the row with this number stops. `before` bytes were written before this row,
--- and `after` bytes were written when its answer stopped.
+-- How the answer to row `place` stops. `before` bytes were written before this row. When its answer
+-- stopped, `after` bytes were written in all.
 abbrev pub IsRowStoppedAfter : {S : Type 0} → AnswersOf S → FailsOf S → Bool → ℕ → ℕ → StreamError → ℕ → List (List ℕ) → S → S → Option (List ℕ) → Option (List ℕ) → Type 0
 IsRowStoppedAfter answers fails flush before after error.Memory place fields s t old new =
     fails place s fields t × known.Keeps old new × (after ≡ before)
@@ -55,8 +55,8 @@ pub record HasMoreRows {S : Type 0} (answers : AnswersOf S) (limit bytes : ℕ) 
   pub more : HasMoreThan answers limit all s t old new
   pub size : length more.lines ≡ bytes
 
--- how a stream of which at most `limit` rows are answered stops with an error; `HasStopped` says
--- the same of a stream without a limit
+-- how a stream stops with an error if at most `limit` of its rows are answered; `HasStopped` is for
+-- a stream without such a limit
 abbrev pub HasStoppedAfter : {S : Type 0} → AnswersOf S → FailsOf S → ℕ → Bool → ℕ → StreamError → Option (List (List (List ℕ))) → Option (List (List (List ℕ))) → Bool → S → S → Option (List ℕ) → Option (List ℕ) → Type 0
 HasStoppedAfter answers fails limit flush bytes error.Memory all left failed s t old new =
     ((failed ≡ true) × StopsAfterRows answers limit bytes all s t old new)
@@ -70,15 +70,16 @@ HasStoppedAfter answers fails limit flush bytes error.Flush all left failed s t 
 HasStoppedAfter answers fails limit flush bytes error.TooManyRows all left failed s t old new =
     HasMoreRows answers limit bytes all s t old new
 
--- how the answer to a row stops: with an error of the stream, or with this fault
+-- how the answer to a row stops: with an error of the stream, or because the answer fails with a
+-- fault
 abbrev pub IsRowStop : {S F : Type 0} → AnswersOf S → (F → FailsOf S) → Bool → ℕ → ℕ → StreamStop F → ℕ → List (List ℕ) → S → S → Option (List ℕ) → Option (List ℕ) → Type 0
 IsRowStop answers fails flush before after (stop.Stream why) place fields s t old new =
     IsRowStoppedAfter answers NeverFails flush before after why place fields s t old new
 IsRowStop answers fails flush before after (stop.Answer fault) place fields s t old new =
     IsRowStoppedAfter answers (fails fault) flush before after error.Memory place fields s t old new
 
--- how a stream of which at most `limit` rows are answered stops with an error of the stream, or
--- because the answer to a row fails with this fault
+-- How a stream stops if at most `limit` of its rows are answered. It stops with an error of the
+-- stream, or because the answer to a row fails with a fault.
 abbrev pub IsStoppedAfter : {S F : Type 0} → AnswersOf S → (F → FailsOf S) → ℕ → Bool → ℕ → StreamStop F → Option (List (List (List ℕ))) → Option (List (List (List ℕ))) → Bool → S → S → Option (List ℕ) → Option (List ℕ) → Type 0
 IsStoppedAfter answers fails limit flush bytes (stop.Stream why) all left failed s t old new =
     HasStoppedAfter answers NeverFails limit flush bytes why all left failed s t old new

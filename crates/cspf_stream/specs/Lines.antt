@@ -1,5 +1,5 @@
 -- The lines that answer the rows of a stream, except replies and the lines of refused rows. Each
--- ends with one line feed.
+-- line ends with one line feed.
 use Rattle.std.specs.Prelude.{ℕ, nat_lt, if◌then◌else◌, List, [], ◌++◌, length, codes}
 use Rattle.std.specs.Fmt.{decimal}
 use Rattle.cspf_model.specs.declared.batch.Change.{Change}
@@ -10,16 +10,16 @@ use Rattle.cspf_stream.specs.declared.batch_refusal.BatchRefusal.{BatchRefusal}
 abbrev pub version_line : ℕ → List ℕ
 version_line version = codes "version " ++ decimal version ++ codes "\n"
 
--- the line of a refused batch: its number, and why it is refused
+-- the line of a refused batch: the batch's number, and why the batch is refused
 abbrev pub refused_batch_line : ℕ → BatchRefusal → List ℕ
 refused_batch_line number refusal = codes "batch " ++ decimal number ++ codes " refused: " ++ batch_words refusal ++ codes "\n"
 
--- the line that says how many changes are in no batch
+-- the line that says how many changes are still open after the last row
 abbrev pub unended_line : ℕ → List ℕ
 unended_line count = codes "unended " ++ decimal count ++ codes "\n"
 
--- The last line of a stream that has more rows than the limit allows. It comes after the answers to
--- the rows up to the limit, and the further rows aren't answered.
+-- The last line of a stream that has more rows than the limit allows. It follows the answers to the
+-- rows up to the limit. The rows past the limit aren't answered.
 abbrev pub too_many_line : List ℕ
 too_many_line = codes "too many rows\n"
 

@@ -14,24 +14,23 @@ use Rattle.cspf_stream.specs.declared.rows.Rows.{Rows}
 use Rattle.cspf_stream.specs.declared.step.Step.{Step}
 use Rattle.cspf_stream.specs.declared.step.Step.TheVariants as step
 
--- the state between two rows of a stream: the sink, the open changes, how many requests were
--- answered, and how many rows and batches were refused
+-- The state between two rows of a stream: the sink, the open changes, and two counts. `answers`
+-- counts answered requests, and `refused` counts refused rows and batches.
 pub record RowsState (S : Type 0) : Type 0 where
   pub sink : S
   pub changes : List Change
   pub answers : ℕ
   pub refused : ℕ
 
--- The code's value `rows` is in the state `s`: it has the same sink and counts, and the first of
--- the open changes.
+-- The code's value `rows` stores the state `s`. It has the same sink and the same counts, and keeps
+-- the first open changes (`AreOpen`).
 pub record KeepsRows {S : Type 0} (rows : Rows S) (s : RowsState S) : Type 0 where
   pub sink : rows.sink ≡ s.sink
   pub changes : AreOpen rows.changes s.changes
   pub answers : rows.answers ≡ s.answers
   pub refused : rows.refused ≡ s.refused
 
--- For each state `s` in which the code's value `old` is (`KeepsRows`), its value `new` is in some
--- state `t` for which `Step s t` holds.
+-- If `old` stores a state `s` (`KeepsRows`), `new` stores a state `t` such that `Step s t` holds.
 abbrev pub RowsLead : {S : Type 0} → Rows S → Rows S → (RowsState S → RowsState S → Type 0) → Type 0
 RowsLead {S} old new Step = (s : RowsState S) → KeepsRows old s → (t : RowsState S) × KeepsRows new t × Step s t
 
@@ -67,22 +66,21 @@ module _ {S : Type 0} (spec : SinkSpec S) where
     pub line_is : line ≡ refused_batch_line number why
     pub after : t ≡ record { sink = t.sink; changes = []; answers = s.answers; refused = s.refused + 1 }
 
-  -- In the state `s` a row that asks for this step is answered with this line, and `t` is the state
-  -- afterwards.
+  -- In the state `s`, a row that asks for this step is answered with this line. `t` is the state
+  -- after the row.
   abbrev pub IsStepTaken : RowsState S → Step → List ℕ → RowsState S → Type 0
   IsStepTaken s (step.Change c) line t = (line ≡ []) × (t ≡ record s { changes = s.changes ++ c ∷ [] })
   IsStepTaken s (step.End number count) line t = IsEndAccepted s number count line t ⊎ IsEndRefused s number count line t
   IsStepTaken s (step.Ask q) line t = spec.replies s.sink q line × (t ≡ record s { answers = s.answers + 1 })
 
-  -- In the state `s` the row with this number is answered with this line, and `t` is the state
-  -- afterwards.
+  -- In the state `s`, row `place` is answered with this line. `t` is the state after the row.
   abbrev pub IsRowTaken : ℕ → RowsState S → Result Row RowError → List ℕ → RowsState S → Type 0
   IsRowTaken place s (Err error) line t = (line ≡ refused_row_line place error) × (t ≡ record s { refused = s.refused + 1 })
   IsRowTaken place s (Ok row) line t = IsStepTaken s (step_of row) line t
 
-  -- Memory is refused while a row that asks for this step is answered. Then either the state
-  -- doesn't change, or a batch is refused and only its line is missing. No batch is accepted
-  -- without its line.
+  -- Memory is refused while a row that asks for this step is answered. Either the state is
+  -- unchanged, or a batch is refused and only its line is missing. No batch is accepted without its
+  -- line.
   abbrev pub IsStepLost : RowsState S → Step → RowsState S → Type 0
   IsStepLost s (step.Change c) t = t ≡ s
   IsStepLost s (step.End number count) t = (t ≡ s) ⊎ ((line : List ℕ) × IsEndRefused s number count line t)

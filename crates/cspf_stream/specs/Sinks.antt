@@ -1,4 +1,4 @@
--- The behaviour of a sink: its version, which batches it accepts or refuses, and how it answers
+-- The specification of a sink: its version, which batches it accepts or refuses, and how it answers
 -- requests.
 use Rattle.std.specs.Prelude.{ℕ, Bool, List}
 use Rattle.cspf_model.specs.Numbered.{NumberedChanges}

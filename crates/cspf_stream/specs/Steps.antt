@@ -6,8 +6,7 @@ use Rattle.cspf_rows.specs.declared.row.Row.TheVariants as row
 use Rattle.cspf_stream.specs.declared.step.Step.{Step}
 use Rattle.cspf_stream.specs.declared.step.Step.TheVariants as step
 
--- the step of a row, which is what the row asks for: a change, the end of a batch, or the answer to
--- a request
+-- the step that a row asks for
 abbrev pub step_of : Row → Step
 step_of (row.Put link) = step.Change (change.Put link)
 step_of (row.Remove from local) = step.Change (change.Remove from local)

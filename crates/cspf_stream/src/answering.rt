@@ -5,23 +5,24 @@ use csv::ByteRecord;
 use std::alloc::Global;
 
 /// Answers the rows of a stream, one after the other. An implementation reads the fields of each
-/// row itself, so it decides which rows there are. `Row::read` reads the rows of a database.
-/// `context` is a value that is needed to answer a row, such as the handle of a runtime. No answer
-/// depends on this value.
+/// row itself, so it decides which kinds of rows there are. `Row::read` reads the rows of a
+/// database. `context` is a value that is needed to answer a row, such as the handle of a runtime.
+/// No answer depends on this value.
 pub trait Answering<C> {
-    /// Why a row isn't answered. It is `AllocError` if only memory can be refused to an answer.
+    /// Why a row isn't answered. This type is `AllocError` if an answer fails only when memory is
+    /// refused.
     type Fault;
 
     /// A relation between the row's number, counted from 1, the state before the row, the row's
     /// fields, its line, and the state after the row.
     ghost answers: { ℕ → Self → List (List ℕ) → List ℕ → Self → Type 0 };
 
-    /// A relation between the fault with which the answer to a row fails, the row's number, the
-    /// state before the row, the row's fields, and the state after the fault.
+    /// A relation for rows whose answer fails. It is between the fault, the row's number, the state
+    /// before the row, the row's fields, and the state after the fault.
     ghost fails: { Self.Fault → ℕ → Self → List (List ℕ) → Self → Type 0 };
 
-    /// An invariant of the state before the row with this number, such as that a count is below the
-    /// number.
+    /// An invariant of the state before the row with this number. It may state, for example, that a
+    /// count is below this number.
     ghost may_stand: { ℕ → Self → Type 0 };
 
     /// Returns the line that answers the row with this number. The line may be empty.

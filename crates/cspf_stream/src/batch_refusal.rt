@@ -9,14 +9,14 @@ pub enum BatchRefusal {
     Stopped,
     /// The current version is 1,000,000, the greatest version.
     Exhausted,
-    /// The number in the `end` row, which ends a batch, isn't that of the next version.
+    /// The number in the `end` row isn't the next version.
     WrongNumber {
         /// The next version, which the number should be.
         expected: u32,
     },
-    /// The count in the `end` row, which ends a batch, isn't how many changes are open.
+    /// The count in the `end` row isn't the number of open changes.
     WrongCount {
-        /// How many changes are open: no `end` row before this one came after them.
+        /// How many changes are open, which are the changes since the previous `end` row.
         counted: u64,
     },
     /// The batch doesn't fit the database.

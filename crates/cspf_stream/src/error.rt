@@ -18,7 +18,7 @@ pub enum StreamError {
     /// A read failed.
     #[error("a read failed")]
     Read,
-    /// A write failed, or took no bytes.
+    /// A write failed, or wrote no byte.
     #[error("a write failed")]
     Write,
     /// A line was written, but the flush after it failed.
@@ -42,8 +42,8 @@ impl From<AllocError> for StreamError {
 /// fault of the type `F`.
 #[derive(Drop)]
 pub enum StreamStop<F> {
-    /// Memory was refused for a row that was read, or a read or a write failed, or the stream has
-    /// too many rows.
+    /// Memory was refused while a row was read, or a read, a write or a flush failed, or the stream
+    /// has too many rows.
     Stream(StreamError),
     /// The answer to a row failed.
     Answer(F),

@@ -1,17 +1,17 @@
 //! A stream of rows that are answered one by one. The line of each row is written before the next
-//! row is read. A stream has at most as many rows as a 64-bit number can count, or as its caller
-//! allows.
+//! row is read. A stream has at most 2^64 - 1 rows, or fewer if its caller sets a lower limit.
 //!
 //! The `Answering` of a stream answers each row. `specs/RowAnswers.antt` defines the answers to a
 //! stream of rows. `specs/StreamStops.antt` defines what was read, answered and written if a stream
 //! stops before its end, and which error it returns.
 //!
 //! `Rows` answers each row with the help of a `Sink`, which accepts or refuses batches and answers
-//! requests. `specs/RowsTaken.antt` defines how, in terms of `specs/Sinks.antt`.
+//! requests. `specs/RowsTaken.antt` defines these answers, and `specs/Sinks.antt` defines a sink.
 //!
-//! This crate also has what all programs that answer rows share: the steps that rows ask for, the
-//! open changes (`specs/OpenChanges.antt`), the reasons why a batch is refused, and the text of
-//! each line except replies (`specs/Lines.antt`, `specs/RefusedRows.antt`).
+//! This crate also has the parts that all programs that answer rows share. These are the steps that
+//! rows ask for, the open changes (`specs/OpenChanges.antt`), and the reasons why a batch is
+//! refused. Another part is the text of each line except replies (`specs/Lines.antt`,
+//! `specs/RefusedRows.antt`).
 #![tactic(auto)]
 
 mod answering;

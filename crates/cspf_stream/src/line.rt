@@ -2,8 +2,8 @@ use crate::BatchRefusal;
 use std::alloc::{AllocError, Global};
 use std::fmt;
 
-/// A line that answers a row or ends a stream. Replies and the lines of refused rows aren't among
-/// these.
+/// A line that answers a row or ends a stream. Replies and the lines of refused rows aren't such
+/// lines.
 #[derive(Clone, Copy)]
 pub enum StreamLine {
     /// A batch is accepted. `version` is the version that this batch makes.

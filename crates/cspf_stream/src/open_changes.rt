@@ -1,4 +1,4 @@
-//! The changes of a stream that are still open: no `end` row has come after them.
+//! The open changes of a stream: the changes since its last `end` row.
 
 ghost use Rattle.std.specs.Prelude.{◌≡◌, ◌+◌, ◌∷◌, ◌++◌, ◌<◌, ◌^◌, [], List, IfOk, OnOk, OnErr, take};
 ghost use Rattle.cspf_model.specs.declared.batch.Change.{Change as Changed};
@@ -10,11 +10,11 @@ use crate::limits::KEPT_CHANGES;
 use cspf_model::{Batch, Change};
 use std::alloc::{AllocError, Global};
 
-/// The changes that the stream had since its last `end` row. Only the first of them are kept: at
-/// most one change more than a batch may have.
+/// The changes of a stream since its last `end` row. Only the first changes are kept: at most one
+/// change more than a batch may have.
 #[derive(Drop)]
 pub struct OpenChanges {
-    /// The first of the open changes, as a batch. The number of this batch means nothing.
+    /// The kept changes, as a batch. The number of this batch has no meaning.
     pub batch: Batch,
     /// How many changes are open.
     pub count: u64,
@@ -57,8 +57,8 @@ impl OpenChanges {
         self.count = 0;
     }
 
-    /// The last line of a stream that ends with these open changes. It says how many they are, and
-    /// is empty if there are none.
+    /// The last line of a stream that ends with these open changes. The line says how many changes
+    /// are open, and is empty if no changes are open.
     pub fn last_line(&self, alloc: Global) -> Result<Vec<u8>, AllocError>
         ensures { IfOk result (λ line. (all : List Changed) → AreOpen self.now all
             → line.items ≡ end_line all) }
@@ -71,7 +71,7 @@ impl OpenChanges {
     }
 }
 
-/// Appends a change to the kept changes, unless `KEPT_CHANGES` are kept already.
+/// Appends a change to the kept changes if fewer than `KEPT_CHANGES` changes are kept.
 fn keep(changes: &mut Vec<Change>, change: Change) -> Result<(), AllocError>
     ensures kept { OnOk result ((all : List Changed) → changes.old.items ≡ take KEPT_CHANGES all
         → changes.new.items ≡ take KEPT_CHANGES (all ++ change ∷ [])) }

@@ -1,6 +1,6 @@
-//! The rows of a stream, each answered according to its kind. A change stays open until an `end`
-//! row comes, which ends its batch. The `end` row gives the open changes to a sink as a batch. The
-//! sink also answers the requests.
+//! Answers the rows of a stream, each according to its kind. A change stays open until the `end`
+//! row of its batch comes. At an `end` row, the open changes go to a sink as a batch. The sink also
+//! answers the requests.
 
 ghost use Rattle.std.specs.Prelude.{◌≡◌, ◌+◌, ◌<◌, ◌≤◌, ◌⊎◌, ◌^◌, ℕ, [], List, IfOk, IfErr, IfSome, IfNone, OnOk, OnErr};
 ghost use Rattle.cspf_model.specs.declared.batch.Change.{Change as Changed};
@@ -12,13 +12,13 @@ use cspf_model::MOST_VERSIONS;
 use cspf_rows::{Row, RowError};
 use std::alloc::{AllocError, Global};
 
-/// The state between two rows of a stream. However many rows are read, the state takes only the
-/// memory of the sink and of the open changes that are kept.
+/// The state between two rows of a stream. Its memory doesn't grow with the number of rows. The
+/// state has only the sink and the open changes that are kept.
 #[derive(Drop)]
 pub struct Rows<S> {
     /// The sink, which accepts or refuses the batches and answers the requests.
     pub sink: S,
-    /// The open changes: those that the stream had since its last `end` row.
+    /// The open changes, which are the changes since the last `end` row.
     pub changes: OpenChanges,
     /// How many requests were answered.
     pub answers: u64,
@@ -45,8 +45,8 @@ impl<S> Rows<S> {
         }
     }
 
-    /// Answers the row with this number, counted from 1, and returns its line, which is empty for a
-    /// change. The line of an accepted batch is made before the sink gets the batch.
+    /// Answers row `place`, counted from 1, and returns the row's line. The line of a change is
+    /// empty. The line of an accepted batch is made before the sink gets the batch.
     pub fn answer<C>(
         &mut self,
         context: &C,
@@ -73,8 +73,8 @@ impl<S> Rows<S> {
         }
     }
 
-    /// Answers a row that the caller has read, given the step that the row asks for, and returns
-    /// the row's line. The caller may have further kinds of rows, which it answers itself.
+    /// Answers a row that asks for this step, and returns the row's line. The caller reads the row,
+    /// so it may have more kinds of rows, which it answers itself.
     pub fn take<C>(&mut self, context: &C, alloc: Global, step: Step) -> Result<Vec<u8>, AllocError>
     where
         S: Sink<C>,
@@ -100,8 +100,8 @@ impl<S> Rows<S> {
     }
 
     /// Gives the open changes to the sink as the batch of an `end` row with this number and count,
-    /// or refuses them. Returns the line of the `end` row. Afterwards no changes are open. The line
-    /// of an accepted batch is made before the sink gets the batch.
+    /// or refuses this batch. Returns the line of the `end` row. Afterwards no changes are open.
+    /// The line of an accepted batch is made before the sink gets the batch.
     fn end<C>(
         &mut self,
         context: &C,
@@ -133,8 +133,8 @@ impl<S> Rows<S> {
         }
     }
 
-    /// Gives the open changes to the sink as the batch with this number, if the `end` row with this
-    /// number and count is right. The changes stay open.
+    /// If the `end` row with this number and count is right, gives the open changes to the sink as
+    /// the batch with this number. The changes stay open.
     fn give<C>(
         &mut self,
         context: &C,

@@ -6,7 +6,8 @@ use cspf_rows::Row;
 pub enum Step {
     /// A change of the database, which stays open until an `end` row comes.
     Change(Change),
-    /// The end of a batch: the open changes are the batch with this number and count.
+    /// The end of the batch that has this number and consists of the open changes. `count` is the
+    /// number of changes that the `end` row gives.
     End { number: u32, count: u32 },
     /// A request, which is to be answered.
     Ask(Request),

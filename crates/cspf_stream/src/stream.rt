@@ -16,8 +16,8 @@ use csv::{ByteRecord, Reader};
 use std::alloc::Global;
 use std::io::{Read, Write};
 
-/// How a stream is answered: how many of its rows are answered at most, and whether the writer is
-/// flushed after each line.
+/// How a stream is answered: the greatest number of rows that are answered, and whether the writer
+/// is flushed after each line.
 #[derive(Clone, Copy)]
 struct Manner {
     limit: u64,
@@ -25,12 +25,12 @@ struct Manner {
 }
 
 /// Answers all rows that the reader hasn't read yet, in order. The line of a row is written and
-/// flushed before the next row is read. It is written in one write if the writer takes it whole. An
-/// empty line isn't written. Memory is taken only for the longest row, and for what the answers
-/// need.
+/// flushed before the next row is read. A line is written in one write, if the writer accepts all
+/// its bytes at once. An empty line isn't written. Memory is needed only for the longest row and
+/// for the answers.
 ///
-/// If an error is returned, no row was read after the row at which the stream stopped. The lines of
-/// all rows before this row are written. `IsStreamStopped` defines the rest of the state.
+/// If the result is an error, no row was read after the row at which the stream stopped. The lines
+/// of all rows before this row are written. `IsStreamStopped` defines the rest of the state.
 pub fn answer_rows<R: Read, W: Write, C, A: Answering<C>>(
     context: &C,
     alloc: Global,
@@ -50,7 +50,7 @@ pub fn answer_rows<R: Read, W: Write, C, A: Answering<C>>(
     answer_first_rows(context, alloc, limit, true, rows, writer, answering).1
 }
 
-/// Answers at most the next `limit` rows of the reader, like `answer_rows`, but flushes only if
+/// As `answer_rows`, but answers at most the next `limit` rows of the reader, and flushes only if
 /// `flush` is set. Returns how many bytes were written, and how the stream ended.
 pub fn answer_first_rows<R: Read, W: Write, C, A: Answering<C>>(
     context: &C,
@@ -132,8 +132,8 @@ fn answer_each<R: Read, W: Write, C, A: Answering<C>>(
     Ok(())
 }
 
-/// Answers the row with this number, writes its line, flushes the writer if `flush` is set, and
-/// counts the bytes that are written.
+/// Answers row `place` and writes the row's line. Flushes the writer if `flush` is set, and adds
+/// the number of written bytes to `written`.
 fn answer_row<W: Write, C, A: Answering<C>>(
     context: &C,
     alloc: Global,
@@ -170,8 +170,8 @@ fn answer_row<W: Write, C, A: Answering<C>>(
     }
 }
 
-/// Writes a line, and then flushes the writer if `flush` is set. If the line is empty, it does
-/// neither. Also returns how many bytes of the line were written.
+/// Writes a line, and then flushes the writer if `flush` is set. Does nothing for an empty line.
+/// Also returns how many bytes of the line were written.
 fn put_counted<W: Write>(
     line: &[u8],
     flush: bool,
@@ -195,7 +195,7 @@ fn put_counted<W: Write>(
     (line.len(), Ok(()))
 }
 
-/// Writes a line and flushes the writer. If the line is empty, it does neither.
+/// Writes a line and flushes the writer. Does nothing for an empty line.
 pub fn put_line<W: Write>(line: &[u8], writer: &mut W) -> Result<(), StreamError>
     ensures whole { OnOk result (Appends (W.contents writer.old) (W.contents writer.new) line.now) }
     ensures stopped { IfErr result (λ error. IsLineStopped error line.now

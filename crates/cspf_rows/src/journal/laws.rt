@@ -3,9 +3,9 @@ ghost use Rattle.cspf_rows.specs.JournalLaws.{AreTextsCut, AreJournalsReadBack, 
 use crate::laws::rows_are_read_back;
 use cspf_addr::masks_are_spelled;
 
-/// Law: the text of batches is cut into the records of these batches, and it is read as these
-/// batches, with nothing left after them. The batches are numbered from 1 on and have at most
-/// `MOST_ROWS` rows in all.
+/// Law: the text of a list of batches is cut into exactly the records of these batches. It is read
+/// as a clean journal of exactly these batches. The batches have to be numbered 1, 2, 3 and so on,
+/// and to have at most `MOST_ROWS` rows together.
 pub fn journals_are_read_back()
     ensures cut { AreTextsCut }
     ensures back { AreJournalsReadBack }
@@ -14,8 +14,8 @@ pub fn journals_are_read_back()
     masks_are_spelled();
 }
 
-/// Law: if the same records are a journal of one list of batches and also of another, the two lists
-/// are the same. Records are left after the batches of both, or of neither.
+/// Law: a journal has only one reading. If the same records are read as two lists of batches, the
+/// two lists are the same. Both readings are clean, or both are torn.
 pub fn journals_are_one()
     ensures { IsOneJournal }
 {}

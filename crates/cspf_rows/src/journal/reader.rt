@@ -1,4 +1,4 @@
-//! Reads a journal batch by batch, with memory for one batch.
+//! Reads a journal batch by batch. Needs memory for one batch at a time.
 
 ghost use Rattle.std.specs.Prelude.{◌≡◌, ◌≢◌, ◌⊎◌, ◌+◌, ◌<◌, ◌≤◌, ◌∷◌, ◌++◌, ℕ, List, Option, Some, [], true, false, length, IfOk, IfSome, IfNone, OnOk};
 ghost use Rattle.std.specs.Option.{option_map};
@@ -20,13 +20,13 @@ use csv::{ByteRecord, Reader};
 use std::alloc::Global;
 use std::io::Read;
 
-/// Reads the batches of a journal, one after the other, and keeps none of them.
+/// Reads the batches of a journal, one after the other. The reader doesn't keep the batches.
 #[derive(Drop)]
 pub struct JournalReader<R> {
     records: Reader<R>,
-    /// The fields of the journal's row that was read last.
+    /// The fields of the row that was read last.
     fields: ByteRecord,
-    /// How many rows of the stream were read.
+    /// How many rows of the journal were read.
     rows: u32,
     /// How many whole batches were read.
     count: u32,
@@ -49,10 +49,10 @@ impl<R: Read> JournalReader<R> {
         }
     }
 
-    /// Reads the next whole batch into `batch`, whose memory is used again, or comes to the end of
-    /// the batches. To find the end, the stream is read to its last row; rows after the batches
-    /// take no memory. A stream of more than `MOST_ROWS` rows is refused as `TooManyRows`. After
-    /// the end or an error nothing more is read.
+    /// Reads the next whole batch into `batch`, or finds that no batch is left. The memory of
+    /// `batch` is used again. After the last batch, the stream is read to its last row, and these
+    /// rows need no memory. A stream of more than `MOST_ROWS` rows is refused as `TooManyRows`.
+    /// Don't call this function again after it has returned `End` or an error.
     pub fn read_batch(&mut self, batch: &mut Batch) -> Result<JournalStep, ReadError>
         requires { CanRead self.old }
         ensures can { result ≡ Ok JournalStep.Batch → CanRead self.new }
@@ -80,8 +80,8 @@ impl<R: Read> JournalReader<R> {
         }
     }
 
-    /// Reads the next row after the changes that `batch` has so far, and adds it to `batch` if it
-    /// is a change. Returns `None` if the row is one more change, and otherwise `Batch` or `End`.
+    /// Reads the row after the changes that `batch` has so far. If the row is a change, it is
+    /// appended to `batch`, and the result is `None`. Otherwise the result is `Batch` or `End`.
     fn take_row(&mut self, batch: &mut Batch) -> Result<Option<JournalStep>, ReadError>
         requires { CanRead self.old }
         ensures can { (result ≡ Ok None) ⊎ (result ≡ Ok (Some JournalStep.Batch))
@@ -116,7 +116,7 @@ impl<R: Read> JournalReader<R> {
         }
     }
 
-    /// Reads all further rows after a row that is in no batch, and keeps none of them.
+    /// Reads all rows that follow a row that is in no batch. The rows aren't kept.
     fn skip_rest(&mut self) -> Result<(), ReadError>
         requires { CanRead self.old }
         ensures end { OnOk result ((all : Option (List (List (List ℕ))))
@@ -133,7 +133,7 @@ impl<R: Read> JournalReader<R> {
         Ok(())
     }
 
-    /// Reads the fields of the next row, and returns whether there was one.
+    /// Reads the fields of the next row, and returns whether there was a next row.
     fn next_row(&mut self) -> Result<bool, ReadError>
         requires { CanRead self.old }
         ensures row { IfOk result (λ found. Takes (rows_left R.remaining self.old.records)
@@ -157,8 +157,8 @@ impl<R: Read> JournalReader<R> {
     }
 }
 
-/// What follows the whole batches of a journal that ends after the changes `changes`, without an
-/// `end` row for them. If there are no such changes, no row follows the batches.
+/// Whether rows follow the last whole batch of a journal. The journal ends after the changes
+/// `changes`, which have no `end` row.
 fn rest_of(changes: &[Change]) -> Rest
     ensures clean { result ≡ Rest.Clean → changes.now ≡ [] }
     ensures torn { result ≡ Rest.Torn → changes.now ≢ [] }

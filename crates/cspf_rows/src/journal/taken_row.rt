@@ -11,8 +11,8 @@ use cspf_model::{Batch, Change};
 use csv::ByteRecord;
 use std::alloc::AllocError;
 
-/// What the next row of a journal is to the batch that is being read. The `end` row of this batch
-/// hasn't come yet.
+/// What the next row of a journal means for the batch that is being read. The reader hasn't reached
+/// the `end` row of this batch yet.
 #[derive(Clone, Copy)]
 pub(super) enum Taken {
     /// One more change of the batch.
@@ -23,9 +23,9 @@ pub(super) enum Taken {
     Behind,
 }
 
-/// Reads the next row of a journal, and returns what it is to the batch with the number `next`.
-/// `batch` has the changes of this batch so far. If the row is a change, it is added to them.
-/// Memory is taken only for a change.
+/// Reads the next row of a journal, and returns what this row means for the batch with the number
+/// `next`. `batch` has the changes of this batch so far. If the row is a change, it is appended to
+/// these changes, and only then is memory allocated.
 pub(super) fn take(fields: &ByteRecord, next: u32, batch: &mut Batch) -> Result<Taken, AllocError>
     ensures { IfOk result (IsTaken (row_of (fields_of fields.now)) next batch.old batch.new) }
 {
@@ -35,7 +35,7 @@ pub(super) fn take(fields: &ByteRecord, next: u32, batch: &mut Batch) -> Result<
     }
 }
 
-/// Does what `take` does, but with a row that was already read from its fields.
+/// As `take`, for a row that was already read from its fields.
 fn take_row(row: &Row, next: u32, batch: &mut Batch) -> Result<Taken, AllocError>
     ensures { IfOk result (IsTaken (Ok row.now) next batch.old batch.new) }
 {
@@ -72,8 +72,8 @@ fn add(change: Change, batch: &mut Batch) -> Result<Taken, AllocError>
     Ok(Taken::Change)
 }
 
-/// Whether an `end` row with this number and this count ends the batch: the number is `next`, and
-/// the batch has this many changes.
+/// Whether an `end` row with this number and this count ends the batch. The number has to be
+/// `next`, and the batch has to have `count` changes.
 fn is_whole(batch: &Batch, next: u32, number: u32, count: u32) -> bool
     ensures { IsTrue result ↔ ((number ≡ next) × (count ≡ length batch.now.changes)) }
 {

@@ -13,10 +13,10 @@ use cspf_model::Batch;
 use std::alloc::{AllocError, Global};
 use std::io::Read;
 
-/// Reads a journal: the longest prefix of its rows that consists of whole batches with the numbers
-/// 1, 2, 3 and so on. Also says whether rows are left after this prefix. A stream of more than
-/// `MOST_ROWS` rows is refused as `TooManyRows`. Each batch takes only the memory that its changes
-/// need, and no row after the batches is kept.
+/// Reads the batches of a journal: the longest prefix of its rows that consists of whole batches
+/// with the numbers 1, 2, 3 and so on. The result also says whether rows follow this prefix. A
+/// stream of more than `MOST_ROWS` rows is refused as `TooManyRows`. Each batch takes only the
+/// memory that its changes need. Rows after the batches aren't kept.
 pub fn read_journal<R: Read + Drop>(alloc: Global, reader: R) -> Result<Journal, ReadError>
     ensures whole { IfOk result (λ journal. IfSome (R.remaining reader) (λ bytes.
         IsJournal (rows_of bytes) journal.batches.items journal.rest)) }
@@ -34,8 +34,7 @@ pub fn read_journal<R: Read + Drop>(alloc: Global, reader: R) -> Result<Journal,
     read_whole(alloc, &mut journal, &mut batch)
 }
 
-/// Reads the batches that a reader hasn't returned yet. One batch at a time is read into the same
-/// memory.
+/// Reads the batches that a reader hasn't returned yet. Each of them is read into `batch` first.
 fn read_whole<R: Read>(
     alloc: Global,
     journal: &mut JournalReader<R>,
@@ -81,7 +80,7 @@ fn read_batches<R: Read>(
     }
 }
 
-/// Appends a copy of a batch to the list. The copy takes only as much memory as its changes need.
+/// Appends a copy of a batch to the list. The copy has only the capacity that its changes need.
 fn add(alloc: Global, batch: &Batch, batches: &mut Vec<Batch>) -> Result<(), AllocError>
     ensures { OnOk result (batches.new.items ≡ batches.old.items ++ batch.now ∷ []) }
 {

@@ -3,7 +3,7 @@ ghost use Rattle.std.specs.Io.KnownBytes.{Appends, Keeps};
 
 use std::io::Write;
 
-/// A writer that can be used until its first failed write. It can write, and do nothing else.
+/// A writer that can be used until its first failed write. Its only operation is a write.
 #[derive(Drop)]
 pub(super) struct OpenWriter<'a, W> {
     to: &'a mut W,
@@ -11,7 +11,7 @@ pub(super) struct OpenWriter<'a, W> {
 }
 
 impl<'a, W: Write> OpenWriter<'a, W> {
-    /// An `OpenWriter` that writes to `to` and has made no write yet.
+    /// An `OpenWriter` that writes to `to`.
     pub(super) fn new(to: &'a mut W) -> OpenWriter<'a, W>
         ensures writer { result.to.ghost_name ≡ to.entry.ghost_name }
         ensures contents { result.to.now ≡ to.old }
@@ -23,8 +23,8 @@ impl<'a, W: Write> OpenWriter<'a, W> {
         }
     }
 
-    /// Makes one write, and returns how many bytes of the text it took. If it took no byte or
-    /// failed in any way, no further write can be made.
+    /// Makes one write, and returns how many bytes of the text were written. If the write wrote no
+    /// byte or failed in any way, the result is `None`, and no further write can be made.
     pub(super) fn write_some(&mut self, text: &[u8]) -> Option<usize>
         requires { self.old.has_failed ≡ false }
         ensures writer { self.new.to.ghost_name ≡ self.old.to.ghost_name }

@@ -2,7 +2,8 @@ use Rattle.std.proofs.Common.{◌≡◌, ◌++◌, List, [], ℕ, refl, ◌∙�
 use Rattle.std.proofs.lemmas.Result.{IfOk-weaker}
 use Rattle.cspf_book_run.proofs.row_text.row_text.Goals as goal
 
--- If a row is written to an empty writer with an empty buffer, the row's text is all that is written.
+-- If a row is written to an empty writer with an empty buffer, the writer has exactly the row's
+-- text.
 first_text : (inner buffer row all text : List ℕ) → inner ≡ [] → buffer ≡ [] → all ≡ (inner ++ buffer) ++ row → text ≡ all → text ≡ row
 first_text inner buffer row all text no_bytes nothing whole is = is ∙ whole ∙ rw (no_bytes, nothing) refl
 

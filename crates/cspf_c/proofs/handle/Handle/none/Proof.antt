@@ -1,4 +1,4 @@
--- `none` makes a handle of the null pointer, which holds no session.
+-- `none` makes a handle without a session. Its pointer is null.
 use Rattle.std.proofs.Common.{[], ◌∷◌, refl}
 use Rattle.std.proofs.raw_atomic.Walks.{proved}
 use Rattle.std.specs.declared.option.Option.TheVariants.{None}

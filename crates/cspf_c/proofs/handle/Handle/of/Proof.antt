@@ -1,4 +1,4 @@
--- `of` makes a handle of the box's pointer, which holds the box's session.
+-- `of` makes a handle of a box: the handle has the pointer and the session of the box.
 use Rattle.std.proofs.Common.{[], ◌∷◌, refl, ap}
 use Rattle.std.proofs.raw_atomic.Walks.{proved}
 use Rattle.std.specs.declared.option.Option.TheVariants.{Some}
@@ -51,7 +51,8 @@ of_spec 𝓤 𝓛 𝓜 𝓡 wired =
     move ! (1 ∷ []) $ use0 𝓛 (raw (fact 𝓤 ([] ⊑ []))) (fact_i 𝓤 ([] ⊑ []) (emp 𝓤) (⊑_refl [])) $ join ! $
     use0 𝓛 (raw (fact 𝓤 ([] ⊑ []))) (fact_i 𝓤 ([] ⊑ []) (emp 𝓤) (⊑_refl [])) $ join ! $
     move ! (1 ∷ []) $ join ! $ use1 𝓛 (raw (G.pre z)) (id⊢ 𝓤 _) $
-    -- here the proof holds two items: the argument of `into_raw`, and the locals of `of`
+    -- at this step of the proof there are two assumptions: the argument of `into_raw`, and the
+    -- local variables of `of`
     enter ! _ _ _ _ _ $ alloc_all ! (λ l. pass_all ! refl (box_typed b.ptr, tt) $
     sets ! (of_opd ! (get ! refl)) refl (box_typed b.ptr) $
     calls_at ! (framed 𝓤 𝓛.H 𝓜 (tables 𝓤 𝓛.H 𝓜 𝓡 𝓡.env)) G

@@ -4,8 +4,8 @@ use Rattle.cspf_rows.specs.GivenBatches.{CanRead}
 use Rattle.cspf_rows.specs.JournalReading.{HasRead}
 use Rattle.cspf_rows.proofs.journal.reader.JournalReader.read_batch.Given as goal
 
--- the reader has read all batches before the current one, and then the rows of the changes that the
--- current batch has so far
+-- the reader has read all batches before the current batch, and then one row for each change that
+-- the current batch has so far
 abbrev pub invariant-loop-step : goal.invariant-loop-step
 invariant-loop-step g l = record {
   can : CanRead l.self;
