@@ -1,6 +1,6 @@
--- From each state on, a link stays covered, or its `over` line is written, which reports too little
--- bandwidth. A link is covered at a priority if the placements count at most its unreserved
--- bandwidth there.
+-- From each state on, a link stays covered, or its `over` line is written. An `over` line reports
+-- too little bandwidth. A link is covered at a priority if the placements count at most its
+-- unreserved bandwidth there.
 use Rattle.std.proofs.Common.{◌≡◌, ◌⊎◌, ℕ, zero, suc, ◌+◌, ◌<◌, ◌≤◌, List, [], ◌∷◌, ◌++◌, Result, Ok, Err, IfOk, inl, inr, sym, ap, subst, ◌∙◌, append_assoc, arith}
 use Rattle.std.specs.List.{Contains, flat_map}
 use Rattle.cspf_model.specs.Best.{Answer, unknown_from, unknown_to, no_route, route, IsBestAnswer}

@@ -4,9 +4,8 @@ use Rattle.cspf_rows.specs.Records.{rows_of}
 use Rattle.cspf_book_run.specs.BookScript.{BookRunState, AreBookRowsAnswered}
 use Rattle.cspf_book_run.specs.Kept.{AreBookRowsKept}
 
--- The text has at most `most` rows. A run over these rows ends with the book of the state `t`,
--- which has the same base, version and placements. The run refuses no row, and at its end no
--- changes are open.
+-- The text has at most `most` rows. A run over these rows ends with the book of the state `t`: the
+-- same base, version and placements. The run refuses no row, and at its end no changes are open.
 pub record RemakesBook (text : List ℕ) (most : ℕ) (t : BookRunState) : Type 0 where
   pub few : length (rows_of text) ≤ most
   pub lines : List ℕ
