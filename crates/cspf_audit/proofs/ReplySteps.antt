@@ -72,8 +72,7 @@ module _ (one : HasOneHead) (batches : List NumberedChanges) (requests : List Re
 
   -- ---- the list of the requests that have a line, after this line was read
 
-  -- if no request has the id of the line, the list that says which requests have a line doesn't
-  -- change
+  -- the list of the requests that have a line stays the same if no request has the id of this line
   named_none : ((q : Request) (version : ℕ) → Contains requests q → ¬ BeginsWithHead line (record { id = q.id; version = version })) → AreNamed requests (seen ++ line ∷ []) before
   named_none none = record {
     counted = named.counted;

@@ -20,8 +20,8 @@ use Rattle.cspf_audit.specs.Lines.{AreLines, HasTooManyLines}
 use Rattle.cspf_audit.specs.Requests.{HaveOwnIds, RepeatsId}
 use Rattle.cspf_audit.specs.Audits.{IsAudit}
 
--- The journal has at most `MOST_ROWS` records. They consist of these batches, and no rows follow
--- the last batch. Each batch fits the database that the batches before it make.
+-- The journal has at most `MOST_ROWS` records. The records are exactly those of `batches`, and no
+-- record follows the last batch. Each batch fits the database that the batches before it make.
 pub record IsLawfulJournal (records : Records) (batches : List NumberedChanges) : Type 0 where
   pub few : length records ≤ MOST_ROWS
   pub journal : IsJournal records batches rest.Clean

@@ -44,8 +44,8 @@ impl Join<SeatDraws> for Share {
 }
 
 /// A counter's value, which is called its *word*. All workers that draw from the counter share it.
-/// In proofs, the number of requests is the key of this value, because the rule of draws depends on
-/// this number.
+/// The rule of draws depends on the number of requests. So in proofs the rule has this number as a
+/// parameter, which is called its *key*.
 pub(crate) type Word = Shared<u64, SeatDraws, u64, DrawRule>;
 
 /// A worker's seat at a counter. In proofs, it records the numbers that the worker has drawn, and

@@ -5,8 +5,8 @@ use cspf_model::Batch;
 use logbook::{Gain, Plain, Play, Rule};
 
 /// The rule of a journal's steps, which is an invariant. The steps are in order. The recorded
-/// batches are numbered from 1, and each fits the batches before it. One counter is the number of
-/// recorded batches, and the other counter is the number of published batches.
+/// batches are numbered from 1, and each fits the batches before it. The rule has two counters: the
+/// number of recorded batches, and the number of published batches.
 pub struct History;
 
 impl Rule<LogStep, u64> for History {

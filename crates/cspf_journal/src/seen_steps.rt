@@ -53,8 +53,8 @@ impl SeenSteps {
     }
 
     /// Adds the steps of `other` to the known steps. Each of the two lists of steps gives a count
-    /// of published batches. A later reading of the count finds at least the larger of these two
-    /// counts.
+    /// of published batches. A later reading of the journal's count of published batches finds
+    /// at least the larger of these two counts.
     pub fn learn(&mut self, other: &SeenSteps)
         requires { other.now.source ≡ self.old.source }
         ensures source { self.new.source ≡ self.old.source }

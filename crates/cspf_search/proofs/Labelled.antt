@@ -112,8 +112,8 @@ apart_push nodes n apart left =
     all_pairs_push (λ m n. same_state (state_of m) (state_of n) ≡ false) nodes n apart
     (λ k d h. position-None (λ m. same_state (state_of m) (state_of n)) nodes k d (open_index nodes (state_of n) left) h)
 
--- Lemmas on a list of nodes to which one more node is appended, whose state isn't settled before. A
--- state is a router in a leg, and a node is the record of a walk.
+-- Lemmas on appending a node to a list of nodes, if no node of the list has settled the new node's
+-- state. A state is a router in a leg, and a node is the record of a walk.
 
 module _ (nodes : List Node) (n : Node) (are : AreNodes nodes) (next : IsNext nodes n) (left : labels_of nodes (state_of n) ≡ None) where
   at_old : (i : ℕ) (d : Node) → i < length nodes → slice_index_or (nodes ++ (n ∷ [])) i d ≡ slice_index_or nodes i d

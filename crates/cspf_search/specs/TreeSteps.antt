@@ -37,8 +37,8 @@ IsTreeRing d q ring = AreTreeBounds d q ring.near.items ring.links.items ring.do
 abbrev pub is_settled_there : TreeRing → ℕ → Bool
 is_settled_there ring w = slice_index_or ring.done.items w false
 
--- The router at the index `at` has a cost to the tail-end of at most `ahead`. If it is exactly
--- `ahead`, the router's number of links is at most `count`.
+-- The router at the index `at` has a cost to the tail-end of at most `ahead`. If this cost is
+-- exactly `ahead`, the router's way to the tail-end has at most `count` links.
 abbrev pub IsAsNear : TreeRing → ℕ → ℕ → ℕ → Type 0
 IsAsNear ring at ahead count =
     (bound_at ring.near.items at ≤ ahead) × (bound_at ring.near.items at ≡ ahead → bound_at ring.links.items at ≤ count)

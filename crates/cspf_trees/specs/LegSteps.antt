@@ -1,4 +1,4 @@
--- Private: what follows for a walk from the answer to one more leg.
+-- Private: what the answer to one more leg implies about a walk.
 use Rattle.std.specs.Prelude.{◌≡◌, ℕ, List, ◌++◌}
 use Rattle.cspf_model.specs.declared.link.Link.{Link}
 use Rattle.cspf_model.specs.declared.request.Request.{Request}

@@ -69,8 +69,9 @@ done_more_known requests before w v knows same is = record {
   versions = rw same is.versions;
 }
 
--- The replies of a worker are right. Its asker (which computes its answers) learns of more batches,
--- and answers one more request correctly. Then all replies are right.
+-- If the replies of a worker are right, they stay right with one more reply. For this reply the
+-- worker's asker (which computes its answers) learns of more batches, and answers the request
+-- correctly.
 pub done_next : (requests : List Request) (before : AskerState) (w v : Worker) (q : Request) (r : Reply)
     → KnowsNoLess w.asker v.asker → v.done.items ≡ w.done.items ++ r ∷ []
     → r.index < length requests → slice_get requests r.index ≡ Some q → IsAnswerAfter v.asker.batches q r.answer

@@ -10,9 +10,9 @@ fn have_all(bytes: &[u8], value: u8) -> bool {
     bytes.iter().all(|byte| *byte == value)
 }
 
-/// Grows the stack by writing bytes to it. Returns whether the bytes can be read again. Threads may
-/// use all address space that the limit of the process allows. If the stack had to grow after that,
-/// a signal would end the program.
+/// Grows the stack by writing bytes to it. Returns whether the bytes can be read again. This is
+/// done before threads start, because threads can use up all address space that the limit of the
+/// process allows. If the stack had to grow after that, a signal would end the program.
 #[inline(never)]
 pub(crate) fn grow_stack(value: u8) -> bool {
     let room = [value; STACK_BYTES];

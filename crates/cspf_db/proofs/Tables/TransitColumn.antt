@@ -41,8 +41,8 @@ module _ (marks : List ℕ) (router at : ℕ) (rising : AreRising marks) (below 
         | false ↦ λ _. refl
       ] refl
 
-  -- The first mark that isn't below the router differs from the router exactly if the router isn't
-  -- marked. A mark is the Router ID of a router without transit.
+  -- A mark is the Router ID of a router without transit. The first mark that is at least `router`
+  -- equals `router` exactly if this router is marked.
   pub other_mark : (n : ℕ) → at < length marks → router ≤ slice_index marks at → n ≡ get_or marks at n → not (nat_eq n router) ≡ not (set.contains (marks_in marks) router)
   other_mark n h behind read =
       let is : n ≡ slice_index marks at = get_or_read marks at n h read 0 in

@@ -43,8 +43,9 @@ fn many(alloc: Global, first: u32, end: u32, routers: u32) -> Result<Batch, Fail
 
 // Batches of links from the router 0, each given by three numbers: the first local address, the
 // last local address plus 1, and the number of other routers. Four batches fill the table. The next
-// two batches put the same links again, the second of them to other routers. The last three batches
-// have too many routers, too many links, and too many changes.
+// two batches put the same links again, the second of them to other routers. Of the last three
+// batches, the first has too many routers, the second too many links, and the third too many
+// changes.
 const MANY: [(u32, u32, u32); 9] = [
     (0, 4096, 1000),
     (4096, 8192, 1000),

@@ -291,7 +291,8 @@ fn drawn_request(seed: &mut u32) -> Result<Request, Fail> {
     Ok(Request::new(1, from, to, 0, 1000, none, any, none, hops)?)
 }
 
-// The answer of the search by rounds. Fails if the trees don't give the same answer three times.
+// The answer of the search by rounds. The trees are asked three times. The test fails unless each
+// of their answers is the answer of the search by rounds.
 fn answered_alike(
     alloc: Global,
     table: &mut TreeTable,

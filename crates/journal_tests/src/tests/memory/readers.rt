@@ -73,8 +73,8 @@ fn gives(
     Ok(journal.read_batch(batch)? == JournalStep::End(Rest::Torn))
 }
 
-/// Whether a new reader of `TORN` returns the batch of `TORN`, and then the end of the batches: the
-/// journal is torn, since rows that are in no batch follow.
+/// Whether a new reader of `TORN` returns the batch of `TORN`, and then an end which says that the
+/// journal is torn. It is torn because rows that are in no batch follow the batch.
 fn is_given(alloc: Global, link: &Link) -> Result<bool, ReadError> {
     gives(
         &mut JournalReader::new(alloc, TORN),
