@@ -36,7 +36,10 @@ class Tried:
         while (found := self.speaker.take()) == (KEEPALIVE, b""):
             pass
         is_end = self.speaker.read(1) == b""
-        self.speaker.hang_up()
+        if not found:  # the feed has closed it already, and reads no more
+            self.speaker.to.close()
+        else:
+            self.speaker.hang_up()
         self.feed.settle()
         return (found[0] == NOTIFICATION and is_end, *found[1][:2]) if found else (is_end,)
 
@@ -88,7 +91,7 @@ def sessions(checks):
         tried.session(*messages)
         checks.same(f"a session that ends: {name}", tried.ended(), (True, *wanted))
     tried.session(whole, ALIVE, message(NOTIFICATION, b"\6\4"))
-    checks.same("no Notification answers one", tried.ended()[-1:] in ((True,), (2,)), True)
+    checks.same("no Notification answers one", tried.ended(), (True,))
     tried.session()
     tried.speaker.send(PAIR[:-5])
     tried.speaker.hang_up()
