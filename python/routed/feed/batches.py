@@ -42,8 +42,8 @@ class Batches:
         return self.given.keys() | {change.key for change in self.sent if not change.is_removal}
 
     def next(self, wanted: dict[Key, Row], changed: Collection[Key] | None = None) -> str:
-        """The text of the next batch towards the wanted rows, drops first; empty where there is none. If it is known which keys have changed
-        since all rows were as wanted, others aren't looked at."""
+        """The text of the next batch towards the wanted rows, drops first; empty where there is none. If it is known which keys have
+        changed since the last look, others are looked at only where that left something to be done."""
         keys = self.given.keys() | wanted.keys() if changed is None or self.is_cut else changed
         if self.barred:
             wanted = {key: row for key, row in wanted.items() if self.barred.get(key) != row}
