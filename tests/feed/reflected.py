@@ -7,7 +7,9 @@ import socket
 import subprocess
 import tempfile
 import time
+from concurrent.futures import ThreadPoolExecutor
 
+from checks import Checks
 from feed.beside import until
 from feed.both import LINKS, ROWS, Of, killed
 from feed.played import A, A_B, B, BROKEN_DROPS, B_A, B_C, C, CHAIN_ROWS, C_B, IN_PROCESS, PATIENCE, Feed, going_on, raw, row, snapshot
@@ -104,8 +106,7 @@ def in_real_time(checks, reflector, origin):
     - events that come 4 ms apart, and a router that is back with a part of its links at a time of its session: gobgpd sends routes when
       it likes, and the sessions are its own
     - lines of refused batches but the first sequence: they don't depend on the session
-    - bad headers, Opens and attributes, and routes above 4,096 bytes: gobgpd ends its session with the originator, or sends them on as
-      withdrawn, so that they don't come to the feed."""
+    - bad headers, Opens and attributes: gobgpd judges them itself, so that they don't come to the feed."""
     ends = [(A, A_B, B, B_A), (B, B_A, A, A_B)]
 
     def feed_of(*words, **more):
@@ -117,16 +118,18 @@ def in_real_time(checks, reflector, origin):
     answers = ("batch 1 refused: full",) * 3 + ("version 1", "version 2")
     checks.same("gobgpd: a start at version 0, and a refused batch", [feed.batch(answer)[0] for answer in answers], wanted)
     checks.same("gobgpd: what is said of it", feed.end(), f"bgpls: batch 1 refused: full: put {A} {A_B} is left out\n")
-    for name, gone, kept in [("a circuit", BROKEN_DROPS, reflector.broken),
+    for name, gone, kept in [("a circuit", BROKEN_DROPS, reflector.broken), ("a mark", [f"node,{A},1"], b""),
                              ("a router", [f"drop,{A},{A_B}", f"drop,{B},{B_A}"], reflector.without_a)]:
+        marks = [f"node,{A},0"] * (name == "a mark")
         origin.send(kept)
-        feed = feed_of("--hold", "3", version=7, told=snapshot(7, rows))
+        feed = feed_of("--hold", "3", version=7, told=snapshot(7, [*rows, *marks]))
         checks.true(f"gobgpd: {name} that went while no feed was there is held at first", feed.line(2) is None)
         checks.same(f"gobgpd: {name} is dropped when the hold is over", feed.batch(), (gone, 8))
         origin.send(CHAIN)
-        back = [each for each in rows if f"drop,{','.join(each.split(',')[1:3])}" in gone]
-        checks.same(f"gobgpd: {name} that is back", feed.batch(), (back, 9))
-        checks.true(f"gobgpd: {name}: what is said", feed.end().startswith(going_on(7, 4, hold=3, name="bgpls")))
+        if not marks:
+            back = [each for each in rows if f"drop,{','.join(each.split(',')[1:3])}" in gone]
+            checks.same(f"gobgpd: {name} that is back", feed.batch(), (back, 9))
+        checks.true(f"gobgpd: {name}: what is said", feed.end().startswith(going_on(7, 4, len(marks), 3, "bgpls")))
 
     feed, begun = feed_of("--hold", "3", version=7, told=snapshot(7, [*rows, row(C, C_D, D, D_C)])), time.monotonic()
     found, metric = [], 20
@@ -162,11 +165,29 @@ def in_real_time(checks, reflector, origin):
     origin.send(withdraw(nlris_of(Speaker.pair)))
 
 
+def beside_reflected(checks):
+    """The scenarios by the real clock, through a gobgpd of their own."""
+    with tempfile.TemporaryDirectory() as room, contextlib.ExitStack() as clean:
+        origin = Origin("127.0.0.2")
+        reflector = Reflector(room, origin)
+        clean.callback(lambda: reflector.kill())
+        reflector.begin()
+        in_real_time(checks, reflector, origin)
+
+
 def reflected(program, checks):
     """The same through gobgpd; then a circuit and a router go, the reflector is killed and comes back, and feed and server are killed."""
     if not shutil.which("gobgpd"):
         print("skipped: the feed through gobgpd, which isn't there")
         return
+    real = Checks(checks.only)
+    with ThreadPoolExecutor(1) as pool:
+        pool.submit(real.part, "beside_reflected", beside_reflected, real)
+        checks.part("through_gobgpd", through_gobgpd, program, checks)
+    checks.passed, checks.failed = checks.passed + real.passed, checks.failed + real.failed
+
+
+def through_gobgpd(program, checks):
     with tempfile.TemporaryDirectory() as room, contextlib.ExitStack() as clean:
         origin, straight = Origin("127.0.0.2"), Origin("127.0.0.1")
         reflector = Reflector(room, origin)
@@ -208,8 +229,6 @@ def reflected(program, checks):
         checks.true("a reflector that is back before its originator: the network goes, and comes back", "what was put stays" in feed.end())
         origin.send(withdraw(nlris_of(CHAIN)))
         killed(Of(checks, "gobgpd"), reflector, program)
-        origin.send(withdraw(nlris_of(CHAIN)))
-        in_real_time(checks, reflector, origin)
 
 
 def decoded(checks):

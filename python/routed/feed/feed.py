@@ -73,6 +73,8 @@ class Session:
         stream.wait(True)
 
     def go_on(self, stream: Stream, events: int) -> None:
+        if stream not in self.streams:  # the session has ended meanwhile
+            return
         if events & WRITE:
             stream.flush()
         data = stream.unread + (stream.read() if events & READ and not stream.fault else b"")
