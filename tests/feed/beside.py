@@ -143,7 +143,7 @@ def once(program, checks):
         ended = subprocess.run([*FEED, "--port", "9", "--", program.path, "solve"], input=ask, stdout=full, stderr=subprocess.PIPE,
                                text=True)
     checks.same("standard output is full", (ended.returncode, ended.stderr.splitlines()[-1:]),
-                (1, ["ospf: standard output: No space left on device"]))
+                (1, ["ospf: standard output: write: No space left on device"]))
 
 
 def words(program, checks):

@@ -99,6 +99,19 @@ def columns(checks):
     checks.same("the one that is asked for", [rows_of(PAIR, *twice, words=words)[0] for words in chosen],
                 [PAIR_ROWS, [row(*ENDS[0], metric=9)], [row(*ENDS[1], metric=9)], []])
     one_feed.end()
+    speaker = Speaker()
+    feed = Feed(speaker)
+    speaker.send(b"".join(isis(metric=None, igp=b"\0\1\x2c")))
+    checks.true("links whose routers have no address yet", feed.is_quiet())
+    speaker.send(b"".join(nodes))
+    checks.same("have rows once their nodes are announced", feed.batch()[0], [row(*ends, metric=300) for ends in ENDS])
+    speaker.send(announce(node_nlri(A, ISIS_2), tlv(1028, raw("0.7.7.7"))))
+    checks.same("other rows with another address of a node", feed.batch()[0],
+                [f"drop,{A},{A_B}", row("0.7.7.7", A_B, B, B_A, metric=300), row(B, B_A, "0.7.7.7", A_B, metric=300)])
+    speaker.send(withdraw(node_nlri(B, ISIS_2)))
+    checks.same("and none without a node", feed.batch()[0], [f"drop,0.7.7.7,{A_B}", f"drop,{B},{B_A}"])
+    feed.end()
+    speaker.hang_up()
 
 
 def left_out(checks):

@@ -318,12 +318,20 @@ def killed(checks, side, program):
         checks.same("what went meanwhile isn't", reply(), "ask 7 v2 unknown-to\n")
         with open(journal, encoding="ascii") as file:
             checks.same("and nothing else was written", file.read(), "\n".join([*CHAIN_ROWS, "end,1,4", *BROKEN_DROPS, "end,2,2\n"]))
+        feed.process.kill()
+        feed.process.wait()
+        router.hang_up()
+        feed = started()
+        router.send(side.without_a)
+        until(lambda: " v2 " not in reply(), "version 3")
+        checks.same("a router that went meanwhile isn't", reply(), "ask 7 v3 unknown-from\n")
+        emptied = f"{side.name}: the router tells of no link: 2 links and marks are dropped\n" * (side.name == "bgpls")
         with open(f"/proc/{front.pid}/task/{front.pid}/children", encoding="ascii") as children:
             for child in map(int, children.read().split()):
                 os.kill(child, signal.SIGKILL)
         status, out, said = feed.ended()
         checks.same("the server is killed", (status, out, lines(said)),
-                    (1, "", f"{going_on(1, 4, 0, 1, side.name)}{side.name}: {updates}: the program ended\n"))
+                    (1, "", f"{going_on(2, 2, 0, 1, side.name)}{emptied}{side.name}: {updates}: the program ended\n"))
         checks.same("and the front with it", front.wait(PATIENCE), 137)
         router.hang_up()
         feed = Feed(router, command=("--to", updates), is_accepted=False)
@@ -337,7 +345,7 @@ def killed(checks, side, program):
         asker.connect(ask)
         replies = asker.makefile("r")
         feed = started()
-        router.send(side.broken)
+        router.send(side.pair)
         until(lambda: " v1 " in reply(), "version 1 of another server")
         checks.same("has what is there now", (reply(), lines(feed.end())), ("ask 7 v1 unknown-to\n", ""))
         router.hang_up()

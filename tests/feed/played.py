@@ -197,10 +197,10 @@ class Feed:
     """A feed at work, whose program is the test, or a command; then it goes by the real clock. The program is at a version,
     and at a greater one than 0 it answers what the feed asks next by the lines that are told."""
 
-    def __init__(self, router, *words, command=(), version=0, told=(), is_accepted=True, run=f"run {RUN}"):
+    def __init__(self, router, *words, command=(), version=0, told=(), is_accepted=True, run=f"run {RUN}", is_real=False):
         self.run = run
         ends = ("-1", "-1")
-        self.is_real = bool(command)
+        self.is_real = bool(command) or is_real
         if not self.is_real:
             (clock, self.clock), (self.reports, reports) = os.pipe(), os.pipe()
             ends = str(clock), str(reports)
@@ -214,10 +214,10 @@ class Feed:
         if not self.is_real:
             os.close(clock)
             os.close(reports)
-            if "--once" not in words:
-                self.begin(version, told)
-                if {"--sids", "--srlgs"} & {*words} and version is not None:
-                    self.name_run()
+        if not command and "--once" not in words:
+            self.begin(version, told)
+            if {"--sids", "--srlgs"} & {*words} and version is not None:
+                self.name_run()
         if is_accepted:
             router.accept()
 
@@ -287,12 +287,13 @@ class Feed:
 
     def line(self, patience=None):
         """The next line, None where none comes in time."""
-        end = time.monotonic() + PATIENCE if self.is_real else self.at + (LATE if patience is None else patience)
+        real = PATIENCE if patience is None else patience
+        end = time.monotonic() + real if self.is_real else self.at + (LATE if patience is None else patience)
         if not self.is_real:
             self.settle()
         while b"\n" not in self.unread:
             if self.is_real:
-                if not self.hear(end - time.monotonic()):
+                if time.monotonic() > end or not self.hear(end - time.monotonic()):
                     return None
             elif self.at + 1e-6 < end:
                 self.waits(min(COLLECT, end - self.at))
@@ -380,6 +381,8 @@ def snapshot(version, rows):
 
 
 Router.pair, Router.chain, Router.broken = PAIR, CHAIN, BROKEN
+# A is gone without a word, too: its own LSAs stay
+Router.without_a = update(CHAIN_ROUTERS[0], router_lsa(B, sequence=3), router_lsa(C, sequence=2), *CHAIN_LINKS)
 
 
 def going_on(version, links, marks=0, hold=HOLD, name="ospf"):

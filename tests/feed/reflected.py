@@ -6,10 +6,13 @@ import shutil
 import socket
 import subprocess
 import tempfile
+import time
+from concurrent.futures import ThreadPoolExecutor
 
+from checks import Checks
 from feed.beside import until
-from feed.both import Of, killed
-from feed.played import A, A_B, B, B_A, B_C, C, C_B, IN_PROCESS, PATIENCE, Feed, raw
+from feed.both import LINKS, ROWS, Of, killed
+from feed.played import A, A_B, B, BROKEN_DROPS, B_A, B_C, C, CHAIN_ROWS, C_B, IN_PROCESS, PATIENCE, Feed, going_on, raw, row, snapshot
 from feed.speaker import CHAIN, END, ISIS_2, NUMBER, Speaker, announce, link_nlri, nlri, nlris_of, node, node_nlri, sid, tlv, told, withdraw
 
 D, C_D, D_C = "4.4.4.4", "10.0.0.4", "10.0.0.5"
@@ -42,7 +45,7 @@ class Reflector:
     """What a feed connects to in the place of its peer: gobgpd, and behind it the originator."""
 
     name, is_reflected = "bgpls", True
-    chain, broken = CHAIN, withdraw(link_nlri(B, B_C, C, C_B), link_nlri(C, C_B, B, B_C))
+    chain, broken, pair, without_a = CHAIN, withdraw(link_nlri(B, B_C, C, C_B), link_nlri(C, C_B, B, B_C)), Speaker.pair, Speaker.without_a
 
     def __init__(self, room, origin):
         with socket.create_server(("127.0.0.3", 0)) as one, socket.create_server(("127.0.0.1", 0)) as other:
@@ -97,11 +100,94 @@ def once(*words):
     return ran.returncode, ran.stdout, ran.stderr
 
 
+def in_real_time(checks, reflector, origin):
+    """The scenarios of both protocols through the reflector, by the real clock. These can't be:
+    - waits that are exact to 0.01 s, 20 s of the default hold, and a database of 5,000 links: the clock has to be the test's
+    - events that come 4 ms apart, and a router that is back with a part of its links at a time of its session: gobgpd sends routes when
+      it likes, and the sessions are its own
+    - lines of refused batches but the first sequence: they don't depend on the session
+    - bad headers, Opens and attributes: gobgpd judges them itself, so that they don't come to the feed."""
+    ends = [(A, A_B, B, B_A), (B, B_A, A, A_B)]
+
+    def feed_of(*words, **more):
+        return Feed(reflector, "--quiet", "86400", *words, is_real=True, is_accepted=False, **more)
+
+    feed = feed_of()
+    origin.send(CHAIN)
+    rows, wanted = CHAIN_ROWS, [CHAIN_ROWS, CHAIN_ROWS[:2], CHAIN_ROWS[:1], CHAIN_ROWS[1:2], CHAIN_ROWS[2:]]
+    answers = ("batch 1 refused: full",) * 3 + ("version 1", "version 2")
+    checks.same("gobgpd: a start at version 0, and a refused batch", [feed.batch(answer)[0] for answer in answers], wanted)
+    checks.same("gobgpd: what is said of it", feed.end(), f"bgpls: batch 1 refused: full: put {A} {A_B} is left out\n")
+    for name, gone, kept in [("a circuit", BROKEN_DROPS, reflector.broken), ("a mark", [f"node,{A},1"], b""),
+                             ("a router", [f"drop,{A},{A_B}", f"drop,{B},{B_A}"], reflector.without_a)]:
+        marks = [f"node,{A},0"] * (name == "a mark")
+        origin.send(kept)
+        feed = feed_of("--hold", "3", version=7, told=snapshot(7, [*rows, *marks]))
+        checks.true(f"gobgpd: {name} that went while no feed was there is held at first", feed.line(2) is None)
+        checks.same(f"gobgpd: {name} is dropped when the hold is over", feed.batch(), (gone, 8))
+        origin.send(CHAIN)
+        if not marks:
+            back = [each for each in rows if f"drop,{','.join(each.split(',')[1:3])}" in gone]
+            checks.same(f"gobgpd: {name} that is back", feed.batch(), (back, 9))
+        checks.true(f"gobgpd: {name}: what is said", feed.end().startswith(going_on(7, 4, len(marks), 3, "bgpls")))
+
+    feed, begun = feed_of("--hold", "3", version=7, told=snapshot(7, [*rows, row(C, C_D, D, D_C)])), time.monotonic()
+    found, metric = [], 20
+    while f"drop,{C},{C_D}" not in found and time.monotonic() < begun + 30:
+        metric += 1
+        origin.send(announce(link_nlri(*ends[0]), told(metric=metric)))
+        found += feed.rest(0.5)
+    took = time.monotonic() - begun
+    checks.true("gobgpd: an Update each second doesn't keep a dead circuit", took < 20 and metric > 22, (took, found[-3:]))
+    checks.true("gobgpd: the Updates are put meanwhile", f"put,{A},{A_B}" in {each[:len(f'put,{A},{A_B}')] for each in found}, found)
+    for circuit in (LINKS, [(ends[0], {}), (ends[1], {})]):  # figures, and then as they were
+        origin.send(b"".join(Speaker.put(*one, **more) for one, more in circuit))
+        wanted = sorted(ROWS) if circuit is LINKS else sorted(rows[:2])
+        found = {}
+        end = time.monotonic() + 15
+        while sorted(found.values()) != wanted and time.monotonic() < end:
+            found.update({tuple(each.split(",")[1:3]): each for each in feed.rest(0.5)})
+        checks.same("gobgpd: rows of one network", sorted(found.values()), wanted)
+    origin.send(Speaker.stub(A))
+    checks.same("gobgpd: a mark", feed.rest(1.5), [f"node,{A},0"])
+    origin.send(withdraw(node_nlri(A)))
+    checks.same("gobgpd: that goes", feed.rest(1.5), [f"node,{A},1"])
+    feed.process.kill()
+    feed.process.wait()
+    reflector.kill()
+    origin.hang_up()
+    feed = feed_of("--hold", "10", version=7, told=snapshot(7, rows))
+    checks.true("gobgpd: a feed that starts without its reflector drops nothing", feed.line(1.5) is None)
+    reflector.begin()
+    origin.send(Speaker.pair)
+    checks.same("gobgpd: a circuit that went while feed and reflector were killed is dropped", feed.batch(), (BROKEN_DROPS, 8))
+    feed.end()
+    origin.send(withdraw(nlris_of(Speaker.pair)))
+
+
+def beside_reflected(checks):
+    """The scenarios by the real clock, through a gobgpd of their own."""
+    with tempfile.TemporaryDirectory() as room, contextlib.ExitStack() as clean:
+        origin = Origin("127.0.0.2")
+        reflector = Reflector(room, origin)
+        clean.callback(lambda: reflector.kill())
+        reflector.begin()
+        in_real_time(checks, reflector, origin)
+
+
 def reflected(program, checks):
     """The same through gobgpd; then a circuit and a router go, the reflector is killed and comes back, and feed and server are killed."""
     if not shutil.which("gobgpd"):
         print("skipped: the feed through gobgpd, which isn't there")
         return
+    real = Checks(checks.only)
+    with ThreadPoolExecutor(1) as pool:
+        pool.submit(real.part, "beside_reflected", beside_reflected, real)
+        checks.part("through_gobgpd", through_gobgpd, program, checks)
+    checks.passed, checks.failed = checks.passed + real.passed, checks.failed + real.failed
+
+
+def through_gobgpd(program, checks):
     with tempfile.TemporaryDirectory() as room, contextlib.ExitStack() as clean:
         origin, straight = Origin("127.0.0.2"), Origin("127.0.0.1")
         reflector = Reflector(room, origin)

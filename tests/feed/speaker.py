@@ -191,3 +191,4 @@ class Speaker:
 PAIR = Speaker.links((A, A_B, B, B_A))
 CHAIN = PAIR + Speaker.links((B, B_C, C, C_B))
 Speaker.pair, Speaker.chain, Speaker.broken = PAIR, CHAIN, PAIR
+Speaker.without_a = withdraw(link_nlri(A, A_B, B, B_A), link_nlri(B, B_A, A, A_B))

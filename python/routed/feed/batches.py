@@ -2,7 +2,7 @@
 from __future__ import annotations
 
 import re
-from collections.abc import Callable, Container
+from collections.abc import Callable, Collection
 
 from ..model.database import Database
 from ..model.rows import MOST_CHANGES, Batch, Change, Drop, Key, Row, rank, removal_of
@@ -41,13 +41,14 @@ class Batches:
         """The keys of the links and marks that the program has or was sent."""
         return self.given.keys() | {change.key for change in self.sent if not change.is_removal}
 
-    def next(self, wanted: dict[Key, Row], held: Container[Key] = ()) -> str:
-        """The text of the next batch towards the wanted rows, drops first; empty where there is none.
-        Links that are held aren't dropped, and marks that are held aren't taken away."""
+    def next(self, wanted: dict[Key, Row], changed: Collection[Key] | None = None) -> str:
+        """The text of the next batch towards the wanted rows, drops first; empty where there is none. If it is known which keys have
+        changed since the last look, others are looked at only where that left something to be done."""
+        keys = self.given.keys() | wanted.keys() if changed is None or self.is_cut else changed
         if self.barred:
             wanted = {key: row for key, row in wanted.items() if self.barred.get(key) != row}
-        gone = [key for key in self.given if key not in wanted and key not in held]
-        puts = [key for key, row in wanted.items() if (had := self.given.get(key)) is not row and had != row]
+        gone = [key for key in keys if key in self.given and key not in wanted]
+        puts = [key for key in keys if (row := wanted.get(key)) and (had := self.given.get(key)) is not row and had != row]
         changes = [*map(removal_of, sorted(gone, key=rank)), *(wanted[key] for key in sorted(puts, key=rank))]
         self.sent, self.is_cut, self.row = changes[:self.size], len(changes) > self.size, ""
         return self.batch().text() if self.sent else ""

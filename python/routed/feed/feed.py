@@ -1,11 +1,13 @@
 """What every feed does: batches towards a network as a router tells it, for a program that answers each.
 
-A feed has a session with the router, and a network that the session makes of what it was told. The session calls `up` of its feed once
-the router tells the network, `heard` for what comes, `complete` if the router says that all has come, and `lose` once it can't go on."""
+A session with the router calls `up` of what hears it once the router tells the network, `heard` for what comes, `complete` if the router
+says that all has come, and `lose` once it can't go on."""
 from __future__ import annotations
 
 import argparse
+import atexit
 import contextlib
+import functools
 import math
 import os
 import re
@@ -14,19 +16,19 @@ import signal
 import sys
 import time
 from collections.abc import Callable
-from typing import Protocol
 
 from ..model.journals import in_batches
 from ..model.rows import Key, rank
-from ..net.endpoints import Endpoint, tried
-from ..net.loop import Loop, Owner, Stopped
+from ..net.endpoints import Endpoint, say as put_out
+from ..net.http import Page
+from ..net.loop import READ, WRITE, Loop, Stopped
 from ..net.notify import Supervised
-from ..net.stream import Stream, write_all
+from ..net.stream import Stream
 from ..program import number
 from .batches import Batches
 from .database import begun, run_of
 from .figures import FeedFigures
-from .links import Network, grouped
+from .links import Network, Source, grouped
 from .program import Program
 from .sids import SidFile, Values
 
@@ -37,49 +39,155 @@ ASK = re.compile(rb"ask,[0-9A-Za-z.,:/ ]*")
 
 
 class Lost(Exception):
-    """Why the session with the router can't go on."""
+    """Why the session with the router can't go on, the last bytes that the router is sent, if they aren't its usual ones, and the seconds
+    after which it is tried again."""
+
+    def __init__(self, why: object, last: bytes | None = None, again: float = AGAIN) -> None:
+        super().__init__(why)
+        self.last, self.again = last, again
 
 
-class Session(Owner, Protocol):
-    """A session with a router, and the network that the router told of."""
-
-    def close(self) -> None: ...
-
-    def network(self) -> Network: ...
+Next = Callable[[bytes, int], "tuple[int, bytes, int] | None"]  # kind and body of the message there, and where it ends; None if it is cut
+Take = Callable[[int, bytes], "bool | None"]  # takes a message: whether the network changed, None for one that isn't about the network
 
 
-def put_out(data: bytes) -> None:
-    """Writes all of it to standard output."""
-    with tried("standard output"):
-        write_all(1, data)
+class Session:
+    """A session with a router. `network` gives what the router told of its network."""
+
+    other, last = "the router", b""  # who is at the other side, and the last bytes that it is sent
+
+    def __init__(self, asked: argparse.Namespace, feed: Hearing, network: Callable[[], Network], following: Next, take: Take) -> None:
+        self.asked, self.feed, self.network, self.following, self.take = asked, feed, network, following, take
+        self.streams: list[Stream] = []
+
+    def named(self) -> str:
+        return self.asked.where
+
+    def fail(self) -> None:
+        self.feed.lose(Lost("an exception has ended it"))
+
+    def watch(self, stream: Stream) -> None:
+        """From now on takes what this stream has."""
+        self.streams.append(stream)
+        stream.give(self, functools.partial(self.go_on, stream))
+        stream.wait(True)
+
+    def go_on(self, stream: Stream, events: int) -> None:
+        if stream not in self.streams:  # the session has ended meanwhile
+            return
+        if events & WRITE:
+            stream.flush()
+        data = stream.unread + (stream.read() if events & READ and not stream.fault else b"")
+        at, told = 0, []
+        try:
+            if stream.is_ended or stream.fault:
+                where = " in the midst of a message" * bool(data)
+                raise Lost(stream.why() if stream.fault else f"{self.other} closed the connection{where}")
+            while found := self.following(data, at):
+                kind, body, at = found
+                told.append(self.take(kind, body))
+        except Lost as fault:
+            self.feed.lose(fault)
+            return
+        stream.unread = data[at:]
+        stream.wait(True)
+        if events & READ:
+            self.feed.heard(len(told) - told.count(None), any(told))
+
+    def close(self, last: bytes | None = None) -> None:
+        """Ends the session, by these last bytes or the usual ones, if the connection is still there."""
+        last = self.last if last is None else last
+        for stream in self.streams:
+            if last and not stream.is_ended and not stream.fault:
+                stream.hang_up(last)
+            else:
+                stream.close()
+        self.streams = []
 
 
-class Feed:
-    """A feed that runs: its program, its session and what is to be done next."""
+class Hearing:
+    """What hears a session. The network counts as told once nothing has come for `quiet` seconds, and `most` seconds after it is up."""
 
-    def __init__(self, asked: argparse.Namespace, connect: Connect) -> None:
-        self.asked, self.open = asked, connect
-        self.figures = FeedFigures(self, asked.say)
-        self.loop = Loop(self.figures.failed, selectors.PollSelector())  # standard input may be a regular file
-        self.supervised = Supervised(self.loop, lambda: self.figures.told(self))
-        self.files = {name: SidFile(name, path) for name, path in (("sids", asked.sids), ("srlgs", asked.srlgs)) if path}
-        self.program = Program(self.loop, asked.command, asked.to)
-        self.batches: Batches | None = None  # once it is known what the program has
+    def __init__(self, asked: argparse.Namespace, make: Connect, loop: Loop, quiet: float, most: float) -> None:
+        self.asked, self.make, self.loop, self.quiet, self.most = asked, make, loop, quiet, most
         self.opened: Session | None = None  # the last one
         self.session: Session | None = None  # the last one that was up
+        self.is_telling = False  # whether the network doesn't count as told yet
+        self.event_at, self.told_end = 0.0, math.inf  # when the last event came, and when the network counts as told at the latest
+        self.noted: set[Key] = set()  # the links whose notes were said
+        self.left: dict[Source, Key] | None = None  # what was said to be left out
+
+    def connect(self) -> None:
+        try:
+            self.opened = self.make(self.asked, self)
+        except Lost as fault:
+            self.lose(fault)
+        except OSError as fault:
+            self.lose(Lost(fault.strerror or fault))
+
+    def up(self, session: Session) -> None:
+        self.session, self.is_telling, self.event_at = session, True, time.monotonic()
+        self.told_end = self.event_at + self.most
+
+    def heard(self, events: int, has_changed: bool) -> None:
+        """So many events came."""
+        self.event_at = time.monotonic() if events else self.event_at
+
+    def complete(self) -> None:
+        """The router says that it has told all."""
+        self.told_end = time.monotonic()
+
+    @property
+    def told_at(self) -> float:
+        """When the network counts as told."""
+        return min(self.told_end, self.event_at + self.quiet) if self.is_telling else math.inf
+
+    def lose(self, why: Lost) -> None:
+        raise Stopped(f"no connection to {self.asked.where}: {why}")
+
+    def report(self, network: Network) -> None:
+        """Says the notes of links that weren't said; and with --verbose, where it has changed, how many links are left out for each
+        reason, and which are new there."""
+        for key, note in sorted(network.notes.items()):
+            if key not in self.noted:
+                self.asked.say(note)
+        self.noted.update(network.notes)
+        if not self.asked.verbose or network.left == self.left:
+            return
+        links, marks, left = network.counts()
+        counts = ", ".join(f"{why} {count}" for why, count in sorted(left.items()))
+        self.asked.say(f"{links} links; {f'{marks} without transit; ' * (marks > 0)}left out: {counts or 'none'}")
+        for why, *name in sorted({*network.left.values()} - {*(self.left or {}).values()}):
+            self.asked.say(f"left out, {why}: {' '.join(name)}")
+        self.left = dict(network.left)
+
+
+Connect = Callable[[argparse.Namespace, Hearing], Session]  # raises Lost or OSError where there can't be a session
+
+
+class Feed(Hearing):
+    """A feed that runs: its program, its session and what is to be done next."""
+
+    def __init__(self, asked: argparse.Namespace, make: Connect) -> None:
+        self.figures = FeedFigures(self, asked)
+        loop = Loop(self.figures.failed, selectors.PollSelector())  # standard input may be a regular file
+        super().__init__(asked, make, loop, asked.quiet, asked.hold)
+        self.supervised = Supervised(loop, lambda: self.figures.told(self))
+        self.files = {name: SidFile(name, path) for name, path in (("sids", asked.sids), ("srlgs", asked.srlgs)) if path}
+        self.program = Program(loop, asked.command, asked.to)
+        self.batches: Batches | None = None  # once it is known what the program has
         self.is_connected, self.was_lost = False, False
-        self.asks = Stream(self.loop, 0, is_shared=True) if asked.command or asked.to else None
-        self.try_at, self.event_at = 0.0, 0.0  # when a connection is tried, and when the last event came
-        self.look_at = self.hold_until = math.inf  # when the network is looked at next, and links aren't held any longer
-        self.hold_end = math.inf  # until then links are held at most
-        self.awaited: set[Key] = set()  # links that the program has, and the router didn't tell of yet
+        self.heard_at: float | None = None
+        self.asks = Stream(loop, 0, is_shared=True) if asked.command or asked.to else None
+        self.try_at, self.look_at = 0.0, math.inf  # when a connection is tried, and when the network is looked at next
+        self.network: Network | None = None  # as it was looked at last
+        self.awaited: set[Key] = set()  # links that the program has, and the router didn't tell of yet: they are held until `told_at`
         self.awaited_values: dict[str, Values] = {}  # the same of their lines in the files
-        self.left: dict[str, list[Key]] | None = None  # what was said
-        self.told: set[Key] = set()
 
     def run(self) -> None:
         if self.asked.metrics:
-            self.figures.serve(self.asked.metrics)
+            Page(self.loop, self.asked.metrics.bind(0o600), self.figures.text)
+            atexit.register(self.asked.metrics.leave)
         database = begun(self.program, self.asked.journal)
         if self.files:
             run = run_of(self.program)
@@ -97,6 +205,7 @@ class Feed:
         while True:
             now = time.monotonic()
             if now >= self.try_at:
+                self.try_at = math.inf
                 self.connect()
             if now >= self.due():
                 self.look(now)
@@ -109,64 +218,42 @@ class Feed:
         """When the network is looked at next; never where nothing is to be done, or a batch is on its way."""
         if self.batches is None or self.batches.sent:
             return math.inf
-        return min(self.hold_until, max(self.look_at, min(self.event_at + TOGETHER, self.look_at + LONGEST)))
-
-    def connect(self) -> None:
-        self.try_at = math.inf
-        try:
-            self.opened = self.open(self.asked, self)
-        except Lost as fault:
-            self.lose(fault)
+        return min(self.told_at, max(self.look_at, min(self.event_at + TOGETHER, self.look_at + LONGEST)))
 
     def up(self, session: Session) -> None:
         assert self.batches is not None
-        self.session, self.is_connected, self.awaited = session, True, self.batches.links()
-        self.figures.heard_at = now = time.monotonic()
-        self.awaited_values = {name: dict(file.labels) for name, file in self.files.items()}
-        self.hold_end = now + self.asked.hold
-        self.hold_until = min(self.hold_end, now + self.asked.quiet) if self.awaited else math.inf
-        self.soon(now, self.asked.collect)
+        super().up(session)
+        self.is_connected, self.awaited = True, self.batches.links()
+        self.awaited_values = {name: dict(file.labels) for name, file in self.files.items() if self.awaited}
+        self.is_telling = bool(self.awaited)
+        self.heard(0, True)
         if self.was_lost:
             self.asked.say(f"connected again; links that were there are held for {self.asked.hold:g} s")
 
-    def lose(self, why: object, again: float = AGAIN) -> None:
-        """The links that were put stay, until a router tells again what there is. It is tried again after so many seconds."""
+    def lose(self, why: Lost) -> None:
+        """The links that were put stay, until a router tells again what there is."""
         if self.opened:
-            self.opened.close()
+            self.opened.close(why.last)
         if self.is_connected or not self.was_lost:
-            self.asked.say(f"{unreachable(self.asked, why)}; what was put stays")
-        self.is_connected, self.was_lost, self.try_at = False, True, time.monotonic() + again
-        self.look_at = self.hold_until = math.inf
-
-    def soon(self, now: float, after: float) -> None:
-        self.look_at = min(self.look_at, now + after)
+            self.asked.say(f"no connection to {self.asked.where}: {why}; what was put stays")
+        self.is_connected, self.was_lost, self.try_at = False, True, time.monotonic() + why.again
+        self.look_at, self.is_telling = math.inf, False
 
     def heard(self, events: int, has_changed: bool) -> None:
-        self.figures.heard_at = now = time.monotonic()
-        if events:
-            self.event_at = now
-            if self.hold_until < math.inf:
-                self.hold_until = min(self.hold_end, now + self.asked.quiet)
+        super().heard(events, has_changed)
+        self.heard_at = time.monotonic()
         if has_changed:
-            self.soon(now, self.asked.collect)
-
-    def complete(self) -> None:
-        """Links that the router didn't tell of aren't held any longer."""
-        if self.hold_until < math.inf:
-            self.hold_until = self.hold_end = time.monotonic()
+            self.look_at = min(self.look_at, self.heard_at + self.asked.collect)
 
     def take_lines(self) -> None:
         assert self.batches is not None
         while self.program.lines:
-            line = self.program.lines.popleft()
-            if self.batches.read(line.decode(errors="replace")):
-                for file in self.files.values():
-                    if not self.batches.sent:
-                        file.accepted()
+            line = self.program.lines.popleft().decode(errors="replace")
+            if self.batches.read(line):
                 if self.batches.is_cut:
-                    self.soon(time.monotonic(), 0.0)
+                    self.look_at = min(self.look_at, time.monotonic())
             elif self.asks:
-                put_out(line + b"\n")
+                put_out(line)
 
     def refused(self, word: str) -> None:
         self.figures.add("routed_feed_refused_batches_total", 1, word)
@@ -208,85 +295,44 @@ class Feed:
         except Exception as fault:
             self.loop.end(self.session, fault)
             return
-        self.awaited.difference_update(network.rows if self.awaited else (), network.told)
-        if now >= self.hold_until:
+        whole, is_telling = network.whole() if self.is_telling else set(), self.is_telling
+        self.awaited = {key for key in self.awaited if key in self.batches.given and key not in network.rows and key not in whole}
+        if now >= self.told_at:
             if self.awaited and not network.rows and self.asked.quiet < math.inf:
                 self.asked.say(f"the router tells of no link: {len(self.awaited)} links and marks are dropped")
                 self.figures.add("routed_feed_emptied_total")
-            self.hold_until, self.awaited, self.awaited_values = math.inf, set(), {}
+            self.is_telling, self.awaited, self.awaited_values = False, set(), {}
         values: dict[str, Values] = {"sids": network.sids, "srlgs": network.srlgs}
         for name, held in self.awaited_values.items():
-            self.awaited_values[name] = {key: held[key] for key in held.keys() - values[name].keys() - network.told}
+            self.awaited_values[name] = {key: held[key] for key in held.keys() - values[name].keys() - whole}
             values[name] = {**values[name], **self.awaited_values[name]}
-        given = self.batches.given
-        bare = {key: grouped(given[key], self.asked.sid_group, False) for key in self.awaited if key in given and key not in values["sids"]}
-        wanted = {**network.rows, **bare}
-        text = self.batches.next(wanted, self.awaited)
+        held_rows = {key: grouped(self.batches.given[key], self.asked.sid_group, key in values["sids"]) for key in self.awaited}
+        wanted = {**network.rows, **held_rows}
+        text = self.batches.next(wanted, network.changed if network is self.network and not is_telling else None)
+        self.network, network.changed = network, set()
         for name, file in self.files.items():
             file.write(self.batches, values[name], wanted)
         self.program.write(text)
-        self.figures.looked(network.rows, network.left)
-        tell(self.asked, network, self.told, self.left)
-        self.left = network.left
+        self.report(network)
 
 
-def unreachable(asked: argparse.Namespace, why: object) -> str:
-    return f"no connection to {asked.where}: {why}"
+class Once(Hearing):
+    """A session whose network is written once it has been told."""
 
-
-def tell(asked: argparse.Namespace, network: Network, told: set[Key], before: dict[str, list[Key]] | None = None) -> None:
-    """Says the notes of links that weren't told; and with --verbose, where it has changed, how many links are left out for each reason,
-    and which are new there."""
-    for key, note in sorted(network.notes.items()):
-        if key not in told:
-            asked.say(note)
-    told.update(network.notes)
-    if not asked.verbose or network.left == before:
-        return
-    counts = ", ".join(f"{why} {len(names)}" for why, names in sorted(network.left.items()))
-    marked = sum(len(key) == 1 for key in network.rows)
-    asked.say(f"{len(network.rows) - marked} links; {f'{marked} without transit; ' * (marked > 0)}left out: {counts or 'none'}")
-    for why, names in sorted(network.left.items()):
-        for name in sorted(set(names) - set((before or {}).get(why, []))):
-            asked.say(f"left out, {why}: {' '.join(name)}")
-
-
-class Once:
-    """A session whose network is written once nothing has come for a while."""
-
-    def __init__(self, asked: argparse.Namespace, connect: Connect) -> None:
-        self.asked, self.loop, self.until, self.end = asked, Loop(selector=selectors.PollSelector()), math.inf, math.inf
-        self.quiet, self.most = (asked.quiet, asked.hold) if asked.quiet < math.inf else (max(asked.collect, 1.0), math.inf)
-        try:
-            self.session = connect(asked, self)
-        except Lost as fault:
-            self.lose(fault)
-
-    def up(self, _: Session) -> None:
-        self.end = time.monotonic() + self.most
-        self.heard(1, False)
-
-    def heard(self, events: int, _: bool) -> None:
-        if events:
-            self.until = min(self.end, time.monotonic() + self.quiet)
-
-    def complete(self) -> None:
-        self.until = time.monotonic()
-
-    def lose(self, why: object, _: float = AGAIN) -> None:
-        raise Stopped(unreachable(self.asked, why))
+    def __init__(self, asked: argparse.Namespace, make: Connect) -> None:
+        times = (asked.quiet, asked.hold) if asked.quiet < math.inf else (max(asked.collect, 1.0), math.inf)
+        super().__init__(asked, make, Loop(selector=selectors.PollSelector()), *times)
 
     def run(self) -> None:
-        while (left := self.until - time.monotonic()) > 0:
+        self.connect()
+        while (left := self.told_at - time.monotonic()) > 0:
             self.loop.turn(left if left < math.inf else None)
+        assert self.session is not None
         self.session.close()
         network = self.session.network()
         rows, _ = in_batches([network.rows[key].text() for key in sorted(network.rows, key=rank)])
-        put_out("".join(f"{row}\n" for row in rows).encode())
-        tell(self.asked, network, set())
-
-
-Connect = Callable[[argparse.Namespace, Feed | Once], Session]  # raises Lost where there can't be a session
+        put_out(*rows)
+        self.report(network)
 
 
 def host(text: str) -> str:

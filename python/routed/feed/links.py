@@ -2,12 +2,16 @@
 from __future__ import annotations
 
 import dataclasses
+import enum
 import math
 import socket
 import struct
-from collections.abc import Collection, Container, Iterable, Iterator, Mapping
+from collections import Counter, defaultdict
+from collections.abc import Container, Iterable, Mapping
+from typing import NamedTuple
 
 from ..model.rows import Key, Link, Mark, Row
+from ..net.tlvs import tlvs
 
 MAX_METRIC = 0xffff  # of OSPF's links that nothing is to pass through the router by (RFC 6987)
 FIRST_LABEL = 16  # those below have meanings of their own (RFC 3032)
@@ -15,44 +19,90 @@ FIRST_LABEL = 16  # those below have meanings of their own (RFC 3032)
 # looked at, and those of them that are set (RFC 8665 6.1, RFC 8667 2.2.1).
 OSPF_SID, ISIS_SID = (0xf0, 0x60), (0xf8, 0x30)
 
+Source = tuple[object, ...]  # what tells of a link or a router: an LSA or an NLRI
+
+
+class Transit(enum.Enum):
+    """What a source says of the routes that pass through a router. One that is overloaded is marked, whatever others say."""
+
+    FREE, STUB, OVERLOADED = range(3)
+
+
+class Told(NamedTuple):
+    """What a source tells under a key: a link, what a router is, or why a link is left out, whose name the key is then."""
+
+    key: Key
+    what: Link | Transit | str
+    label: int = 0  # of the link's adjacency SID
+    srlgs: frozenset[int] = frozenset()
+
 
 class Network:
-    """The network that a session was told of. Of a key that has two links whose rows differ neither is in it."""
+    """The network that a session was told of, whose sources may change one by one. Of a key of which two links differ neither is there.
+    `is_whole` says that a source tells all of its link: its key isn't held then, though the link may be left out."""
 
-    def __init__(self) -> None:
+    def __init__(self, which: str, group: int | None, is_whole: bool = False) -> None:
+        self.which, self.group, self.is_whole = which, group, is_whole  # what its sources are, and the group of links with a SID
         self.rows: dict[Key, Row] = {}
-        self.left: dict[str, list[Key]] = {}  # links that are left out, by the reason
+        self.left: dict[Source, Key] = {}  # what is left out, by its source: the reason, and the name of the link
         self.notes: dict[Key, str] = {}  # what is said once of a link
         self.sids: dict[Key, int] = {}  # labels of adjacency SIDs
         self.srlgs: dict[Key, frozenset[int]] = {}
-        self.told: set[Key] = set()  # links of which all was told, though they may be left out: they aren't held
-        self.differ: set[Key] = set()
+        self.sources: defaultdict[Key, dict[Source, Told]] = defaultdict(dict)  # of each link and router
+        self.keys: dict[Source, tuple[Key, ...]] = {}
+        self.stale: set[Key] = set()  # keys whose rows aren't what is told of them
+        self.changed: set[Key] = set()  # keys whose rows may differ from those that were put
 
-    def leave(self, why: str, *name: str) -> None:
-        self.left.setdefault(why, []).append(name)
+    def tell(self, source: Source, *all_told: Told) -> None:
+        """The source tells this now, and nothing else."""
+        self.left.pop(source, None)
+        for key in self.keys.pop(source, ()):
+            del self.sources[key][source]
+            self.stale.add(key)
+        for told in all_told:
+            if isinstance(told.what, str):
+                self.left[source] = told.what, *told.key
+            else:
+                self.sources[told.key][source] = told
+                self.keys[source] = *self.keys.get(source, ()), told.key
+                self.stale.add(told.key)
 
-    def put(self, link: Link, label: int, srlgs: frozenset[int] = frozenset()) -> Key:
-        """A link, the label of its adjacency SID, which is 0 where it has none, and its SRLGs. The link's key."""
-        key = link.key
-        if (had := self.rows.setdefault(key, link)) is not link and had != link:
-            self.differ.add(key)
-        if label and self.sids.setdefault(key, label) > label:
-            self.sids[key] = label
-        if srlgs and self.srlgs.setdefault(key, srlgs) != srlgs:
-            self.srlgs[key] |= srlgs
-        return key
-
-    def finish(self, which: str, group: int | None, marked: Collection[str]) -> Network:
-        """It is whole: exactly the links that have a SID are in the group, and these routers are marked."""
-        for key in self.differ:
-            self.leave(f"two {which} that differ", *key)
-            del self.rows[key]
-            self.sids.pop(key, None)
-            self.srlgs.pop(key, None)
-        if group is not None:
-            self.rows = {key: grouped(row, group, key in self.sids) for key, row in self.rows.items()}
-        self.rows |= {(router,): Mark(router) for router in marked}
+    def settle(self) -> Network:
+        """The network, whose rows are what is told now. Links of a key that are alike are one, with the least of their labels."""
+        tables: tuple[dict, ...] = self.left, self.sids, self.srlgs
+        for key in self.stale:
+            had = self.rows.pop(key, None)
+            for table in tables:
+                table.pop(key, None)
+            found = self.sources[key].values()
+            states = {told.what for told in found if isinstance(told.what, Transit)}
+            links = {told.what for told in found if isinstance(told.what, Link)}
+            if states == {Transit.STUB} or Transit.OVERLOADED in states:
+                self.rows[key] = Mark(key[0])
+            elif len(links) > 1:
+                self.left[key] = f"two {self.which} that differ", *key
+            elif links:
+                labels = [told.label for told in found if told.label]
+                row = grouped(links.pop(), self.group, bool(labels))
+                self.rows[key] = had if had == row else row  # so that it is seen at once to be the same
+                if labels:
+                    self.sids[key] = min(labels)
+                if srlgs := frozenset().union(*(told.srlgs for told in found)):
+                    self.srlgs[key] = srlgs
+            if not found:
+                del self.sources[key]
+        self.changed |= self.stale
+        self.stale.clear()
         return self
+
+    def whole(self) -> set[Key]:
+        """The keys of which a source told all."""
+        return {*self.rows, *(tuple(name) for _, *name in self.left.values())} if self.is_whole else set()
+
+    def counts(self) -> tuple[int, int, Counter[str]]:
+        """How many links and marks there are, and how many links are left out for each reason."""
+        marks = sum(len(key) == 1 for key in self.rows)
+        return len(self.rows) - marks, marks, Counter(why for why, *_ in self.left.values())
 
 
 def grouped(row: Row, group: int | None, is_in: bool) -> Row:
@@ -62,30 +112,20 @@ def grouped(row: Row, group: int | None, is_in: bool) -> Row:
     return dataclasses.replace(row, group=row.group & ~(1 << group) | is_in << group)
 
 
-def rates(floats: bytes) -> tuple[int, ...] | str:
-    """Bytes per second by priority, rounded down, of eight floats; else why these are none."""
+def link_of(local: str, neighbor: str, remote: str, metric: int, group: int, floats: bytes) -> Link | str:
+    """A link whose router isn't known yet, with the bandwidths of eight floats rounded down; else why there is none."""
     found = struct.unpack(f">{len(floats) // 4}f", floats)
+    if not local or not remote:
+        return "no addresses"
     if not all(0 <= rate < 2**64 for rate in found):
         return "an unreserved bandwidth that is no number of a row"
-    return tuple(map(math.floor, found)) or "no unreserved bandwidth"
+    return Link("", local, neighbor, remote, metric, group, tuple(map(math.floor, found))) if found else "no unreserved bandwidth"
 
 
 def label_of(sids: Iterable[bytes], flags: tuple[int, int]) -> int:
     """The label of the first adjacency SID that is the link's own, by its flags; 0 where there is none."""
     labels = (int.from_bytes(sid[4:], "big") & 0xfffff for sid in sids if len(sid) == 7 and sid[0] & flags[0] == flags[1])
     return next((label for label in labels if label >= FIRST_LABEL), 0)
-
-
-def tlvs(data: bytes, form: str = ">HH", align: int = 1) -> Iterator[tuple[int, bytes]]:
-    """Kinds and values, each with its length between them, padded to so many bytes. struct.error says that one is cut."""
-    at, front = 0, struct.calcsize(form)
-    while at < len(data):
-        kind, size = struct.unpack_from(form, data, at)
-        value = data[at + front:at + front + size]
-        if len(value) < size:
-            raise struct.error("a value that is cut")
-        yield kind, value
-        at += front + (size + align - 1) // align * align
 
 
 class Tlvs(dict[int, list[bytes]]):

@@ -27,7 +27,7 @@ class SidFile:
         self.word, self.option = name[:-1], f"--{name} {path}"
         self.beside: str | None = f"{path}.new"
         self.labels: Values = {}  # by link: what the last lines say
-        self.settled: Values = {}  # the same at the program's version
+        self.before: Values = {}  # what they said before the batch that is on its way
         self.open: set[Key] = set()  # the links of lines whose batch is on its way
         self.again: set[Key] = set()  # those whose batch was refused
         with tried(self.option):
@@ -50,16 +50,12 @@ class SidFile:
             text = " ".join(map(str, sorted(value))) if isinstance(value, frozenset) else value
             lines.append(f"{self.word},{since},{','.join(key)},{text}\n")
         self.append("".join(lines))
-        self.labels = wanted
-        if batches.sent:
-            self.open = keys
-        else:
-            self.settled = dict(wanted)
+        self.labels, self.before, self.open = wanted, self.labels, keys
 
     def put_off(self, batches: Batches, known: Values, rows: dict[Key, Row]) -> Values:
         """The labels of links whose SID is gone, if a later batch changes the link."""
         sent = {change.key for change in batches.sent}
-        return {key: label for key, label in self.settled.items()
+        return {key: label for key, label in self.labels.items()
                 if key not in known and key in batches.given and key not in sent and batches.given[key] != rows.get(key)}
 
     def begin(self, run: str | None) -> None:
@@ -82,16 +78,9 @@ class SidFile:
                 os.rename(self.beside, self.path)
                 self.beside = None
 
-    def accepted(self) -> None:
-        """The batch that was on its way is the program's version."""
-        others = {key: label for key, label in self.settled.items() if key not in self.open}
-        self.settled = others | {key: self.labels[key] for key in self.open if key in self.labels}
-        self.open = set()
-
     def refused(self) -> None:
         """Another batch takes the number of the one that was on its way: its lines are written again."""
-        self.again |= self.open
-        self.open = set()
+        self.labels, self.again = self.before, self.again | self.open
 
     def close(self) -> None:
         os.close(self.file)

@@ -5,6 +5,8 @@ import struct
 from collections.abc import Iterable
 from typing import NamedTuple
 
+from ..net.tlvs import tlvs
+
 OPEN, KEEPALIVE, REQUEST, REPLY, NOTIFICATION, ERROR, CLOSE, REPORT, UPDATE, INITIATE = 1, 2, 3, 4, 5, 6, 7, 10, 11, 12
 # Classes of objects; the RFC's names of some: O_RRO the reported route, O_BANDWIDTH of type 1 a request's.
 (O_OPEN, O_RP, O_NO_PATH, O_ENDS, O_BANDWIDTH, O_METRIC, O_ERO, O_RRO, O_LSPA, O_IRO, O_SVEC, O_NOTIFICATION, O_ERROR, O_CLOSE, O_OF, O_LSP,
@@ -101,17 +103,10 @@ def objects_of(body: bytes) -> list[Object]:
 
 def tlvs_of(data: bytes) -> dict[int, bytes]:
     """The first value of each type."""
-    found: dict[int, bytes] = {}
-    at = 0
-    while at < len(data):
-        if len(data) - at < 4:
-            raise BadObject
-        kind, size = struct.unpack_from("!HH", data, at)
-        if at + 4 + size > len(data):
-            raise BadObject
-        found.setdefault(kind, data[at + 4:at + 4 + size])
-        at += 4 + size + -size % 4
-    return found
+    try:
+        return dict(reversed(list(tlvs(data, align=4))))
+    except struct.error:
+        raise BadObject from None
 
 
 def fields(form: str, data: bytes) -> tuple:

@@ -6,34 +6,36 @@ Where rows go, and what the other options are, is as for the feed from OSPF. doc
 from __future__ import annotations
 
 import argparse
+import functools
+import ipaddress
 import socket
 import time
 
-from ...model.rows import ADDRESS
 from ...net.endpoints import Door, Endpoint, tried
-from ...net.loop import READ, WRITE, Stopped
+from ...net.loop import Stopped
 from ...net.stream import Stream
 from ...pcep.keys import keys, set_key
 from ...program import number
-from ..feed import AGAIN, Feed, Lost, Once, options, run
-from ..links import Network
-from .lsdb import FULL, PROTOCOLS, Lsdb
+from ..feed import Hearing, Lost, Session, options, run
+from .lsdb import PROTOCOLS, Lsdb
 from .messages import KEEPALIVE, NOTIFICATION, OPEN, UPDATE, Fault, accepted, message, next_message, opening, update_of
 
 OPENING = 30.0  # seconds that the peer has for its Open
 TICK = 1.0  # seconds from one look at the timers to the next
-FULL_AGAIN = 60.0  # seconds until the peer is tried again that had more NLRIs than are taken
 SHUTDOWN, COLLISION = message(NOTIFICATION, bytes([6, 2])), message(NOTIFICATION, bytes([6, 7]))  # RFC 4486
 CODES = {1: "message header", 2: "Open", 3: "Update", 4: "hold timer expired", 5: "state", 6: "cease"}
+OUT_OF_TURN = {OPEN: 1, KEEPALIVE: 2, UPDATE: 3}  # subcodes (RFC 6608), by the message that has to come
 
 
-class Peer:
+class Peer(Session):
     """A session with a BGP speaker."""
 
-    def __init__(self, asked: argparse.Namespace, feed: Feed | Once) -> None:
-        self.asked, self.feed, self.peer_as = asked, feed, asked.peer_as or asked.number
+    other, last = "the peer", SHUTDOWN
+
+    def __init__(self, asked: argparse.Namespace, feed: Hearing) -> None:
         self.lsdb = Lsdb(asked)
-        self.stream: Stream | None = None
+        super().__init__(asked, feed, self.lsdb.network, next_message, self.message)
+        self.peer_as = asked.peer_as or asked.number
         self.door: Door | None = None
         self.wanted = OPEN  # the message that has to come; UPDATE once the session is up
         self.hold, self.width, self.heard_at, self.sent_at, self.identifier = OPENING, 4, 0.0, 0.0, b""
@@ -45,14 +47,8 @@ class Peer:
             listener = asked.listen.bind(0o600)
             self.use_key(listener)
             self.door = Door(feed.loop, listener, self.let_in)
-            return
-        try:
+        else:
             self.begin(asked.peer.begin(feed.loop, self.use_key))
-            if self.stream and self.stream.fault:
-                raise self.stream.fault
-        except OSError as fault:
-            self.close()
-            raise Lost(fault.strerror or fault) from None
 
     def use_key(self, made: socket.socket) -> None:
         """From now on the peer has to use the key of TCP-MD5, if there is one."""
@@ -60,124 +56,74 @@ class Peer:
             if self.asked.secret:
                 set_key(made, self.asked.peer.address[0], self.asked.secret)
 
-    def network(self) -> Network:
-        return self.lsdb.network()
-
-    def named(self) -> str:
-        return self.asked.where
-
-    def fail(self) -> None:
-        self.feed.lose("an exception has ended it")
-
-    def close(self, last: bytes = SHUTDOWN) -> None:
-        """Ends the session, by its last message if the connection is still there."""
-        (stream, self.stream), (door, self.door) = (self.stream, None), (self.door, None)
-        if door:
-            door.shut()
-            door.listener.close()
-        if stream and (stream.is_ended or stream.fault):
-            stream.close()
-        elif stream:
-            stream.hang_up(last)
+    def close(self, last: bytes | None = None) -> None:
+        super().close(last)
+        if self.door:
+            self.door.shut()
+            self.door.listener.close()
+            self.door = None
 
     def let_in(self, stream: Stream) -> None:
         if stream.peer()[0] != self.asked.peer.address[0]:
             stream.close()
-        elif self.stream:
+        elif self.streams:
             stream.hang_up(COLLISION)
         else:
             self.begin(stream)
 
     def begin(self, stream: Stream) -> None:
         assert stream.socket
-        self.stream, self.heard_at = stream, time.monotonic()
-        stream.give(self, self.take)
-        self.identifier = socket.inet_aton(self.asked.id or stream.socket.getsockname()[0])
+        self.heard_at = time.monotonic()
+        self.watch(stream)
+        self.identifier = self.asked.id.packed if self.asked.id else socket.inet_aton(stream.socket.getsockname()[0])
         self.send(opening(self.asked.number, self.identifier))
+        self.feed.loop.after(0, functools.partial(self.go_on, stream, 0), self)  # which sees a connection that is refused
         self.feed.loop.after(TICK, self.tend, self)
 
     def send(self, data: bytes) -> None:
-        assert self.stream
         self.sent_at = time.monotonic()
-        self.stream.write(data)
-        self.stream.wait(True)
+        self.streams[0].write(data)
+        self.streams[0].wait(True)
 
     def tend(self) -> None:
         """Sends a Keepalive when it is time, and looks whether the peer does."""
         now = time.monotonic()
-        if not self.stream:
+        if not self.streams:
             return
         if now >= self.heard_at + self.hold:
-            self.end(Fault(4, 0, f"the peer was silent for {self.hold:g} s"))
+            self.feed.lose(Fault(4, 0, f"the peer was silent for {self.hold:g} s"))
             return
-        if self.wanted == UPDATE and now >= self.sent_at + self.hold / 3 and not self.stream.waiting:
+        if self.wanted == UPDATE and now >= self.sent_at + self.hold / 3 and not self.streams[0].waiting:
             self.send(message(KEEPALIVE))
         self.feed.loop.after(min(TICK, self.heard_at + self.hold - now), self.tend, self)
 
-    def end(self, fault: Fault) -> None:
-        """Ends the session by the fault's Notification."""
-        self.close(fault.message)
-        self.feed.lose(fault, FULL_AGAIN if fault.code == FULL else AGAIN)
-
-    def take(self, events: int) -> None:
-        """Takes what the peer sent."""
-        stream = self.stream
-        if not stream:
-            return
-        if events & WRITE:
-            stream.flush()
-        data = stream.unread + (stream.read() if events & READ and not stream.fault else b"")
-        try:
-            if stream.is_ended or stream.fault:
-                raise Lost(stream.why() if stream.fault else f"the peer closed the connection{' in the midst of a message' * bool(data)}")
-            stream.unread = data[self.take_messages(data):]
-        except Fault as fault:
-            self.end(fault)
-        except Lost as lost:
-            self.feed.lose(lost)
-        else:
-            stream.wait(True)
-
-    def take_messages(self, data: bytes) -> int:
-        """Takes the whole messages at the front of bytes. How many bytes these are."""
-        at = updates = 0
-        has_changed = is_end = False
-        while found := next_message(data, at):
-            kind, body, at = found
-            self.heard_at = time.monotonic()
-            if kind == NOTIFICATION:
-                raise Lost(f"the peer ended the session by Notification {body[0]}/{body[1]}, {CODES.get(body[0], 'unknown')}")
-            if kind != self.wanted and (kind, self.wanted) != (KEEPALIVE, UPDATE):
-                raise Fault(5, {OPEN: 1, KEEPALIVE: 2, UPDATE: 3}[self.wanted], f"a message of kind {kind} out of turn")
-            if kind == OPEN:
-                self.hold, self.width = accepted(body, self.peer_as, self.asked.number, self.identifier)
-                self.wanted = KEEPALIVE
-                self.send(message(KEEPALIVE))
-            elif kind == UPDATE:
-                update = update_of(body, self.width, self.peer_as == self.asked.number)
-                updates += 1
-                has_changed |= self.lsdb.take(update)
-                is_end |= update.is_end
-            elif self.wanted == KEEPALIVE:
-                self.wanted = UPDATE
-                self.feed.up(self)
-        if self.wanted == UPDATE and at:
-            self.feed.heard(updates, has_changed)
-            if is_end:
+    def message(self, kind: int, body: bytes) -> bool | None:
+        """Takes a message."""
+        self.heard_at = time.monotonic()
+        if kind == NOTIFICATION:
+            raise Lost(f"the peer ended the session by Notification {body[0]}/{body[1]}, {CODES.get(body[0], 'unknown')}", last=b"")
+        if kind != self.wanted and (kind, self.wanted) != (KEEPALIVE, UPDATE):
+            raise Fault(5, OUT_OF_TURN[self.wanted], f"a message of kind {kind} out of turn")
+        if kind == UPDATE:
+            update = update_of(body, self.width, self.peer_as == self.asked.number)
+            has_changed = self.lsdb.take(update)
+            if update.is_end:
                 self.feed.complete()
-        return at
-
-
-def address(text: str) -> str:
-    if not ADDRESS.fullmatch(text):
-        raise ValueError
-    return text
+            return has_changed
+        if kind == OPEN:
+            self.hold, self.width = accepted(body, self.peer_as, self.asked.number, self.identifier)
+            self.wanted = KEEPALIVE
+            self.send(message(KEEPALIVE))
+        elif self.wanted == KEEPALIVE:
+            self.wanted = UPDATE
+            self.feed.up(self)
+        return None
 
 
 def place(text: str) -> Endpoint:
     """An IPv4 address, and a port that is 179 where none is given."""
     found = Endpoint(text if ":" in text else f"{text}:179")
-    if not found.port or not address(str(found.address[0])):
+    if not found.port or not ipaddress.IPv4Address(found.address[0]):
         raise ValueError
     return found
 
@@ -188,7 +134,7 @@ def main(words: list[str] | None = None) -> int:
     asked.add_argument("--peer", type=place, required=True, metavar="ADDRESS[:PORT]", help="the router or route reflector (port 179)")
     asked.add_argument("--as", type=number("number", 1, 2**32 - 1), required=True, dest="number", metavar="N", help="the feed's own AS")
     asked.add_argument("--peer-as", type=number("number", 1, 2**32 - 1), metavar="N", help="the peer's AS, if it is another one")
-    asked.add_argument("--id", type=address, metavar="ADDRESS", help="the feed's BGP identifier (its address towards the peer)")
+    asked.add_argument("--id", type=ipaddress.IPv4Address, metavar="ADDRESS", help="its BGP identifier (its address towards the peer)")
     asked.add_argument("--key", metavar="FILE", help="lines `ADDRESS KEY`; the peer's line has the key of TCP-MD5 (RFC 2385)")
     asked.add_argument("--listen", type=place, metavar="ADDRESS[:PORT]", help="wait there for the peer, and don't connect to it")
     asked.add_argument("--protocol", choices=PROTOCOLS, help="take links and nodes of this protocol alone")

@@ -2,17 +2,16 @@
 from __future__ import annotations
 
 import argparse
-import contextlib
 import dataclasses
 import functools
 import socket
 import struct
 from collections import defaultdict
-from collections.abc import Container
+from collections.abc import Collection, Container, Sequence
 from typing import NamedTuple
 
 from ...model.rows import Link
-from ..links import ISIS_SID, MAX_METRIC, OSPF_SID, Network, Tlvs, label_of, rates
+from ..links import ISIS_SID, MAX_METRIC, OSPF_SID, Network, Tlvs, Told, Transit, label_of, link_of
 from .messages import LINK_STATE, Fault, Route, Update
 
 LOCAL, REMOTE, AS, DOMAIN, IGP_ROUTER, INTERFACE, NEIGHBOR, INTERFACE_6, TOPOLOGY = 256, 257, 512, 513, 515, 259, 260, 261, 263
@@ -29,7 +28,7 @@ FAMILIES = {1: "isis", 2: "isis", 3: "ospf", 6: "ospf"}  # protocols whose descr
 OVERLOAD = 0x80
 PROTOCOLS = {"isis": (1, 2), "isis-1": (1,), "isis-2": (2,), "ospf": (3, 6), "direct": (4,), "static": (5,)}
 FULL = 6, 1  # Cease: more routes than are taken (RFC 4486)
-UNREAD, UNREAD_NLRI = "an attribute that can't be read", "an NLRI that can't be read"
+FULL_AGAIN = 60.0  # seconds until the peer is tried again that announced them
 
 
 class Node(NamedTuple):
@@ -40,10 +39,6 @@ class Node(NamedTuple):
     domain: bytes  # AS and BGP-LS identifier
     igp: bytes  # IGP Router-ID
 
-    @property
-    def is_pseudonode(self) -> bool:
-        return len(self.igp) > 6
-
 
 @functools.lru_cache(4096)
 def node_of(family: object, instance: bytes, data: bytes) -> Node:
@@ -51,73 +46,80 @@ def node_of(family: object, instance: bytes, data: bytes) -> Node:
     return Node(family, instance, of.first(AS) + of.first(DOMAIN), of.first(IGP_ROUTER, 8))
 
 
-class Told:
-    """What an NLRI and its attribute say of a node or of a link. KeyError and struct.error say that the NLRI can't be read."""
+class Announced(NamedTuple):
+    """What an NLRI and its attribute say of a node or of a link."""
 
-    __slots__ = "raw", "ends", "said", "local", "is_overloaded", "costs_most", "label", "srlgs", "link"
-
-    def __init__(self, route: Route, raw: bytes | None, is_maximum: bool) -> None:
-        (kind, nlri), self.raw = route, raw
-        of, family, attribute = Tlvs(nlri[9:], SIZES), FAMILIES.get(nlri[0], nlri[0]), Tlvs(b"", SIZES)
-        # The link as if its routers had no addresses, until these are known; else why there is none, which is empty for a node.
-        self.link: Link | str = "" if raw is not None else UNREAD
-        try:
-            attribute = Tlvs(raw or b"", SIZES)
-        except struct.error:
-            self.link = UNREAD
-        self.ends = [node_of(family, nlri[1:9], of[each][0]) for each in ENDS[kind]]
-        self.said, self.local = (attribute.address(OWN), attribute.address(OTHER)), of.address(INTERFACE)
-        self.is_overloaded = bool(attribute.number(FLAGS) & OVERLOAD)
-        self.label = label_of(attribute.get(SID, []), OSPF_SID if family == "ospf" else ISIS_SID)
-        self.srlgs = frozenset(each for value in attribute.get(SRLGS, []) for each, in struct.iter_unpack(">I", value))
-        self.costs_most: bool | None = None  # of links of OSPF that count for RFC 6987
-        if kind == LINK:
-            is_pseudonode = any(end.is_pseudonode for end in self.ends)
-            self.link = "a pseudonode" if is_pseudonode else link_of(of, attribute, self.link, is_maximum)
-        if kind == LINK and family == "ospf" and IGP_METRIC in attribute and not self.ends[0].is_pseudonode:
-            self.costs_most = attribute.number(IGP_METRIC) == MAX_METRIC
-
-    def between(self, near: set[str], far: set[str]) -> Link | str:
-        """The link between routers of these addresses; else why there is none."""
-        if isinstance(self.link, str):
-            return self.link
-        if len(near) != 1 or len(far) != 1:
-            return "two addresses of a router" if max(len(near), len(far)) > 1 else "no router ID"
-        (router,), (neighbor,) = near, far
-        if router == neighbor:
-            return "a link to itself"
-        if (self.link.router, self.link.neighbor) != (router, neighbor):
-            self.link = dataclasses.replace(self.link, router=router, neighbor=neighbor)
-        return self.link
+    raw: bytes  # the attribute
+    link: Link | str  # without its routers; else why there is none, which is empty for a node
+    ends: Sequence[Node] = ()  # none of an NLRI that can't be read
+    said: tuple[str, str] = "", ""  # their addresses, where these are said
+    local: str = ""
+    transit: Transit | None = None
+    label: int = 0
+    srlgs: frozenset[int] = frozenset()
 
 
-def link_of(of: Tlvs, attribute: Tlvs, why: str, is_maximum: bool) -> Link | str:
+def announced(route: Route, raw: bytes, is_maximum: bool) -> Announced:
+    """Reads an NLRI and its attribute."""
+    (kind, nlri), attribute, why, transit = route, Tlvs(b"", SIZES), "", None
+    family = FAMILIES.get(nlri[0], nlri[0])
+    try:
+        of = Tlvs(nlri[9:], SIZES)
+        ends = [node_of(family, nlri[1:9], of[each][0]) for each in ENDS[kind]]
+    except (KeyError, struct.error):
+        return Announced(raw, "an NLRI that can't be read")
+    try:
+        attribute = Tlvs(raw, SIZES)
+    except struct.error:
+        why = "an attribute that can't be read"
+    is_pseudonode = any(len(end.igp) > 6 for end in ends)
+    link = why if kind == NODE else "a pseudonode" if is_pseudonode else link_in(of, attribute, why, is_maximum)
+    if attribute.number(FLAGS) & OVERLOAD:
+        transit = Transit.OVERLOADED
+    elif kind == LINK and family == "ospf" and IGP_METRIC in attribute and len(ends[0].igp) == 4:  # those that count for RFC 6987
+        transit = Transit.STUB if attribute.number(IGP_METRIC) == MAX_METRIC else Transit.FREE
+    label = label_of(attribute.get(SID, []), OSPF_SID if family == "ospf" else ISIS_SID)
+    srlgs = frozenset(each for value in attribute.get(SRLGS, []) for each, in struct.iter_unpack(">I", value))
+    return Announced(raw, link, ends, (attribute.address(OWN), attribute.address(OTHER)), of.address(INTERFACE), transit, label, srlgs)
+
+
+def link_in(of: Tlvs, attribute: Tlvs, why: str, is_maximum: bool) -> Link | str:
     """The link that descriptors and TLVs of attribute 29 tell of, without its routers; else why there is none."""
-    local, remote = of.address(INTERFACE), of.address(NEIGHBOR)
+    cost = attribute.number(IGP_METRIC) & (0x3f if len(attribute.first(IGP_METRIC)) == 1 else 0xffffff)  # RFC 9552 5.3.2.4
+    free = attribute.first(MAXIMUM) * 8 if is_maximum else attribute.first(UNRESERVED, 32)
+    metric = attribute.number(TE_METRIC) or cost
+    link = link_of(of.address(INTERFACE), "", of.address(NEIGHBOR), metric, attribute.number(GROUP), free)
     if of.number(TOPOLOGY) & 0xfff:
         return "another topology"
-    if not local or not remote:
-        return "IPv6 alone" if INTERFACE_6 in of else "no addresses"
-    if why:
-        return why
-    if APPLICATION in attribute and not ENGINEERED & attribute.keys():
+    if link == "no addresses":
+        return "IPv6 alone" if INTERFACE_6 in of else link
+    if not why and APPLICATION in attribute and not ENGINEERED & attribute.keys():
         return "attributes of an application alone"
-    free = rates(attribute.first(MAXIMUM) * 8 if is_maximum else attribute.first(UNRESERVED, 32))
-    if isinstance(free, str):
-        return free
-    if IGP_METRIC not in attribute and not attribute.number(TE_METRIC):
+    if isinstance(link, Link) and IGP_METRIC not in attribute and not metric:
         return "no metric"
-    cost = attribute.number(IGP_METRIC) & (0x3f if len(attribute.first(IGP_METRIC)) == 1 else 0xffffff)  # RFC 9552 5.3.2.4
-    return Link("", local, "", remote, attribute.number(TE_METRIC) or cost, attribute.number(GROUP), free)
+    return why or link
+
+
+def between(link: Link | str, near: Collection[str], far: Collection[str]) -> Link | str:
+    """The link between routers of these addresses; else why there is none."""
+    if isinstance(link, str):
+        return link
+    if len(near) != 1 or len(far) != 1:
+        return "two addresses of a router" if max(len(near), len(far)) > 1 else "no router ID"
+    (router,), (neighbor,) = near, far
+    return dataclasses.replace(link, router=router, neighbor=neighbor) if router != neighbor else "a link to itself"
 
 
 class Lsdb:
     """What the peer announced of the protocols and the instance that are asked for."""
 
     def __init__(self, asked: argparse.Namespace) -> None:
-        self.asked = asked
-        self.of: dict[Route, Told | None] = {}  # None of an NLRI that can't be read
-        self.looked: Network | None = None  # what the last look found, if nothing has changed since
+        self.asked, self.found = asked, Network("NLRIs", asked.sid_group, is_whole=True)
+        self.of: dict[Route, Announced] = {}
+        self.naming: defaultdict[Node, set[Route]] = defaultdict(set)  # the NLRIs that name each node
+        self.addresses: dict[Node, set[str]] = {}  # of each router
+        self.changed: set[Route] = set()  # NLRIs that `found` doesn't have as they are, and the nodes of these and of others that went
+        self.changed_nodes: set[Node] = set()
 
     def is_wanted(self, route: Route) -> bool:
         if route[0] not in ENDS or len(route[1]) < 9:
@@ -127,60 +129,60 @@ class Lsdb:
 
     def take(self, update: Update) -> bool:
         """One Update; whether anything changed."""
-        changed = [route for route in update.withdrawn if self.of.pop(route, self) is not self]
+        changed = [route for route in update.withdrawn if route in self.of]
+        for route in changed:
+            self.withdraw(route)
         for route in filter(self.is_wanted, update.announced):
-            had = self.of.get(route)
-            if route in self.of and (had is None or had.raw == update.attribute):
+            if (had := self.of.get(route)) and had.raw == update.attribute:
                 continue
-            if route not in self.of and len(self.of) == self.asked.most:
-                raise Fault(*FULL, f"more than {self.asked.most} NLRIs", LINK_STATE + struct.pack(">I", self.asked.most))
-            self.of[route] = None
-            with contextlib.suppress(KeyError, struct.error):
-                self.of[route] = Told(route, update.attribute, self.asked.unreserved == "maximum")
+            if had:
+                self.withdraw(route)
+            if len(self.of) == self.asked.most:
+                raise Fault(*FULL, f"more than {self.asked.most} NLRIs", LINK_STATE + struct.pack(">I", self.asked.most), FULL_AGAIN)
+            self.of[route] = each = announced(route, update.attribute, self.asked.unreserved == "maximum")
+            for node in each.ends:
+                self.naming[node].add(route)
+            self.changed_nodes.update(each.ends)
+            self.changed.add(route)
             changed.append(route)
-        if changed:
-            self.looked = None
         return bool(changed)
 
+    def withdraw(self, route: Route) -> None:
+        """The NLRI isn't there, for now or any more."""
+        self.found.tell(route)
+        self.changed.discard(route)
+        for node in {*self.of.pop(route).ends}:
+            self.naming[node].discard(route)
+            self.changed_nodes.add(node)
+            if not self.naming[node]:
+                del self.naming[node]
+                self.changed_nodes.discard(node)
+                self.addresses.pop(node, None)
+
     def network(self) -> Network:
-        """As `look` says."""
-        self.looked = self.looked or self.look()
-        return self.looked
+        """What the NLRIs show now. Those are looked at that have changed, or that name a router whose addresses have."""
+        for node in self.changed_nodes:
+            if (found := self.addresses_of(node)) != self.addresses.get(node):
+                self.addresses[node] = found
+                self.changed |= self.naming[node]
+        for route in self.changed:
+            self.tell(route, self.of[route])
+        self.changed.clear()
+        self.changed_nodes.clear()
+        return self.found.settle()
 
-    def addresses(self) -> dict[Node, set[str]]:
-        """The addresses of each router: those that TLVs say, else of OSPF the IGP Router-ID."""
-        found: defaultdict[Node, set[str]] = defaultdict(set)
-        for told in filter(None, self.of.values()):
-            for end, said in zip(told.ends, told.said):
-                found[end].add(said)
-        for end, all_of in found.items():
-            all_of.discard("")
-            if not all_of and end.family == "ospf" and len(end.igp) == 4:
-                all_of.add(socket.inet_ntoa(end.igp))
-        return found
+    def addresses_of(self, node: Node) -> set[str]:
+        """The addresses of a router: those that TLVs say, else of OSPF the IGP Router-ID."""
+        found = {said for route in self.naming[node] for end, said in zip(self.of[route].ends, self.of[route].said) if said and end == node}
+        return {socket.inet_ntoa(node.igp)} if not found and node.family == "ospf" and len(node.igp) == 4 else found
 
-    def look(self) -> Network:
-        """What the NLRIs show now."""
-        found, addresses = Network(), self.addresses()
-        costs: defaultdict[str, set[bool]] = defaultdict(set)
-        marked: set[str] = set()
-        for (_, nlri), told in self.of.items():
-            if told is None:
-                found.leave(UNREAD_NLRI, nlri[:64].hex())
-                continue
-            near, far = addresses[told.ends[0]], addresses[told.ends[-1]]
-            router = next(iter(near)) if len(near) == 1 else ""
-            if told.costs_most is not None:
-                costs[router].add(told.costs_most)
-            if told.is_overloaded:
-                marked.add(router)
-            link = told.between(near, far)
-            if isinstance(link, Link):
-                found.told.add(found.put(link, told.label, told.srlgs))
-                continue
-            found.told.update((each, told.local) for each in near)
-            if link:
-                what = told.local or ("no address" if len(told.ends) == 2 else "node")
-                found.leave(link, router or ".".join(map(str, told.ends[0].igp)), what)
-        marked |= {router for router, all_of in costs.items() if all_of == {True}}
-        return found.finish("NLRIs", self.asked.sid_group, marked - {""})
+    def tell(self, route: Route, each: Announced) -> None:
+        """Tells the network of an NLRI, by the addresses of its routers."""
+        if not each.ends:
+            self.found.tell(route, Told((route[1][:64].hex(),), each.link))
+            return
+        near, far = self.addresses[each.ends[0]], self.addresses[each.ends[-1]]
+        router = min(near, default=".".join(map(str, each.ends[0].igp)))
+        name = each.local or ("no address" if route[0] == LINK else "node")
+        told = [Told((router, name), between(each.link, near, far), each.label, each.srlgs)] if each.link else []
+        self.found.tell(route, *told, *([Told((router,), each.transit)] if each.transit and len(near) == 1 else []))

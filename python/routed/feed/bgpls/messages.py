@@ -5,7 +5,8 @@ import struct
 from collections.abc import Container
 from typing import NamedTuple
 
-from ..links import tlvs
+from ...net.tlvs import tlvs
+from ..feed import AGAIN, Lost
 
 MARKER = b"\xff" * 16
 HEADER, LONGEST = 19, 4096  # bytes; extended messages (RFC 8654) aren't announced
@@ -25,15 +26,15 @@ JUDGED: dict[int, tuple[int, Container[int]]] = {
     16: (OPTIONAL | TRANSITIVE, range(8, LONGEST, 8)), 32: (OPTIONAL | TRANSITIVE, range(12, LONGEST, 12))}
 INTERNAL = (5, 9, 10)  # those that mean nothing from another AS
 RECOGNIZED = {*JUDGED, 6, 7, MP_REACH, MP_UNREACH, ATTRIBUTE}
+CUT = b"\0"  # in the place of an attribute 29 that isn't one: TLVs that can't be read
 Route = tuple[int, bytes]  # the type and the bytes of an NLRI
 
 
-class Fault(Exception):
+class Fault(Lost):
     """What ends the session: the code, subcode and data of its Notification, and why."""
 
-    def __init__(self, code: int, subcode: int, why: str, data: bytes = b"") -> None:
-        super().__init__(why)
-        self.code, self.message = (code, subcode), message(NOTIFICATION, bytes([code, subcode]) + data[:LONGEST - LEAST[NOTIFICATION]])
+    def __init__(self, code: int, subcode: int, why: str, data: bytes = b"", again: float = AGAIN) -> None:
+        super().__init__(why, message(NOTIFICATION, bytes([code, subcode]) + data[:LONGEST - LEAST[NOTIFICATION]]), again)
 
 
 class Update(NamedTuple):
@@ -41,7 +42,7 @@ class Update(NamedTuple):
 
     announced: list[Route]
     withdrawn: list[Route]
-    attribute: bytes | None  # of those that are announced; None where it can't be read
+    attribute: bytes  # of those that are announced
     is_end: bool  # the End-of-RIB (RFC 4724)
 
 
@@ -73,31 +74,28 @@ def opening(number: int, identifier: bytes) -> bytes:
 def accepted(body: bytes, number: int, own: int, identifier: bytes) -> tuple[int, int]:
     """The hold time that goes by the Open of a peer, which has to be in the AS of this number, and the bytes of a number in its paths."""
     version, short, hold, other, size = struct.unpack_from(">BHH4sB", body)
-    data, form = body[10:], ">BB"
-    if version != 4:
-        raise Fault(2, 1, f"an Open of version {version}", struct.pack(">H", 4))
+    data, form, kinds, capabilities = body[10:], ">BB", {2}, list[tuple[int, bytes]]()
     if size and data[:1] == b"\xff" and len(data) >= 3:  # RFC 9072
         size, data, form = int.from_bytes(data[1:3], "big"), data[3:], ">BH"
-    capabilities: list[tuple[int, bytes]] = []
     try:
         for kind, value in tlvs(data, form):
-            if kind != 2:
-                raise Fault(2, 4, f"a parameter of kind {kind} in the Open")
-            capabilities += tlvs(value, ">BB")
+            kinds.add(kind)
+            capabilities += tlvs(value, ">BB") if kind == 2 else ()
     except struct.error:
         size = -1
-    if size != len(data):
-        raise Fault(2, 0, "an Open whose lengths don't agree")
     long = next((value for kind, value in capabilities if kind == 65 and len(value) == 4), b"")
     found = int.from_bytes(long, "big") if long else short
-    if found != number:
-        raise Fault(2, 2, f"the peer is in AS {found}, not {number}")
-    if other == bytes(4) or number == own and other == identifier:
-        raise Fault(2, 3, "the peer's BGP identifier is 0.0.0.0 or that of the feed")
-    if hold < 3:  # without a hold timer nobody would notice that the peer is gone
-        raise Fault(2, 6, f"the peer wants a hold time of {hold} s")
-    if not any(kind == 1 and value[:2] + value[3:] == LINK_STATE for kind, value in capabilities):
-        raise Fault(2, 7, "the peer doesn't announce link state, AFI 16388 and SAFI 71", CAPABILITY)
+    has_link_state = any(kind == 1 and value[:2] + value[3:] == LINK_STATE for kind, value in capabilities)
+    for is_wrong, subcode, why, more in (
+            (version != 4, 1, f"an Open of version {version}", struct.pack(">H", 4)),
+            (kinds != {2}, 4, f"a parameter of kind {min(kinds - {2}, default=2)} in the Open", b""),
+            (size != len(data), 0, "an Open whose lengths don't agree", b""),
+            (found != number, 2, f"the peer is in AS {found}, not {number}", b""),
+            (other == bytes(4) or number == own and other == identifier, 3, "the peer has the BGP identifier 0.0.0.0 or the feed's", b""),
+            (hold < 3, 6, f"the peer wants a hold time of {hold} s", b""),  # without a hold timer nobody would notice that the peer is gone
+            (not has_link_state, 7, "the peer doesn't announce link state, AFI 16388 and SAFI 71", CAPABILITY)):
+        if is_wrong:
+            raise Fault(2, subcode, why, more)
     return min(hold, HOLD), 4 if long else 2
 
 
@@ -160,4 +158,4 @@ def update_of(body: bytes, width: int, is_internal: bool) -> Update:
         announced, withdrawn = [], withdrawn + announced
     flags, attribute, _ = of.get(ATTRIBUTE, (OPTIONAL, b"", b""))
     is_end = of.keys() == {MP_UNREACH} and of[MP_UNREACH][1] == LINK_STATE and end == len(body)
-    return Update(announced, withdrawn, attribute if flags & (OPTIONAL | TRANSITIVE) == OPTIONAL else None, is_end)
+    return Update(announced, withdrawn, attribute if flags & (OPTIONAL | TRANSITIVE) == OPTIONAL else CUT, is_end)

@@ -2,17 +2,20 @@
 LSAs (RFC 7684 3) have the adjacency SIDs (RFC 8665 6.1)."""
 from __future__ import annotations
 
+import dataclasses
 import socket
 import struct
 from collections.abc import Callable
 from typing import NamedTuple
 
-from ...model.rows import Key, Link
-from ..links import MAX_METRIC, OSPF_SID, Network, Tlvs, label_of, rates, tlvs
+from ...model.rows import Link
+from ...net.tlvs import tlvs
+from ..links import MAX_METRIC, OSPF_SID, Network, Tlvs, Told, Transit, label_of, link_of
 
 ROUTER_LSA, AREA_OPAQUE_LSA = 1, 10
 TE_OPAQUE, LINK_TLV = 1, 2
 EXTENDED_LINK_OPAQUE, EXTENDED_LINK_TLV, ADJACENCY_SID = 8, 1, 2
+OPAQUE = {TE_OPAQUE: "TE", EXTENDED_LINK_OPAQUE: "extended link"}
 POINT_TO_POINT = 1  # in all these kinds of LSA
 STUB_NETWORK = 3  # in a router LSA
 MAX_AGE = 3600
@@ -32,20 +35,15 @@ class RouterLinks(NamedTuple):
     """What a router LSA tells: by the local address of each point-to-point link the neighbor and the cost."""
 
     adjacent: dict[str, tuple[str, int]]
-    is_stub: bool
+    transit: Transit
 
 
 class TeLsa(NamedTuple):
-    """What a TE LSA tells of a link; empty, or 0, where it doesn't."""
+    """What a TE LSA tells of a link."""
 
-    kind: bytes
-    neighbor: str
     local: str
-    remote: str
-    metric: int
-    group: int
-    free: bytes  # eight floats
-    most: float | None
+    link: Link | str  # without its router, and with metric 0 where it has none; else why there is none
+    most: float | None  # the maximum bandwidth
 
 
 class LinkSid(NamedTuple):
@@ -55,14 +53,7 @@ class LinkSid(NamedTuple):
     label: int
 
 
-Content = RouterLinks | TeLsa | LinkSid | None
-
-
-class Lsa(NamedTuple):
-    sequence: int
-    content: Content | str  # UNREAD where it can't be read, None where it has nothing that is needed
-
-
+Content = RouterLinks | TeLsa | LinkSid | str | None  # of an LSA: UNREAD where it can't be read, None where nothing of it is needed
 LsaKey = tuple[str, int, bytes, str]  # area, type, id and router
 
 
@@ -70,20 +61,25 @@ def dotted(data: bytes) -> str:
     return socket.inet_ntoa(data[:4])
 
 
+def first(body: bytes, wanted: int) -> bytes | None:
+    """The value of the first TLV of a kind in an LSA."""
+    return next((value for kind, value in tlvs(body, align=PADDED) if kind == wanted), None)
+
+
 def te_link(body: bytes) -> TeLsa | None:
     """The link of a TE LSA, None where it has none."""
-    values = next((value for kind, value in tlvs(body, align=PADDED) if kind == LINK_TLV), None)
-    if values is None:
+    if (value := first(body, LINK_TLV)) is None:
         return None
-    of = Tlvs(values, SIZES, PADDED)
-    most = struct.unpack(">f", of.first(6))[0] if 6 in of else None
-    return TeLsa(of.first(1, 1), of.address(2), of.address(3), of.address(4), of.number(5), of.number(9), of.first(8, 32), most)
+    of = Tlvs(value, SIZES, PADDED)
+    local, neighbor, remote = map(of.address, (3, 2, 4))
+    link = link_of(local, neighbor, remote if neighbor else "", of.number(5), of.number(9), of.first(8, 32))
+    is_one_to_one = of.first(1, 1) == bytes([POINT_TO_POINT])
+    return TeLsa(local, link if is_one_to_one else "not point-to-point", struct.unpack(">f", of.first(6))[0] if 6 in of else None)
 
 
 def link_sid(body: bytes) -> LinkSid | None:
     """The adjacency SID of the point-to-point link of an extended link LSA, None where it has none."""
-    value = next((value for kind, value in tlvs(body, align=PADDED) if kind == EXTENDED_LINK_TLV), None)
-    if value is None:
+    if (value := first(body, EXTENDED_LINK_TLV)) is None:
         return None
     kind, local = struct.unpack_from(">B7x4s", value)
     label = label_of(Tlvs(value[12:], {ADJACENCY_SID: range(7, 1 << 16)}, PADDED).get(ADJACENCY_SID, []), OSPF_SID)
@@ -103,7 +99,7 @@ def router_links(body: bytes) -> RouterLinks:
             costs.add(cost)
         if kind == POINT_TO_POINT:
             found[dotted(local)] = (dotted(neighbor), cost)
-    return RouterLinks(found, costs == {MAX_METRIC})
+    return RouterLinks(found, Transit.STUB if costs == {MAX_METRIC} else Transit.FREE)
 
 
 class Lsdb:
@@ -115,7 +111,7 @@ class Lsdb:
         if has_sids or group is not None:
             self.opaque[EXTENDED_LINK_OPAQUE] = link_sid
         self.group = group
-        self.lsas: dict[LsaKey, Lsa] = {}
+        self.lsas: dict[LsaKey, tuple[int, Content]] = {}  # with their sequence numbers
         self.looked: Network | None = None  # what the last look found, if nothing has changed since
 
     def take(self, body: bytes, is_removal: bool) -> bool:
@@ -127,22 +123,19 @@ class Lsdb:
         if kind != ROUTER_LSA and (kind != AREA_OPAQUE_LSA or number[0] not in self.opaque):
             return False
         key = (area, kind, number, dotted(router))
-        had = self.lsas.get(key)
+        had, content = self.lsas.get(key), None
         if is_removal or age & 0x7fff >= MAX_AGE:
-            if had is None or had.sequence > sequence:  # the removal of an older instance
+            if had is None or had[0] > sequence:  # the removal of an older instance
                 return False
             del self.lsas[key]
-            self.looked = None
-            return True
-        content: Content | str
-        try:
-            read = router_links if kind == ROUTER_LSA else self.opaque[number[0]]
-            content = read(lsa[LSA_HEADER.size:length])
-        except struct.error:
-            content = UNREAD
-        self.lsas[key] = Lsa(sequence, content)
-        if had and had.content == content:
-            return False
+        else:
+            try:
+                content = (router_links if kind == ROUTER_LSA else self.opaque[number[0]])(lsa[LSA_HEADER.size:length])
+            except struct.error:
+                content = UNREAD
+            self.lsas[key] = sequence, content
+            if had and had[1] == content:
+                return False
         self.looked = None
         return True
 
@@ -154,61 +147,48 @@ class Lsdb:
     def look(self) -> Network:
         """What the LSAs show now."""
         up: dict[Area, dict[str, tuple[str, int]]] = {}
-        stubs: dict[str, list[bool]] = {}
         labels: dict[tuple[str, str, str], dict[bytes, int]] = {}
-        links: list[tuple[str, str, TeLsa, str]] = []
-        network = Network()
-        for (area, kind, number, router), lsa in self.lsas.items():
-            if lsa.content == UNREAD:
-                is_extended = kind == AREA_OPAQUE_LSA and number[0] == EXTENDED_LINK_OPAQUE
-                which = "router LSA" if kind == ROUTER_LSA else f"{'extended link' if is_extended else 'TE'} LSA {dotted(number)}"
-                network.leave("an LSA that can't be read", router, which)
-            elif isinstance(lsa.content, RouterLinks):
-                up[area, router] = lsa.content.adjacent
-                stubs.setdefault(router, []).append(lsa.content.is_stub)
-            elif isinstance(lsa.content, LinkSid):
-                labels.setdefault((area, router, lsa.content.local), {})[number] = lsa.content.label
-            elif isinstance(lsa.content, TeLsa):
-                links.append((area, router, lsa.content, lsa.content.local or f"TE LSA {dotted(number)}"))
-        for area, router, told, name in links:
-            link = link_of(up, area, router, told)
-            if isinstance(link, str):
-                network.leave(link, router, name)
-                continue
+        links: list[tuple[LsaKey, TeLsa, str]] = []
+        network = Network("TE LSAs", self.group)
+        for key, (_, content) in self.lsas.items():
+            area, kind, number, router = key
+            if content == UNREAD:
+                which = {ROUTER_LSA: "router LSA"}.get(kind) or f"{OPAQUE[number[0]]} LSA {dotted(number)}"
+                network.tell(key, Told((router, which), "an LSA that can't be read"))
+            elif isinstance(content, RouterLinks):
+                up[area, router] = content.adjacent
+                network.tell(key, Told((router,), content.transit))
+            elif isinstance(content, LinkSid):
+                labels.setdefault((area, router, content.local), {})[number] = content.label
+            elif isinstance(content, TeLsa):
+                links.append((key, content, content.local or f"TE LSA {dotted(number)}"))
+        announced = set()
+        for key, told, name in links:
+            area, _, _, router = key
+            announced.add((area, router, name))
             sids = labels.get((area, router, name), {})
-            network.put(link, sids[min(sids)] if sids else 0)  # that of the smallest number (RFC 7684 3)
-            if told.most in WRAPPED:
-                network.notes[link.key] = note_of(link.key, told.most)
-        announced = {(area, router, name) for area, router, _, name in links}
-        for (area, router), locals_up in up.items():
-            for local in locals_up:
-                if (area, router, local) not in announced:
-                    network.leave("no TE LSA", router, local)
-        return network.finish("TE LSAs", self.group, {router for router, areas in stubs.items() if all(areas)})
+            link = told.link if isinstance(told.link, str) else between(told.link, router, up, area)
+            network.tell(key, Told((router, name), link, sids[min(sids)] if sids else 0))  # the SID by RFC 7684 3
+            if told.most in WRAPPED and isinstance(link, Link):
+                network.notes[link.key] = (
+                    f"{router} {name}: its bandwidth of {told.most:.0f} bytes per second looks like the default of a circuit of "
+                    f"{WRAPPED[told.most]} Gbit/s, counted in 32 bits; it is put as announced")
+        for area, router, local in {(*of, local) for of, adjacent in up.items() for local in adjacent} - announced:
+            network.tell((area, router, local), Told((router, local), "no TE LSA"))
+        return network.settle()
 
 
-def link_of(up: dict[Area, dict[str, tuple[str, int]]], area: str, router: str, told: TeLsa) -> Link | str:
-    """The link of a TE LSA; else why it makes none."""
-    if told.kind != bytes([POINT_TO_POINT]):
-        return "not point-to-point"
-    if not told.local or not told.remote or not told.neighbor:
-        return "no addresses"
+def between(link: Link, router: str, up: dict[Area, dict[str, tuple[str, int]]], area: str) -> Link | str:
+    """The link of a router, if the router LSAs of both ends have it, with its cost there in the place of a metric of 0; else why not."""
     if (area, router) not in up:
         return "no router LSA"
-    if told.local not in up[area, router]:
+    if link.local not in up[area, router]:
         return "no adjacency"
-    neighbor, cost = up[area, router][told.local]
-    if neighbor != told.neighbor:
+    neighbor, cost = up[area, router][link.local]
+    if neighbor != link.neighbor:
         return "an adjacency with another router"
     if neighbor == router:
         return "a link to itself"
-    if up.get((area, neighbor), {}).get(told.remote, ("",))[0] != router:
+    if up.get((area, neighbor), {}).get(link.remote, ("",))[0] != router:
         return "no adjacency back"
-    free = rates(told.free)
-    return free if isinstance(free, str) else Link(router, told.local, neighbor, told.remote, told.metric or cost, told.group, free)
-
-
-def note_of(key: Key, most: float) -> str:
-    """That a link's bandwidth looks like a default that lost its high bits."""
-    return (f"{' '.join(key)}: its bandwidth of {most:.0f} bytes per second looks like the default of a circuit of "
-            f"{WRAPPED[most]} Gbit/s, counted in 32 bits; it is put as announced")
+    return dataclasses.replace(link, router=router, metric=link.metric or cost)
