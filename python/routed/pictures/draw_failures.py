@@ -13,7 +13,7 @@ from collections.abc import Iterable
 from ..model.advice import format_of
 from ..model.rows import Refused
 from ..program import failed
-from ..sweep.swept import Failure, Overbooked, failures, overbooked_before
+from ..sweep.swept import Failure, Overbooked, failures, overbooked_before, plain
 from . import positions, shapes
 from .canvas import BLUE, GRAY, ORANGE, RED, Note, fit, picture, text_in
 from .labels import SMALL, Sheet, Wanted, box_of
@@ -130,7 +130,7 @@ def main(words: list[str] | None = None) -> int:
         data = sys.stdin.buffer.read()
         if told := format_of(data):
             return failed("draw-failures", f"standard input can't be a sweep: {told}")
-        lines = data.decode(errors="replace").splitlines()
+        lines = [plain(line) for line in data.decode(errors="replace").splitlines()]
         try:
             found = failures(lines)
         except ValueError as fault:
