@@ -137,7 +137,7 @@ def judged(place: str, sender: Sender, reader: Reader) -> int:
 
 def main(words: list[str] | None = None) -> int:
     """Takes the words of a command line, and answers the status."""
-    asked = argparse.ArgumentParser(prog="connect", description=__doc__, formatter_class=argparse.RawDescriptionHelpFormatter)
+    asked = argparse.ArgumentParser(prog="routed-tools connect", description=__doc__, formatter_class=argparse.RawDescriptionHelpFormatter)
     asked.add_argument("place", type=Endpoint, metavar="PLACE", help="a path, a port, ADDRESS:PORT or [ADDRESS]:PORT, as of listen")
     asked.add_argument("--names", metavar="FILE", help="lines of an address and its name; without it rows and lines are as they are")
     asked.add_argument("--wait", type=number("number of seconds", 0, 86400, float), default=WAIT, metavar="SECONDS",

@@ -35,7 +35,7 @@ def group(text: str) -> int:
 
 def main(given: list[str] | None = None) -> int:
     """Takes the words of a command line, and answers the status."""
-    words = argparse.ArgumentParser(prog="pcep", description=__doc__, formatter_class=argparse.RawDescriptionHelpFormatter)
+    words = argparse.ArgumentParser(prog="routed-tools pcep", description=__doc__, formatter_class=argparse.RawDescriptionHelpFormatter)
     words.add_argument("--ask", required=True, type=Endpoint, metavar="PLACE", help="where listen is asked")
     words.add_argument("--watch", type=Endpoint, metavar="PLACE", help="where listen tells versions")
     words.add_argument("--address", default="127.0.0.1", help="where PCCs connect (127.0.0.1)")

@@ -90,7 +90,7 @@ def join(lines: Iterable[str]) -> Iterator[str]:
 
 def main(words: list[str] | None = None) -> int:
     """Takes the words of a command line, and answers the status."""
-    asked = argparse.ArgumentParser(prog="join", description=__doc__, formatter_class=argparse.RawDescriptionHelpFormatter)
+    asked = argparse.ArgumentParser(prog="routed-tools join", description=__doc__, formatter_class=argparse.RawDescriptionHelpFormatter)
     asked.add_argument("files", nargs="*", metavar="FILE")
     add_names(asked)
     given = asked.parse_args(words)

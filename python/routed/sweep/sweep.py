@@ -141,7 +141,7 @@ def part(text: str) -> tuple[int, int]:
 
 
 def options(words: list[str] | None) -> argparse.Namespace:
-    asked = argparse.ArgumentParser(prog="sweep", description=__doc__, formatter_class=argparse.RawDescriptionHelpFormatter)
+    asked = argparse.ArgumentParser(prog="routed-tools sweep", description=__doc__, formatter_class=argparse.RawDescriptionHelpFormatter)
     asked.add_argument("journal", nargs="?", metavar="JOURNAL", help="a clean journal; its last version is the network")
     asked.add_argument("requests", nargs="?", metavar="REQUESTS", help="ask rows with different ids")
     asked.add_argument("--book", nargs="+", metavar="BOOK", help="files of rows of `routed book`, which are read in this order; - is "
