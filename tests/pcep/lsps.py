@@ -222,7 +222,7 @@ def figures(program, checks, room):
                   **{f'errors_total{{error="{error}"}}': count for error, count in (("4/4", 2), ("3/1", 1), ("9/1", 1))},
                   'refused_by_pccs_total{error="23/0"}': 1,
                   **{f'lsps_at_fault{{fault="{fault}"}}': 0 for fault in ("silent", "down", "unknown", "lost")},
-                  'lsps_at_fault{fault="refused"}': 1, 'connected': 1, 'journal_followed': 1,
+                  'lsps_of_pcc{pcc="127.0.0.1"}': 2, 'lsps_at_fault{fault="refused"}': 1, 'connected': 1, 'journal_followed': 1,
                   'updates_total{outcome="accepted"}': 3, 'updates_total{outcome="refused"}': 1, 'updates_total{outcome="unanswered"}': 0,
                   'sessions_ended_total': 0,
                   'moves_total{reason="new"}': 2, 'moves_total{reason="lost"}': 2, 'moves_total{reason="none"}': 2}

@@ -23,7 +23,7 @@ from ..model.books import PRIORITIES, Book, Placement, follow, left_of, read_row
 from ..model.names import Names, add_names
 from ..model.rows import Refused, rank
 from ..model.units import rate_of, rate_text
-from ..net.endpoints import say
+from ..net.endpoints import tell
 from ..net.loop import Stopped
 from ..sweep import solving
 from ..tables import table
@@ -97,9 +97,9 @@ def run(asked: argparse.Namespace) -> int:
         raise Stopped(f"{fault}{program.hint(path)}") from None
     report = Report(book, names, asked.priority, below)
     if asked.json:
-        say(json.dumps({"version": book.version, "tunnels": report.tunnels(), "links": report.links()}, ensure_ascii=False))
+        tell(json.dumps({"version": book.version, "tunnels": report.tunnels(), "links": report.links()}, ensure_ascii=False))
     else:
-        say(*report.lines())
+        tell(*report.lines())
     if book.refused:
         more = f", and {len(book.refused) - 1} more" if len(book.refused) > 1 else ""
         return program.failed("book-report", f"{book.refused[0]}{more}", 2)
@@ -126,5 +126,3 @@ def main(given: list[str] | None = None) -> int:
         return program.failed("book-report", fault, 3)
     except OSError as fault:
         return program.failed("book-report", f"{fault.filename}: {fault.strerror}")
-    except KeyboardInterrupt:
-        return 130
