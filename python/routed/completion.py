@@ -60,8 +60,10 @@ class Tool:
 
 def bash(tools: list[Tool]) -> Iterator[str]:
     """Where no word is known, bash completes the names of files."""
-    yield from ("_routed_tools()", "{", "    local tool=${COMP_WORDS[1]} before=${COMP_WORDS[COMP_CWORD-1]} now=${COMP_WORDS[COMP_CWORD]} words=",
-                '    case "$COMP_CWORD:$tool $before:$now" in', f"        1:*) words='{' '.join(tool.name for tool in tools)} --help --version' ;;")
+    yield from ("_routed_tools()", "{", "    local tool=${COMP_WORDS[1]} words=",
+                "    local before=${COMP_WORDS[COMP_CWORD-1]} now=${COMP_WORDS[COMP_CWORD]}",
+                '    case "$COMP_CWORD:$tool $before:$now" in',
+                f"        1:*) words='{' '.join(tool.name for tool in tools)} --help --version' ;;")
     for tool in tools:
         for values in sorted({tuple(option.values) for option in tool.options if option.has_value}, reverse=True):
             names = [name for option in tool.options if option.has_value and tuple(option.values) == values for name in option.names]
@@ -69,7 +71,8 @@ def bash(tools: list[Tool]) -> Iterator[str]:
         yield f"        *:{tool.name}\\ *:-*) words='{' '.join(name for option in tool.options for name in option.names)}' ;;"
         if tool.words:
             yield f"        *:{tool.name}\\ *) words='{' '.join(tool.words)}' ;;"
-    yield from ("    esac", "    COMPREPLY=()", '    while read -r word; do COMPREPLY+=("$word"); done < <(compgen -W "$words" -- "$now")', "}",
+    yield from ("    esac", "    COMPREPLY=()",
+                '    while read -r word; do COMPREPLY+=("$word"); done < <(compgen -W "$words" -- "$now")', "}",
                 "complete -o default -F _routed_tools routed-tools")
 
 

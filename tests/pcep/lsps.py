@@ -3,8 +3,9 @@ import os
 import signal
 import socket
 import struct
+import subprocess
 
-from checks import TOP
+from checks import TOOLS, TOP
 from pcep.beside import TO_NORTH, TO_SOUTH, Client, Run, addresses, begun, wait
 from pcep.played import NORTH, PATH, SOUTH, ip, lspa, metric, request, rows, told
 
@@ -179,6 +180,26 @@ def updated(client):
     return found[1], found[2]
 
 
+def names_of_pccs(program, checks, room):
+    """A line of the log has behind it the name of its PCC; a file of names that can't be read ends the tool."""
+    names = os.path.join(room, "names")
+    with open(names, "w", encoding="utf-8") as file:
+        file.write("127.0.7.1 Far West\n10.0.0.1 North\n")
+    with Run(program.path, room, "--names", names) as run:
+        run.publish(*rows())
+        clients = [placed(run, source) for source in ("127.0.7.1", "127.0.7.2")]
+        run.publish("drop,10.0.0.1,10.1.2.1", "drop,10.0.0.1,10.1.3.1")
+        wait(lambda: run.said().count(" has no route: ") == 2)
+        found = sorted(line for line in run.said().splitlines() if " has no route: " in line)
+        checks.true("the PCC with a name", found[0].startswith("pcep: 127.0.7.1: LSP ") and found[0].endswith("  # Far West"), found)
+        checks.true("the PCC without one", found[1].startswith("pcep: 127.0.7.2: LSP ") and "#" not in found[1], found)
+        for client in clients:
+            client.close()
+    ran = subprocess.run([TOOLS, "pcep", "--ask", "x", "--names", os.path.join(room, "absent")], capture_output=True, text=True)
+    checks.same("no such names", (ran.returncode, ran.stdout, ran.stderr),
+                (2, "", f"pcep: {room}/absent: No such file or directory; give the path of a file that is there\n"))
+
+
 def figures(program, checks, room):
     """--metrics: what was sent and answered is counted."""
     with Run(program.path, room) as run:
@@ -230,6 +251,16 @@ def figures(program, checks, room):
         checks.same("figures: each is what was done", sorted(found.items() - wanted.items()), sorted(wanted.items() - found.items()))
         with open(os.path.join(TOP, "docs/run/PCEP.md"), encoding="utf-8") as file:
             page = file.read()
+        names = os.path.join(room, "names")
+        with open(names, "w", encoding="utf-8") as file:
+            file.write("127.0.0.1 Far West\n")
+        around = {key: value for key, value in os.environ.items() if key != "ROUTED_NAMES"}
+        for words, wanted in (([], "127.0.0.1 2"), (["--names", names], "Far West 2")):
+            ran = subprocess.run([TOOLS, "status", run.places["figures"], *words], capture_output=True, text=True, env=around)
+            shown = [line[19:] for line in ran.stdout.splitlines() if line.startswith("LSPs by PCC")]
+            checks.same(f"status {words[:1]}: LSPs by PCC", (ran.returncode, shown), (0, [wanted]))
+        ran = subprocess.run([TOOLS, "status", run.places["figures"], "--names", os.path.join(room, "absent")], capture_output=True, text=True)
+        checks.true("status: no such names", ran.returncode == 2 and ran.stderr.startswith("status: ") and "No such file" in ran.stderr, ran)
         checks.same("figures: each is on the page", [name for name in found if f"`routed_pcep_{name.partition('{')[0]}`" not in page], [])
         client.close()
         wait(lambda: run.figures()["sessions"] == 0)

@@ -42,7 +42,8 @@ def used_lines(network, capacities, before, scenarios):
         found = [(used(key, asked), place, out) for place, (out, keys, asked) in enumerate(scenarios, 1) if key not in keys]
         worst, place, out = min(((begun, 0, ""), *found), key=lambda it: (-it[0], it[1]))
         why = f" scenario {place} out {out}" if place else ""
-        rows.append((-worst, -begun, key, f"{name_of(links, key)} capacity={capacities[key]} before={text(begun)} worst={text(worst)}{why}"))
+        said = f"{name_of(links, key)} capacity={capacities[key]} before={text(begun)} worst={text(worst)}{why}"
+        rows.append((-worst, -begun, key, said))
     yield from (f"utilisation {rank} {said}" for rank, (*_, said) in enumerate(sorted(rows), 1))
     over = [sum(row[at] < -1 for row in rows) for at in (1, 0)]
     yield f"capacities={len(rows)} without={len(links) - len(rows)} before={over[0]} worst={over[1]}"
@@ -120,7 +121,8 @@ def plain(rows, asks, fail, capacities=None):
     yield from plain_ranking(done)
     yield f"scenarios={len(failing)} lost={totals[0]} longer={totals[1]} overbooked={totals[2]}"
     if capacities is not None:
-        yield from used_lines(network, capacities, asked_of((request["bandwidth"], walk) for request, (_, walk) in zip(requests, base)), loads)
+        before = asked_of((request["bandwidth"], walk) for request, (_, walk) in zip(requests, base))
+        yield from used_lines(network, capacities, before, loads)
 
 
 def plain_ranking(done, one="request", other="longer"):

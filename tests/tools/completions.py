@@ -57,8 +57,8 @@ def completions(program, checks):
         of_zsh(checks, paths["zsh"])
         of_fish(checks, paths["fish"])
         ran = subprocess.run([TOOLS, "completion", "csh"], capture_output=True, text=True)
-        checks.true("a shell that isn't known", ran.returncode == 2 and "invalid choice: 'csh'" in ran.stderr and "Traceback" not in ran.stderr,
-                    ran.stderr)
+        is_told = "invalid choice: 'csh'" in ran.stderr and "Traceback" not in ran.stderr
+        checks.true("a shell that isn't known", ran.returncode == 2 and is_told, ran.stderr)
 
 
 def of_zsh(checks, path):

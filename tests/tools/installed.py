@@ -32,11 +32,13 @@ lib/routed/keep lib/routed/serve lib/routed/fed lib/systemd/system/routed-serve.
 lib/systemd/system/routed-pcep.service lib/systemd/system/routed-roll.timer lib/python3/dist-packages/routed/pcep/front.py
 lib/systemd/system/routed-solve.socket lib/systemd/system/routed-solve@.service lib/sysusers.d/routed.conf lib/tmpfiles.d/routed.conf
 lib/systemd/system/routed-serve.service.d/port.conf.example lib/systemd/system/routed-roll.service
-share/man/man1/routed.1.gz share/man/man1/routed-tools.1.gz share/man/man5/routed-formats.5.gz share/man/man5/routed.conf.5.gz share/man/man7/routed-service.7.gz
+share/man/man1/routed.1.gz share/man/man1/routed-tools.1.gz share/man/man5/routed-formats.5.gz share/man/man5/routed.conf.5.gz
+share/man/man7/routed-service.7.gz
 share/doc/routed/docs/run/OPERATORS.md
 share/routed/examples/nsfnet.journal share/routed/alarms.yml share/routed/dashboard.json share/doc/routed/copyright
 share/bash-completion/completions/routed-tools share/zsh/vendor-completions/_routed-tools
-share/fish/vendor_completions.d/routed-tools.fish share/doc/routed/SECURITY.md share/doc/routed/NEWS.gz share/doc/routed/changelog.gz""".split()
+share/fish/vendor_completions.d/routed-tools.fish share/doc/routed/SECURITY.md share/doc/routed/NEWS.gz
+share/doc/routed/changelog.gz""".split()
 
 
 SECTIONS = {"routed.1": "NAME, SYNOPSIS, DESCRIPTION, EXAMPLES, FILES, ENVIRONMENT, EXIT STATUS, SEE ALSO",
@@ -232,9 +234,11 @@ def manual(program, checks):
         found = re.findall("(?m)^\\.SH (.*)$", made[name])
         checks.same(f"man/{name} has its sections", [section for section in sections.split(", ") if section not in found], [])
     usage = re.findall(r"(?m)^\\fCusage: (routed\S*tools \S+(?: bgpls)?)", made["routed-tools.1"].replace("\\-", "-"))
-    checks.same("the helps name the installed commands", usage, [f"routed-tools {name}" for tool in NAMES for name in make.PARTS.get(tool, [tool])])
+    tools = [name for tool in NAMES for name in make.PARTS.get(tool, [tool])]
+    checks.same("the helps name the installed commands", usage, [f"routed-tools {name}" for name in tools])
     for name, text in made.items():
-        checks.same(f"man/{name} names no command of the source tree", re.findall(r"(?<![\w./])tools/routed\S*|crates/\S+", text.replace("\\-", "-")), [])
+        of_tree = re.findall(r"(?<![\w./])tools/routed\S*|crates/\S+", text.replace("\\-", "-"))
+        checks.same(f"man/{name} names no command of the source tree", of_tree, [])
         examples = re.findall(r"(?m)^(?:\\fC)?(\S+)", text.partition(".SH EXAMPLES\n")[2].partition("\n.SH ")[0].replace("\\-", "-"))
         if name in SECTIONS and name.endswith(".1"):
             commands = [word for word in examples if not word.startswith(".") and word in ("routed", "routed-tools", "export")]

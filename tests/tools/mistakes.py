@@ -207,7 +207,8 @@ def endings(checks, room, front, change):
                  f"connect: {front.updates}: row N refused: address 2; write four numbers from 0 to 255 with points between\n".encode()))
     rows = "ask,1,1.1.1.1\nfoo\nask,2,1.1.1.1,2.2.2.2,0,0,0x0,0x0,0x0,\n"
     ran = subprocess.run([sys.executable, TOOLS, "connect", front.ask], input=rows, capture_output=True, text=True, timeout=PATIENCE)
-    checks.same("connect ends: two refused rows beside a reply", (ran.returncode, ran.stdout.splitlines()[-1], ran.stderr.partition("; ")[0]),
+    found = ran.returncode, ran.stdout.splitlines()[-1], ran.stderr.partition("; ")[0]
+    checks.same("connect ends: two refused rows beside a reply", found,
                 (2, "ask 2 v11 unknown-from", f"connect: {front.ask}: 2 lines of this kind, the first: row 1 refused: fields"))
 
 
@@ -245,8 +246,8 @@ def interrupted(program, checks, room):
     around = {**os.environ, "ROUTED_PROGRAM": program.path}
     fifo, place = os.path.join(room, "fifo"), os.path.join(room, "silent")
     os.mkfifo(fifo)
-    for words in (["draw", fifo], ["import", fifo], ["join", fifo], ["sweep", fifo, REQUESTS], ["sweep", "--book", fifo], ["book-report", fifo],
-                  ["draw-failures"]):
+    for words in (["draw", fifo], ["import", fifo], ["join", fifo], ["sweep", fifo, REQUESTS], ["sweep", "--book", fifo],
+                  ["book-report", fifo], ["draw-failures"]):
         child = subprocess.Popen([sys.executable, TOOLS, *words], stdin=subprocess.PIPE, stdout=subprocess.DEVNULL, stderr=subprocess.PIPE,
                                  env=around, text=True)
         held = open(fifo, "w") if fifo in words else child.stdin  # waits until the tool has opened it

@@ -76,8 +76,8 @@ def of_books(program, checks, room):
     for name, rows, fail, jobs in cases:
         found, lines = capacities_of(draw, made_of(rows)[0].base.links)
         wanted = "".join(f"{line}\n" for line in plain_book(rows, fail, found))
-        checks.same(f"{name}, {fail}, {jobs} jobs", swept(program.path, room, "--book", "rows", "--fail", fail, "--jobs", jobs, "--capacity",
-                                                          "capacity", rows=rows, capacity=lines), (0, wanted, ""))
+        words = ["--book", "rows", "--fail", fail, "--jobs", jobs, "--capacity", "capacity"]
+        checks.same(f"{name}, {fail}, {jobs} jobs", swept(program.path, room, *words, rows=rows, capacity=lines), (0, wanted, ""))
         seen += wanted
     for words in ("before lost ", "before without ", "before full ", r"scenario \d+ placed ", r"scenario \d+ lost tunnel \d+ none ",
                   r"scenario \d+ full ", "more=-", "unknown-from", r"utilisation .* scenario "):
@@ -154,7 +154,8 @@ def by_hand(program, checks, room):
     files = {"rows": RING, "asks": ASKS, "capacity": capacities, "names": names}
     words = ["rows", "asks", "--capacity", "capacity", "--names", "names"]
     status, out, err = swept(program.path, room, *words, **files)
-    checks.same("lines without the names behind them", (status, re.sub("(?m)  # .*$", "", out), err), (0, BEFORE + OF_CIRCUITS + OF_RING, ""))
+    checks.same("lines without the names behind them", (status, re.sub("(?m)  # .*$", "", out), err),
+                (0, BEFORE + OF_CIRCUITS + OF_RING, ""))
     named = [line.partition("  # ")[2] for line in out.splitlines() if " out " in line or "overbooked " in line]
     checks.same("the names", named[:5], ["North", "North", "North, South West", "South West", "North, South West"])
     status, out, _ = swept(program.path, room, *words, "--json")
@@ -247,12 +248,12 @@ def refusals(program, checks, room):
     tunnel = f"place,1,{A},{C},0,60,{MASKS},\n"
     for name, book, words in (
             ("a torn book", RING + circuit(2, 4), "the book: unended 2; write an end row behind the last change"),
-            ("a refused row", RING + "place,1\n", "the book: row 9 refused: fields; a put row has 15 fields, an ask row 10, a drop, node or "
-                                                  "end row 3"),
+            ("a refused row", RING + "place,1\n",
+             "the book: row 10 refused: fields; a put row has 15 fields, an ask row 10, a drop, node or end row 3"),
             ("a tunnel that isn't there", RING + "release,1\n", "the book: release 1 refused: absent"),
             ("lines", "base 1 v1\n", "book: it is lines that routed or a tool has written, not rows")):
         found = swept(program.path, room, "--book", "book", book=book)
-        checks.same(f"a book: {name}", found, (1, "", f"sweep: {words}\n".replace("row 9", "row 10")))
+        checks.same(f"a book: {name}", found, (1, "", f"sweep: {words}\n"))
     for words, line in ((["--book", "book", "--dask", "tcp://one:1"], "a book is swept on this machine: "),
                         (["--book", "book", "--workers", "2"], "a book is swept on this machine: "),
                         (["rows", "--book", "book"], "a book is swept on this machine: "),

@@ -2,8 +2,9 @@
 
     routed-tools status PLACE [--watch SECONDS] [--names FILE]
 
-PLACE is that of --metrics. With --names an address among the figures is called by its name. The status is 0, or 1 where the figures can't be read, with a line that says why. With --watch this
-line is printed in place of the figures, and they are read again after the time of --watch.
+PLACE is that of --metrics. With --names an address among the figures is called by its name. The status is 0, or 1 where the
+figures can't be read, with a line that says why. With --watch this line is printed in place of the figures, and they are read
+again after the time of --watch.
 """
 from __future__ import annotations
 

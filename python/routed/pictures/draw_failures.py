@@ -122,7 +122,8 @@ def by_circuit(found: list[Failure], before: dict[str, list[Overbooked]]) -> Ove
 
 def main(words: list[str] | None = None) -> int:
     """Takes the words of a command line, and answers the status."""
-    asked = argparse.ArgumentParser(prog="routed-tools draw-failures", description=__doc__, formatter_class=argparse.RawDescriptionHelpFormatter)
+    asked = argparse.ArgumentParser(prog="routed-tools draw-failures", description=__doc__,
+                                    formatter_class=argparse.RawDescriptionHelpFormatter)
     positions.add_options(asked)
     asked.add_argument("--title", default="Failures of circuits")
     given = asked.parse_args(words)

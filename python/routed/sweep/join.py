@@ -1,8 +1,8 @@
 """Makes one sweep of the parts of one: what `routed-tools sweep --part I/N` prints for I from 1 to N, one after the other.
 
 They come from the files that are named, else from standard input. Names behind the lines are left out. Standard output is, byte for
-byte, what the sweep of all scenarios prints with the same names. All parts have to be there, whole, in order, and of one network. Otherwise one line on standard error says what
-is wrong, and the status is 1.
+byte, what the sweep of all scenarios prints with the same names. All parts have to be there, whole, in order, and of one network.
+Otherwise one line on standard error says what is wrong, and the status is 1.
 """
 from __future__ import annotations
 

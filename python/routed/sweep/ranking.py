@@ -12,14 +12,9 @@ MOST = 10  # lines of each kind
 LINE = re.compile(r"most (requests|bandwidth) \d+ scenario (\d+) lost=(\d+) longer=(\d+) bandwidth=(\d+) out (.*)")
 
 
-class Words(NamedTuple):
-    """How the lines of a sweep name what has a route, one that gets another route, and a link that has too little."""
-
-    one: str
-    other: str
-    full: str
-
-
+# How the lines of a sweep name what has a route, one that gets another route, and a link that has too little. Like the types of
+# failures.py it goes to other machines.
+Words = NamedTuple("Words", [("one", str), ("other", str), ("full", str)])
 REQUESTS, TUNNELS = Words("request", "longer", "overbooked"), Words("tunnel", "placed", "full")
 # A scenario's place, how many requests it costs and gives another route, the bandwidth of those that it costs, and what is out.
 Failure = tuple[int, int, int, int, str]
