@@ -265,6 +265,5 @@ def rolled(program, checks, room):
 
 def pcep_runs(program, checks):
     with tempfile.TemporaryDirectory() as room:
-        checks.parts_in(room, (sockets, keys, gone, full, busy, crowded, stateless, idle, shared, wanted_again, figures, names_of_pccs, rolled, long,
-                               drawn, named, storm),
-                        program, checks)
+        checks.parts_in(room, (sockets, keys, gone, full, busy, crowded, stateless, idle, shared, wanted_again, figures,
+                               names_of_pccs, rolled, long, drawn, named, storm), program, checks)
