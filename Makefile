@@ -3,8 +3,8 @@
 #   build    proves the program's crates, then builds it and writes the manual pages
 #   check    the tests that need no proof, on the program that is built
 #   gate     all proofs and tests (.ci/run)
-#   install  the program, the tools, units, manual pages and documents below DESTDIR and PREFIX (/usr/local), configuration below
-#            DESTDIR and ETC (/etc) unless a file is there, and the library for C if `.ci/run --library` made it
+#   install  the program, the tools, units, manual pages, completions for shells and documents below DESTDIR and PREFIX (/usr/local),
+#            configuration below DESTDIR and ETC (/etc) unless a file is there, and the library for C if `.ci/run --library` made it
 #   deb      Debian packages in the folder OUT: routed_VERSION_ARCH.deb, and routed-dev_VERSION_ARCH.deb for the library for C
 PREFIX = /usr/local
 DESTDIR =
@@ -24,6 +24,9 @@ modules = $(lib)/python3/dist-packages/routed
 units = $(wildcard deploy/*.service deploy/*.socket deploy/*.timer)
 # The paths in units and scripts are those of PREFIX=/usr.
 placed = sed 's|/usr/bin/routed|$(PREFIX)/bin/routed|; s|/usr/lib/routed/|$(PREFIX)/lib/routed/|'
+completion = PYTHONPATH=python python3 -B -m routed completion
+# zsh looks for the functions of packages below /usr, and for those of this machine below /usr/local.
+zsh = $(share)/zsh/$(if $(filter /usr,$(PREFIX)),vendor-completions,site-functions)
 has_library = $(and $(wildcard $(LIBRARY)),$(wildcard $(KIT_LIBRARY)))
 
 .PHONY: build check gate install install-program install-library deb
@@ -62,6 +65,10 @@ install-program: $(PROGRAM)
 	install -m 644 deploy/alarms.yml deploy/dashboard.json $(share)/routed
 	cp -R examples/. $(share)/routed/examples
 	for page in man/*.[157]; do gzip -9n <$$page >$(share)/man/man$${page##*.}/$${page##*/}.gz || exit 1; done
+	install -d $(share)/bash-completion/completions $(zsh) $(share)/fish/vendor_completions.d
+	$(completion) bash >$(share)/bash-completion/completions/routed-tools
+	$(completion) zsh >$(zsh)/_routed-tools
+	$(completion) fish >$(share)/fish/vendor_completions.d/routed-tools.fish
 	install -m 644 README.md SECURITY.md THEOREM.md $(share)/doc/routed
 	for folder in run believe change; do install -D -m 644 -t $(share)/doc/routed/docs/$$folder docs/$$folder/*.md || exit 1; done
 	gzip -9n <CHANGELOG.md >$(share)/doc/routed/NEWS.gz

@@ -1,6 +1,6 @@
 """Runs one of the tools round `routed`.
 
-    routed-tools listen|connect|status|audit|feed|pcep|sweep|join|draw|draw-failures|import|why ...
+    routed-tools TOOL ...
 
 `routed-tools TOOL --help` says what a tool takes. Those that run `routed` find it by --program, else by the environment
 variable ROUTED_PROGRAM, else on PATH, else where the source tree builds it.
@@ -26,11 +26,12 @@ TOOLS = {
     "feed": (".feed.command", "rows of a live network, from the OSPF API of one of its routers or by BGP-LS"),
     "pcep": (".pcep.command", "routers ask by PCEP"),
     "book-report": (".show.book_report", "the tunnels of a book, and its links by what is left"),
-    "sweep": (".sweep.sweep", "what the failure of each circuit, router or pair of circuits does to requests"),
+    "sweep": (".sweep.sweep", "what the failure of each circuit, router or pair of circuits does to requests or tunnels"),
     "join": (".sweep.join", "one sweep of its parts"),
     "draw": (".pictures.draw", "a picture of a network, with the routes of replies"),
     "draw-failures": (".pictures.draw_failures", "a picture of what circuits' failures do"),
     "import": (".imports.importer", "rows of a network in the format of SNDlib, or in GraphML"),
+    "completion": (".completion", "what bash, zsh or fish need to complete the words of routed-tools"),
     "why": (".why", "three small networks, asked of FRR's cspf and of `routed solve`"),
 }
 

@@ -104,7 +104,7 @@ def show(case: str, harness: str, program: str) -> bool:
 
 def main(asked: list[str] | None = None) -> int:
     """Takes the words of a command line, and answers the status."""
-    words = argparse.ArgumentParser(prog="why", description=__doc__, formatter_class=argparse.RawDescriptionHelpFormatter)
+    words = argparse.ArgumentParser(prog="routed-tools why", description=__doc__, formatter_class=argparse.RawDescriptionHelpFormatter)
     words.add_argument("--frr", metavar="DIR", help="the unpacked source of FRR")
     add_option(words)
     words.add_argument("case", nargs="?", choices=["cost", "float", "ties"], help="one case alone")

@@ -3,8 +3,9 @@ import os
 import signal
 import socket
 import struct
+import subprocess
 
-from checks import TOP
+from checks import TOOLS, TOP
 from pcep.beside import TO_NORTH, TO_SOUTH, Client, Run, addresses, begun, wait
 from pcep.played import NORTH, PATH, SOUTH, ip, lspa, metric, request, rows, told
 
@@ -179,6 +180,28 @@ def updated(client):
     return found[1], found[2]
 
 
+def names_of_pccs(program, checks, room):
+    """A line of the log has behind it the name of its PCC; a file of names that can't be read ends the tool."""
+    names = os.path.join(room, "names")
+    with open(names, "w", encoding="utf-8") as file:
+        file.write("127.0.7.1 Far West\n10.0.0.1 North\n")
+    with Run(program.path, room, "--names", names) as run:
+        run.publish(*rows())
+        client, other = placed(run, "127.0.7.1"), begun(run, "127.0.7.2")
+        other.socket.sendall(bytes(8))  # no message of PCEP
+        run.publish("drop,10.0.0.1,10.1.2.1", "drop,10.0.0.1,10.1.3.1")
+        wait(lambda: " has no route: " in run.said() and "pcep: 127.0.7.2: " in run.said())
+        found = [line for line in run.said().splitlines() if " has no route: " in line]
+        checks.true("the PCC with a name", found[0].startswith("pcep: 127.0.7.1: LSP ") and found[0].endswith("  # Far West"), found)
+        others = [line for line in run.said().splitlines() if "127.0.7.1" not in line and "#" in line]
+        checks.same("lines of PCCs without a name", others, [])
+        client.close()
+        other.close()
+    ran = subprocess.run([TOOLS, "pcep", "--ask", "x", "--names", os.path.join(room, "absent")], capture_output=True, text=True)
+    checks.same("no such names", (ran.returncode, ran.stdout, ran.stderr),
+                (2, "", f"pcep: {room}/absent: No such file or directory; give the path of a file that is there\n"))
+
+
 def figures(program, checks, room):
     """--metrics: what was sent and answered is counted."""
     with Run(program.path, room) as run:
@@ -222,7 +245,7 @@ def figures(program, checks, room):
                   **{f'errors_total{{error="{error}"}}': count for error, count in (("4/4", 2), ("3/1", 1), ("9/1", 1))},
                   'refused_by_pccs_total{error="23/0"}': 1,
                   **{f'lsps_at_fault{{fault="{fault}"}}': 0 for fault in ("silent", "down", "unknown", "lost")},
-                  'lsps_at_fault{fault="refused"}': 1, 'connected': 1, 'journal_followed': 1,
+                  'lsps_of_pcc{pcc="127.0.9.1"}': 2, 'lsps_at_fault{fault="refused"}': 1, 'connected': 1, 'journal_followed': 1,
                   'updates_total{outcome="accepted"}': 3, 'updates_total{outcome="refused"}': 1, 'updates_total{outcome="unanswered"}': 0,
                   'sessions_ended_total': 0,
                   'moves_total{reason="new"}': 2, 'moves_total{reason="lost"}': 2, 'moves_total{reason="none"}': 2}
@@ -230,6 +253,17 @@ def figures(program, checks, room):
         checks.same("figures: each is what was done", sorted(found.items() - wanted.items()), sorted(wanted.items() - found.items()))
         with open(os.path.join(TOP, "docs/run/PCEP.md"), encoding="utf-8") as file:
             page = file.read()
+        names = os.path.join(room, "names")
+        with open(names, "w", encoding="utf-8") as file:
+            file.write("127.0.9.1 Far West\n")
+        around = {key: value for key, value in os.environ.items() if key != "ROUTED_NAMES"}
+        for words, wanted in (([], "127.0.9.1 2"), (["--names", names], "Far West 2")):
+            ran = subprocess.run([TOOLS, "status", run.places["figures"], *words], capture_output=True, text=True, env=around)
+            shown = [line[19:] for line in ran.stdout.splitlines() if line.startswith("LSPs by PCC")]
+            checks.same(f"status {words[:1]}: LSPs by PCC", (ran.returncode, shown), (0, [wanted]))
+        absent = [TOOLS, "status", run.places["figures"], "--names", os.path.join(room, "absent")]
+        ran = subprocess.run(absent, capture_output=True, text=True)
+        checks.true("status: no such names", ran.returncode == 2 and ran.stderr.startswith(f"status: {room}/absent: No such file"), ran)
         checks.same("figures: each is on the page", [name for name in found if f"`routed_pcep_{name.partition('{')[0]}`" not in page], [])
         client.close()
         wait(lambda: run.figures()["sessions"] == 0)

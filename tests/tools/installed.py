@@ -16,10 +16,12 @@ from feed.played import PAIR, Router
 from pcep.beside import Client
 from pcep.played import request
 from program.serving import PATIENCE
+from tools.completions import completions
 from tools.kept import started
 from tools.fronts import Connection
 
 from routed.pcep.wire import pack
+from routed.tools import TOOLS as NAMES
 
 DEPLOY = os.path.join(TOP, "deploy")
 UNITS = sorted(name for name in os.listdir(DEPLOY) if name.endswith((".service", ".socket", ".timer")))
@@ -30,10 +32,18 @@ lib/routed/keep lib/routed/serve lib/routed/fed lib/systemd/system/routed-serve.
 lib/systemd/system/routed-pcep.service lib/systemd/system/routed-roll.timer lib/python3/dist-packages/routed/pcep/front.py
 lib/systemd/system/routed-solve.socket lib/systemd/system/routed-solve@.service lib/sysusers.d/routed.conf lib/tmpfiles.d/routed.conf
 lib/systemd/system/routed-serve.service.d/port.conf.example lib/systemd/system/routed-roll.service
-share/man/man1/routed.1.gz share/man/man1/routed-tools.1.gz share/man/man5/routed-formats.5.gz share/man/man7/routed-service.7.gz
+share/man/man1/routed.1.gz share/man/man1/routed-tools.1.gz share/man/man5/routed-formats.5.gz share/man/man5/routed.conf.5.gz
+share/man/man7/routed-service.7.gz
 share/doc/routed/docs/run/OPERATORS.md
 share/routed/examples/nsfnet.journal share/routed/alarms.yml share/routed/dashboard.json share/doc/routed/copyright
-share/doc/routed/SECURITY.md share/doc/routed/NEWS.gz share/doc/routed/changelog.gz""".split()
+share/bash-completion/completions/routed-tools share/zsh/vendor-completions/_routed-tools
+share/fish/vendor_completions.d/routed-tools.fish share/doc/routed/SECURITY.md share/doc/routed/NEWS.gz
+share/doc/routed/changelog.gz""".split()
+
+
+SECTIONS = {"routed.1": "NAME, SYNOPSIS, DESCRIPTION, EXAMPLES, FILES, ENVIRONMENT, EXIT STATUS, SEE ALSO",
+            "routed-tools.1": "NAME, SYNOPSIS, DESCRIPTION, EXAMPLES, FILES, ENVIRONMENT, EXIT STATUS, SEE ALSO",
+            "routed.conf.5": "NAME, SYNOPSIS, DESCRIPTION, FILES, EXAMPLES, ENVIRONMENT, EXIT STATUS, SEE ALSO"}
 
 
 def skipped(*tools):
@@ -219,7 +229,20 @@ def manual(program, checks):
     loader = SourceFileLoader("make", path)
     make = importlib.util.module_from_spec(importlib.util.spec_from_loader("make", loader))
     loader.exec_module(make)
-    for name, text in make.pages(program.path).items():
+    made = make.pages(program.path)
+    for name, sections in SECTIONS.items():
+        found = re.findall("(?m)^\\.SH (.*)$", made[name])
+        checks.same(f"man/{name} has its sections", [section for section in sections.split(", ") if section not in found], [])
+    usage = re.findall(r"(?m)^\\fCusage: (routed\S*tools \S+(?: bgpls)?)", made["routed-tools.1"].replace("\\-", "-"))
+    tools = [name for tool in NAMES for name in make.PARTS.get(tool, [tool])]
+    checks.same("the helps name the installed commands", usage, [f"routed-tools {name}" for name in tools])
+    for name, text in made.items():
+        of_tree = re.findall(r"(?<![\w./])tools/routed\S*|crates/\S+", text.replace("\\-", "-"))
+        checks.same(f"man/{name} names no command of the source tree", of_tree, [])
+        examples = re.findall(r"(?m)^(?:\\fC)?(\S+)", text.partition(".SH EXAMPLES\n")[2].partition("\n.SH ")[0].replace("\\-", "-"))
+        if name in SECTIONS and name.endswith(".1"):
+            commands = [word for word in examples if not word.startswith(".") and word in ("routed", "routed-tools", "export")]
+            checks.true(f"man/{name} has examples", len(commands) > 3, examples)
         checks.same(f"man/{name} is what man/make writes", text_of(f"man/{name}") == text, True)
         if shutil.which("groff"):
             ran = subprocess.run(["groff", "-t", "-man", "-ww", "-Tutf8", "-rLL=100n", os.path.join(TOP, "man", name)], capture_output=True,
@@ -227,10 +250,12 @@ def manual(program, checks):
             checks.same(f"man/{name} is set", (ran.returncode, ran.stderr), (0, ""))
     skipped("groff")
     pages = text_of("man/routed.1") + text_of("man/routed-tools.1")
+    for setting in re.findall(r"(?m)^\w+=.*$", "".join(text_of(f"deploy/{name}") for name in CONFIGURED)):
+        checks.true(f"routed.conf(5) has {setting}", setting.replace("-", "\\-") in made["routed.conf.5"])
     for word in ("put,router,local", "--accept-torn", "--explain", "--begin FILE", "draw-failures", "ROUTED_PROGRAM",
                  "systemctl enable --now routed-serve"):
         checks.true(f"a manual page has {word}", word.replace("-", "\\-") in pages)
 
 
 def installed(program, checks):
-    checks.parts((hardened, manual, package), program, checks)
+    checks.parts((hardened, manual, completions, package), program, checks)

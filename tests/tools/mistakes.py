@@ -3,7 +3,9 @@ a closed pipe end a tool without one, too."""
 import fcntl
 import gzip
 import os
+import re
 import signal
+import socket
 import subprocess
 import sys
 import tempfile
@@ -13,11 +15,14 @@ from concurrent.futures import ThreadPoolExecutor
 
 from checks import TOOLS, TOP
 from program.serving import PATIENCE
+from tools import planned
 from tools.fronts import Connection, Front
+from tools.reading import PAIR, seen
 
 AT_ONCE = 4  # mistakes that are tried side by side
 JOURNAL, REQUESTS = (os.path.join(TOP, f"examples/nsfnet.{end}") for end in ("journal", "requests"))
 NOBODY = 65534
+NO_LINE = "the place takes no such line, and nothing that follows it"
 TABS, SEMICOLONS = "fields have tabs between: put commas there by", "fields have semicolons between"
 HEADER = "first line is a header"
 GZIP, JSON = "it is compressed by gzip: unpack it by gunzip", "it is JSON: a row is fields with commas"
@@ -70,6 +75,14 @@ TABLE = {
     "no requests": ("sweep J", None, 2, "the following arguments are required: requests"),
     "a failure of cables": ("sweep J R --fail cables", None, 2, "(choose from 'circuits', 'routers', 'pairs')"),
     "no jobs": ("sweep J R --jobs 0", None, 2, "'0' is no number from 1 to 64"),
+    "a book that isn't there": ("sweep --book nowhere", None, 1, "nowhere: No such file or directory; give the path"),
+    "a compressed book": ("sweep --book gzip", None, 1, f"gzip: {GZIP}"),
+    "a book without an end row": ("sweep --book unended", None, 1, "the book: unended 1; write an end row behind the last change"),
+    "no capacities": ("sweep J R --capacity nowhere", None, 1, "nowhere: No such file or directory; give the path"),
+    "compressed capacities": ("sweep J R --capacity gzip", None, 1, "gzip: line 1: the bytes are no UTF-8"),
+    "a capacity of no link": ("sweep J R --capacity places", None, 1, "places: line 1: '1.1.1.1 east' is no link; a line is a router, "),
+    "names that aren't there": ("sweep J R --names nowhere", None, 1, "nowhere: No such file or directory; give the path"),
+    "both JSON and CSV": ("sweep J R --json --csv", None, 2, "argument --csv: not allowed with argument --json"),
     "a program that isn't there": ("sweep J R --program nowhere/routed", None, 3, "nowhere/routed: No such file or directory; give"),
     "a full disk for a sweep": ("sweep J R >full", None, 1, "No space left on device; make room"),
     "a compressed network to draw": ("draw gzip", None, 1, f"gzip: {GZIP}"),
@@ -174,51 +187,96 @@ def endings(checks, room, front, change):
     with open(names, "w") as file:
         file.write("1.1.1.1 north\n2.2.2.2 south\n")
     unended = b"connect: unended 1: no end row, dropped; write end,NUMBER,1 behind the changes\n"
-    refused = b"row 1 refused: kind\n"
+    refused, kinds = b"row 1 refused: kind\n", "a row begins with put, drop, node, end or ask"
+    told = f"connect: {front.ask}: row 1 refused: kind; {kinds}\n".encode()
     for name, place, rows, wanted in (
-            ("a refused row where clients ask", front.ask, b"foo\n", (0, refused, b"")),
-            ("a change where clients ask", front.ask, change, (0, refused, b"")),
+            ("a refused row where clients ask", front.ask, b"foo\n", (2, refused, told)),
+            ("a change where clients ask", front.ask, change, (2, refused, told)),
             ("a change with names, of which the last row isn't ended", front.updates, b"drop,north,10.0.0.1", (2, b"", unended)),
             ("a request by names, not ended", front.ask, b"ask,1,north,south,0,0,0x0,0x0,0x0,", (0, b"ask 1 v10 unknown-from\n", b""))):
         ran = subprocess.run([sys.executable, TOOLS, "connect", place, "--names", names], input=rows, capture_output=True, timeout=PATIENCE)
         checks.same(f"connect ends: {name}", (ran.returncode, ran.stdout, ran.stderr), wanted)
     ran = subprocess.run([sys.executable, TOOLS, "connect", front.updates], input=b"foo\n" + change, capture_output=True, timeout=PATIENCE)
     checks.same("connect ends: a refused row and a change without an end row", (ran.returncode, ran.stdout, ran.stderr),
-                (2, b"refused\n", unended))
+                (2, b"refused\n", f"connect: {front.updates}: refused; {NO_LINE}\n".encode() + unended))
+    ran = subprocess.run([sys.executable, TOOLS, "connect", front.updates], input=b"drop,north,10.0.0.1\nend,11,0\n", capture_output=True,
+                         timeout=PATIENCE)
+    found = ran.returncode, *(re.sub(rb"row \d+", b"row N", stream) for stream in (ran.stdout, ran.stderr))
+    checks.same("connect ends: a change is lost, and its batch is taken", found,
+                (2, b"row N refused: address 2\nversion 11\n",
+                 f"connect: {front.updates}: row N refused: address 2; write four numbers from 0 to 255 with points between\n".encode()))
+    rows = "ask,1,1.1.1.1\nfoo\nask,2,1.1.1.1,2.2.2.2,0,0,0x0,0x0,0x0,\n"
+    ran = subprocess.run([sys.executable, TOOLS, "connect", front.ask], input=rows, capture_output=True, text=True, timeout=PATIENCE)
+    found = ran.returncode, ran.stdout.splitlines()[-1], ran.stderr.partition("; ")[0]
+    checks.same("connect ends: two refused rows beside a reply", found,
+                (2, "ask 2 v11 unknown-from", f"connect: {front.ask}: 2 lines of this kind, the first: row 1 refused: fields"))
 
 
 def closed_pipes(program, checks, room):
     """Nobody reads what a tool writes."""
     around = {**os.environ, "ROUTED_PROGRAM": program.path}
-    for words in (["sweep", JOURNAL, REQUESTS], ["draw", JOURNAL], ["import", os.path.join(TOP, "examples/germany.sndlib")], ["--help"],
-                  ["listen", "--help"]):
-        reading, writing = os.pipe()
-        os.close(reading)
-        ran = subprocess.run([sys.executable, TOOLS, *words], stdout=writing, stderr=subprocess.PIPE, env=around, text=True,
-                             timeout=PATIENCE)
-        os.close(writing)
-        status = 0 if "listen" in words else 141  # argparse drops what it can't write
-        checks.same(f"a closed pipe: {' '.join(words[:2])}", (ran.returncode, ran.stderr), (status, ""))
+    book = os.path.join(room, "book")
+    with open(book, "w") as file:
+        file.write(planned.nsfnet_book())
+    with seen(program, room, "--show", os.path.join(room, "show")) as front:
+        Connection(front.updates).talk(PAIR + "end,1,2\n")
+        show, metrics = os.path.join(room, "show"), os.path.join(room, "metrics")
+        for words in (["sweep", JOURNAL, REQUESTS], ["sweep", JOURNAL, REQUESTS, "--json"], ["sweep", "--book", book, "--csv"],
+                      ["draw", JOURNAL], ["import", os.path.join(TOP, "examples/germany.sndlib")], ["--help"], ["completion", "bash"],
+                      ["ask", front.ask, "1.1.1.1", "2.2.2.2", "--why", "--show", show], ["ask", front.ask, "1.1.1.1", "2.2.2.2", "--json"],
+                      ["show", show], ["show", show, "routers", "--json"], ["book-report", book], ["status", metrics],
+                      ["status", metrics, "--watch", "0.1"], ["connect", front.ask], ["listen", "--help"]):
+            reading, writing = os.pipe()
+            os.close(reading)
+            ran = subprocess.run([sys.executable, TOOLS, *words], stdout=writing, stderr=subprocess.PIPE, env=around, text=True,
+                                 input="foo\n", timeout=PATIENCE)
+            os.close(writing)
+            status = 0 if "listen" in words else 141  # argparse drops what it can't write
+            checks.same(f"a closed pipe: {' '.join(words[:2] + words[4:])}", (ran.returncode, ran.stderr), (status, ""))
+        for words in (["show", show], ["ask", front.ask, "1.1.1.1", "2.2.2.2"], ["book-report", book]):
+            with open("/dev/full", "w") as full:
+                ran = subprocess.run([sys.executable, TOOLS, *words], stdout=full, stderr=subprocess.PIPE, env=around, text=True,
+                                     timeout=PATIENCE)
+            checks.true(f"a full disk: {words[0]}", ran.returncode in (1, 3) and ran.stderr ==
+                        f"{words[0]}: standard output: write: No space left on device; make room, and run this again\n", ran)
 
 
 def interrupted(program, checks, room):
-    """Ctrl-C: each tool has begun to read when the signal comes."""
+    """Ctrl-C: each tool has begun to read when the signal comes, or waits for a server that says nothing."""
     around = {**os.environ, "ROUTED_PROGRAM": program.path}
-    fifo = os.path.join(room, "fifo")
+    fifo, place = os.path.join(room, "fifo"), os.path.join(room, "silent")
     os.mkfifo(fifo)
-    for words in (["draw", fifo], ["import", fifo], ["join", fifo], ["sweep", fifo, REQUESTS], ["draw-failures"]):
+    for words in (["draw", fifo], ["import", fifo], ["join", fifo], ["sweep", fifo, REQUESTS], ["sweep", "--book", fifo],
+                  ["book-report", fifo], ["draw-failures"]):
         child = subprocess.Popen([sys.executable, TOOLS, *words], stdin=subprocess.PIPE, stdout=subprocess.DEVNULL, stderr=subprocess.PIPE,
                                  env=around, text=True)
         held = open(fifo, "w") if fifo in words else child.stdin  # waits until the tool has opened it
         held.write("\n")
         held.flush()
         wait_until(lambda: fcntl.ioctl(held.fileno(), termios.FIONREAD, b"\0" * 4) == b"\0" * 4)
-        child.send_signal(signal.SIGINT)
-        err = child.stderr.read()
-        checks.same(f"Ctrl-C: {words[0]}", (child.wait(PATIENCE), err), (130, ""))
+        ends(checks, child, words)
         held.close()
         child.stdin.close()
-        child.stderr.close()
+    with socket.socket(socket.AF_UNIX) as listening:
+        listening.bind(place)
+        listening.listen()
+        for words in (["ask", place, "1.1.1.1", "2.2.2.2"], ["show", place], ["status", place, "--watch", "1"], ["connect", place]):
+            child = subprocess.Popen([sys.executable, TOOLS, *words], stdin=subprocess.PIPE, stdout=subprocess.DEVNULL,
+                                     stderr=subprocess.PIPE, text=True)
+            connection, _ = listening.accept()
+            with connection:
+                if words[0] != "connect":
+                    connection.recv(1)  # it has asked, and waits
+                ends(checks, child, words)
+            child.stdin.close()
+
+
+def ends(checks, child, words):
+    """The tool ends at SIGINT, without a word."""
+    child.send_signal(signal.SIGINT)
+    err = child.stderr.read()
+    checks.same(f"Ctrl-C: {' '.join(words[:2])}", (child.wait(PATIENCE), err), (130, ""))
+    child.stderr.close()
 
 
 def wait_until(test):

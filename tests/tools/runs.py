@@ -18,6 +18,7 @@ from tools.kept import DEPLOY, around
 from tools.reading import ASKS, FREE, PAIR, eventually, figures_of, seen
 
 from routed import Client
+from routed.model.names import Names
 from routed.front import renewal, status
 
 FIRST = PAIR + "end,1,2\n"
@@ -50,7 +51,7 @@ def numbers(program, checks, room):
         updating.say("snapshot\n")
         checks.same("a snapshot", updating.hear(6), f"version 1\nrun 7\n{PAIR.replace('0x1,', '0x00000001,')}end,1,2\nsnapshot end\n")
         checks.same("the figure", figures_of(room).get(("routed_run", None)), 7)
-        checks.same("the first line of the screen", next(status.screen(figures_of(room))), ("run", "7"))
+        checks.same("the first line of the screen", next(status.screen(figures_of(room), Names())), ("run", "7"))
         with Client(front.ask, watch=os.path.join(room, "watch")) as client:
             checks.same("the client for Python", (client.wait(1), client.run), (1, 7))
     inner = os.path.join(room, "without")

@@ -28,7 +28,7 @@ from ..model.journals import read_database
 from ..model.names import Names, add_names
 from ..model.rows import Link, Refused, Reply, Request
 from ..model.units import rate_of
-from ..net.endpoints import Endpoint, say
+from ..net.endpoints import Endpoint, tell
 from ..net.loop import Stopped
 from ..program import failed
 from .cuts import Cut, cut
@@ -193,7 +193,7 @@ def main(given: list[str] | None = None) -> int:
     try:
         with contextlib.ExitStack() as stack:
             for lines, status in run(asked, stack):
-                say(*lines)
+                tell(*lines)
     except Refused as fault:
         return failed("ask", fault, 2)
     except Stopped as fault:
@@ -201,6 +201,4 @@ def main(given: list[str] | None = None) -> int:
     except (OSError, UnicodeError) as fault:
         where = getattr(fault, "filename", None) or asked.place.text
         return failed("ask", f"{where}: {getattr(fault, 'strerror', '') or fault}", advice=of_place(fault))
-    except KeyboardInterrupt:
-        return 130
     return status

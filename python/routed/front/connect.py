@@ -7,9 +7,9 @@ that isn't there yet, for as long as --wait says.
 With --names a row may have names in place of its addresses, but not in place of hops. A line that has addresses with names gets
 these names behind `#`; behind a reply they are those of the routers to which the route's links lead.
 
-The status is 0, also if a row was refused. It is 1 if it can't connect. It is 2 if standard input or the file of names isn't
-what it has to be, if a batch was refused, if the place was busy, or if changes were left without an `end` row, which are
-dropped. A line on standard error says which.
+The status is 0 if each row was taken; a request without a route was. It is 1 if it can't connect. It is 2 if standard input or
+the file of names isn't what it has to be, if a row, a batch or a snapshot was refused, if the place was busy, or if changes were
+left without an `end` row, which are dropped. A line on standard error says which.
 """
 from __future__ import annotations
 
@@ -35,9 +35,10 @@ from .naming import Naming
 WAIT, PAUSE = 5, 0.1  # seconds until a place has to be there, and between two tries
 NOT_YET = errno.ENOENT, errno.ECONNREFUSED, errno.EAGAIN
 CHANGES = "put", "drop", "node"
-REFUSED = re.compile(rb"busy|batch \d+ refused: .*")
+REFUSED = re.compile(rb"busy|refused|snapshot refused: .*|(?:row|batch) \d+ refused: .*")
 KIND = re.compile(rb"row \d+ refused: kind")
-BUSY = "another program has the place: try again when it has ended"
+ADVICE = {b"busy": "another program has the place: try again when it has ended",
+          b"refused": "the place takes no such line, and nothing that follows it"}
 NO_SOCKET = "it is no socket; give a place of routed-tools listen"
 
 
@@ -81,12 +82,12 @@ class Sender(threading.Thread):
 
 
 class Reader:
-    """Writes what is read from the socket to standard output. `refused` has the first refused batch and `busy`, and `kinds` counts the
-    rows whose kind was refused."""
+    """Writes what is read from the socket to standard output. `refused` has the lines that say so by their first words: of each the
+    first line, and how many there are. `kinds` counts the rows whose kind was refused."""
 
     def __init__(self, naming: Naming | None) -> None:
         self.naming, self.rest = naming, b""
-        self.refused: dict[bytes, str] = {}
+        self.refused: dict[bytes, tuple[str, int]] = {}
         self.kinds = 0
 
     def run(self, made: socket.socket) -> None:
@@ -96,7 +97,8 @@ class Reader:
             self.rest = rest[:LONGEST]
             self.kinds += sum(1 for line in lines if KIND.fullmatch(line))
             for line in filter(REFUSED.fullmatch, lines):
-                self.refused.setdefault(line.split()[0], line.decode(errors="replace"))
+                first, count = self.refused.get(line.split()[0], (line.decode(errors="replace"), 0))
+                self.refused[line.split()[0]] = first, count + 1
         if self.naming:
             write_all(1, self.naming.take(b"", False))
 
@@ -127,8 +129,9 @@ def judged(place: str, sender: Sender, reader: Reader) -> int:
     if sender.fault:
         return failed("connect", f"standard input can't be rows: {sender.fault}", 2)
     status = 0
-    for word, line in reader.refused.items():
-        status = failed("connect", f"{place}: {line}", 2, BUSY if word == b"busy" else "")
+    for word, (line, count) in reader.refused.items():
+        several = f"{count} lines of this kind, the first: " if count > 1 else ""
+        status = failed("connect", f"{place}: {several}{line}", 2, ADVICE.get(word, ""))
     takes_changes = b"busy" not in reader.refused and reader.kinds <= sender.strange  # where clients ask, a change's kind is refused
     if sender.open and takes_changes:
         status = failed("connect", f"unended {sender.open}: no end row, dropped", 2, f"write end,NUMBER,{sender.open} behind the changes")
@@ -137,7 +140,7 @@ def judged(place: str, sender: Sender, reader: Reader) -> int:
 
 def main(words: list[str] | None = None) -> int:
     """Takes the words of a command line, and answers the status."""
-    asked = argparse.ArgumentParser(prog="connect", description=__doc__, formatter_class=argparse.RawDescriptionHelpFormatter)
+    asked = argparse.ArgumentParser(prog="routed-tools connect", description=__doc__, formatter_class=argparse.RawDescriptionHelpFormatter)
     asked.add_argument("place", type=Endpoint, metavar="PLACE", help="a path, a port, ADDRESS:PORT or [ADDRESS]:PORT, as of listen")
     asked.add_argument("--names", metavar="FILE", help="lines of an address and its name; without it rows and lines are as they are")
     asked.add_argument("--wait", type=number("number of seconds", 0, 86400, float), default=WAIT, metavar="SECONDS",

@@ -235,7 +235,7 @@ def seconds(text: str) -> float:
 
 def main(given: list[str] | None = None) -> int:
     """Takes the words of a command line, and answers the status."""
-    words = argparse.ArgumentParser(prog="listen", description=__doc__, formatter_class=argparse.RawDescriptionHelpFormatter)
+    words = argparse.ArgumentParser(prog="routed-tools listen", description=__doc__, formatter_class=argparse.RawDescriptionHelpFormatter)
     words.add_argument("--journal", required=True, metavar="FILE", help="a new file, for the batches of this run")
     words.add_argument("--begin", metavar="FILE",
                        help="batches that are published before any connection is taken: a snapshot of the run before")

@@ -1,9 +1,10 @@
 """Prints one screen of the figures of a running `routed-tools listen`, `routed-tools pcep` or feed.
 
-    routed-tools status PLACE [--watch SECONDS]
+    routed-tools status PLACE [--watch SECONDS] [--names FILE]
 
-PLACE is that of --metrics. The status is 0, or 1 where the figures can't be read, with a line that says why. With --watch this
-line is printed in place of the figures, and they are read again after the time of --watch.
+PLACE is that of --metrics. With --names an address among the figures is called by its name. The status is 0, or 1 where the
+figures can't be read, with a line that says why. With --watch this line is printed in place of the figures, and they are read
+again after the time of --watch.
 """
 from __future__ import annotations
 
@@ -13,6 +14,7 @@ import sys
 import time
 from collections.abc import Iterator
 
+from ..model.names import Names, NamesRefused, add_names
 from ..net.endpoints import Endpoint
 from ..net.http import Unread, get
 from ..program import failed, number
@@ -30,9 +32,9 @@ def read(place: Endpoint) -> Figures:
         raise Unread(f"a figure is no number: {fault}") from None
 
 
-def listed(figures: Figures, name: str) -> str:
+def listing(figures: Figures, name: str, names: Names) -> str:
     """The numbers of a name that aren't 0, each behind its label's value."""
-    found = sorted((value, number) for (each, value), number in figures.items() if each == name and value is not None and number)
+    found = sorted((names.name_of(value), number) for (each, value), number in figures.items() if each == name and value and number)
     return ", ".join(f"{value} {number:,.0f}" for value, number in found) or "none"
 
 
@@ -44,8 +46,11 @@ def share(figures: Figures, part: float) -> str:
     return "none yet" if not whole else "more than 10 s" if edge == float("inf") else f"{edge * 1000:g} ms"
 
 
-def screen(figures: Figures) -> Iterator[tuple[str, str]]:
+def screen(figures: Figures, names: Names) -> Iterator[tuple[str, str]]:
     """The lines of the screen."""
+    def listed(name: str) -> str:
+        return listing(figures, name, names)
+
     def one(name: str) -> float | None:
         return figures.get((name, None))
 
@@ -60,8 +65,8 @@ def screen(figures: Figures) -> Iterator[tuple[str, str]]:
         yield "heard", age("routed_feed_heard_age_seconds")
         yield "version", number("routed_feed_version")
         yield "links", f"{number('routed_feed_links')}, and {number('routed_feed_marks')} routers without transit"
-        yield "left out", listed(figures, "routed_feed_left_out")
-        yield "refused batches", listed(figures, "routed_feed_refused_batches_total")
+        yield "left out", listed("routed_feed_left_out")
+        yield "refused batches", listed("routed_feed_refused_batches_total")
     if one("routed_pcep_sessions") is not None:
         yield "server", "connected" if one("routed_pcep_connected") else "not connected"
         yield "journal", "followed" if one("routed_pcep_journal_followed") else "not followed"
@@ -70,13 +75,14 @@ def screen(figures: Figures) -> Iterator[tuple[str, str]]:
         yield "version", number("routed_pcep_version")
         yield "sessions", f"{number('routed_pcep_sessions')} up, {number('routed_pcep_sessions_ended_total')} ended"
         yield "LSPs", f"{number('routed_pcep_lsps')} delegated, {number('routed_pcep_lsps_without_route')} without a route"
-        yield "LSPs at fault", listed(figures, "routed_pcep_lsps_at_fault")
-        yield "requests", listed(figures, "routed_pcep_requests_total")
-        yield "moves", listed(figures, "routed_pcep_moves_total")
-        yield "updates", listed(figures, "routed_pcep_updates_total")
-        yield "errors sent", listed(figures, "routed_pcep_errors_total")
-        yield "errors of PCCs", listed(figures, "routed_pcep_refused_by_pccs_total")
-        yield "turned away", listed(figures, "routed_pcep_turned_away_total")
+        yield "LSPs by PCC", listed("routed_pcep_lsps_of_pcc")
+        yield "LSPs at fault", listed("routed_pcep_lsps_at_fault")
+        yield "requests", listed("routed_pcep_requests_total")
+        yield "moves", listed("routed_pcep_moves_total")
+        yield "updates", listed("routed_pcep_updates_total")
+        yield "errors sent", listed("routed_pcep_errors_total")
+        yield "errors of PCCs", listed("routed_pcep_refused_by_pccs_total")
+        yield "turned away", listed("routed_pcep_turned_away_total")
         yield "lost replies", number("routed_pcep_replies_lost")
     if one("routed_version") is not None:
         if one("routed_run") is not None:
@@ -85,13 +91,13 @@ def screen(figures: Figures) -> Iterator[tuple[str, str]]:
         yield "last batch", age("routed_last_batch_age_seconds")
         yield "journal", (f"{number('routed_journal_bytes')} bytes, {number('routed_changes_total')} changes, "
                           f"{number('routed_journal_rows_left')} rows left")
-        yield "asks", listed(figures, "routed_asks_total")
+        yield "asks", listed("routed_asks_total")
         yield "time of a row", f"half within {share(figures, 0.5)}, 99 of 100 within {share(figures, 0.99)}"
-        yield "refused rows", listed(figures, "routed_refused_rows_total")
-        yield "refused batches", listed(figures, "routed_refused_batches_total")
-        yield "connections", listed(figures, "routed_connections")
-        yield "busy", listed(figures, "routed_busy_total")
-        yield "cut off", listed(figures, "routed_cut_off_total")
+        yield "refused rows", listed("routed_refused_rows_total")
+        yield "refused batches", listed("routed_refused_batches_total")
+        yield "connections", listed("routed_connections")
+        yield "busy", listed("routed_busy_total")
+        yield "cut off", listed("routed_cut_off_total")
         yield "dropped log lines", number("routed_log_dropped_total")
 
 
@@ -101,19 +107,24 @@ def main(words: list[str] | None = None) -> int:
     asked.add_argument("place", type=Endpoint, metavar="PLACE", help="a path, a port, ADDRESS:PORT or [ADDRESS]:PORT, as of --metrics")
     asked.add_argument("--watch", type=number("number of seconds", 0.1, 86400, float), metavar="SECONDS",
                        help="print it again and again, after so many seconds each")
+    add_names(asked)
     given = asked.parse_args(words)
+    try:
+        names = Names.read(given.names)
+    except NamesRefused as fault:
+        return failed("status", fault, 2)
     while True:
-        status = show(given.place, bool(given.watch))
+        status = show(given.place, bool(given.watch), names)
         if not given.watch:
             return status
         time.sleep(given.watch)
 
 
-def show(place: Endpoint, is_watched: bool) -> int:
+def show(place: Endpoint, is_watched: bool, names: Names) -> int:
     """Prints the screen, or why there is none."""
     begin = CLEAR if is_watched and sys.stdout.isatty() else ""
     try:
-        text = "".join(f"{name:18} {what}\n" for name, what in screen(read(place)))
+        text = "".join(f"{name:18} {what}\n" for name, what in screen(read(place), names))
         if not text:
             raise Unread("no figures of routed are there")
     except Unread as fault:

@@ -193,7 +193,7 @@ def listed(found: Found, asked: argparse.Namespace, kind: str) -> Iterator[str]:
 
 
 def options(words: list[str] | None) -> argparse.Namespace:
-    asked = argparse.ArgumentParser(prog="import", description=__doc__, formatter_class=argparse.RawDescriptionHelpFormatter)
+    asked = argparse.ArgumentParser(prog="routed-tools import", description=__doc__, formatter_class=argparse.RawDescriptionHelpFormatter)
     asked.add_argument("network", metavar="FILE", help="the network")
     asked.add_argument("--places", metavar="OUT", help="write the positions of the sites, for draw and draw-failures")
     asked.add_argument("--requests", metavar="OUT", help="write the demands as requests")

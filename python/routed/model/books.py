@@ -1,7 +1,8 @@
 """Follows a book by its rows and the lines of `routed book` (docs/run/FORMATS.md): the base, the placements, and what they leave."""
 from __future__ import annotations
 
-from collections.abc import Iterator
+import sys
+from collections.abc import Container, Iterator
 from dataclasses import dataclass, replace
 
 from .database import Database
@@ -62,11 +63,13 @@ class Book:
         elif request.id not in self.placements:
             self.unplaced[request.id] = request
 
-    def walk(self, request: Request, reply: Reply) -> Iterator[Link]:
-        """The links of a route in the base as it is now."""
+    def walk(self, request: Request, reply: Reply, out: Container[Key] = ()) -> Iterator[Link]:
+        """The links of a route in the base as it is now, of which some are out in both directions."""
         at, any_rate = request.head, replace(request, bandwidth=0)
         for count, far in enumerate(reply.fars):
-            links = self.base.usable(at, far, any_rate, count > 0)
+            links = [link for link in self.base.usable(at, far, any_rate, count > 0) if link.key not in out]
+            if len(links) > 1:
+                raise Refused(f"{links[0].neighbor} and {links[1].neighbor} have the same address {far}, seen from {at}")
             if not links:
                 raise Refused(f"the base has no link from {at} to {far}: these aren't the lines of this book")
             yield links[0]
@@ -120,3 +123,15 @@ def follow(rows: bytes, lines: list[str]) -> Book:
             raise Refused(f"row {number} has no line: these aren't the lines of this book")
     book.refused += [line for line in rest() if not line.startswith("version ")]
     return book
+
+
+def read_rows(paths: list[str]) -> bytes:
+    """The rows of some files, one after the other; - is standard input. A file whose last row has no line feed gets one."""
+    parts = []
+    for path in paths:
+        if path == "-":
+            parts.append(sys.stdin.buffer.read())
+        else:
+            with open(path, "rb") as file:
+                parts.append(file.read())
+    return b"".join(part if not part or part.endswith(b"\n") else part + b"\n" for part in parts)

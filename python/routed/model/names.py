@@ -6,9 +6,10 @@ import os
 import re
 from collections.abc import Iterator
 
-from .rows import Refused, is_address
+from .rows import ADDRESS, Refused, is_address
 
 VARIABLE = "ROUTED_NAMES"  # of the environment: the path of the file, where no option names one
+ADDRESSES = re.compile(rf"(?<![\w.]){ADDRESS.pattern}(?!\w|\.\d)")  # in a text
 LIKE_ADDRESS = re.compile(r"[0-9./]*[./][0-9./]*")  # addresses, prefixes, and parts of them
 HELP = ("lines of an address and its name; files of positions (an address, x, y and a name) are read, too. Without this option the file "
         f"that the variable {VARIABLE} names is read")
@@ -47,6 +48,11 @@ class Names:
     def address_of(self, text: str) -> str | None:
         """The address that a name or an address means, None for any other text."""
         return text if is_address(text) else self.addresses.get(" ".join(text.split()))
+
+    def behind(self, text: str) -> str:
+        """A line for people, and behind it the names of its addresses."""
+        named = [self.names[address] for address in dict.fromkeys(ADDRESSES.findall(text)) if address in self.names]
+        return f"{text}  # {', '.join(named)}" if named else text
 
     def __bool__(self) -> bool:
         return bool(self.names)

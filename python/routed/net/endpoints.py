@@ -9,8 +9,9 @@ import pathlib
 import re
 import socket
 import sys
-from collections.abc import Callable, Iterator
+from collections.abc import Callable, Iterator, Sequence
 
+from ..program import PIPE_CLOSED
 from .loop import READ, Loop, Stopped
 from .stream import Stream, write_all
 
@@ -34,9 +35,22 @@ def tried(what: str, hint: str = "") -> Iterator[None]:
 
 def say(*lines: str) -> None:
     """Writes lines to standard output, where there is one."""
+    with tried("standard output: write"):
+        write(lines)
+
+
+def tell(*lines: str) -> None:
+    """The same for a tool that ends, without a word, when nobody reads its lines any more."""
+    with tried("standard output: write"):
+        try:
+            write(lines)
+        except BrokenPipeError:
+            sys.exit(PIPE_CLOSED)
+
+
+def write(lines: Sequence[str]) -> None:
     if sys.stdout:
-        with tried("standard output: write"):
-            write_all(sys.stdout.fileno(), "".join(f"{line}\n" for line in lines).encode())
+        write_all(sys.stdout.fileno(), "".join(f"{line}\n" for line in lines).encode())
 
 
 class Endpoint:

@@ -12,8 +12,10 @@ LSPs. The status is 0 then, 2 where a word of the command line is refused, 3 whe
 import argparse
 from collections.abc import Callable
 
+from ..model.names import NamesRefused, add_names
 from ..net.log import LEVELS, Log
 from ..net.endpoints import Endpoint, Stopped
+from ..program import failed
 from .front import Front
 
 
@@ -35,7 +37,7 @@ def group(text: str) -> int:
 
 def main(given: list[str] | None = None) -> int:
     """Takes the words of a command line, and answers the status."""
-    words = argparse.ArgumentParser(prog="pcep", description=__doc__, formatter_class=argparse.RawDescriptionHelpFormatter)
+    words = argparse.ArgumentParser(prog="routed-tools pcep", description=__doc__, formatter_class=argparse.RawDescriptionHelpFormatter)
     words.add_argument("--ask", required=True, type=Endpoint, metavar="PLACE", help="where listen is asked")
     words.add_argument("--watch", type=Endpoint, metavar="PLACE", help="where listen tells versions")
     words.add_argument("--address", default="127.0.0.1", help="where PCCs connect (127.0.0.1)")
@@ -71,6 +73,7 @@ def main(given: list[str] | None = None) -> int:
                        help="close a session once a request that had no path has one: FRR asks again in a new session alone")
     words.add_argument("--replies", metavar="FOLDER", help="keep requests and reply lines there, as `routed audit` reads them")
     words.add_argument("--metrics", type=Endpoint, metavar="PLACE", help="where figures are read, by HTTP at /metrics")
+    add_names(words)
     words.add_argument("--log-level", choices=LEVELS, default="warning", help="which lines of the log are written (warning)")
     options = words.parse_args(given)
     if options.stateful and not options.watch:
@@ -89,6 +92,8 @@ def main(given: list[str] | None = None) -> int:
         words.error("--initiate needs --stateful, and --reopen needs --watch")
     try:
         return Front(options).run()
+    except NamesRefused as fault:
+        return failed("pcep", fault, 2)
     except (Stopped, OSError) as fault:
         Log("pcep", options.log_level).say("error", str(fault))
         return 3

@@ -9,6 +9,7 @@ from collections.abc import Callable, Iterable, Sequence
 from .. import program
 from ..front import processes
 from ..front.metrics import Figures
+from ..model.names import Names
 from ..net.endpoints import BACKLOG, Door, say, tried
 from ..net.http import Page
 from ..net.log import Log
@@ -45,6 +46,7 @@ class Front:
 
     def __init__(self, options: Namespace):
         self.options, self.loop, self.log = options, Loop(self.failed), Log("pcep", options.log_level)
+        self.names = Names.read(options.names)
         self.clock: Callable[[], float] = time.monotonic
         self.sids: Sids | None = Sids(options.sids) if options.sids else None
         self.network = Network(options.journal, self.say)
@@ -68,6 +70,8 @@ class Front:
                       lambda: self.census.lost)
         figures.gauge("routed_pcep_lsps_at_fault", "Delegated LSPs that aren't as they should be, by what is wrong.",
                       lambda: self.census.faults, "fault")
+        figures.gauge("routed_pcep_lsps_of_pcc", "Delegated LSPs, by the address of the PCC whose session is up.",
+                      lambda: self.census.by_pcc, "pcc")
         figures.gauge("routed_pcep_connected", "Whether the server is there.", lambda: not self.is_away)
         figures.gauge("routed_pcep_journal_followed", "Whether the journal yields the server's answers.",
                       lambda: None if self.network.tail is None else not self.network.is_doubted)
@@ -90,7 +94,7 @@ class Front:
         take_signals(self.loop, (signal.SIGTERM, signal.SIGINT, signal.SIGHUP), self.signalled)
 
     def say(self, level: str, text: str) -> None:
-        self.log.say(level, text)
+        self.log.say(level, self.names.behind(text))
 
     def count(self, what: str, value: str) -> None:
         name = f"routed_pcep_{what}_total"

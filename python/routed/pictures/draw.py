@@ -241,7 +241,7 @@ def network_picture(title: str, database: Database, places: Places, names: Names
 
 
 def options(words: list[str] | None) -> argparse.Namespace:
-    asked = argparse.ArgumentParser(prog="draw", description=__doc__.split("\n\n")[0])
+    asked = argparse.ArgumentParser(prog="routed-tools draw", description=__doc__.split("\n\n")[0])
     asked.add_argument("rows", help="the file of rows or the journal")
     asked.add_argument("--version", type=number("version", 0), metavar="N", help="the network after batch N, by default the last")
     asked.add_argument("--replies", metavar="FILE", help="reply lines of routed, or the lines of a book")

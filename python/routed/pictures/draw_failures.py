@@ -13,7 +13,7 @@ from collections.abc import Iterable
 from ..model.advice import format_of
 from ..model.rows import Refused
 from ..program import failed
-from ..sweep.swept import Failure, Overbooked, failures, overbooked_before
+from ..sweep.swept import Failure, Overbooked, failures, overbooked_before, plain
 from . import positions, shapes
 from .canvas import BLUE, GRAY, ORANGE, RED, Note, fit, picture, text_in
 from .labels import SMALL, Sheet, Wanted, box_of
@@ -122,7 +122,8 @@ def by_circuit(found: list[Failure], before: dict[str, list[Overbooked]]) -> Ove
 
 def main(words: list[str] | None = None) -> int:
     """Takes the words of a command line, and answers the status."""
-    asked = argparse.ArgumentParser(prog="draw-failures", description=__doc__, formatter_class=argparse.RawDescriptionHelpFormatter)
+    asked = argparse.ArgumentParser(prog="routed-tools draw-failures", description=__doc__,
+                                    formatter_class=argparse.RawDescriptionHelpFormatter)
     positions.add_options(asked)
     asked.add_argument("--title", default="Failures of circuits")
     given = asked.parse_args(words)
@@ -130,7 +131,7 @@ def main(words: list[str] | None = None) -> int:
         data = sys.stdin.buffer.read()
         if told := format_of(data):
             return failed("draw-failures", f"standard input can't be a sweep: {told}")
-        lines = data.decode(errors="replace").splitlines()
+        lines = [plain(line) for line in data.decode(errors="replace").splitlines()]
         try:
             found = failures(lines)
         except ValueError as fault:

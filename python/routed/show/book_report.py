@@ -15,18 +15,17 @@ from __future__ import annotations
 import argparse
 import collections
 import json
-import subprocess
-import sys
 from collections.abc import Iterator
 from typing import Any
 
 from .. import program
-from ..model.books import PRIORITIES, Book, Placement, follow, left_of
+from ..model.books import PRIORITIES, Book, Placement, follow, left_of, read_rows
 from ..model.names import Names, add_names
 from ..model.rows import Refused, rank
 from ..model.units import rate_of, rate_text
-from ..net.endpoints import say
+from ..net.endpoints import tell
 from ..net.loop import Stopped
+from ..sweep import solving
 from ..tables import table
 
 NOTHING = [0] * PRIORITIES
@@ -88,37 +87,22 @@ class Report:
                            rate_text(it["left"][at]), it["tunnels"], "over" if it["over"] else ""] for it in self.links()])
 
 
-def read(paths: list[str]) -> bytes:
-    """The rows of some files, one after the other. A file whose last row has no line feed gets one."""
-    parts = []
-    for path in paths:
-        if path == "-":
-            parts.append(sys.stdin.buffer.read())
-        else:
-            with open(path, "rb") as file:
-                parts.append(file.read())
-    return b"".join(part if not part or part.endswith(b"\n") else part + b"\n" for part in parts)
-
-
 def run(asked: argparse.Namespace) -> int:
     """Runs the book, and prints its tables."""
-    names, below, rows = Names.read(asked.names), None if asked.below is None else rate_of(asked.below), read(asked.book)
+    names, below, rows = Names.read(asked.names), None if asked.below is None else rate_of(asked.below), read_rows(asked.book)
     path = program.find(asked.program)
     try:
-        ran = subprocess.run([path, "book", "--explain"], input=rows, capture_output=True)
-    except OSError as fault:
-        raise Stopped(f"{path}: {fault.strerror}{program.hint(path)}") from None
-    if ran.returncode not in (0, 2):
-        raise Stopped(f"{path} ended with status {ran.returncode}: {ran.stderr.decode(errors='replace').strip()}")
-    book = follow(rows, ran.stdout.decode(errors="replace").splitlines())
+        book = follow(rows, solving.run(path, ["book"], rows, may_refuse=True))
+    except solving.Stopped as fault:
+        raise Stopped(f"{fault}{program.hint(path)}") from None
     report = Report(book, names, asked.priority, below)
     if asked.json:
-        say(json.dumps({"version": book.version, "tunnels": report.tunnels(), "links": report.links()}, ensure_ascii=False))
+        tell(json.dumps({"version": book.version, "tunnels": report.tunnels(), "links": report.links()}, ensure_ascii=False))
     else:
-        say(*report.lines())
-    if ran.returncode:
+        tell(*report.lines())
+    if book.refused:
         more = f", and {len(book.refused) - 1} more" if len(book.refused) > 1 else ""
-        return program.failed("book-report", f"{book.refused[0]}{more}", ran.returncode)
+        return program.failed("book-report", f"{book.refused[0]}{more}", 2)
     return 0
 
 
@@ -142,5 +126,3 @@ def main(given: list[str] | None = None) -> int:
         return program.failed("book-report", fault, 3)
     except OSError as fault:
         return program.failed("book-report", f"{fault.filename}: {fault.strerror}")
-    except KeyboardInterrupt:
-        return 130

@@ -29,7 +29,7 @@ from ..model.journals import read_snapshot
 from ..model.names import Names, add_names
 from ..model.rows import Link, Refused, rank
 from ..model.units import rate_of, rate_text
-from ..net.endpoints import Endpoint, say
+from ..net.endpoints import Endpoint, tell
 from ..net.loop import Stopped
 from ..program import failed
 from ..tables import table
@@ -181,7 +181,7 @@ def main(given: list[str] | None = None) -> int:
     """Takes the words of a command line, and answers the status."""
     asked = parser().parse_args(given)
     try:
-        say(*shown(asked))
+        tell(*shown(asked))
     except Refused as fault:
         return failed("show", fault, 2)
     except Stopped as fault:
@@ -189,6 +189,4 @@ def main(given: list[str] | None = None) -> int:
     except (OSError, UnicodeError) as fault:
         where = getattr(fault, "filename", None) or asked.place.text
         return failed("show", f"{where}: {getattr(fault, 'strerror', '') or fault}", advice=of_place(fault))
-    except KeyboardInterrupt:
-        return 130
     return 0

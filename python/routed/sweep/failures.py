@@ -26,12 +26,15 @@ from typing import NamedTuple
 from ..model.database import Database
 from ..model.journals import read_database, records
 from ..model.rows import Key, Link, Refused, Reply, Request, rank, value
+from .ranking import REQUESTS
 from .solving import MOST_ASKS, Question, Solve, Stopped, run
 
 NOTHING = (0,) * 8  # asked of a link, by priority
 
 Ask = Callable[[dict[Key, Link], list[int]], list[str]]  # what a program says of some requests, by their indexes, without some links
-Outcome = tuple[str, list[int], list[int], int]
+# The text of a scenario, the indexes of the requests that are lost and of those that get another route, how many links have too little,
+# and what is asked of each link of which something else is asked than before.
+Outcome = tuple[str, list[int], list[int], int, dict[Key, int]]
 Outcomes = Generator[Outcome | Exception, None, None]
 
 
@@ -45,11 +48,14 @@ Answer = NamedTuple("Answer", [("why", str | None), ("cost", int | None), ("walk
 class Network:
     """The last version of a journal, with requests and their answers, which every scenario is compared with."""
 
+    words = REQUESTS
+
     def __init__(self, program: str, workers: int, journal: bytes, requests: bytes) -> None:
         self.program = program
         journal += b"\n"  # the last row may be without one, and an empty line is no row
         lines = self.run_batch(journal, requests, workers)
         self.requests = read_requests(requests)
+        self.unplaced: list[Request] = []  # in a book alone
         self.version = len(lines) - len(self.requests)
         self.rows = run(program, ["snapshot", "--journal", "/dev/stdin"], journal)  # short, however long the journal is
         self.database = read_database("\n".join(self.rows).encode())
@@ -131,6 +137,14 @@ class Network:
             above += asked
         return found
 
+    def asked(self) -> dict[Key, int]:
+        """What all requests with a route ask of each link."""
+        return {key: sum(load) for key, load in self.loads.items()}
+
+    def touches(self, part: Part) -> bool:
+        """All failures are tried."""
+        return True
+
     def before(self) -> list[str]:
         """The network's own lines, those before anything is out."""
         facts = [text for found in self.full.values() for _, text in found.values()]
@@ -174,8 +188,8 @@ class Network:
             self.idle.pop().close()
 
     def outcome(self, place: int, parts: Iterable[Part], ask: Ask | None = None) -> Outcome | Exception:
-        """The text of a scenario in which these parts are out, the indexes of the requests that are lost and of those that get longer,
-        and how many links are overbooked that weren't, or more than they were; else the fault."""
+        """What happens in a scenario in which these parts are out; else the fault. A link has too little where it is overbooked and
+        wasn't, or is so by more."""
         links, indexes = self.question(parts)
         try:
             texts = (ask or self.ask)(links, indexes) if indexes else []
@@ -203,7 +217,8 @@ class Network:
             before = self.full.get(key, {})
             facts += [text for priority, (taken, text) in self.overbooked(key, loads[key]).items() if taken > before.get(priority, (0,))[0]]
         said += [*facts, f"lost={len(lost)} longer={len(longer)} most={most} overbooked={len(facts)}"]
-        return "\n".join(f"scenario {place} {line}" for line in said), lost, list(longer), len(facts)
+        text = "\n".join(f"scenario {place} {line}" for line in said)
+        return text, lost, list(longer), len(facts), {key: sum(load) for key, load in loads.items()}
 
 
 def read_requests(rows: bytes) -> list[Request]:

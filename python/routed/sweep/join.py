@@ -1,8 +1,8 @@
 """Makes one sweep of the parts of one: what `routed-tools sweep --part I/N` prints for I from 1 to N, one after the other.
 
-They come from the files that are named, else from standard input. Standard output is, byte for byte, what the sweep of all
-scenarios prints. All parts have to be there, whole, in order, and of one network. Otherwise one line on standard error says what
-is wrong, and the status is 1.
+They come from the files that are named, else from standard input. Names behind the lines are left out. Standard output is, byte for
+byte, what the sweep of all scenarios prints with the same names. All parts have to be there, whole, in order, and of one network.
+Otherwise one line on standard error says what is wrong, and the status is 1.
 """
 from __future__ import annotations
 
@@ -14,10 +14,12 @@ import sys
 from collections.abc import Iterable, Iterator
 from typing import NamedTuple
 
+from ..model.names import Names, NamesRefused, add_names
 from ..model.rows import Refused
 from ..program import failed
 from .ranking import LINE, MOST, Ranking
-from .swept import COUNTS, REQUEST
+from .swept import COUNTS, REQUEST, plain
+from .telling import in_lines
 
 LAST = re.compile(r"part (\d+)/(\d+) input=([0-9a-f]{16}) scenarios=(\d+) lost=(\d+) longer=(\d+) overbooked=(\d+)")
 SCENARIO = re.compile(r"scenario \d+ .*")
@@ -88,13 +90,18 @@ def join(lines: Iterable[str]) -> Iterator[str]:
 
 def main(words: list[str] | None = None) -> int:
     """Takes the words of a command line, and answers the status."""
-    asked = argparse.ArgumentParser(prog="join", description=__doc__, formatter_class=argparse.RawDescriptionHelpFormatter)
+    asked = argparse.ArgumentParser(prog="routed-tools join", description=__doc__, formatter_class=argparse.RawDescriptionHelpFormatter)
     asked.add_argument("files", nargs="*", metavar="FILE")
+    add_names(asked)
+    given = asked.parse_args(words)
     try:
-        with fileinput.input(asked.parse_args(words).files, encoding="utf-8") as lines:
-            for line in join(line.rstrip("\r\n") for line in lines):
-                print(line)
+        names = Names.read(given.names)
+        with fileinput.input(given.files, encoding="utf-8") as lines:
+            for text in in_lines(join(plain(line.rstrip("\r\n")) for line in lines), names):
+                print(text, end="")
         sys.stdout.flush()
+    except NamesRefused as fault:
+        return failed("join", fault)
     except Refused as fault:
         return failed("join", fault, advice="give what sweep --part I/N printed, for I from 1 to N")
     except UnicodeError:

@@ -25,14 +25,17 @@ def ended(program: str, status: int, lines: list[str]) -> Stopped:
     return Stopped(f"{program} {how}" + "".join(f": {line}" for line in said[-1:]))
 
 
-def run(program: str, words: list[str], data: bytes, pass_fds: Sequence[int] = ()) -> list[str]:
-    """The lines that a run of the program over this standard input writes."""
+def run(program: str, words: list[str], data: bytes, pass_fds: Sequence[int] = (), may_refuse: bool = False) -> list[str]:
+    """The lines that a run of the program over this standard input writes. Where it has refused something, its last line is raised,
+    unless the caller takes refusals."""
     try:
         ran = subprocess.run([program, *words, "--explain"], input=data, capture_output=True, pass_fds=pass_fds)
     except OSError as fault:
         raise Stopped(f"{program}: {fault.strerror}") from None
     lines = ran.stdout.decode(errors="replace").splitlines()
     if ran.returncode == 2 and lines:
+        if may_refuse:
+            return lines
         raise Refused(lines[-1])
     if ran.returncode != 0:
         raise ended(program, ran.returncode, ran.stderr.decode(errors="replace").splitlines())

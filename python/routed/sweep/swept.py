@@ -12,6 +12,12 @@ OVERBOOKED = re.compile(r"(?:before|scenario (\d+)) overbooked (\S+ \S+ \S+ \S+)
 COUNTS = re.compile(r"scenario (\d+) lost=(\d+) longer=(\d+) most=\d+ overbooked=\d+")
 WHOLE = re.compile(r"scenarios=(\d+) lost=\d+ longer=\d+ overbooked=\d+")
 
+
+def plain(line: str) -> str:
+    """A line without the names behind it."""
+    return line.partition("  # ")[0]
+
+
 class Overbooked(NamedTuple):
     """A link's setup priority, what is asked of it at that priority and above, and what it has unreserved."""
 

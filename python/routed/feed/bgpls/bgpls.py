@@ -130,7 +130,7 @@ def place(text: str) -> Endpoint:
 
 def main(words: list[str] | None = None) -> int:
     """Takes the words of a command line, and answers the status."""
-    asked = argparse.ArgumentParser(prog="bgpls", description=__doc__.split("\n\n")[0])
+    asked = argparse.ArgumentParser(prog="routed-tools feed bgpls", description=__doc__.split("\n\n")[0])
     asked.add_argument("--peer", type=place, required=True, metavar="ADDRESS[:PORT]", help="the router or route reflector (port 179)")
     asked.add_argument("--as", type=number("number", 1, 2**32 - 1), required=True, dest="number", metavar="N", help="the feed's own AS")
     asked.add_argument("--peer-as", type=number("number", 1, 2**32 - 1), metavar="N", help="the peer's AS, if it is another one")

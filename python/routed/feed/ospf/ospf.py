@@ -96,7 +96,7 @@ def sockets(router: str, port: int) -> list[socket.socket]:
 
 def main(words: list[str] | None = None) -> int:
     """Takes the words of a command line, and answers the status."""
-    asked = argparse.ArgumentParser(prog="ospf", description=__doc__.split("\n\n")[0],
+    asked = argparse.ArgumentParser(prog="routed-tools feed", description=__doc__.split("\n\n")[0],
                                     epilog="routed-tools feed bgpls --help has the options of the feed by BGP-LS.")
     asked.add_argument("--router", type=host, default="127.0.0.1", metavar="ADDRESS", help="where the router's OSPF API is")
     asked.add_argument("--port", type=number("number", 1, 65535), default=2607)
