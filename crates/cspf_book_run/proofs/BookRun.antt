@@ -1,80 +1,226 @@
--- How the code's answers give the lines and the summary of a run of a book, and how a run is
--- stopped by an error.
-use Rattle.std.proofs.Common.{◌≡◌, ◌≢◌, ℕ, suc, ◌+◌, ◌<◌, ◌≤◌, Bool, true, false, List, [], ◌∷◌, ◌++◌, take, length, length-append, Option, Some, None, IfSome, Result, Ok, Err, IfOk, IfErr, OnOk, inl, inr, refl, sym, ap, subst, ◌∙◌, append-nil, arith}
+-- How the answers of the code make up the lines and the summary of a run of a book, and how such a
+-- run stops.
+use Rattle.std.proofs.Common.{◌≡◌, ℕ, suc, ◌+◌, ◌<◌, Bool, true, List, [], ◌∷◌, ◌++◌, take, length, Option, Some, None, IfSome, inl, inr, refl, sym, ap, subst, ◌∙◌, append_assoc, append-nil, arith}
 use Rattle.std.proofs.KnownBytes.{Appends-nil, Appends-trans, Appends-kept}
-use Rattle.std.proofs.lemmas.Bool.{false≢true}
-use Rattle.std.proofs.lemmas.List.{length-take-le}
 use Rattle.std.specs.Io.KnownBytes.{Appends}
 use Rattle.cspf_rows.specs.Records.{rows_of}
-use Rattle.cspf_stream.specs.FirstRows.{AreFirstRowsAnswered, HasMoreRows, StopsAfterRows, StopsInRowAfter, IsStoppedAfter}
-use Rattle.cspf_stream.specs.RowAnswers.{AreAnswered}
-use Rattle.cspf_stream.specs.StreamStops.{NeverFails}
-use Rattle.cspf_stream.specs.declared.error.StreamError.TheVariants as stream_error
-use Rattle.cspf_stream.specs.declared.error.StreamStop.{StreamStop}
-use Rattle.cspf_stream.specs.declared.error.StreamStop.TheVariants as stop
-use Rattle.cspf_solve.specs.SolverStates.{IsPast, IsEndCut}
-use Rattle.cspf_solve.specs.Script.{last_line}
+use Rattle.cspf_stream.specs.RowAnswers.{AnswersOf, AreAnswered}
+use Rattle.cspf_stream.specs.Runs.{IsPrefixAnswered, HasRun, FailsAtRow, IsRunStopped}
+use Rattle.cspf_stream.specs.Runs as run
+use Rattle.cspf_stream.specs.declared.error.RunStop.{RunStop}
+use Rattle.cspf_stream.specs.declared.error.RunStop.TheVariants as run_stop
+use Rattle.cspf_stream.proofs.Running.{carried}
 use Rattle.cspf_solve.specs.declared.summary.Summary.{Summary}
-use Rattle.cspf_solve.specs.declared.error.SolveError.{SolveError}
 use Rattle.cspf_solve.specs.declared.error.SolveError.TheVariants as run_error
-use Rattle.cspf_solve.proofs.SolveRun.{rows_read}
-use Rattle.cspf_book_run.specs.declared.book_rows.BookRows.{BookRows}
 use Rattle.cspf_book_run.specs.declared.kept_rows.KeptRows.{KeptRows}
 use Rattle.cspf_book_run.specs.declared.error.BookError.{BookError}
 use Rattle.cspf_book_run.specs.declared.error.BookError.TheVariants as book_error
 use Rattle.cspf_book_run.specs.BookScript.{BookRunState, book_start, book_answers, AreBookRowsAnswered, IsBookRun, book_summary_of}
-use Rattle.cspf_book_run.specs.BookOutput.{IsBookBegun, IsNextBookText}
+use Rattle.cspf_book_run.specs.BookOutput.{AreFirstBookRows, IsBookBegun, IsNextBookText, IsBookOutputAtError, book_error_of}
 use Rattle.cspf_book_run.specs.BookStates.{KeepsBook, IsBookBefore, AreBookCounts}
-use Rattle.cspf_book_run.specs.BookRowsEnds.{Written, HasRunBook, IsBookHalted, IsBookRowsEnd, IsBookEndCut, book_end}
 use Rattle.cspf_book_run.specs.Kept.{kept_answers, kept_of, AreBookRowsKept, IsKeptText}
-use Rattle.cspf_book_run.specs.KeptStates.{IsRowKept, IsRowNotKept}
+use Rattle.cspf_book_run.specs.KeptStates.{IsRowKept, IsRowNotKept, IsBookLast}
 
 abbrev Rows : Type 0
 Rows = List (List (List ℕ))
 
--- The code answers these rows one after the other. This takes the code from the state `k` to the
--- state `k'`.
-pub record IsCarried {K : Type 0} (contents : K → Option (List ℕ)) (place : ℕ) (k k' : KeptRows K) (s : BookRunState) (rows : List (List (List ℕ))) (lines : List ℕ) : Type 0 where
-  pub after : BookRunState
-  pub kept : KeepsBook k'.rows after
-  pub answered : AreAnswered book_answers place s rows lines after
-  pub text : List ℕ
-  pub texts : AreAnswered kept_answers place s rows text after
-  pub written : Appends (contents k.keep) (contents k'.keep) text
-  pub read : k'.rows.read ≡ k.rows.read + length rows
-  pub answers : k'.rows.answers ≤ k.rows.answers + length rows
-  pub refused : k'.rows.refused ≤ k.rows.refused + length rows
+-- the state of a run, and the text that went to the accepted rows' writer `keep` so far
+record KeptState : Type 0 where
+  state : BookRunState
+  keep : List ℕ
 
-carried : {K : Type 0} (contents : K → Option (List ℕ)) (place : ℕ) (k k' : KeptRows K) (s : BookRunState) (rows : Rows) (lines : List ℕ)
-    → KeepsBook k.rows s → AreAnswered (IsRowKept contents) place k rows lines k' → IsCarried contents place k k' s rows lines
+abbrev KeptAnswers : AnswersOf KeptState
+KeptAnswers place s fields line t = book_answers place s.state fields line t.state × (t.keep ≡ s.keep ++ kept_of s.state fields t.state)
+
+-- the rows are answered, and their text goes to the accepted rows' writer `keep`
+all_rows : (place : ℕ) (s t : KeptState) (rows : Rows) (lines : List ℕ) → AreAnswered KeptAnswers place s rows lines t
+    → AreAnswered book_answers place s.state rows lines t.state × ((text : List ℕ) × AreAnswered kept_answers place s.state rows text t.state × (t.keep ≡ s.keep ++ text))
 unfolding AreAnswered
-carried {K} contents place k k' s [] lines kept a = record {
-  after = s;
-  kept = subst (λ (x : KeptRows K). KeepsBook x.rows s) (sym a.1) kept;
-  answered = (a.0, refl);
-  text = [];
-  texts = (refl, refl);
-  written = subst (λ (x : KeptRows K). Appends (contents k.keep) (contents x.keep) []) (sym a.1) (Appends-nil (contents k.keep));
-  read = ap (λ (x : KeptRows K). x.rows.read) a.1 ∙ omega arith;
-  answers = omega (arith, ap (λ (x : KeptRows K). x.rows.answers) a.1);
-  refused = omega (arith, ap (λ (x : KeptRows K). x.rows.refused) a.1);
-}
-carried contents place k k' s (fields ∷ rows) lines kept a =
-    let row = a.3 in
-    let step = row.answered.lead s kept in
-    let counts = row.answered.counts in
-    let rest = carried contents (suc place) a.1 k' step.0 rows a.2 step.1 a.5 in
-    record {
-      after = rest.after;
-      kept = rest.kept;
-      answered = (a.0, step.0, a.2, step.2, a.4, rest.answered);
-      text = row.text ++ rest.text;
-      texts = (row.text, step.0, rest.text, (a.0, step.2, step.3), refl, rest.texts);
-      written = Appends-trans (contents k.keep) (contents a.1.keep) (contents k'.keep) row.text rest.text row.written rest.written;
-      read = omega (arith, counts.rows, rest.read);
-      answers = omega (arith, counts.answers, rest.answers);
-      refused = omega (arith, counts.refused, rest.refused);
-    }
+all_rows place s t [] lines a =
+    let same : t.state ≡ s.state = ap (λ (x : KeptState). x.state) a.1 in
+    ((a.0, same), ([], (refl, same), ap (λ (x : KeptState). x.keep) a.1 ∙ sym (append-nil s.keep)))
+all_rows place s t (fields ∷ rows) lines a =
+    let text = kept_of s.state fields a.1.state in
+    let rest = all_rows (suc place) a.1 t rows a.2 a.5 in (
+      (a.0, a.1.state, a.2, a.3.0, a.4, rest.0),
+      (
+        text ++ rest.1.0,
+        (text, a.1.state, rest.1.0, (a.0, a.3.0, refl), refl, rest.1.1),
+        rest.1.2 ∙ ap (λ x. x ++ rest.1.0) a.3.1 ∙ append_assoc s.keep text rest.1.0,
+      ),
+    )
+
+module _ {K : Type 0} (contents : K → Option (List ℕ)) (k : KeptRows K) (fresh : KeepsBook k.rows book_start) (first : IsBookBefore 1 k.rows) where
+  -- before the row with this number the code is in this state of the run
+  record IsBookAt (place : ℕ) (b : KeptRows K) (s : KeptState) : Type 0 where
+    kept : KeepsBook b.rows s.state
+    before : IsBookBefore place b.rows
+    written : Appends (contents k.keep) (contents b.keep) s.keep
+
+  one_row : (place : ℕ) (b b' : KeptRows K) (s : KeptState) (fields : List (List ℕ)) (line : List ℕ) → IsBookAt place b s → IsRowKept contents place b fields line b'
+      → (t : KeptState) × IsBookAt (suc place) b' t × KeptAnswers place s fields line t
+  one_row place b b' s fields line at a =
+      let led = a.answered.lead s.state at.kept in
+      let counts = a.answered.counts in
+      let before : IsBookBefore (suc place) b'.rows = record {
+        rows = omega (arith, at.before.rows, counts.rows);
+        count = omega (arith, at.before.count, counts.count);
+        answers = omega (arith, at.before.answers, counts.answers);
+        refused = omega (arith, at.before.refused, counts.refused);
+      } in (
+        record { state = led.0; keep = s.keep ++ a.text },
+        record { kept = led.1; before = before; written = Appends-trans (contents k.keep) (contents b.keep) (contents b'.keep) s.keep a.text at.written a.written },
+        (led.2, ap (λ x. s.keep ++ x) led.3),
+      )
+
+  led : (b : KeptRows K) (done : Rows) (lines : List ℕ) → AreAnswered (IsRowKept contents) 1 k done lines b
+      → (t : KeptState) × IsBookAt (1 + length done) b t × AreBookRowsAnswered done lines t.state × AreBookRowsKept done t.keep t.state
+  led b done lines a =
+      let start : KeptState = record { state = book_start; keep = [] } in
+      let c = carried (IsRowKept contents) KeptAnswers IsBookAt one_row 1 k b start done lines (record { kept = fresh; before = first; written = Appends-nil (contents k.keep) }) a in
+      let both = all_rows 1 start c.0 done lines c.2 in
+      (c.0, c.1, both.0, rw both.1.2 both.1.1)
+
+  pub counted_run : (too_many : Bool) (all : Option (List (List (List ℕ)))) (b : KeptRows K) (old new : Option (List ℕ)) → HasRun (IsRowKept contents) IsBookLast 1000000 too_many all k b old new → AreBookCounts b.rows
+  counted_run too_many all b old new run =
+      let before = (led b run.done run.lines run.answered).1.before in
+      record {
+        rows = omega (arith, before.rows, run.few);
+        answers = omega (arith, before.answers, run.few);
+        refused = omega (arith, before.refused, run.few);
+      }
+
+  -- the lines and the summary of a run that ends
+  pub run_ends : (too_many : Bool) (all : Option (List (List (List ℕ)))) (b : KeptRows K) (old new : Option (List ℕ)) (summary : Summary) → HasRun (IsRowKept contents) IsBookLast 1000000 too_many all k b old new
+      → ((s : BookRunState) → KeepsBook b.rows s → summary ≡ book_summary_of b.rows.read s too_many)
+      → IfSome all (λ rows. (lines : List ℕ) × IsBookRun rows lines summary × Appends old new lines)
+  run_ends too_many None b old new summary run is = tt
+  run_ends too_many (Some rows) b old new summary run is =
+      let c = led b run.done run.lines run.answered in
+      let read : b.rows.read ≡ length run.done = omega (arith, c.1.before.rows) in (
+        run.lines ++ run.text,
+        record {
+          replies = run.lines;
+          after = c.0.state;
+          answered = rw run.first.0 c.2;
+          whole = rw (run.first.1, run.ends c.0.state c.1.kept) refl;
+          counts = is c.0.state c.1.kept ∙ ap (λ n. book_summary_of n c.0.state too_many) read ∙ rw (run.first.0, run.first.1) refl;
+        },
+        run.written,
+      )
+
+  -- the text that goes to the accepted rows' writer `keep` in a run that ends
+  pub run_keeps : (too_many : Bool) (all : Option (List (List (List ℕ)))) (b : KeptRows K) (old new : Option (List ℕ)) → HasRun (IsRowKept contents) IsBookLast 1000000 too_many all k b old new
+      → IfSome all (λ rows. (text : List ℕ) × IsKeptText rows text × Appends (contents k.keep) (contents b.keep) text)
+  run_keeps too_many None b old new run = tt
+  run_keeps too_many (Some rows) b old new run =
+      let c = led b run.done run.lines run.answered in
+      (c.0.keep, (c.0.state, rw run.first.0 c.3), c.1.written)
+
+  begun : (b : KeptRows K) (rows : Rows) (old new : Option (List ℕ)) (a : IsPrefixAnswered (IsRowKept contents) 1000000 (Some rows) k b old new)
+      → (t : KeptState) × IsBookAt (1 + length a.done) b t × AreFirstBookRows rows a.done a.rest a.lines t.state × AreBookRowsKept a.done t.keep t.state
+  begun b rows old new a =
+      let c = led b a.done a.lines a.answered in
+      (c.0, c.1, record { split = a.split; few = a.few; answered = c.2 }, c.3)
+
+  abbrev IsHalted : BookError → Option Rows → Option (List ℕ) → Option (List ℕ) → Option (List ℕ) → Type 0
+  IsHalted error all old new keep =
+      IfSome all (λ rows. (out : List ℕ) × (kept : List ℕ) × IsBookOutputAtError error rows out kept × Appends old new out × Appends (contents k.keep) keep kept)
+
+  by_rows : (b : KeptRows K) (all : Option Rows) (old new keep : Option (List ℕ)) → IsPrefixAnswered (IsRowKept contents) 1000000 all k b old new
+      → ((text : List ℕ) → Appends (contents k.keep) (contents b.keep) text → Appends (contents k.keep) keep text) → IsHalted (book_error.Run run_error.Memory) all old new keep
+  by_rows b None old new keep a kept = tt
+  by_rows b (Some rows) old new keep a kept =
+      let c = begun b rows old new a in
+      (a.lines, c.0.keep, record { done = a.done; rest = a.rest; after = c.0.state; first = c.2; keeps = c.3 }, a.written, kept c.0.keep c.1.written)
+
+  next_text : (place : ℕ) (b b' : KeptRows K) (s : KeptState) (done rest : Rows) (text : List ℕ) → IsBookAt place b s → run.IsNextOutput (IsRowKept contents) IsBookLast 1000000 done b rest text b'
+      → (more : List ℕ) × IsNextBookText done s.state rest text more × Appends (contents b.keep) (contents b'.keep) more
+  next_text place b b' s done [] text at next = ([], (next.0 s.state at.kept, refl), rw next.1 (Appends-nil (contents b.keep)))
+  next_text place b b' s done (fields ∷ rest) text at (inl next) =
+      let row = next.1 in
+      let one = row.answered.lead s.state at.kept in
+      (row.text, inl (next.0, one.0, one.2, one.3), row.written)
+  next_text place b b' s done (fields ∷ rest) text at (inr next) = ([], inr (next.0, next.1 s.state at.kept, refl), rw next.2 (Appends-nil (contents b.keep)))
+
+  -- If the answer to a row fails, memory was refused, or the row's text wasn't written whole to the
+  -- accepted rows' writer `keep`.
+  stops_at_row : (fault : BookError) (all : Option Rows) (b : KeptRows K) (old new : Option (List ℕ)) → FailsAtRow (IsRowKept contents) (IsRowNotKept contents fault) 1000000 all k b old new
+      → IsHalted fault all old new (contents b.keep)
+  stops_at_row (book_error.Run run_error.Memory) all b old new a =
+      by_rows a.before all old new (contents b.keep) a.begun (λ text kept. Appends-kept (contents k.keep) (contents a.before.keep) (contents b.keep) text kept a.failed.0)
+  stops_at_row (book_error.Run run_error.Read) all b old new a = absurd a.failed
+  stops_at_row (book_error.Run (run_error.Write written)) all b old new a = absurd a.failed
+  stops_at_row (book_error.Keep written) None b old new a = tt
+  stops_at_row (book_error.Keep written) (Some rows) b old new a =
+      let r = a.begun in
+      let c = begun a.before rows old new r in
+      let cut = a.failed in
+      let one = cut.3.lead c.0.state c.1.kept in (
+        r.lines,
+        c.0.keep ++ take written cut.1,
+        record {
+          done = r.done;
+          fields = a.fields;
+          rest = a.more;
+          before = c.0.keep;
+          after = c.0.state;
+          first = subst (λ rest. AreFirstBookRows rows r.done rest r.lines c.0.state) a.next c.2;
+          few = a.few;
+          keeps = c.3;
+          line = cut.0;
+          next = one.0;
+          answered = one.2;
+          part = subst (λ (x : List ℕ). written < length x) one.3 cut.4;
+          whole_kept = ap (λ (x : List ℕ). c.0.keep ++ take written x) one.3;
+        },
+        r.written,
+        Appends-trans (contents k.keep) (contents a.before.keep) (contents b.keep) c.0.keep (take written cut.1) c.1.written cut.5,
+      )
+
+  -- the output of a run that stops
+  pub run_stops : (why : RunStop BookError) (all : Option (List (List (List ℕ)))) (failed : Bool) (b : KeptRows K) (old new : Option (List ℕ))
+      → IsRunStopped (IsRowKept contents) (IsRowNotKept contents) IsBookLast 1000000 why all failed k b old new
+      → IfSome all (λ rows. (out : List ℕ) × (kept : List ℕ) × IsBookOutputAtError (book_error_of why) rows out kept × Appends old new out × Appends (contents k.keep) (contents b.keep) kept)
+  run_stops run_stop.Memory all failed b old new a = by_rows b all old new (contents b.keep) a (λ text kept. kept)
+  run_stops run_stop.Read all failed b old new a = by_rows b all old new (contents b.keep) a.1 (λ text kept. kept)
+  run_stops (run_stop.Answer fault) all failed b old new a = stops_at_row fault all b old new a
+  run_stops (run_stop.Write written) None failed b old new a = tt
+  run_stops (run_stop.Write written) (Some rows) failed b old new a =
+      let r = a.begun in
+      let c = begun a.before rows old a.mid r in
+      let next = next_text (1 + length r.done) a.before b c.0 r.done r.rest a.text c.1 a.next in (
+        r.lines ++ take a.size a.text,
+        c.0.keep ++ next.0,
+        (
+          record {
+            done = r.done;
+            rest = r.rest;
+            lines = r.lines;
+            before = c.0.keep;
+            after = c.0.state;
+            first = c.2;
+            keeps = c.3;
+            text = a.text;
+            text_kept = next.0;
+            next = next.1;
+            size = a.size;
+            part = a.part;
+            whole = refl;
+            whole_kept = refl;
+          },
+          a.bytes,
+        ),
+        a.written,
+        Appends-trans (contents k.keep) (contents a.before.keep) (contents b.keep) c.0.keep next.0 c.1.written next.2,
+      )
+
+  pub read_failed : (why : RunStop BookError) (all : Option (List (List (List ℕ)))) (failed : Bool) (b : KeptRows K) (old new : Option (List ℕ))
+      → IsRunStopped (IsRowKept contents) (IsRowNotKept contents) IsBookLast 1000000 why all failed k b old new → book_error_of why ≡ book_error.Run run_error.Read → failed ≡ true
+  read_failed run_stop.Memory all failed b old new a is = absurd (cc is)
+  read_failed run_stop.Read all failed b old new a is = a.0
+  read_failed (run_stop.Write written) all failed b old new a is = absurd (cc is)
+  read_failed (run_stop.Answer fault) all failed b old new a is = absurd (subst (λ (x : BookError). IsRowNotKept contents x (suc (length a.begun.done)) a.before a.fields b) is a.failed)
 
 none_answered : (s : BookRunState) → AreAnswered book_answers 1 s [] [] s
 unfolding AreAnswered
@@ -84,351 +230,8 @@ none_kept : (s : BookRunState) → AreAnswered kept_answers 1 s [] [] s
 unfolding AreAnswered
 none_kept s = (refl, refl)
 
--- ---- the end of the rows
-
-whole_split : (all : Option Rows) (done : Rows) → IfSome all (λ rows. rows ≡ done) → IfSome all (λ rows. rows ≡ done ++ [])
-whole_split None done is = tt
-whole_split (Some all) done is = is ∙ sym (append-nil done)
-
-module _ {K : Type 0} (contents : K → Option (List ℕ)) (all left : Option (List (List (List ℕ)))) (old new : Option (List ℕ)) (k k' : KeptRows K) (bytes : ℕ) (fresh : KeepsBook k.rows book_start) (first : IsBookBefore 1 k.rows) where
-  abbrev both : Written
-  both = record { before = old; after = new; keep_before = contents k.keep; keep_after = contents k'.keep }
-
-  counted : (rows : Rows) (lines : List ℕ) → length rows ≤ 1000000 → IsCarried contents 1 k k' book_start rows lines → AreBookCounts k'.rows
-  counted rows lines few c = record {
-    rows = omega (arith, first.rows, c.read, few);
-    answers = omega (arith, first.answers, c.answers, few);
-    refused = omega (arith, first.refused, c.refused, few);
-  }
-
-  has_run : AreFirstRowsAnswered (IsRowKept contents) 1000000 bytes all k k' old new → HasRunBook all both k'.rows bytes false
-  has_run a =
-      let c = carried contents 1 k k' book_start a.whole.done a.whole.lines fresh a.whole.answered in
-      record {
-        done = a.whole.done;
-        rest = [];
-        state = c.after;
-        out = a.whole.lines;
-        keeps = c.text;
-        answered = c.answered;
-        are_kept = c.texts;
-        kept = c.kept;
-        read = omega (arith, first.rows, c.read);
-        counts = counted a.whole.done a.whole.lines a.few c;
-        text = a.whole.written;
-        keep = c.written;
-        size = a.size;
-        split = whole_split all a.whole.done a.whole.whole;
-        past = (refl, a.few);
-      }
-
-  has_more : HasMoreRows (IsRowKept contents) 1000000 bytes all k k' old new → HasRunBook all both k'.rows bytes true
-  has_more a =
-      let m = a.more in
-      let c = carried contents 1 k k' book_start m.done m.lines fresh m.answered in
-      record {
-        done = m.done;
-        rest = m.fields ∷ m.rest;
-        state = c.after;
-        out = m.lines;
-        keeps = c.text;
-        answered = c.answered;
-        are_kept = c.texts;
-        kept = c.kept;
-        read = omega (arith, first.rows, c.read);
-        counts = counted m.done m.lines (omega (arith, m.count)) c;
-        text = m.written;
-        keep = c.written;
-        size = a.size;
-        split = m.split;
-        past = (omega arith, m.count);
-      }
-
--- The lines of a run over all rows were written, and `summary` is the summary of this run.
-abbrev pub IsBookWritten : Option (List (List (List ℕ))) → Option (List ℕ) → Option (List ℕ) → Summary → Type 0
-IsBookWritten all old new summary = IfSome all (λ rows. (lines : List ℕ) × IsBookRun rows lines summary × Appends old new lines)
-
--- The texts of all accepted rows were written to `keep`, the writer of accepted rows.
-abbrev pub IsBookKept : Option (List (List (List ℕ))) → Option (List ℕ) → Option (List ℕ) → Type 0
-IsBookKept all old new = IfSome all (λ rows. (text : List ℕ) × IsKeptText rows text × Appends old new text)
-
--- The last line was written, and `summary` is the summary of the run.
-abbrev pub IsBookEnded : BookRows → Bool → Option (List ℕ) → Option (List ℕ) → Summary → Type 0
-IsBookEnded k too_many old new summary =
-    (s : BookRunState) → KeepsBook k s → Appends old new (last_line too_many s.changes) × (summary ≡ book_summary_of k.read s too_many)
-
-pub ends : (all : Option (List (List (List ℕ)))) (w : Written) (new : Option (List ℕ)) (k : BookRows) (bytes : ℕ) (too_many : Bool) (summary : Summary)
-    → HasRunBook all w k bytes too_many → IsBookEnded k too_many w.after new summary → IsBookWritten all w.before new summary
-ends None w new k bytes too_many summary run ended = tt
-ends (Some all) w new k bytes too_many summary run ended =
-    let read = rows_read too_many (length run.done) all run.done run.rest run.split refl run.past in
-    let e = ended run.state run.kept in
-    let last = last_line too_many run.state.changes in (
-      run.out ++ last,
-      record {
-        replies = run.out;
-        after = run.state;
-        answered = rw read.0 run.answered;
-        whole = rw read.1 refl;
-        counts = e.1 ∙ rw (read.0, read.1, run.read) refl;
-      },
-      Appends-trans w.before w.after new run.out last run.text e.0,
-    )
-
-pub keeps : (all : Option (List (List (List ℕ)))) (w : Written) (k : BookRows) (bytes : ℕ) (too_many : Bool) → HasRunBook all w k bytes too_many → IsBookKept all w.keep_before w.keep_after
-keeps None w k bytes too_many run = tt
-keeps (Some all) w k bytes too_many run =
-    let read = rows_read too_many (length run.done) all run.done run.rest run.split refl run.past in
-    (run.keeps, (run.state, rw read.0 run.are_kept), run.keep)
-
--- ---- how the run stops
-
--- The rows `done` are a prefix of all rows. They are answered with the lines `out`, and `kept` has
--- the texts of their accepted rows.
-record IsBegun (all : Option (List (List (List ℕ)))) (w : Written) (done rest : List (List (List ℕ))) (s : BookRunState) (out kept : List ℕ) : Type 0 where
-  split : IfSome all (λ rows. rows ≡ done ++ rest)
-  few : length done ≤ 1000000
-  answered : AreBookRowsAnswered done out s
-  keeps : AreBookRowsKept done kept s
-  text : Appends w.before w.after out
-  keep : Appends w.keep_before w.keep_after kept
-
-abbrev IsHaltedByRows : Option Rows → Written → Type 0
-IsHaltedByRows all w = IfSome all (λ rows. (out : List ℕ) × (kept : List ℕ) × IsBookBegun rows out kept × Appends w.before w.after out × Appends w.keep_before w.keep_after kept)
-
-by_rows : (all : Option Rows) (w : Written) (done rest : Rows) (s : BookRunState) (out kept : List ℕ) → IsBegun all w done rest s out kept → IsHaltedByRows all w
-by_rows None w done rest s out kept b = tt
-by_rows (Some all) w done rest s out kept b = (
-  out,
-  kept,
-  record { done = done; rest = rest; after = s; first = record { split = b.split; few = b.few; answered = b.answered }; keeps = b.keeps },
-  b.text,
-  b.keep,
-)
-
-cut_text : (out line : List ℕ) (size written n : ℕ) → length out ≡ written → size < length line → n ≡ written + size → length (out ++ take size line) ≡ n
-cut_text out line size written n is_out part is_n =
-    length-append out (take size line) ∙ rw (length-take-le size line (omega (arith, part)), is_out, is_n) refl
-
--- `text` is the text that is written next: the lines of the next row, or the last line of the run.
--- If a write fails after a part of `text`, the run stops with the error `Write`. `more` is the next
--- row's text for `keep`, the writer of accepted rows.
-cut_off : (all : Option Rows) (w : Written) (new keep_new : Option (List ℕ)) (done rest : Rows) (s : BookRunState) (out kept text more : List ℕ) (size written n : ℕ)
-    → IsBegun all w done rest s out kept → IsNextBookText done s rest text more → size < length text
-    → Appends w.after new (take size text) → Appends w.keep_after keep_new more → length out ≡ written → n ≡ written + size
-    → IsBookHalted all (record { before = w.before; after = new; keep_before = w.keep_before; keep_after = keep_new }) (book_error.Run (run_error.Write n))
-cut_off None w new keep_new done rest s out kept text more size written n b next part here here_kept is_out is_n = tt
-cut_off (Some all) w new keep_new done rest s out kept text more size written n b next part here here_kept is_out is_n = (
-  out ++ take size text,
-  kept ++ more,
-  (
-    record {
-      done = done;
-      rest = rest;
-      lines = out;
-      before = kept;
-      after = s;
-      first = record { split = b.split; few = b.few; answered = b.answered };
-      keeps = b.keeps;
-      text = text;
-      text_kept = more;
-      next = next;
-      size = size;
-      part = part;
-      whole = refl;
-      whole_kept = refl;
-    },
-    cut_text out text size written n is_out part is_n,
-  ),
-  Appends-trans w.before w.after new out (take size text) b.text here,
-  Appends-trans w.keep_before w.keep_after keep_new kept more b.keep here_kept,
-)
-
-in_row_split : (all left : Option Rows) (done rest : Rows) (fields : List (List ℕ)) → IfSome all (λ rows. (rows ≡ done ++ (fields ∷ rest)) × (left ≡ Some rest))
-    → IfSome all (λ rows. rows ≡ done ++ (fields ∷ rest))
-in_row_split None left done rest fields is = tt
-in_row_split (Some all) left done rest fields is = is.0
-
--- If a write to `keep`, the writer of accepted rows, fails after a part of a row's text, the run
--- stops with the error `Keep`.
-keep_off : (all : Option Rows) (w : Written) (keep_new : Option (List ℕ)) (done rest : Rows) (fields : List (List ℕ)) (s next : BookRunState) (out kept line text : List ℕ) (written : ℕ)
-    → IsBegun all w done (fields ∷ rest) s out kept → length done < 1000000 → book_answers (suc (length done)) s fields line next → text ≡ kept_of s fields next
-    → written < length text → Appends w.keep_after keep_new (take written text)
-    → IsBookHalted all (record { before = w.before; after = w.after; keep_before = w.keep_before; keep_after = keep_new }) (book_error.Keep written)
-keep_off None w keep_new done rest fields s next out kept line text written b few answered is part here = tt
-keep_off (Some all) w keep_new done rest fields s next out kept line text written b few answered is part here = (
-  out,
-  kept ++ take written text,
-  record {
-    done = done;
-    fields = fields;
-    rest = rest;
-    before = kept;
-    after = s;
-    first = record { split = b.split; few = b.few; answered = b.answered };
-    few = few;
-    keeps = b.keeps;
-    line = line;
-    next = next;
-    answered = answered;
-    part = subst (λ (x : List ℕ). written < length x) is part;
-    whole_kept = ap (λ (x : List ℕ). kept ++ take written x) is;
-  },
-  b.text,
-  Appends-trans w.keep_before w.keep_after keep_new kept (take written text) b.keep here,
-)
-
-module _ {K : Type 0} (contents : K → Option (List ℕ)) (all left : Option (List (List (List ℕ)))) (old new : Option (List ℕ)) (k k' : KeptRows K) (bytes : ℕ) (fresh : KeepsBook k.rows book_start) (first : IsBookBefore 1 k.rows) where
-  abbrev ends_with : Bool → Result Bool BookError → Type 0
-  ends_with failed r = IsBookRowsEnd all (record { before = old; after = new; keep_before = contents k.keep; keep_after = contents k'.keep }) k'.rows bytes failed r
-
-  -- The rows `done`, which were answered before the run stopped, are a prefix of all rows. `lines`
-  -- answers these rows, and `c.text` has the texts of their accepted rows.
-  before_stop : (mid : KeptRows K) (done rest : Rows) (lines : List ℕ) (at : Option (List ℕ)) → IfSome all (λ rows. rows ≡ done ++ rest) → length done ≤ 1000000
-      → Appends old at lines → (c : IsCarried contents 1 k mid book_start done lines)
-      → IsBegun all (record { before = old; after = at; keep_before = contents k.keep; keep_after = contents mid.keep }) done rest c.after lines c.text
-  before_stop mid done rest lines at split few text c = record { split = split; few = few; answered = c.answered; keeps = c.texts; text = text; keep = c.written }
-
-  between : StopsAfterRows (IsRowKept contents) 1000000 bytes all k k' old new
-      → IsHaltedByRows all (record { before = old; after = new; keep_before = contents k.keep; keep_after = contents k'.keep })
-  between a =
-      let b = a.between in
-      let c = carried contents 1 k k' book_start b.done b.lines fresh b.answered in
-      by_rows all _ b.done b.rest c.after b.lines c.text (before_stop k' b.done b.rest b.lines new b.split a.few b.written c)
-
-  in_answer : (failed : Bool) (fault : BookError) → StopsInRowAfter (IsRowKept contents) (IsRowNotKept contents fault) 1000000 false bytes stream_error.Memory all left k k' old new
-      → ends_with failed (Err fault)
-  in_answer failed (book_error.Run run_error.Memory) a =
-      let c = carried contents 1 k a.before book_start a.done a.lines fresh a.answered in (
-        by_rows all _ a.done (a.fields ∷ a.rest) c.after a.lines c.text (record {
-          split = in_row_split all left a.done a.rest a.fields a.split;
-          few = omega (arith, a.stops.0);
-          answered = c.answered;
-          keeps = c.texts;
-          text = Appends-kept old a.mid new a.lines a.written a.stops.1.1;
-          keep = Appends-kept (contents k.keep) (contents a.before.keep) (contents k'.keep) c.text c.written a.stops.1.0.0;
-        }),
-        λ e. absurd (cc e),
-      )
-  in_answer failed (book_error.Run run_error.Read) a = absurd a.stops.1.0
-  in_answer failed (book_error.Run (run_error.Write n)) a = absurd a.stops.1.0
-  in_answer failed (book_error.Keep written) a =
-      let c = carried contents 1 k a.before book_start a.done a.lines fresh a.answered in
-      let unkept = a.stops.1.0 in
-      let step = unkept.3.lead c.after c.kept in
-      let text = Appends-kept old a.mid new a.lines a.written a.stops.1.1 in (
-        keep_off all (record { before = old; after = new; keep_before = contents k.keep; keep_after = contents a.before.keep }) (contents k'.keep) a.done a.rest a.fields c.after step.0 a.lines c.text unkept.0 unkept.1 written
-            (before_stop a.before a.done (a.fields ∷ a.rest) a.lines new (in_row_split all left a.done a.rest a.fields a.split) (omega (arith, a.stops.0)) text c)
-            a.stops.0 step.2 step.3 unkept.4 unkept.5,
-        λ e. absurd (cc e),
-      )
-
-  at_write : (failed : Bool) → StopsInRowAfter (IsRowKept contents) NeverFails 1000000 false bytes stream_error.Write all left k k' old new
-      → ends_with failed (Err (book_error.Run (run_error.Write bytes)))
-  at_write failed a =
-      let c = carried contents 1 k a.before book_start a.done a.lines fresh a.answered in
-      let cut = a.stops.1 in
-      let row = cut.2 in
-      let step = row.answered.lead c.after c.kept in (
-        cut_off all (record { before = old; after = a.mid; keep_before = contents k.keep; keep_after = contents a.before.keep }) new (contents k'.keep) a.done (a.fields ∷ a.rest) c.after a.lines c.text cut.0 row.text cut.1 (length a.lines) bytes
-            (before_stop a.before a.done (a.fields ∷ a.rest) a.lines a.mid (in_row_split all left a.done a.rest a.fields a.split) (omega (arith, a.stops.0)) a.written c)
-            (inl (a.stops.0, step.0, step.2, step.3)) cut.3 cut.4 row.written refl cut.5,
-        λ e. absurd (cc e),
-      )
-
-  -- A run doesn't flush its writer, so no flush can fail.
-  no_flush : StopsInRowAfter (IsRowKept contents) NeverFails 1000000 false bytes stream_error.Flush all left k k' old new → ⊥
-  no_flush a = false≢true a.stops.1.2
-
-  rows_end : (failed : Bool) (ended : Result (Unit {0}) (StreamStop BookError)) → OnOk ended (AreFirstRowsAnswered (IsRowKept contents) 1000000 bytes all k k' old new)
-      → IfErr ended (λ e. IsStoppedAfter (IsRowKept contents) (IsRowNotKept contents) 1000000 false bytes e all left failed k k' old new)
-      → ends_with failed (book_end bytes ended)
-  rows_end failed (Ok x) whole stopped = has_run contents all left old new k k' bytes fresh first whole
-  rows_end failed (Err (stop.Answer fault)) whole stopped = in_answer failed fault stopped
-  rows_end failed (Err (stop.Stream stream_error.TooManyRows)) whole stopped = has_more contents all left old new k k' bytes fresh first stopped
-  rows_end failed (Err (stop.Stream stream_error.Memory)) whole (inl a) = (between a.1, λ e. absurd (cc e))
-  rows_end failed (Err (stop.Stream stream_error.Memory)) whole (inr a) = absurd a.stops.1.0
-  rows_end failed (Err (stop.Stream stream_error.Read)) whole stopped = (between stopped.1, λ e. stopped.0)
-  rows_end failed (Err (stop.Stream stream_error.Write)) whole stopped = at_write failed stopped
-  rows_end failed (Err (stop.Stream stream_error.Flush)) whole stopped = absurd (no_flush stopped)
-
-  pub rows_end_at : (failed : Bool) (limit : ℕ) (ended : Result (Unit {0}) (StreamStop BookError)) (r : Result Bool BookError) → limit ≡ 1000000
-      → OnOk ended (AreFirstRowsAnswered (IsRowKept contents) limit bytes all k k' old new)
-      → IfErr ended (λ e. IsStoppedAfter (IsRowKept contents) (IsRowNotKept contents) limit false bytes e all left failed k k' old new)
-      → book_end bytes ended ≡ r
-      → IsBookRowsEnd all (record { before = old; after = new; keep_before = contents k.keep; keep_after = contents k'.keep }) k'.rows bytes failed r
-  rows_end_at failed limit ended r most whole stopped is =
-      subst (ends_with failed) is (rows_end failed ended (rw most at whole) (rw most at stopped))
-
-end_next : (done rest : Rows) (s : BookRunState) (too_many : Bool) → IsPast too_many (length done) rest → IsNextBookText done s rest (last_line too_many s.changes) []
-end_next done [] s false past = (refl, refl)
-end_next done (fields ∷ rest) s false past = absurd (cc past.0)
-end_next done [] s true past = absurd (omega (arith, past.0))
-end_next done (fields ∷ rest) s true past = inr (past.1, refl, refl)
-
-most_done : (done rest : Rows) (too_many : Bool) → IsPast too_many (length done) rest → length done ≤ 1000000
-most_done done rest false past = past.1
-most_done done rest true past = omega (arith, past.1)
-
--- the bytes of the two writers at the end of the run
-abbrev pub at_end : Written → Option (List ℕ) → Written
-at_end w new = record { before = w.before; after = new; keep_before = w.keep_before; keep_after = w.keep_after }
-
--- The rows `run.done`, which the run answered, are a prefix of all rows. `run.out` answers these
--- rows, and `run.keeps` has the texts of their accepted rows.
-all_begun : (all : Option Rows) (w : Written) (at : Option (List ℕ)) (k : BookRows) (bytes : ℕ) (too_many : Bool) (run : HasRunBook all w k bytes too_many) → Appends w.before at run.out
-    → IsBegun all (at_end w at) run.done run.rest run.state run.out run.keeps
-all_begun all w at k bytes too_many run text = record {
-  split = run.split;
-  few = most_done run.done run.rest too_many run.past;
-  answered = run.answered;
-  keeps = run.are_kept;
-  text = text;
-  keep = run.keep;
-}
-
--- If a write of the last line fails, the run stops with the error of this write.
-stops_at_end : (all : Option Rows) (w : Written) (new : Option (List ℕ)) (k : BookRows) (bytes : ℕ) (too_many : Bool) (error : BookError)
-    → HasRunBook all w k bytes too_many → ((s : BookRunState) → KeepsBook k s → IsBookEndCut (last_line too_many s.changes) w.after new bytes error) → IsBookHalted all (at_end w new) error
-stops_at_end all w new k bytes too_many (book_error.Keep written) run cut = absurd (cut run.state run.kept)
-stops_at_end all w new k bytes too_many (book_error.Run run_error.Memory) run cut =
-    by_rows all (at_end w new) run.done run.rest run.state run.out run.keeps
-    (all_begun all w new k bytes too_many run (Appends-kept w.before w.after new run.out run.text (cut run.state run.kept)))
-stops_at_end all w new k bytes too_many (book_error.Run run_error.Read) run cut = absurd (cut run.state run.kept)
-stops_at_end all w new k bytes too_many (book_error.Run (run_error.Write n)) run cut =
-    let c = cut run.state run.kept in
-    cut_off all w new w.keep_after run.done run.rest run.state run.out run.keeps (last_line too_many run.state.changes) [] c.0 bytes n
-    (all_begun all w w.after k bytes too_many run run.text) (end_next run.done run.rest run.state too_many run.past) c.1 c.2 (Appends-nil w.keep_after) run.size c.3
-
--- The error of a failed write of the last line isn't `Read`.
-end_not_read : (line : List ℕ) (old new : Option (List ℕ)) (written : ℕ) (error : BookError) → IsBookEndCut line old new written error → error ≢ book_error.Run run_error.Read
-end_not_read line old new written (book_error.Keep n) cut = absurd cut
-end_not_read line old new written (book_error.Run run_error.Memory) cut = λ e. cc e
-end_not_read line old new written (book_error.Run run_error.Read) cut = absurd cut
-end_not_read line old new written (book_error.Run (run_error.Write n)) cut = λ e. cc e
-
--- This module states how the run ends once its rows are answered: the last line is written, or an
--- error stops its write.
-module _ (all : Option (List (List (List ℕ)))) (w : Written) (new : Option (List ℕ)) (k : BookRows) (bytes : ℕ) (too_many : Bool) (run : HasRunBook all w k bytes too_many) where
-  pub run_ends : (r : Result Summary BookError) → IfOk r (λ summary. IsBookEnded k too_many w.after new summary) → IfOk r (λ summary. IsBookWritten all w.before new summary)
-  run_ends (Err error) ended = tt
-  run_ends (Ok summary) ended = ends all w new k bytes too_many summary run ended
-
-  pub run_keeps : (r : Result Summary BookError) → IfOk r (λ _. IsBookKept all w.keep_before w.keep_after)
-  run_keeps (Err error) = tt
-  run_keeps (Ok summary) = keeps all w k bytes too_many run
-
-  pub run_stops : (r : Result Summary BookError) → IfErr r (λ error. (s : BookRunState) → KeepsBook k s → IsBookEndCut (last_line too_many s.changes) w.after new bytes error)
-      → IfErr r (λ error. IsBookHalted all (at_end w new) error)
-  run_stops (Ok summary) cut = tt
-  run_stops (Err error) cut = stops_at_end all w new k bytes too_many error run cut
-
-  pub not_read : (r : Result Summary BookError) (P : Type 0) → IfErr r (λ error. (s : BookRunState) → KeepsBook k s → IsBookEndCut (last_line too_many s.changes) w.after new bytes error)
-      → IfErr r (λ error. error ≡ book_error.Run run_error.Read → P)
-  not_read (Ok summary) P cut = tt
-  not_read (Err error) P cut = λ e. absurd (end_not_read (last_line too_many run.state.changes) w.after new bytes error (cut run.state run.kept) e)
-
--- A run that stops before its first row has written no lines, and no text of accepted rows.
+-- A run that stops before its first row has written no lines, and nothing to the accepted rows'
+-- writer `keep`.
 pub halted_at_start : (bytes old keep : Option (List ℕ))
     → IfSome bytes (λ text. (out : List ℕ) × (kept : List ℕ) × IsBookBegun (rows_of text) out kept × Appends old old out × Appends keep keep kept)
 halted_at_start None old keep = tt

@@ -2,6 +2,8 @@
 use Rattle.std.specs.Prelude.{◌≡◌, ℕ, suc, ◌<◌, ◌≤◌, ◌⊎◌, List, ◌∷◌, ◌++◌, [], take, length}
 use Rattle.cspf_rows.specs.declared.limits.TheConstants.{MOST_ROWS}
 use Rattle.cspf_stream.specs.Lines.{too_many_line, end_line}
+use Rattle.cspf_stream.specs.declared.error.RunStop.{RunStop}
+use Rattle.cspf_stream.specs.declared.error.RunStop.TheVariants as run_stop
 use Rattle.cspf_solve.specs.declared.error.SolveError.TheVariants as run_error
 use Rattle.cspf_book_run.specs.BookScript.{BookRunState, AreBookRowsAnswered, book_answers}
 use Rattle.cspf_book_run.specs.Kept.{AreBookRowsKept, kept_of}
@@ -79,3 +81,10 @@ IsBookOutputAtError (error.Run run_error.Memory) rows out kept = IsBookBegun row
 IsBookOutputAtError (error.Run run_error.Read) rows out kept = IsBookBegun rows out kept
 IsBookOutputAtError (error.Run (run_error.Write written)) rows out kept = IsBookCutOff rows out kept × (length out ≡ written)
 IsBookOutputAtError (error.Keep written) rows out kept = IsKeepCutOff written rows out kept
+
+-- Private: the error of a run that stops.
+abbrev pub book_error_of : RunStop BookError → BookError
+book_error_of run_stop.Memory = error.Run run_error.Memory
+book_error_of run_stop.Read = error.Run run_error.Read
+book_error_of (run_stop.Write written) = error.Run (run_error.Write written)
+book_error_of (run_stop.Answer fault) = fault

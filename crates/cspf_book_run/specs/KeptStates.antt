@@ -1,6 +1,6 @@
 -- Private: the state of a run that writes accepted rows to a writer `keep`, and how the answer to
 -- one row changes this state.
-use Rattle.std.specs.Prelude.{◌≡◌, ℕ, ◌<◌, ◌≤◌, List, take, length, Option, Result, Ok, Err}
+use Rattle.std.specs.Prelude.{◌≡◌, ℕ, ◌<◌, ◌≤◌, Bool, List, take, length, Option, Result, Ok, Err}
 use Rattle.std.specs.Io.KnownBytes.{Appends}
 use Rattle.std.specs.Io.KnownBytes as known
 use Rattle.cspf_model.specs.declared.limits.TheConstants.{MOST_CHANGES}
@@ -10,6 +10,7 @@ use Rattle.cspf_stream.specs.declared.step.Step.{Step}
 use Rattle.cspf_stream.specs.declared.step.Step.TheVariants as step
 use Rattle.cspf_book_run.specs.declared.book_row.BookRow.{BookRow}
 use Rattle.cspf_book_run.specs.declared.book_row.BookRow.TheVariants as book_row
+use Rattle.cspf_solve.specs.Script.{last_line}
 use Rattle.cspf_solve.specs.declared.error.SolveError.TheVariants as run_error
 use Rattle.cspf_book_run.specs.declared.book_rows.BookRows.{BookRows}
 use Rattle.cspf_book_run.specs.declared.error.BookError.{BookError}
@@ -67,3 +68,7 @@ IsRowNotKept contents (error.Run (run_error.Write written)) place old fields new
 IsRowNotKept contents (error.Keep written) place old fields new =
     (line : List ℕ) × (text : List ℕ) × (rows : BookRows) × IsAnsweredAndKept place old.rows fields line text rows
     × (written < length text) × Appends (contents old.keep) (contents new.keep) (take written text)
+
+-- The line is the last line of a run that ends in the code's state.
+abbrev pub IsBookLast : {K : Type 0} → KeptRows K → Bool → List ℕ → Type 0
+IsBookLast k too_many line = (s : BookRunState) → KeepsBook k.rows s → line ≡ last_line too_many s.changes

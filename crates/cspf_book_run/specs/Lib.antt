@@ -10,5 +10,4 @@ pub mod BookScriptLaws
 pub mod WrongRuns
 pub mod KeptLaws
 pub mod BookStates
-pub mod BookRowsEnds
 pub mod KeptStates

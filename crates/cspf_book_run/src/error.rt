@@ -1,4 +1,5 @@
 use cspf_solve::SolveError;
+use cspf_stream::RunStop;
 use std::alloc::AllocError;
 use thiserror::Error;
 
@@ -25,5 +26,21 @@ impl From<AllocError> for BookError {
 
     fn from(_refused: AllocError) -> BookError {
         BookError::Run(SolveError::Memory)
+    }
+}
+
+impl From<RunStop<BookError>> for BookError {
+    ghost use Rattle.std.specs.Prelude.{◌≡◌};
+    ghost use Rattle.cspf_book_run.specs.BookOutput.{book_error_of};
+
+    ghost from_gives = { λ stop error. error ≡ book_error_of stop };
+
+    fn from(stop: RunStop<BookError>) -> BookError {
+        match stop {
+            RunStop::Memory => BookError::Run(SolveError::Memory),
+            RunStop::Read => BookError::Run(SolveError::Read),
+            RunStop::Write { written } => BookError::Run(SolveError::Write { written }),
+            RunStop::Answer(fault) => fault,
+        }
     }
 }

@@ -4,9 +4,9 @@
 use crate::book_rows::{BookRows, KeptLine};
 use crate::error::BookError;
 use cspf_rows::put_all;
-use cspf_stream::Answering;
+use cspf_stream::{Answering, Ending};
 use csv::ByteRecord;
-use std::alloc::Global;
+use std::alloc::{AllocError, Global};
 use std::io::Write;
 
 /// The state of a run between two rows, and `keep`, the writer for the texts of accepted rows.
@@ -40,6 +40,16 @@ impl<K: Write> Answering<()> for KeptRows<K> {
             Ok(()) => Ok(line),
             Err(written) => Err(BookError::Keep { written }),
         }
+    }
+}
+
+impl<K> Ending for KeptRows<K> {
+    ghost use Rattle.cspf_book_run.specs.KeptStates.{IsBookLast};
+
+    ghost last = { IsBookLast };
+
+    fn last_line(&self, alloc: Global, too_many: bool) -> Result<Vec<u8>, AllocError> {
+        self.rows.last_line(alloc, too_many)
     }
 }
 

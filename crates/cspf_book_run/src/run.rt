@@ -1,25 +1,23 @@
 //! The run of `routed book`. It reads a stream of rows, writes the lines that answer each row, and
 //! writes the text of accepted rows to a second writer, `keep`.
 
-ghost use Rattle.std.specs.Prelude.{◌≡◌, ℕ, ◌+◌, ◌*◌, ◌^◌, ◌≤◌, List, true, IfOk, IfErr, IfSome};
+ghost use Rattle.std.specs.Prelude.{◌≡◌, ℕ, List, true, IfOk, IfErr, IfSome};
 ghost use Rattle.std.specs.Io.KnownBytes.{Appends};
 ghost use Rattle.csv.specs.Reading.{has_failed};
 ghost use Rattle.cspf_rows.specs.Records.{rows_of, rows_left, IsPlain};
 ghost use Rattle.cspf_solve.specs.declared.error.SolveError.TheVariants.{Read as IsRead};
-ghost use Rattle.cspf_solve.specs.Script.{last_line};
 ghost use Rattle.cspf_book_run.specs.declared.error.BookError.TheVariants.{Run as IsOfRun};
-ghost use Rattle.cspf_book_run.specs.BookScript.{BookRunState, book_start, IsBookRun, IsBookScript, book_summary_of};
+ghost use Rattle.cspf_book_run.specs.BookScript.{book_start, IsBookRun, IsBookScript};
 ghost use Rattle.cspf_book_run.specs.Kept.{IsKeptText};
 ghost use Rattle.cspf_book_run.specs.BookOutput.{IsBookOutputAtError};
-ghost use Rattle.cspf_book_run.specs.BookStates.{KeepsBook, AreBookCounts, IsBookBefore};
-ghost use Rattle.cspf_book_run.specs.BookRowsEnds.{IsBookRowsEnd, IsBookEndCut, book_end};
+ghost use Rattle.cspf_book_run.specs.BookStates.{KeepsBook, IsBookBefore};
 
 use crate::book_rows::BookRows;
 use crate::error::BookError;
 use crate::kept_rows::KeptRows;
-use cspf_rows::{MOST_ROWS, open_records, put_all};
+use cspf_rows::{MOST_ROWS, open_records};
 use cspf_solve::{SolveError, Summary};
-use cspf_stream::{StreamError, StreamStop, answer_first_rows};
+use cspf_stream::run_rows;
 use csv::Reader;
 use std::alloc::Global;
 use std::io::{Read, Write};
@@ -86,76 +84,9 @@ fn answer_all<R: Read, W: Write, K: Write>(
     // If the error is `Read`, the reader itself failed.
     ensures read { IfErr result (λ error. error ≡ IsOfRun IsRead → has_failed rows.new ≡ true) }
 {
-    let (written, ended) = answer_most(alloc, rows, book, writer);
-    finish(alloc, book.rows(), writer, written, ended?)
-}
-
-/// Answers at most 1,000,000 rows of the reader. Returns two results: how many bytes of lines were
-/// written, and whether more rows follow or which error stopped the run.
-fn answer_most<R: Read, W: Write, K: Write>(
-    alloc: Global,
-    rows: &mut Reader<R>,
-    book: &mut KeptRows<K>,
-    writer: &mut W,
-) -> (u128, Result<bool, BookError>)
-    requires plain { IsPlain rows.old }
-    requires fresh { KeepsBook book.old.rows book_start }
-    requires first { IsBookBefore 1 book.old.rows }
-    ensures ends { IsBookRowsEnd (rows_left R.remaining rows.old) (record {
-      before = W.contents writer.old;
-      after = W.contents writer.new;
-      keep_before = K.contents book.old.keep;
-      keep_after = K.contents book.new.keep;
-    }) book.new.rows result.0 (has_failed rows.new) result.1 }
-    ensures small { result.0 ≤ MOST_ROWS * 2 ^ 64 }
-{
     let limit = u64::from(MOST_ROWS);
-    let (written, ended) = answer_first_rows(&(), alloc, limit, false, rows, writer, book);
-    (written, end_after_rows(written, ended))
-}
-
-/// Returns whether more rows follow, or which error stopped the run. `written` is how many bytes of
-/// lines were written.
-fn end_after_rows(
-    written: u128,
-    ended: Result<(), StreamStop<BookError>>,
-) -> Result<bool, BookError>
-    ensures { result ≡ book_end written ended }
-{
-    match ended {
-        Ok(()) => Ok(false),
-        Err(StreamStop::Answer(fault)) => Err(fault),
-        Err(StreamStop::Stream(StreamError::TooManyRows)) => Ok(true),
-        Err(StreamStop::Stream(StreamError::Memory)) => Err(BookError::Run(SolveError::Memory)),
-        Err(StreamStop::Stream(StreamError::Read)) => Err(BookError::Run(SolveError::Read)),
-        Err(StreamStop::Stream(StreamError::Write | StreamError::Flush)) => {
-            Err(BookError::Run(SolveError::Write { written }))
-        }
-    }
-}
-
-/// Writes the last line after `written` bytes of lines, and returns the summary.
-fn finish<W: Write>(
-    alloc: Global,
-    book: &BookRows,
-    writer: &mut W,
-    written: u128,
-    too_many: bool,
-) -> Result<Summary, BookError>
-    requires counted { AreBookCounts book.now }
-    requires room { written ≤ MOST_ROWS * 2 ^ 64 }
-    ensures ended { IfOk result (λ summary. (s : BookRunState) → KeepsBook book.now s
-        → Appends (W.contents writer.old) (W.contents writer.new) (last_line too_many s.changes)
-        × (summary ≡ book_summary_of book.now.read s too_many)) }
-    ensures stopped { IfErr result (λ error. (s : BookRunState) → KeepsBook book.now s
-        → IsBookEndCut (last_line too_many s.changes)
-        (W.contents writer.old) (W.contents writer.new) written error) }
-{
-    let line = book.last_line(alloc, too_many)?;
-    match put_all(writer, line.as_slice()) {
-        Ok(()) => Ok(book.summary(too_many)),
-        Err(size) => Err(BookError::Run(SolveError::Write {
-            written: written + size as u128,
-        })),
+    match run_rows(alloc, limit, rows, writer, book) {
+        Ok(too_many) => Ok(book.rows().summary(too_many)),
+        Err(stop) => Err(BookError::from(stop)),
     }
 }

@@ -11,7 +11,8 @@ use Rattle.cspf_solve.specs.declared.summary.Summary.{Summary}
 use Rattle.cspf_solve.specs.SolverStates.{KeepsRun, IsPast}
 use Rattle.cspf_c.specs.History.{HasAnswered, IsCounted, IsOneMore}
 use Rattle.cspf_c.specs.declared.session.TakenRows.{TakenRows}
-use Rattle.cspf_solve.proofs.SolveRun.{none_answered, rows_read}
+use Rattle.cspf_stream.proofs.Running.{rows_read}
+use Rattle.cspf_solve.proofs.SolveRun.{none_answered}
 use Rattle.cspf_c.proofs.RowCounts.{counted_more}
 
 abbrev Rows : Type 0
@@ -129,7 +130,7 @@ all_answered place old new (fields ∷ more) out rows lines a has =
 pub ended : (taken : TakenRows) (rows : Rows) (lines last : List ℕ) → ((s : RunState) → KeepsRun taken.solver s → last ≡ last_line taken.too_many s.changes)
     → HasAnswered taken rows lines → (summary : Summary) × IsSolveRun rows (lines ++ last) summary
 ended taken rows lines last line has =
-    let read = rows_read taken.too_many taken.answered rows has.done has.rest has.split has.count has.past in (
+    let read = rows_read 1000000 taken.too_many rows has.done has.rest has.split (rw has.count has.past) in (
       summary_of has.after taken.too_many,
       record {
         replies = lines;

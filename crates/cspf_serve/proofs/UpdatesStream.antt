@@ -1,5 +1,5 @@
--- The code answers the rows of updates as the specification says.
-use Rattle.std.proofs.Common.{◌≡◌, ℕ, suc, ◌+◌, Bool, true, false, List, [], ◌∷◌, length, Option, Result, Ok, Err, inl, inr, refl, ap, arith}
+-- The rows of updates are answered as the specification says, given the state that the code stores.
+use Rattle.std.proofs.Common.{◌≡◌, ℕ, suc, ◌+◌, Bool, true, false, List, length, Option, Result, Ok, Err, inl, inr, refl, ap, arith}
 use Rattle.cspf_rows.specs.Rows.{row_of}
 use Rattle.cspf_rows.specs.declared.row.Row.{Row}
 use Rattle.cspf_rows.specs.declared.row.Row.TheVariants as row
@@ -11,6 +11,7 @@ use Rattle.cspf_stream.specs.RowAnswers.{AreAnswered, AreAllAnswered}
 use Rattle.cspf_stream.specs.StreamStops.{StopsBetween, StopsInRow, IsRowStopped, HasStopped}
 use Rattle.cspf_stream.specs.declared.error.StreamError.{StreamError}
 use Rattle.cspf_stream.specs.declared.error.StreamError.TheVariants as stream_error
+use Rattle.cspf_stream.proofs.Running.{carried}
 use Rattle.cspf_solve.specs.Script.{RunState, IsEndAnswered, IsRowAnswered}
 use Rattle.cspf_serve.specs.Updates.{UpdatesState, IsLeftByFault, IsEndUpdate, IsUpdateAnswered, at_next_update, no_updates}
 use Rattle.cspf_serve.specs.UpdatesStates.{KeptUpdates, KeepsUpdates, IsUpdateTaken, IsUpdateFailed}
@@ -57,32 +58,33 @@ abbrev Rows : Type 0
 Rows = List (List (List ℕ))
 
 module _ {J : Type 0} (contents : J → Option (List ℕ)) (first : PublisherState J) where
-  -- The code answers rows one after the other, and starts with a state that agrees with the
-  -- specification's state `s`. Then the specification answers these rows by the same lines, and the
-  -- states after the rows agree, too.
-  carried : (place : ℕ) (k k' : KeptUpdates J) (s : UpdatesState) (rows : Rows) (lines : List ℕ) → KeepsUpdates contents first k s → place ≡ s.run.rows + 1
-      → AreAnswered (IsUpdateTaken contents) place k rows lines k'
-      → (t : UpdatesState) × KeepsUpdates contents first k' t × AreAnswered IsUpdateAnsweredAt place s rows lines t × (place + length rows ≡ t.run.rows + 1)
-  unfolding AreAnswered
-  carried place k k' s [] lines kept at a = (s, rw a.1 kept, (a.0, refl), omega (arith, at))
-  carried place k k' s (fields ∷ rows) lines kept at a =
-      let taken = a.3 first s kept at in
-      let read = rows_kept (at_next_update s) (row_of fields) a.0 taken.0 taken.2 in
-      let rest = carried (suc place) a.1 k' taken.0 rows a.2 taken.1 (omega (arith, at, read)) a.5 in
-      (rest.0, rest.1, (a.0, taken.0, a.2, (at, taken.2), a.4, rest.2), omega (arith, rest.3))
+  -- before the row at this place the code keeps the specification's state `s`
+  abbrev KeepsAt : ℕ → KeptUpdates J → UpdatesState → Type 0
+  KeepsAt place k s = KeepsUpdates contents first k s × (place ≡ s.run.rows + 1)
+
+  one_row : (place : ℕ) (k k' : KeptUpdates J) (s : UpdatesState) (fields : List (List ℕ)) (line : List ℕ) → KeepsAt place k s → IsUpdateTaken contents place k fields line k'
+      → (t : UpdatesState) × KeepsAt (suc place) k' t × IsUpdateAnsweredAt place s fields line t
+  one_row place k k' s fields line kept a =
+      let taken = a first s kept.0 kept.1 in
+      let read = rows_kept (at_next_update s) (row_of fields) line taken.0 taken.2 in
+      (taken.0, (taken.1, omega (arith, kept.1, read)), (kept.1, taken.2))
+
+  led : (k k' : KeptUpdates J) (rows : Rows) (lines : List ℕ) → KeepsUpdates contents first k no_updates → AreAnswered (IsUpdateTaken contents) 1 k rows lines k'
+      → (t : UpdatesState) × KeepsAt (1 + length rows) k' t × AreAnswered IsUpdateAnsweredAt 1 no_updates rows lines t
+  led k k' rows lines kept a = carried (IsUpdateTaken contents) IsUpdateAnsweredAt KeepsAt one_row 1 k k' no_updates rows lines (kept, refl) a
 
   module _ (all left : Option Rows) (failed : Bool) (k k' : KeptUpdates J) (kept : KeepsUpdates contents first k no_updates) (old new : Option (List ℕ)) where
     pub carried_all : AreAllAnswered (IsUpdateTaken contents) all k k' old new
         → (t : UpdatesState) × KeepsUpdates contents first k' t × AreAllAnswered IsUpdateAnsweredAt all no_updates t old new
     carried_all a =
-        let c = carried 1 k k' no_updates a.done a.lines kept refl a.answered in
-        (c.0, c.1, record { done = a.done; lines = a.lines; whole = a.whole; answered = c.2; written = a.written })
+        let c = led k k' a.done a.lines kept a.answered in
+        (c.0, c.1.0, record { done = a.done; lines = a.lines; whole = a.whole; answered = c.2; written = a.written })
 
     carried_between : StopsBetween (IsUpdateTaken contents) all k k' old new
         → (t : UpdatesState) × KeepsUpdates contents first k' t × StopsBetween IsUpdateAnsweredAt all no_updates t old new
     carried_between a =
-        let c = carried 1 k k' no_updates a.done a.lines kept refl a.answered in
-        (c.0, c.1, record { done = a.done; rest = a.rest; lines = a.lines; split = a.split; answered = c.2; written = a.written })
+        let c = led k k' a.done a.lines kept a.answered in
+        (c.0, c.1.0, record { done = a.done; rest = a.rest; lines = a.lines; split = a.split; answered = c.2; written = a.written })
 
     carried_row : (why : StreamError) (place : ℕ) (fields : List (List ℕ)) (b : KeptUpdates J) (s : UpdatesState) (mid : Option (List ℕ)) → KeepsUpdates contents first b s → place ≡ s.run.rows + 1
         → IsRowStopped (IsUpdateTaken contents) (IsUpdateFailed contents) why place fields b k' mid new
@@ -96,8 +98,8 @@ module _ {J : Type 0} (contents : J → Option (List ℕ)) (first : PublisherSta
     carried_in_row : (why : StreamError) → StopsInRow (IsUpdateTaken contents) (IsUpdateFailed contents) why all left k k' old new
         → (t : UpdatesState) × KeepsUpdates contents first k' t × StopsInRow IsUpdateAnsweredAt IsUpdateLostAt why all left no_updates t old new
     carried_in_row why a =
-        let c = carried 1 k a.before no_updates a.done a.lines kept refl a.answered in
-        let r = carried_row why (suc (length a.done)) a.fields a.before c.0 a.mid c.1 (omega (arith, c.3)) a.stops in
+        let c = led k a.before a.done a.lines kept a.answered in
+        let r = carried_row why (suc (length a.done)) a.fields a.before c.0 a.mid c.1.0 (omega (arith, c.1.1)) a.stops in
         (r.0, r.1, record { done = a.done; fields = a.fields; rest = a.rest; lines = a.lines; before = c.0; mid = a.mid; split = a.split; answered = c.2; written = a.written; stops = r.2 })
 
     pub carried_stopped : (why : StreamError) → HasStopped (IsUpdateTaken contents) (IsUpdateFailed contents) why all left failed k k' old new
@@ -108,5 +110,5 @@ module _ {J : Type 0} (contents : J → Option (List ℕ)) (first : PublisherSta
     carried_stopped stream_error.Write a = carried_in_row stream_error.Write a
     carried_stopped stream_error.Flush a = carried_in_row stream_error.Flush a
     carried_stopped stream_error.TooManyRows a =
-        let c = carried 1 k k' no_updates a.done a.lines kept refl a.answered in
-        (c.0, c.1, record { done = a.done; fields = a.fields; rest = a.rest; lines = a.lines; count = a.count; split = a.split; answered = c.2; written = a.written })
+        let c = led k k' a.done a.lines kept a.answered in
+        (c.0, c.1.0, record { done = a.done; fields = a.fields; rest = a.rest; lines = a.lines; count = a.count; split = a.split; answered = c.2; written = a.written })

@@ -1,16 +1,13 @@
 -- Each row of a stream adds at most 1 to each count of a run. These are the counts of rows, of open
 -- changes, of answers and of refusals.
-use Rattle.std.proofs.Common.{ℕ, ◌≤◌, List, [], ◌∷◌, length, length-append, Result, Ok, Err, inl, inr, refl, arith}
+use Rattle.std.proofs.Common.{ℕ, List, [], ◌∷◌, length-append, Result, Ok, Err, inl, inr, refl, arith}
 use Rattle.cspf_model.specs.declared.batch.Change.{Change}
 use Rattle.cspf_model.specs.declared.batch.Change.TheVariants as change
-use Rattle.cspf_rows.specs.Rows.{row_of}
 use Rattle.cspf_rows.specs.declared.row.Row.{Row}
 use Rattle.cspf_rows.specs.declared.row.Row.TheVariants as row
 use Rattle.cspf_rows.specs.declared.row_error.RowError.{RowError}
-use Rattle.cspf_solve.specs.Script.{RunState, start, at_next_row, after_change_row, after_batch, after_refused_batch, after_refused_row, after_reply, IsRowAnswered, AreRowsAnswered}
+use Rattle.cspf_solve.specs.Script.{RunState, at_next_row, after_change_row, after_batch, after_refused_batch, after_refused_row, after_reply, IsRowAnswered}
 use Rattle.cspf_solve.specs.SolveLaws.{AreWithin}
-use Rattle.cspf_solve.specs.declared.solver.Solver.{Solver}
-use Rattle.cspf_solve.specs.SolverStates.{KeepsRun, AreCounted}
 
 within_change : (s : RunState) (c : Change) → AreWithin s (after_change_row (at_next_row s) c) 1
 within_change s c = record {
@@ -40,28 +37,3 @@ within_row s t (Ok (row.Node router transit)) line a = rw a.1 (within_change s (
 within_row s t (Ok (row.End number count)) line (inl a) = rw a.2 (within_batch s number)
 within_row s t (Ok (row.End number count)) line (inr a) = rw a.4 (within_refused_batch s)
 within_row s t (Ok (row.Ask q)) line a = rw a.3 (within_reply s)
-
-within_rows : (s t : RunState) (rows : List (List (List ℕ))) (lines : List ℕ) → AreRowsAnswered s rows lines t → AreWithin s t (length rows)
-unfolding AreRowsAnswered
-within_rows s t [] lines a = rw a.1 (record { rows = omega arith; changes = omega arith; answers = omega arith; refused = omega arith })
-within_rows s t (fields ∷ rows) lines a =
-    let first = within_row s a.1 (row_of fields) a.0 a.3 in
-    let rest = within_rows a.1 t rows a.2 a.5 in
-    record {
-      rows = omega (arith, first.rows, rest.rows);
-      changes = omega (arith, first.changes, rest.changes);
-      answers = omega (arith, first.answers, rest.answers);
-      refused = omega (arith, first.refused, rest.refused);
-    }
-
--- after at most 1,000,000 rows the solver's counts of rows, of answers and of refusals are at most
--- 1,000,000 each
-pub counted_rows : (solver : Solver) (s : RunState) (rows : List (List (List ℕ))) (lines : List ℕ)
-    → AreRowsAnswered start rows lines s → length rows ≤ 1000000 → KeepsRun solver s → AreCounted solver
-counted_rows solver s rows lines answered few kept =
-    let w = within_rows start s rows lines answered in
-    record {
-      rows = omega (arith, kept.rows, w.rows);
-      answers = omega (arith, kept.answers, w.answers);
-      refused = omega (arith, kept.refused, w.refused);
-    }

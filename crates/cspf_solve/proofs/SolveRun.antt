@@ -1,28 +1,24 @@
--- How the lines and the summary of a run follow from the solver's answers. Also: the output of a
--- run that stops before its end.
-use Rattle.std.proofs.Common.{◌≡◌, ◌≢◌, ℕ, suc, ◌+◌, ◌<◌, ◌≤◌, Bool, true, false, List, [], ◌∷◌, ◌++◌, take, length, length-append, Option, Some, None, IfSome, option_map, Result, Ok, Err, IfOk, IfErr, OnOk, inl, inr, refl, sym, ap, subst, ◌∙◌, append_assoc, append-nil, arith}
-use Rattle.std.proofs.KnownBytes.{Appends-nil, Appends-trans, Appends-kept}
-use Rattle.std.proofs.lemmas.Bool.{lt-ltb, le-ltb, false≢true}
-use Rattle.std.proofs.lemmas.List.{take_all, take_at, length-take-le}
+-- How the lines and the summary of a run follow from the solver's answers, and what the output is
+-- if the run stops.
+use Rattle.std.proofs.Common.{◌≡◌, ℕ, suc, ◌+◌, Bool, true, List, [], ◌∷◌, ◌++◌, take, length, Option, Some, None, IfSome, option_map, Result, Ok, Err, IfOk, IfErr, inl, inr, refl, sym, ap, subst, ◌∙◌, append_assoc, append-nil, arith}
+use Rattle.std.proofs.KnownBytes.{Appends-nil}
 use Rattle.std.specs.Io.KnownBytes.{Appends}
+use Rattle.std.specs.declared.alloc.AllocError.{AllocError}
 use Rattle.cspf_rows.specs.Records.{rows_of}
 use Rattle.cspf_rows.specs.Rows.{row_of}
-use Rattle.cspf_stream.specs.FirstRows.{AreFirstRowsAnswered, HasMoreRows, StopsAfterRows, StopsInRowAfter, HasStoppedAfter, IsStoppedAfter}
 use Rattle.cspf_stream.specs.RowAnswers.{AnswersOf, AreAnswered}
-use Rattle.std.specs.declared.alloc.AllocError.{AllocError}
-use Rattle.cspf_stream.specs.StreamStops.{FailsOf, NeverFails}
-use Rattle.cspf_stream.specs.declared.error.StreamError.TheVariants as stream_error
-use Rattle.cspf_stream.specs.declared.error.StreamStop.{StreamStop}
-use Rattle.cspf_stream.specs.declared.error.StreamStop.TheVariants as stop
+use Rattle.cspf_stream.specs.Runs.{IsPrefixAnswered, HasRun, IsRunStopped}
+use Rattle.cspf_stream.specs.Runs as run
+use Rattle.cspf_stream.specs.StreamStops.{FailsOf}
+use Rattle.cspf_stream.specs.declared.error.RunStop.{RunStop}
+use Rattle.cspf_stream.specs.declared.error.RunStop.TheVariants as run_stop
+use Rattle.cspf_stream.proofs.Running.{carried}
 use Rattle.cspf_solve.specs.declared.solver.Solver.{Solver}
 use Rattle.cspf_solve.specs.declared.summary.Summary.{Summary}
-use Rattle.cspf_solve.specs.declared.error.SolveError.{SolveError}
 use Rattle.cspf_solve.specs.declared.error.SolveError.TheVariants as solve_error
-use Rattle.cspf_solve.specs.Script.{RunState, start, at_next_row, IsRowAnswered, AreRowsAnswered, IsSolveRun, is_too_many, last_line, summary_of}
-use Rattle.cspf_solve.specs.OutputAtError.{IsBegunByRows, IsNextText}
-use Rattle.cspf_solve.specs.RowsEnds.{HasRun, IsHalted, IsRowsEnd}
-use Rattle.cspf_solve.specs.SolverStates.{KeepsRun, AreCounted, IsAnsweredBySolver, IsPast, IsEndCut, end_after_rows}
-use Rattle.cspf_solve.proofs.RowCounts.{counted_rows}
+use Rattle.cspf_solve.specs.Script.{RunState, start, at_next_row, IsRowAnswered, AreRowsAnswered, IsSolveRun, summary_of}
+use Rattle.cspf_solve.specs.OutputAtError.{AreFirstAnswered, IsBegunByRows, IsNextText, IsOutputAtError, solve_error_of}
+use Rattle.cspf_solve.specs.SolverStates.{KeepsRun, AreBelow, AreCounted, IsAnsweredBySolver, IsSolverLast}
 
 abbrev Rows : Type 0
 Rows = List (List (List ℕ))
@@ -33,6 +29,10 @@ SolverAnswers place old fields = IsAnsweredBySolver old (row_of fields)
 
 abbrev pub SolverFails : AllocError → FailsOf Solver
 SolverFails fault place old fields new = Unit {0}
+
+-- how a run answers a row
+abbrev RunAnswers : AnswersOf RunState
+RunAnswers place s fields line t = IsRowAnswered (at_next_row s) (row_of fields) line t
 
 pub none_answered : (s : RunState) → AreRowsAnswered s [] [] s
 unfolding AreRowsAnswered
@@ -53,234 +53,120 @@ answered_more s t u (row ∷ done) fields out line before step = (
   answered_more before.1 t u done fields before.2 line before.5 step,
 )
 
--- Let the solver be in the state `s` of a run (`KeepsRun`), and let it answer rows. Then the run
--- answers these rows with the same lines, and the solver is in the run's state after these rows.
-carried : (place : ℕ) (k k' : Solver) (s : RunState) (rows : Rows) (lines : List ℕ) → KeepsRun k s → AreAnswered SolverAnswers place k rows lines k'
-    → (t : RunState) × KeepsRun k' t × AreRowsAnswered s rows lines t
+-- ---- from the solver's states to those of the run
+
+-- before the row with this number the solver is in the state `s` of the run
+record IsSolverAt (place : ℕ) (k : Solver) (s : RunState) : Type 0 where
+  kept : KeepsRun k s
+  below : AreBelow place k
+
+one_row : (place : ℕ) (k k' : Solver) (s : RunState) (fields : List (List ℕ)) (line : List ℕ) → IsSolverAt place k s → SolverAnswers place k fields line k'
+    → (t : RunState) × IsSolverAt (suc place) k' t × RunAnswers place s fields line t
+one_row place k k' s fields line at a =
+    let led = a.lead s at.kept in
+    let below : AreBelow (suc place) k' = record {
+      rows = omega (arith, at.below.rows, a.counts.rows);
+      count = omega (arith, at.below.count, a.counts.count);
+      answers = omega (arith, at.below.answers, a.counts.answers);
+      refused = omega (arith, at.below.refused, a.counts.refused);
+    } in
+    (led.0, record { kept = led.1; below = below }, led.2)
+
+all_rows : (place : ℕ) (s t : RunState) (rows : Rows) (lines : List ℕ) → AreAnswered RunAnswers place s rows lines t → AreRowsAnswered s rows lines t
 unfolding AreAnswered AreRowsAnswered
-carried place k k' s [] lines kept a = (s, rw a.1 kept, (a.0, refl))
-carried place k k' s (fields ∷ rows) lines kept a =
-    let step = a.3 s kept in
-    let rest = carried (suc place) a.1 k' step.0 rows a.2 step.1 a.5 in
-    (rest.0, rest.1, (a.0, step.0, a.2, step.2, a.4, rest.2))
+all_rows place s t [] lines a = a
+all_rows place s t (fields ∷ rows) lines a = (a.0, a.1, a.2, a.3, a.4, all_rows (suc place) a.1 t rows a.2 a.5)
 
--- ---- the end of the rows
+module _ (k : Solver) (fresh : KeepsRun k start) where
+  led : (k' : Solver) (done : Rows) (lines : List ℕ) → AreAnswered SolverAnswers 1 k done lines k' → (t : RunState) × IsSolverAt (1 + length done) k' t × AreRowsAnswered start done lines t
+  led k' done lines a =
+      let below : AreBelow 1 k = record {
+        rows = omega (arith, fresh.rows);
+        count = omega (arith, fresh.changes.count);
+        answers = omega (arith, fresh.answers);
+        refused = omega (arith, fresh.refused);
+      } in
+      let c = carried SolverAnswers RunAnswers IsSolverAt one_row 1 k k' start done lines (record { kept = fresh; below = below }) a in
+      (c.0, c.1, all_rows 1 start c.0 done lines c.2)
 
-whole_split : (all : Option Rows) (done : Rows) → IfSome all (λ rows. rows ≡ done) → IfSome all (λ rows. rows ≡ done ++ [])
-whole_split None done is = tt
-whole_split (Some all) done is = is ∙ sym (append-nil done)
-
-module _ (all left : Option (List (List (List ℕ)))) (old new : Option (List ℕ)) (k k' : Solver) (bytes : ℕ) (fresh : KeepsRun k start) where
-  has_run : AreFirstRowsAnswered SolverAnswers 1000000 bytes all k k' old new → HasRun all old new k' bytes false
-  has_run a =
-      let c = carried 1 k k' start a.whole.done a.whole.lines fresh a.whole.answered in
+  pub counted_run : (too_many : Bool) (all : Option (List (List (List ℕ)))) (k' : Solver) (old new : Option (List ℕ)) → HasRun SolverAnswers IsSolverLast 1000000 too_many all k k' old new → AreCounted k'
+  counted_run too_many all k' old new run =
+      let below = (led k' run.done run.lines run.answered).1.below in
       record {
-        done = a.whole.done;
-        rest = [];
-        state = c.0;
-        out = a.whole.lines;
-        answered = c.2;
-        kept = c.1;
-        text = a.whole.written;
-        size = a.size;
-        split = whole_split all a.whole.done a.whole.whole;
-        past = (refl, a.few);
+        rows = omega (arith, below.rows, run.few);
+        answers = omega (arith, below.answers, run.few);
+        refused = omega (arith, below.refused, run.few);
       }
 
-  has_more : HasMoreRows SolverAnswers 1000000 bytes all k k' old new → HasRun all old new k' bytes true
-  has_more a =
-      let m = a.more in
-      let c = carried 1 k k' start m.done m.lines fresh m.answered in
-      record {
-        done = m.done;
-        rest = m.fields ∷ m.rest;
-        state = c.0;
-        out = m.lines;
-        answered = c.2;
-        kept = c.1;
-        text = m.written;
-        size = a.size;
-        split = m.split;
-        past = (omega arith, m.count);
-      }
+  -- the lines and the summary of a run that ends
+  pub run_ends : (too_many : Bool) (all : Option (List (List (List ℕ)))) (k' : Solver) (old new : Option (List ℕ)) (summary : Summary) → HasRun SolverAnswers IsSolverLast 1000000 too_many all k k' old new
+      → ((s : RunState) → KeepsRun k' s → summary ≡ summary_of s too_many)
+      → IfSome all (λ rows. (lines : List ℕ) × IsSolveRun rows lines summary × Appends old new lines)
+  run_ends too_many None k' old new summary run is = tt
+  run_ends too_many (Some rows) k' old new summary run is =
+      let c = led k' run.done run.lines run.answered in (
+        run.lines ++ run.text,
+        record {
+          replies = run.lines;
+          after = c.0;
+          answered = rw run.first.0 c.2;
+          whole = rw (run.first.1, run.ends c.0 c.1.kept) refl;
+          counts = rw run.first.1 (is c.0 c.1.kept);
+        },
+        run.written,
+      )
 
-pub counted_run : (all : Option (List (List (List ℕ)))) (old new : Option (List ℕ)) (solver : Solver) (bytes : ℕ) (too_many : Bool)
-    → HasRun all old new solver bytes too_many → AreCounted solver
-counted_run all old new solver bytes false run = counted_rows solver run.state run.done run.out run.answered run.past.1 run.kept
-counted_run all old new solver bytes true run = counted_rows solver run.state run.done run.out run.answered (omega (arith, run.past.1)) run.kept
+  begun : (b : Solver) (rows : Rows) (old new : Option (List ℕ)) (a : IsPrefixAnswered SolverAnswers 1000000 (Some rows) k b old new)
+      → (t : RunState) × IsSolverAt (1 + length a.done) b t × AreFirstAnswered rows a.done a.rest a.lines t
+  begun b rows old new a =
+      let c = led b a.done a.lines a.answered in
+      (c.0, c.1, record { split = a.split; few = a.few; answered = c.2 })
 
--- The rows `done` that a run has answered are the first 1,000,000 rows, or all rows if there are
--- fewer. `too_many` says whether more rows follow.
-pub rows_read : (too_many : Bool) (count : ℕ) (rows done rest : List (List (List ℕ))) → rows ≡ done ++ rest → length done ≡ count → IsPast too_many count rest
-    → (take 1000000 rows ≡ done) × (is_too_many rows ≡ too_many)
-rows_read false count rows done rest split same past =
-    let is : rows ≡ done = split ∙ rw past.0 (append-nil done) in
-    let most : length done ≤ 1000000 = omega (arith, same, past.1) in
-    rw is (take_all 1000000 done most, le-ltb 1000000 (length done) most)
-rows_read true count rows done rest split same past =
-    rw split (take_at done rest 1000000 (same ∙ past.1), lt-ltb 1000000 (length (done ++ rest)) (omega (arith, same, past.0, past.1, length-append done rest)))
+  by_rows : (b : Solver) (all : Option Rows) (old new : Option (List ℕ)) → IsPrefixAnswered SolverAnswers 1000000 all k b old new → IfSome all (λ rows. (out : List ℕ) × IsBegunByRows rows out × Appends old new out)
+  by_rows b None old new a = tt
+  by_rows b (Some rows) old new a = let c = begun b rows old new a in (a.lines, record { done = a.done; rest = a.rest; after = c.0; first = c.2 }, a.written)
 
--- all lines of a run over these rows are written, and the run has this summary
-abbrev pub IsWritten : Option (List (List (List ℕ))) → Option (List ℕ) → Option (List ℕ) → Summary → Type 0
-IsWritten all old new summary = IfSome all (λ rows. (lines : List ℕ) × IsSolveRun rows lines summary × Appends old new lines)
+  next_text : (place : ℕ) (b k' : Solver) (s : RunState) (done rest : Rows) (text : List ℕ) → IsSolverAt place b s → run.IsNextOutput SolverAnswers IsSolverLast 1000000 done b rest text k' → IsNextText done s rest text
+  next_text place b k' s done [] text at next = next.0 s at.kept
+  next_text place b k' s done (fields ∷ rest) text at (inl next) = let one = next.1.lead s at.kept in inl (next.0, one.0, one.2)
+  next_text place b k' s done (fields ∷ rest) text at (inr next) = inr (next.0, next.1 s at.kept)
 
--- the last line of a run is written, and the run has this summary
-abbrev pub IsEnded : Solver → Bool → Option (List ℕ) → Option (List ℕ) → Summary → Type 0
-IsEnded solver too_many old new summary =
-    (s : RunState) → KeepsRun solver s → Appends old new (last_line too_many s.changes) × (summary ≡ summary_of s too_many)
+  -- the output of a run that stops
+  pub run_stops : (why : RunStop AllocError) (all : Option (List (List (List ℕ)))) (failed : Bool) (k' : Solver) (old new : Option (List ℕ))
+      → IsRunStopped SolverAnswers SolverFails IsSolverLast 1000000 why all failed k k' old new
+      → IfSome all (λ rows. (out : List ℕ) × IsOutputAtError (solve_error_of why) rows out × Appends old new out)
+  run_stops run_stop.Memory all failed k' old new a = by_rows k' all old new a
+  run_stops run_stop.Read all failed k' old new a = by_rows k' all old new a.1
+  run_stops (run_stop.Answer fault) all failed k' old new a = by_rows a.before all old new a.begun
+  run_stops (run_stop.Write written) None failed k' old new a = tt
+  run_stops (run_stop.Write written) (Some rows) failed k' old new a =
+      let r = a.begun in
+      let c = begun a.before rows old a.mid r in (
+        r.lines ++ take a.size a.text,
+        (
+          record {
+            done = r.done;
+            rest = r.rest;
+            lines = r.lines;
+            after = c.0;
+            first = c.2;
+            text = a.text;
+            next = next_text (1 + length r.done) a.before k' c.0 r.done r.rest a.text c.1 a.next;
+            size = a.size;
+            part = a.part;
+            whole = refl;
+          },
+          a.bytes,
+        ),
+        a.written,
+      )
 
-ends : (all : Option Rows) (old mid new : Option (List ℕ)) (solver : Solver) (bytes : ℕ) (too_many : Bool) (summary : Summary)
-    → HasRun all old mid solver bytes too_many → IsEnded solver too_many mid new summary → IsWritten all old new summary
-ends None old mid new solver bytes too_many summary run ended = tt
-ends (Some all) old mid new solver bytes too_many summary run ended =
-    let read = rows_read too_many (length run.done) all run.done run.rest run.split refl run.past in
-    let e = ended run.state run.kept in
-    let last = last_line too_many run.state.changes in (
-      run.out ++ last,
-      record {
-        replies = run.out;
-        after = run.state;
-        answered = rw read.0 run.answered;
-        whole = rw read.1 refl;
-        counts = rw read.1 e.1;
-      },
-      Appends-trans old mid new run.out last run.text e.0,
-    )
-
-pub run_ends : (all : Option (List (List (List ℕ)))) (old mid new : Option (List ℕ)) (solver : Solver) (bytes : ℕ) (too_many : Bool) (r : Result Summary SolveError)
-    → HasRun all old mid solver bytes too_many → IfOk r (λ summary. IsEnded solver too_many mid new summary) → IfOk r (λ summary. IsWritten all old new summary)
-run_ends all old mid new solver bytes too_many (Err error) run ended = tt
-run_ends all old mid new solver bytes too_many (Ok summary) run ended = ends all old mid new solver bytes too_many summary run ended
-
--- ---- the output of a run that stops
-
-abbrev IsHaltedByRows : Option Rows → Option (List ℕ) → Option (List ℕ) → Type 0
-IsHaltedByRows all old new = IfSome all (λ rows. (out : List ℕ) × IsBegunByRows rows out × Appends old new out)
-
-by_rows : (all : Option Rows) (done rest : Rows) (old new : Option (List ℕ)) (s : RunState) (out : List ℕ) → IfSome all (λ rows. rows ≡ done ++ rest)
-    → length done ≤ 1000000 → AreRowsAnswered start done out s → Appends old new out → IsHaltedByRows all old new
-by_rows None done rest old new s out split few answered text = tt
-by_rows (Some all) done rest old new s out split few answered text = (
-  out,
-  record { done = done; rest = rest; after = s; first = record { split = split; few = few; answered = answered } },
-  text,
-)
-
-cut_text : (out line : List ℕ) (size written n : ℕ) → length out ≡ written → size < length line → n ≡ written + size → length (out ++ take size line) ≡ n
-cut_text out line size written n is_out part is_n =
-    length-append out (take size line) ∙ rw (length-take-le size line (omega (arith, part)), is_out, is_n) refl
-
-cut_off : (all : Option Rows) (done rest : Rows) (old mid new : Option (List ℕ)) (state : RunState) (out text : List ℕ) (size written n : ℕ)
-    → IfSome all (λ rows. rows ≡ done ++ rest) → length done ≤ 1000000 → AreRowsAnswered start done out state → IsNextText done state rest text → size < length text
-    → Appends old mid out → Appends mid new (take size text) → length out ≡ written → n ≡ written + size → IsHalted all old new (solve_error.Write n)
-cut_off None done rest old mid new state out text size written n split most answered next part before here is_out is_n = tt
-cut_off (Some all) done rest old mid new state out text size written n split most answered next part before here is_out is_n = (
-  out ++ take size text,
-  (
-    record {
-      done = done;
-      rest = rest;
-      lines = out;
-      after = state;
-      first = record { split = split; few = most; answered = answered };
-      text = text;
-      next = next;
-      size = size;
-      part = part;
-      whole = refl;
-    },
-    cut_text out text size written n is_out part is_n,
-  ),
-  Appends-trans old mid new out (take size text) before here,
-)
-
-in_row_split : (all left : Option Rows) (done rest : Rows) (fields : List (List ℕ)) → IfSome all (λ rows. (rows ≡ done ++ (fields ∷ rest)) × (left ≡ Some rest))
-    → IfSome all (λ rows. rows ≡ done ++ (fields ∷ rest))
-in_row_split None left done rest fields is = tt
-in_row_split (Some all) left done rest fields is = is.0
-
-module _ (all left : Option (List (List (List ℕ)))) (old new : Option (List ℕ)) (k k' : Solver) (bytes : ℕ) (fresh : KeepsRun k start) where
-  between : StopsAfterRows SolverAnswers 1000000 bytes all k k' old new → IsHaltedByRows all old new
-  between a =
-      let c = carried 1 k k' start a.between.done a.between.lines fresh a.between.answered in
-      by_rows all a.between.done a.between.rest old new c.0 a.between.lines a.between.split a.few c.2 a.between.written
-
-  stops_in_answer : (fault : AllocError) → StopsInRowAfter SolverAnswers (SolverFails fault) 1000000 false bytes stream_error.Memory all left k k' old new → IsHalted all old new solve_error.Memory
-  stops_in_answer fault a =
-      let c = carried 1 k a.before start a.done a.lines fresh a.answered in
-      by_rows all a.done (a.fields ∷ a.rest) old new c.0 a.lines (in_row_split all left a.done a.rest a.fields a.split) (omega (arith, a.stops.0)) c.2
-      (Appends-kept old a.mid new a.lines a.written a.stops.1.1)
-
-  stops_at_write : (failed : Bool) → HasStoppedAfter SolverAnswers NeverFails 1000000 false bytes stream_error.Write all left failed k k' old new → IsHalted all old new (solve_error.Write bytes)
-  stops_at_write failed a =
-      let c = carried 1 k a.before start a.done a.lines fresh a.answered in
-      let cut = a.stops.1 in
-      let step = cut.2 c.0 c.1 in
-      cut_off all a.done (a.fields ∷ a.rest) old a.mid new c.0 a.lines cut.0 cut.1 (length a.lines) bytes (in_row_split all left a.done a.rest a.fields a.split)
-      (omega (arith, a.stops.0)) c.2 (inl (a.stops.0, step.0, step.2)) cut.3 a.written cut.4 refl cut.5
-
-  -- a run can't stop with a failed flush, because it doesn't flush
-  no_flush : (failed : Bool) → HasStoppedAfter SolverAnswers NeverFails 1000000 false bytes stream_error.Flush all left failed k k' old new → ⊥
-  no_flush failed a = false≢true a.stops.1.2
-
-  rows_end : (failed : Bool) (ended : Result (Unit {0}) (StreamStop AllocError)) → OnOk ended (AreFirstRowsAnswered SolverAnswers 1000000 bytes all k k' old new)
-      → IfErr ended (λ e. IsStoppedAfter SolverAnswers SolverFails 1000000 false bytes e all left failed k k' old new) → IsRowsEnd all old new k' bytes failed (end_after_rows bytes ended)
-  rows_end failed (Ok x) whole stopped = has_run all left old new k k' bytes fresh whole
-  rows_end failed (Err (stop.Answer refused)) whole stopped = (stops_in_answer refused stopped, λ e. absurd (cc e))
-  rows_end failed (Err (stop.Stream stream_error.TooManyRows)) whole stopped = has_more all left old new k k' bytes fresh stopped
-  rows_end failed (Err (stop.Stream stream_error.Memory)) whole (inl a) = (between a.1, λ e. absurd (cc e))
-  rows_end failed (Err (stop.Stream stream_error.Memory)) whole (inr a) = absurd a.stops.1.0
-  rows_end failed (Err (stop.Stream stream_error.Read)) whole stopped = (between stopped.1, λ e. stopped.0)
-  rows_end failed (Err (stop.Stream stream_error.Write)) whole stopped = (stops_at_write failed stopped, λ e. absurd (cc e))
-  rows_end failed (Err (stop.Stream stream_error.Flush)) whole stopped = absurd (no_flush failed stopped)
-
-  pub rows_end_at : (failed : Bool) (limit : ℕ) (ended : Result (Unit {0}) (StreamStop AllocError)) (r : Result Bool SolveError) → limit ≡ 1000000
-      → OnOk ended (AreFirstRowsAnswered SolverAnswers limit bytes all k k' old new)
-      → IfErr ended (λ e. IsStoppedAfter SolverAnswers SolverFails limit false bytes e all left failed k k' old new) → end_after_rows bytes ended ≡ r → IsRowsEnd all old new k' bytes failed r
-  rows_end_at failed limit ended r most whole stopped is =
-      subst (λ (x : Result Bool SolveError). IsRowsEnd all old new k' bytes failed x) is (rows_end failed ended (rw most at whole) (rw most at stopped))
-
-end_next : (done rest : Rows) (s : RunState) (too_many : Bool) → IsPast too_many (length done) rest → IsNextText done s rest (last_line too_many s.changes)
-end_next done [] s false past = refl
-end_next done (fields ∷ rest) s false past = absurd (cc past.0)
-end_next done [] s true past = absurd (omega (arith, past.0))
-end_next done (fields ∷ rest) s true past = inr (past.1, refl)
-
-most_done : (done rest : Rows) (too_many : Bool) → IsPast too_many (length done) rest → length done ≤ 1000000
-most_done done rest false past = past.1
-most_done done rest true past = omega (arith, past.1)
-
--- if a run stops while it writes its last line, its output is as `IsOutputAtError` states for the
--- error of the run
-stops_at_end : (all : Option Rows) (old mid new : Option (List ℕ)) (solver : Solver) (bytes : ℕ) (too_many : Bool) (error : SolveError)
-    → HasRun all old mid solver bytes too_many → ((s : RunState) → KeepsRun solver s → IsEndCut (last_line too_many s.changes) mid new bytes error) → IsHalted all old new error
-stops_at_end all old mid new solver bytes too_many solve_error.Memory run cut =
-    by_rows all run.done run.rest old new run.state run.out run.split (most_done run.done run.rest too_many run.past) run.answered
-    (Appends-kept old mid new run.out run.text (cut run.state run.kept))
-stops_at_end all old mid new solver bytes too_many solve_error.Read run cut = absurd (cut run.state run.kept)
-stops_at_end all old mid new solver bytes too_many (solve_error.Write n) run cut =
-    let c = cut run.state run.kept in
-    cut_off all run.done run.rest old mid new run.state run.out (last_line too_many run.state.changes) c.0 bytes n run.split
-    (most_done run.done run.rest too_many run.past) run.answered (end_next run.done run.rest run.state too_many run.past) c.1 run.text c.2 run.size c.3
-
-pub run_stops : (all : Option (List (List (List ℕ)))) (old mid new : Option (List ℕ)) (solver : Solver) (bytes : ℕ) (too_many : Bool) (r : Result Summary SolveError)
-    → HasRun all old mid solver bytes too_many → IfErr r (λ error. (s : RunState) → KeepsRun solver s → IsEndCut (last_line too_many s.changes) mid new bytes error)
-    → IfErr r (λ error. IsHalted all old new error)
-run_stops all old mid new solver bytes too_many (Ok summary) run cut = tt
-run_stops all old mid new solver bytes too_many (Err error) run cut = stops_at_end all old mid new solver bytes too_many error run cut
-
--- if a run stops while it writes its last line, the error isn't `Read`
-end_not_read : (line : List ℕ) (old new : Option (List ℕ)) (written : ℕ) (error : SolveError) → IsEndCut line old new written error → error ≢ solve_error.Read
-end_not_read line old new written solve_error.Memory cut = λ e. cc e
-end_not_read line old new written solve_error.Read cut = absurd cut
-end_not_read line old new written (solve_error.Write n) cut = λ e. cc e
-
-pub not_read : (all : Option (List (List (List ℕ)))) (old mid new : Option (List ℕ)) (solver : Solver) (bytes : ℕ) (too_many : Bool) (r : Result Summary SolveError) (P : Type 0)
-    → HasRun all old mid solver bytes too_many → IfErr r (λ error. (s : RunState) → KeepsRun solver s → IsEndCut (last_line too_many s.changes) mid new bytes error)
-    → IfErr r (λ error. error ≡ solve_error.Read → P)
-not_read all old mid new solver bytes too_many (Ok summary) P run cut = tt
-not_read all old mid new solver bytes too_many (Err error) P run cut =
-    λ e. absurd (end_not_read (last_line too_many run.state.changes) mid new bytes error (cut run.state run.kept) e)
+  pub read_failed : (why : RunStop AllocError) (all : Option (List (List (List ℕ)))) (failed : Bool) (k' : Solver) (old new : Option (List ℕ))
+      → IsRunStopped SolverAnswers SolverFails IsSolverLast 1000000 why all failed k k' old new → solve_error_of why ≡ solve_error.Read → failed ≡ true
+  read_failed run_stop.Memory all failed k' old new a is = absurd (cc is)
+  read_failed run_stop.Read all failed k' old new a is = a.0
+  read_failed (run_stop.Answer fault) all failed k' old new a is = absurd (cc is)
+  read_failed (run_stop.Write written) all failed k' old new a is = absurd (cc is)
 
 -- if a run stops before it reads its first row, its output is empty, which is the output for no
 -- rows

@@ -1,7 +1,6 @@
 -- The definitions that this crate's contracts use.
 pub mod Script
 pub mod OutputAtError
-pub mod RowsEnds
 pub mod SolveLaws
 pub mod SolverStates
 pub mod Status

@@ -1,8 +1,11 @@
 -- The output of a run that stops before its end.
 use Rattle.std.specs.Prelude.{◌≡◌, ℕ, ◌<◌, ◌≤◌, ◌⊎◌, List, [], ◌∷◌, ◌++◌, take, length}
+use Rattle.std.specs.declared.alloc.AllocError.{AllocError}
 use Rattle.cspf_rows.specs.declared.limits.TheConstants.{MOST_ROWS}
 use Rattle.cspf_rows.specs.Rows.{row_of}
 use Rattle.cspf_stream.specs.Lines.{too_many_line, end_line}
+use Rattle.cspf_stream.specs.declared.error.RunStop.{RunStop}
+use Rattle.cspf_stream.specs.declared.error.RunStop.TheVariants as run_stop
 use Rattle.cspf_solve.specs.Script.{RunState, start, at_next_row, IsRowAnswered, AreRowsAnswered}
 use Rattle.cspf_solve.specs.declared.error.SolveError.{SolveError}
 use Rattle.cspf_solve.specs.declared.error.SolveError.TheVariants as error
@@ -49,3 +52,10 @@ abbrev pub IsOutputAtError : SolveError → List (List (List ℕ)) → List ℕ 
 IsOutputAtError error.Memory rows out = IsBegunByRows rows out
 IsOutputAtError error.Read rows out = IsBegunByRows rows out
 IsOutputAtError (error.Write written) rows out = IsCutOff rows out × (length out ≡ written)
+
+-- Private: the error of a run that stops. The answer to a row fails only if memory is refused.
+abbrev pub solve_error_of : RunStop AllocError → SolveError
+solve_error_of run_stop.Memory = error.Memory
+solve_error_of run_stop.Read = error.Read
+solve_error_of (run_stop.Write written) = error.Write written
+solve_error_of (run_stop.Answer refused) = error.Memory

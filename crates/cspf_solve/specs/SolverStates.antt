@@ -1,20 +1,13 @@
--- How a solver stores the state of a run, and how one row changes this state.
-use Rattle.std.specs.Prelude.{◌≡◌, ℕ, ◌+◌, ◌^◌, ◌<◌, ◌≤◌, Bool, true, false, Option, List, [], take, length, Result, Ok, Err}
-use Rattle.std.specs.Io.KnownBytes.{Appends}
-use Rattle.std.specs.Io.KnownBytes as known
+-- In which state of a run a solver is, and how one row changes this state.
+use Rattle.std.specs.Prelude.{◌≡◌, ℕ, ◌+◌, ◌^◌, ◌<◌, ◌≤◌, Bool, List, length, Result}
 use Rattle.cspf_model.specs.Changes.{database_after}
 use Rattle.cspf_rows.specs.declared.limits.TheConstants.{MOST_ROWS}
 use Rattle.cspf_rows.specs.declared.row.Row.{Row}
 use Rattle.cspf_rows.specs.declared.row_error.RowError.{RowError}
 use Rattle.cspf_stream.specs.OpenChanges.{AreOpen}
-use Rattle.std.specs.declared.alloc.AllocError.{AllocError}
-use Rattle.cspf_stream.specs.declared.error.StreamError.TheVariants as stream_error
-use Rattle.cspf_stream.specs.declared.error.StreamStop.{StreamStop}
-use Rattle.cspf_stream.specs.declared.error.StreamStop.TheVariants as stop
-use Rattle.cspf_solve.specs.declared.error.SolveError.{SolveError}
-use Rattle.cspf_solve.specs.declared.error.SolveError.TheVariants as error
+use Rattle.cspf_stream.specs.Runs as run
 use Rattle.cspf_solve.specs.declared.solver.Solver.{Solver}
-use Rattle.cspf_solve.specs.Script.{RunState, at_next_row, IsRowAnswered}
+use Rattle.cspf_solve.specs.Script.{RunState, at_next_row, last_line, IsRowAnswered}
 
 -- The solver is in the state `s` of a run: it has the database of the accepted batches, and the
 -- counts of this state. It keeps only the first open changes: at most one change more than a batch
@@ -49,18 +42,21 @@ pub record AreBelow (place : ℕ) (solver : Solver) : Type 0 where
   pub answers : solver.rows.answers < place
   pub refused : solver.rows.refused < place
 
--- Private: if the solver `old` is in some state of a run, the run answers `row` with `line` in this
--- state. The solver `new` is then in the state of the run after `row`.
-abbrev pub IsAnsweredBySolver : Solver → Result Row RowError → List ℕ → Solver → Type 0
-IsAnsweredBySolver old row line new =
-    (s : RunState) → KeepsRun old s → (after : RunState) × KeepsRun new after × IsRowAnswered (at_next_row s) row line after
+-- Private: let the solver `old` be in a state of a run. Then the run answers `row` by `line` from
+-- this state on, and the solver `new` is in the state that the run has after `row`.
+pub record IsAnsweredBySolver (old : Solver) (row : Result Row RowError) (line : List ℕ) (new : Solver) : Type 0 where
+  pub lead : (s : RunState) → KeepsRun old s → (after : RunState) × KeepsRun new after × IsRowAnswered (at_next_row s) row line after
+  pub counts : AreWithinOne old new
+
+-- Private: the line is the last line of a run that ends in the solver's state.
+abbrev pub IsSolverLast : Solver → Bool → List ℕ → Type 0
+IsSolverLast solver too_many line = (s : RunState) → KeepsRun solver s → line ≡ last_line too_many s.changes
 
 -- Whether there are too many rows. `rest` has the rows after the first `count` rows. If there
 -- aren't too many rows, `count` is at most 1,000,000, and `rest` is empty. If there are too many,
 -- `count` is 1,000,000, and `rest` isn't empty.
 abbrev pub IsPast : Bool → ℕ → List (List (List ℕ)) → Type 0
-IsPast false count rest = (rest ≡ []) × (count ≤ MOST_ROWS)
-IsPast true count rest = (0 < length rest) × (count ≡ MOST_ROWS)
+IsPast = run.AreBeyond MOST_ROWS
 
 -- Private: at the end of a run the solver's counts of rows, of answers and of refusals are at most
 -- 1,000,000 each.
@@ -68,22 +64,3 @@ pub record AreCounted (solver : Solver) : Type 0 where
   pub rows : solver.read ≤ MOST_ROWS
   pub answers : solver.rows.answers ≤ MOST_ROWS
   pub refused : solver.rows.refused ≤ MOST_ROWS
-
--- Private: how much of its last line a run has written if it stops with this error. `before` bytes
--- were written before this line.
-abbrev pub IsEndCut : List ℕ → Option (List ℕ) → Option (List ℕ) → ℕ → SolveError → Type 0
-IsEndCut line old new before error.Memory = known.Keeps old new
-IsEndCut line old new before error.Read = ⊥
-IsEndCut line old new before (error.Write written) =
-    (size : ℕ) × (size < length line) × Appends old new (take size line) × (written ≡ before + size)
-
--- Private: whether there are too many rows, or the error that stops the run. `written` is the
--- number of bytes of output. A run doesn't flush, so a failed flush can't happen.
-abbrev pub end_after_rows : ℕ → Result (Unit {0}) (StreamStop AllocError) → Result Bool SolveError
-end_after_rows written (Ok done) = Ok false
-end_after_rows written (Err (stop.Answer refused)) = Err error.Memory
-end_after_rows written (Err (stop.Stream stream_error.TooManyRows)) = Ok true
-end_after_rows written (Err (stop.Stream stream_error.Memory)) = Err error.Memory
-end_after_rows written (Err (stop.Stream stream_error.Read)) = Err error.Read
-end_after_rows written (Err (stop.Stream stream_error.Write)) = Err (error.Write written)
-end_after_rows written (Err (stop.Stream stream_error.Flush)) = Err (error.Write written)

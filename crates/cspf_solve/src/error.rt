@@ -1,6 +1,7 @@
 ghost use Rattle.std.specs.Prelude.{◌≡◌};
 
 use cspf_rows::RecordError;
+use cspf_stream::RunStop;
 use std::alloc::AllocError;
 use thiserror::Error;
 
@@ -39,5 +40,19 @@ impl From<RecordError> for SolveError {
 
     fn from(fault: RecordError) -> SolveError {
         fault.of_stream(SolveError::Memory, SolveError::Read)
+    }
+}
+
+impl From<RunStop<AllocError>> for SolveError {
+    ghost use Rattle.cspf_solve.specs.OutputAtError.{solve_error_of};
+
+    ghost from_gives = { λ stop error. error ≡ solve_error_of stop };
+
+    fn from(stop: RunStop<AllocError>) -> SolveError {
+        match stop {
+            RunStop::Memory | RunStop::Answer(_) => SolveError::Memory,
+            RunStop::Read => SolveError::Read,
+            RunStop::Write { written } => SolveError::Write { written },
+        }
     }
 }

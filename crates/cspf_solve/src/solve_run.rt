@@ -1,20 +1,19 @@
 //! The run of `solve`: it reads one stream of rows and writes the line that answers each row.
 
-ghost use Rattle.std.specs.Prelude.{◌≡◌, ℕ, ◌+◌, ◌*◌, ◌^◌, ◌≤◌, List, true, IfOk, IfErr, IfSome};
+ghost use Rattle.std.specs.Prelude.{◌≡◌, ℕ, List, true, IfOk, IfErr, IfSome};
 ghost use Rattle.std.specs.Io.KnownBytes.{Appends};
 ghost use Rattle.csv.specs.Reading.{has_failed};
 ghost use Rattle.cspf_rows.specs.Records.{rows_of, rows_left, IsPlain};
 ghost use Rattle.cspf_solve.specs.declared.error.SolveError.TheVariants.{Read as IsRead};
-ghost use Rattle.cspf_solve.specs.Script.{RunState, start, IsSolveRun, IsScript, last_line, summary_of};
+ghost use Rattle.cspf_solve.specs.Script.{start, IsSolveRun, IsScript};
 ghost use Rattle.cspf_solve.specs.OutputAtError.{IsOutputAtError};
-ghost use Rattle.cspf_solve.specs.RowsEnds.{IsRowsEnd};
-ghost use Rattle.cspf_solve.specs.SolverStates.{KeepsRun, AreCounted, IsEndCut, end_after_rows};
+ghost use Rattle.cspf_solve.specs.SolverStates.{KeepsRun};
 
 use crate::{RunOptions, SolveError, Solver, Summary};
-use cspf_rows::{MOST_ROWS, open_records, put_all};
-use cspf_stream::{StreamError, StreamStop, answer_first_rows};
+use cspf_rows::{MOST_ROWS, open_records};
+use cspf_stream::run_rows;
 use csv::Reader;
-use std::alloc::{AllocError, Global};
+use std::alloc::Global;
 use std::io::{Read, Write};
 
 /// Reads a stream of rows, and writes the line that answers each row before it reads the next row.
@@ -79,72 +78,9 @@ fn solve_rows<R: Read, W: Write>(
     // If the error is `Read`, a read failed.
     ensures read { IfErr result (λ error. error ≡ IsRead → has_failed rows.new ≡ true) }
 {
-    let (written, ended) = answer_most(alloc, rows, solver, writer);
-    finish(alloc, solver, writer, written, ended?)
-}
-
-/// Answers at most 1,000,000 of the rows that the reader still has. Returns two results: how many
-/// bytes were written, and whether more rows follow or which error stops the run.
-fn answer_most<R: Read, W: Write>(
-    alloc: Global,
-    rows: &mut Reader<R>,
-    solver: &mut Solver,
-    writer: &mut W,
-) -> (u128, Result<bool, SolveError>)
-    requires plain { IsPlain rows.old }
-    requires fresh { KeepsRun solver.old start }
-    ensures ends { IsRowsEnd (rows_left R.remaining rows.old) (W.contents writer.old)
-        (W.contents writer.new) solver.new result.0 (has_failed rows.new) result.1 }
-    ensures small { result.0 ≤ MOST_ROWS * 2 ^ 64 }
-{
     let limit = u64::from(MOST_ROWS);
-    let (written, ended) = answer_first_rows(&(), alloc, limit, false, rows, writer, solver);
-    (written, end_after_rows(written, ended))
-}
-
-/// Whether there are more than 1,000,000 rows, or the error that stops the run. `written` is the
-/// number of bytes of output.
-fn end_after_rows(
-    written: u128,
-    ended: Result<(), StreamStop<AllocError>>,
-) -> Result<bool, SolveError>
-    ensures { result ≡ end_after_rows written ended }
-{
-    match ended {
-        Ok(()) => Ok(false),
-        Err(StreamStop::Answer(_refused)) => Err(SolveError::Memory),
-        Err(StreamStop::Stream(StreamError::TooManyRows)) => Ok(true),
-        Err(StreamStop::Stream(StreamError::Memory)) => Err(SolveError::Memory),
-        Err(StreamStop::Stream(StreamError::Read)) => Err(SolveError::Read),
-        Err(StreamStop::Stream(StreamError::Write | StreamError::Flush)) => {
-            Err(SolveError::Write { written })
-        }
-    }
-}
-
-/// Writes the last line of the run and returns the summary. `written` is the number of bytes that
-/// the run wrote before this line.
-fn finish<W: Write>(
-    alloc: Global,
-    solver: &Solver,
-    writer: &mut W,
-    written: u128,
-    too_many: bool,
-) -> Result<Summary, SolveError>
-    requires counted { AreCounted solver.now }
-    requires room { written ≤ MOST_ROWS * 2 ^ 64 }
-    ensures ended { IfOk result (λ summary. (s : RunState) → KeepsRun solver.now s
-        → Appends (W.contents writer.old) (W.contents writer.new) (last_line too_many s.changes)
-        × (summary ≡ summary_of s too_many)) }
-    ensures stopped { IfErr result (λ error. (s : RunState) → KeepsRun solver.now s
-        → IsEndCut (last_line too_many s.changes)
-        (W.contents writer.old) (W.contents writer.new) written error) }
-{
-    let line = solver.last_line(alloc, too_many)?;
-    match put_all(writer, line.as_slice()) {
-        Ok(()) => Ok(solver.summary(too_many)),
-        Err(size) => Err(SolveError::Write {
-            written: written + size as u128,
-        }),
+    match run_rows(alloc, limit, rows, writer, solver) {
+        Ok(too_many) => Ok(solver.summary(too_many)),
+        Err(stop) => Err(SolveError::from(stop)),
     }
 }

@@ -7,7 +7,7 @@ use crate::Summary;
 use crate::table_sink::TableSink;
 use cspf_model::{absorbing, one_refusal};
 use cspf_rows::{Row, RowError};
-use cspf_stream::{Answering, Rows, StreamLine};
+use cspf_stream::{Answering, Ending, Rows, StreamLine};
 use cspf_trees::{MOST_TREES, TreeTable};
 use csv::ByteRecord;
 use std::alloc::{AllocError, Global};
@@ -46,6 +46,16 @@ impl Answering<()> for Solver {
         fields: &ByteRecord,
     ) -> Result<Vec<u8>, AllocError> {
         Solver::answer(self, alloc, &Row::read(fields))
+    }
+}
+
+impl Ending for Solver {
+    ghost use Rattle.cspf_solve.specs.SolverStates.{IsSolverLast};
+
+    ghost last = { IsSolverLast };
+
+    fn last_line(&self, alloc: Global, too_many: bool) -> Result<Vec<u8>, AllocError> {
+        Solver::last_line(self, alloc, too_many)
     }
 }
 

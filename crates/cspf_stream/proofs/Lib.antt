@@ -3,3 +3,4 @@ pub mod Going
 pub mod KeptChanges
 pub mod RowsOfSteps
 pub mod RowSteps
+pub mod Running

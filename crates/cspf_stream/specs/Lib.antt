@@ -9,6 +9,7 @@ pub mod RefusedRows
 pub mod RowAnswers
 pub mod RowCounts
 pub mod RowsTaken
+pub mod Runs
 pub mod Sinks
 pub mod Steps
 pub mod StreamStops

@@ -1,8 +1,8 @@
-ghost use Rattle.std.specs.Prelude.{◌+◌, ◌≤◌, ℕ, List, IfOk, IfErr, OnOk};
+ghost use Rattle.std.specs.Prelude.{◌+◌, ◌≤◌, ℕ, Bool, List, IfOk, IfErr, OnOk};
 ghost use Rattle.csv.specs.Records.{fields_of};
 
 use csv::ByteRecord;
-use std::alloc::Global;
+use std::alloc::{AllocError, Global};
 
 /// Answers the rows of a stream, one after the other. An implementation reads the fields of each
 /// row itself, so it decides which kinds of rows there are. `Row::read` reads the rows of a
@@ -40,4 +40,15 @@ pub trait Answering<C> {
         ensures state { OnOk result (may_stand (place + 1) self.new) }
         ensures failed { IfErr result (λ fault. fails fault place self.old (fields_of fields.now)
             self.new) };
+}
+
+/// Ends the answers to the rows of a stream with a last line.
+pub trait Ending {
+    /// A relation between the state after the last answered row, whether the stream has more rows
+    /// than are answered, and the last line.
+    ghost last: { Self → Bool → List ℕ → Type 0 };
+
+    /// Returns the last line. The line may be empty.
+    fn last_line(&self, alloc: Global, too_many: bool) -> Result<Vec<u8>, AllocError>
+        ensures { IfOk result (λ line. last self.now too_many line.items) };
 }

@@ -2,6 +2,7 @@
 
 ghost use Rattle.std.specs.Prelude.{◌≡◌};
 ghost use Rattle.cspf_rows.specs.ReadFaults.{stream_fault_of};
+ghost use Rattle.cspf_stream.specs.declared.error.RunStop.TheVariants as run_stop;
 ghost use Rattle.cspf_stream.specs.declared.error.StreamError.TheVariants as stream_error;
 ghost use Rattle.cspf_stream.specs.declared.error.StreamStop.TheVariants as stream_stop;
 
@@ -54,6 +55,31 @@ impl<F> From<RecordError> for StreamStop<F> {
 
     fn from(fault: RecordError) -> StreamStop<F> {
         StreamStop::Stream(fault.of_stream(StreamError::Memory, StreamError::Read))
+    }
+}
+
+/// Why a run over the rows of a stream stops before its last line is written. The answer to a row
+/// can fail with a fault of the type `F`.
+#[derive(Drop)]
+pub enum RunStop<F> {
+    /// Memory was refused for a row that was read, or for the last line.
+    Memory,
+    /// A read failed.
+    Read,
+    /// A write failed, or took no bytes.
+    Write {
+        /// How many bytes the whole run wrote. The type is large enough for every run.
+        written: u128,
+    },
+    /// The answer to a row failed.
+    Answer(F),
+}
+
+impl<F> From<AllocError> for RunStop<F> {
+    ghost from_gives = { λ _ stop. stop ≡ run_stop.Memory };
+
+    fn from(_refused: AllocError) -> RunStop<F> {
+        RunStop::Memory
     }
 }
 

@@ -5,6 +5,9 @@
 //! stream of rows. `specs/StreamStops.antt` defines what was read, answered and written if a stream
 //! stops before its end, and which error it returns.
 //!
+//! `run_rows` also writes a last line, which the `Ending` of a stream gives. `specs/Runs.antt` defines
+//! such a run, and its output if it stops.
+//!
 //! `Rows` answers each row with the help of a `Sink`, which accepts or refuses batches and answers
 //! requests. `specs/RowsTaken.antt` defines these answers, and `specs/Sinks.antt` defines a sink.
 //!
@@ -22,18 +25,20 @@ mod line;
 mod open_changes;
 mod refusal;
 mod rows;
+mod run;
 mod sink;
 mod step;
 mod stream;
 
-pub use answering::Answering;
+pub use answering::{Answering, Ending};
 pub use batch_refusal::BatchRefusal;
-pub use error::{StreamError, StreamStop};
+pub use error::{RunStop, StreamError, StreamStop};
 pub use limits::MOST_STREAM_ROWS;
 pub use line::StreamLine;
 pub use open_changes::OpenChanges;
 pub use refusal::refused_row;
 pub use rows::Rows;
+pub use run::run_rows;
 pub use sink::Sink;
 pub use step::Step;
 pub use stream::{answer_first_rows, answer_rows, put_line};

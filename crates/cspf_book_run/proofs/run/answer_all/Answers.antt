@@ -1,17 +1,21 @@
-use Rattle.cspf_book_run.proofs.BookRun.{run_ends, run_keeps, run_stops, not_read}
+use Rattle.csv.specs.Reading.{has_failed}
+use Rattle.cspf_book_run.proofs.BookRun.{counted_run, run_ends, run_keeps, run_stops, read_failed}
 use Rattle.cspf_book_run.proofs.run.answer_all.Goals as goal
 
-pub finish-requires-clause-counted : goal.finish-requires-clause-counted
-finish-requires-clause-counted g c = let run = rw c.in_ok-ended.was at c.answer_most-written.ensures.ends in rw c.rows.ensures run.counts
+pub summary-requires : goal.summary-requires
+summary-requires g c = rw c.rows.ensures (counted_run g.K.Write.contents c.args.book.now c.requires.fresh c.requires.first _ _ _ _ _ (rw c.from-limit.ensures at c.in-Ok.ensures.whole))
 
-pub returns-clause-whole : goal.returns-clause-whole
-returns-clause-whole g c = run_ends _ _ _ _ _ _ (rw c.in_ok-ended.was at c.answer_most-written.ensures.ends) c.finish.result (rw c.rows.ensures at c.finish.ensures.ended)
+pub returns-in-Ok-clause-whole : goal.returns-in-Ok-clause-whole
+returns-in-Ok-clause-whole g c =
+    run_ends g.K.Write.contents c.args.book.now c.requires.fresh c.requires.first _ _ _ _ _ _ (rw c.from-limit.ensures at c.in-Ok.ensures.whole) (rw c.rows.ensures at c.summary.ensures)
 
-pub returns-clause-kept : goal.returns-clause-kept
-returns-clause-kept g c = run_keeps _ _ (g.W.Write.contents c.args.writer.now) _ _ _ (rw c.in_ok-ended.was at c.answer_most-written.ensures.ends) c.finish.result
+pub returns-in-Ok-clause-kept : goal.returns-in-Ok-clause-kept
+returns-in-Ok-clause-kept g c = run_keeps g.K.Write.contents c.args.book.now c.requires.fresh c.requires.first _ _ _ _ _ (rw c.from-limit.ensures at c.in-Ok.ensures.whole)
 
-pub returns-clause-stopped : goal.returns-clause-stopped
-returns-clause-stopped g c = run_stops _ _ _ _ _ _ (rw c.in_ok-ended.was at c.answer_most-written.ensures.ends) c.finish.result (rw c.rows.ensures at c.finish.ensures.stopped)
+pub returns-in-Err-clause-stopped : goal.returns-in-Err-clause-stopped
+returns-in-Err-clause-stopped g c =
+    rw c.from.ensures (run_stops g.K.Write.contents c.args.book.now c.requires.fresh c.requires.first _ _ (has_failed c.run_rows.new.rows) _ _ _ (rw c.from-limit.ensures at c.in-Err.ensures.stopped))
 
-pub returns-clause-read : goal.returns-clause-read
-returns-clause-read g c = not_read _ _ _ _ _ _ (rw c.in_ok-ended.was at c.answer_most-written.ensures.ends) c.finish.result _ (rw c.rows.ensures at c.finish.ensures.stopped)
+pub returns-in-Err-clause-read : goal.returns-in-Err-clause-read
+returns-in-Err-clause-read g c =
+    rw c.from.ensures (read_failed g.K.Write.contents c.args.book.now c.requires.fresh c.requires.first _ _ (has_failed c.run_rows.new.rows) _ _ _ (rw c.from-limit.ensures at c.in-Err.ensures.stopped))

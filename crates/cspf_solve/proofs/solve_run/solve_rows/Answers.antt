@@ -1,14 +1,15 @@
-use Rattle.cspf_solve.proofs.SolveRun.{counted_run, run_ends, run_stops, not_read}
+use Rattle.csv.specs.Reading.{has_failed}
+use Rattle.cspf_solve.proofs.SolveRun.{counted_run, run_ends, run_stops, read_failed}
 use Rattle.cspf_solve.proofs.solve_run.solve_rows.Goals as goal
 
-pub finish-requires-clause-counted : goal.finish-requires-clause-counted
-finish-requires-clause-counted g c = counted_run _ _ _ _ _ _ (rw c.in_ok-ended.was at c.answer_most-written.ensures.ends)
+pub summary-requires : goal.summary-requires
+summary-requires g c = counted_run c.args.solver.now c.requires.fresh _ _ _ _ _ (rw c.from-limit.ensures at c.in-Ok.ensures.whole)
 
-pub returns-clause-whole : goal.returns-clause-whole
-returns-clause-whole g c = run_ends _ _ _ _ _ _ _ c.finish.result (rw c.in_ok-ended.was at c.answer_most-written.ensures.ends) c.finish.ensures.ended
+pub returns-in-Ok-clause-whole : goal.returns-in-Ok-clause-whole
+returns-in-Ok-clause-whole g c = run_ends c.args.solver.now c.requires.fresh _ _ _ _ _ _ (rw c.from-limit.ensures at c.in-Ok.ensures.whole) c.summary.ensures
 
-pub returns-clause-stopped : goal.returns-clause-stopped
-returns-clause-stopped g c = run_stops _ _ _ _ _ _ _ c.finish.result (rw c.in_ok-ended.was at c.answer_most-written.ensures.ends) c.finish.ensures.stopped
+pub returns-in-Err-clause-stopped : goal.returns-in-Err-clause-stopped
+returns-in-Err-clause-stopped g c = rw c.from.ensures (run_stops c.args.solver.now c.requires.fresh _ _ (has_failed c.run_rows.new.rows) _ _ _ (rw c.from-limit.ensures at c.in-Err.ensures.stopped))
 
-pub returns-clause-read : goal.returns-clause-read
-returns-clause-read g c = not_read _ _ _ _ _ _ _ c.finish.result _ (rw c.in_ok-ended.was at c.answer_most-written.ensures.ends) c.finish.ensures.stopped
+pub returns-in-Err-clause-read : goal.returns-in-Err-clause-read
+returns-in-Err-clause-read g c = rw c.from.ensures (read_failed c.args.solver.now c.requires.fresh _ _ (has_failed c.run_rows.new.rows) _ _ _ (rw c.from-limit.ensures at c.in-Err.ensures.stopped))
