@@ -23,8 +23,8 @@ class Batches:
     """One batch at a time: the next is written once the line of the last has come."""
 
     def __init__(self, database: Database, say: Callable[[str], None], count: Callable[[str], None]) -> None:
-        self.database, self.say, self.count = database, say, count  # the last is called with the first word of each refusal of a batch
-        self.given = database.rows  # the links and marks that the program has at its version
+        self.database = database  # of the program, at its version
+        self.say, self.count = say, count  # the latter is called with the first word of each refusal of a batch
         self.barred: dict[Key, Row] = {}  # those that the program refused
         self.sent: list[Change] = []  # the changes of the batch whose line hasn't come
         self.before, self.behind = 0, 0  # asks whose lines haven't come: sent before that batch, and behind it
@@ -33,29 +33,26 @@ class Batches:
         self.is_cut = False  # whether there is more to do than that batch
         self.vain = 0  # refusals in a row from which nothing followed
 
-    @property
-    def version(self) -> int:
-        return self.database.version
-
     def links(self) -> set[Key]:
         """The keys of the links and marks that the program has or was sent."""
-        return self.given.keys() | {change.key for change in self.sent if not change.is_removal}
+        return self.database.rows.keys() | {change.key for change in self.sent if not change.is_removal}
 
     def next(self, wanted: dict[Key, Row], changed: Collection[Key] | None = None) -> str:
         """The text of the next batch towards the wanted rows, drops first; empty where there is none. If it is known which keys have
         changed since the last look, others are looked at only where that left something to be done."""
-        keys = self.given.keys() | wanted.keys() if changed is None or self.is_cut else changed
+        given = self.database.rows
+        keys = given.keys() | wanted.keys() if changed is None or self.is_cut else changed
         if self.barred:
             wanted = {key: row for key, row in wanted.items() if self.barred.get(key) != row}
-        gone = [key for key in keys if key in self.given and key not in wanted]
-        puts = [key for key in keys if (row := wanted.get(key)) and (had := self.given.get(key)) is not row and had != row]
+        gone = [key for key in keys if key in given and key not in wanted]
+        puts = [key for key in keys if (row := wanted.get(key)) and (had := given.get(key)) is not row and had != row]
         changes = [*map(removal_of, sorted(gone, key=rank)), *(wanted[key] for key in sorted(puts, key=rank))]
         self.sent, self.is_cut, self.row = changes[:self.size], len(changes) > self.size, ""
         return self.batch().text() if self.sent else ""
 
     def batch(self) -> Batch:
         """The batch that was sent."""
-        return Batch(self.version + 1, tuple(self.sent))
+        return Batch(self.database.version + 1, tuple(self.sent))
 
     def ask(self) -> None:
         """Counts an ask row that was sent. Its line comes in its turn."""
@@ -78,7 +75,7 @@ class Batches:
         found = re.fullmatch(r"version (\d+)|batch (\d+) refused: (.+)", line)
         if not found:
             return False
-        if not self.sent or (found[1] or found[2]) != str(self.version + 1):
+        if not self.sent or (found[1] or found[2]) != str(self.database.version + 1):
             raise Stopped(f"{line}: {OTHERS}")
         self.before, self.behind = self.behind, 0
         if found[1]:
