@@ -100,10 +100,7 @@ class Session:
         """Ends the session, by these last bytes or the usual ones, if the connection is still there."""
         last = self.last if last is None else last
         for stream in self.streams:
-            if last and not stream.is_ended and not stream.fault:
-                stream.hang_up(last)
-            else:
-                stream.close()
+            stream.leave(last)
         self.streams = []
 
 
@@ -150,9 +147,8 @@ class Hearing:
     def report(self, network: Network) -> None:
         """Says the notes of links that weren't said; and with --verbose, where it has changed, how many links are left out for each
         reason, and which are new there."""
-        for key, note in sorted(network.notes.items()):
-            if key not in self.noted:
-                self.asked.say(note)
+        for key in sorted(network.notes.keys() - self.noted):
+            self.asked.say(network.notes[key])
         self.noted.update(network.notes)
         if not self.asked.verbose or network.left == self.left:
             return
@@ -212,8 +208,7 @@ class Feed(Hearing):
                 self.look(now)
             if self.asks:
                 self.asks.wait(not self.program.stream.is_full)
-            following = min(self.try_at, self.due())
-            self.loop.turn(following - time.monotonic() if following < math.inf else None)
+            self.loop.turn(min(self.try_at, self.due()) - time.monotonic())
 
     def status(self) -> str:
         """The status line of the unit."""
@@ -259,7 +254,7 @@ class Feed(Hearing):
 
     def take_lines(self) -> None:
         while self.program.lines:
-            line = self.program.lines.popleft().decode(errors="replace")
+            line = self.program.line()
             if self.batches.read(line):
                 if self.batches.is_cut:
                     self.look_at = min(self.look_at, time.monotonic())
@@ -298,12 +293,8 @@ class Feed(Hearing):
     def look(self, now: float) -> None:
         """Writes the next batch towards the network as it is."""
         self.look_at = math.inf
-        if self.session is None:
-            return
-        try:
-            network = self.session.network()
-        except Exception as fault:
-            self.loop.end(self.session, fault)
+        network = self.loop.call(self.session, self.session.network) if self.session else None
+        if network is None:
             return
         whole, is_telling = network.whole() if self.is_telling else set(), self.is_telling
         self.awaited = {key for key in self.awaited if key in self.batches.database.rows and key not in network.rows and key not in whole}
@@ -352,7 +343,7 @@ def once(asked: argparse.Namespace, make: Connect) -> None:
     hearing = Hearing(asked, make, Loop(selector=selectors.PollSelector()), *times)
     hearing.connect()
     while (left := hearing.told_at - time.monotonic()) > 0:
-        hearing.loop.turn(left if left < math.inf else None)
+        hearing.loop.turn(left)
     assert hearing.session is not None
     hearing.session.close()
     network = hearing.session.network()

@@ -13,6 +13,7 @@ from collections.abc import Mapping
 from ..model.rows import Key, Row, rank
 from ..net.endpoints import tried
 from ..net.loop import Stopped
+from ..net.stream import write_all
 from .batches import Batches
 
 Values = Mapping[Key, int | frozenset[int]]  # what is told of links: labels, or SRLGs
@@ -59,14 +60,12 @@ class SidFile:
                 if key not in known and key in batches.database.rows and key not in sent and batches.database.rows[key] != rows.get(key)}
 
     def append(self, text: str) -> None:
-        """Writes whole lines by one write; what is cut is taken back."""
+        """Writes whole lines; what is cut is taken back."""
         data = (self.head * (not self.length) + text).encode()
         with tried(self.option):
             try:
-                if data and os.write(self.file, data) != len(data):
-                    os.write(self.file, data[-1:])  # it says why
-                    raise Stopped(f"{self.option}: a write was cut")
-            except (OSError, Stopped):
+                write_all(self.file, data)
+            except OSError:
                 os.ftruncate(self.file, self.length)
                 raise
             self.length += len(data)

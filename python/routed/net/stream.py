@@ -152,6 +152,13 @@ class Stream:
             self.wait(True)
             self.loop.after(LINGER, self.close)
 
+    def leave(self, last: bytes) -> None:
+        """Ends it by these bytes; at once where there are none, or nobody to take them."""
+        if last and not self.is_ended and not self.fault:
+            self.hang_up(last)
+        else:
+            self.close()
+
     def drop(self, _: int) -> None:
         """Reads what nobody wants any more."""
         self.read()
