@@ -12,6 +12,8 @@ MOST_VAIN = 8  # refusals in a row from which nothing followed
 REFUSED_ROW = re.compile(r"row \d+ refused: .+")
 OTHERS = "another program has published, and the feed has to be the only one: end that program, and start the feed again"
 UNKNOWN = "the program's database isn't the one that the feed began with: start the feed again"
+# The first words of refusals behind which no batch is taken any more, and what the feed adds to their lines.
+LAST = {"exhausted": "", "journal": "", "stopped": "", "expected": f": {OTHERS}", "absent": f": {UNKNOWN}"}
 
 
 def named(change: Change) -> str:
@@ -20,11 +22,10 @@ def named(change: Change) -> str:
 
 
 class Batches:
-    """One batch at a time: the next is written once the line of the last has come."""
+    """One batch at a time: the next is written once the line of the last has come. `database` is the program's, at its version."""
 
     def __init__(self, database: Database, say: Callable[[str], None], count: Callable[[str], None]) -> None:
-        self.database = database  # of the program, at its version
-        self.say, self.count = say, count  # the latter is called with the first word of each refusal of a batch
+        self.database, self.say, self.count = database, say, count  # the last is called with the first word of each refusal of a batch
         self.barred: dict[Key, Row] = {}  # those that the program refused
         self.sent: list[Change] = []  # the changes of the batch whose line hasn't come
         self.before, self.behind = 0, 0  # asks whose lines haven't come: sent before that batch, and behind it
@@ -32,10 +33,6 @@ class Batches:
         self.size = MOST_CHANGES
         self.is_cut = False  # whether there is more to do than that batch
         self.vain = 0  # refusals in a row from which nothing followed
-
-    def links(self) -> set[Key]:
-        """The keys of the links and marks that the program has or was sent."""
-        return self.database.rows.keys() | {change.key for change in self.sent if not change.is_removal}
 
     def next(self, wanted: dict[Key, Row], changed: Collection[Key] | None = None) -> str:
         """The text of the next batch towards the wanted rows, drops first; empty where there is none. If it is known which keys have
@@ -98,10 +95,8 @@ class Batches:
         """Goes on with what can be put: in smaller batches, until the change that is at fault is the only one of its batch."""
         changes, self.sent, self.is_cut = self.sent, [], True
         self.count(why[0])
-        if why[0] in ("exhausted", "journal", "stopped"):  # no batch is taken any more
-            raise Stopped(line)
-        if why[0] in ("expected", "absent"):
-            raise Stopped(f"{line}: {OTHERS if why[0] == 'expected' else UNKNOWN}")
+        if why[0] in LAST:
+            raise Stopped(line + LAST[why[0]])
         self.vain += 1
         if why[0] == "counted" and not self.row:
             self.say(f"{line}: changes were left open, which are dropped with this batch; trying again")

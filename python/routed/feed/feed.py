@@ -98,9 +98,8 @@ class Session:
 
     def close(self, last: bytes | None = None) -> None:
         """Ends the session, by these last bytes or the usual ones, if the connection is still there."""
-        last = self.last if last is None else last
         for stream in self.streams:
-            stream.leave(last)
+            stream.leave(self.last if last is None else last)
         self.streams = []
 
 
@@ -230,7 +229,8 @@ class Feed(Hearing):
 
     def up(self, session: Session) -> None:
         super().up(session)
-        self.is_connected, self.awaited = True, self.batches.links()
+        self.is_connected, sent = True, {change.key for change in self.batches.sent if not change.is_removal}
+        self.awaited = self.batches.database.rows.keys() | sent
         self.awaited_values = {name: dict(file.labels) for name, file in self.files.items() if self.awaited}
         self.is_telling = bool(self.awaited)
         self.heard(0, True)

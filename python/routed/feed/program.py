@@ -18,11 +18,10 @@ FULL = 1 << 20  # bytes that wait for the program before asks wait too
 
 
 class Program(Lines):
-    """What takes rows and writes lines: a command, a place of `routed-tools listen`, or whatever is at standard output and input.
-    `take` is called once there are lines."""
+    """What takes rows and writes lines: a command, a place of `routed-tools listen`, or whatever is at standard output and input."""
 
-    def __init__(self, loop: Loop, command: list[str], endpoint: Endpoint | None, take: Callable[[], None] = lambda: None) -> None:
-        self.take = take
+    def __init__(self, loop: Loop, command: list[str], endpoint: Endpoint | None) -> None:
+        self.take: Callable[[], object] = lambda: None  # is called once there are lines
         self.child: subprocess.Popen | None = None
         self.is_broken, self.heard_at = False, 0.0  # it takes no more rows
         if endpoint:
@@ -31,22 +30,19 @@ class Program(Lines):
                 stream = Stream(loop, endpoint.connect())
         elif command:
             self.name = " ".join(shlex.join(command).split())  # one line
-            stream = self.started(loop, command)
+            (rows_out, rows_in), (lines_out, lines_in) = os.pipe(), os.pipe()
+            try:
+                with tried(f"can't start {self.name}"):
+                    self.child = subprocess.Popen(command, stdin=rows_out, stdout=lines_in)
+            finally:
+                os.close(rows_out)
+                os.close(lines_in)
+            stream = Stream(loop, lines_out, rows_in)
         else:
             self.name = "standard input and output"
             stream = Stream(loop, 0, 1, is_shared=True)
         stream.most = FULL
         super().__init__(loop, stream, ANSWER)
-
-    def started(self, loop: Loop, command: list[str]) -> Stream:
-        (rows_out, rows_in), (lines_out, lines_in) = os.pipe(), os.pipe()
-        try:
-            with tried(f"can't start {self.name}"):
-                self.child = subprocess.Popen(command, stdin=rows_out, stdout=lines_in)
-        finally:
-            os.close(rows_out)
-            os.close(lines_in)
-        return Stream(loop, lines_out, rows_in)
 
     def write(self, text: str | bytes) -> None:
         """Writes rows. Where they aren't taken any more the program's last lines say why, or the error does."""

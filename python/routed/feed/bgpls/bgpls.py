@@ -61,7 +61,6 @@ class Peer(Session):
         if self.door:
             self.door.shut()
             self.door.listener.close()
-            self.door = None
 
     def let_in(self, stream: Stream) -> None:
         if stream.peer()[0] != self.asked.peer.address[0]:
