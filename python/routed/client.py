@@ -1,17 +1,15 @@
 """A client of `routed-tools listen`, for programs in Python."""
 from __future__ import annotations
 
-import collections
 import contextlib
 import re
-import time
 
 from .model.database import Database
 from .model.journals import read_snapshot
 from .model.rows import Refused, Reply, Request
 from .net.endpoints import Endpoint
-from .net.loop import READ, WRITE, Loop
-from .net.stream import Stream
+from .net.loop import Loop
+from .net.stream import Lines, Stream
 
 MOST_LINES = 40_000  # of a snapshot
 VERSION, RUN = re.compile(r"version ([0-9]{1,20})"), re.compile(r"run ([0-9]{1,20})")
@@ -24,9 +22,9 @@ class Client:
     `TimeoutError`. After that the client is to be closed."""
 
     def __init__(self, ask: str, watch: str | None = None, seconds: float = 60) -> None:
-        self.version, self.asks = 0, Connection(ask, seconds)  # the newest version that was told or named
+        self.version, self.asks = 0, connected(ask, seconds)  # the newest version that was told or named
         self.run: int | None = None  # the number of the run, once the place of versions has told it
-        self.versions = Connection(watch, seconds) if watch is not None else None
+        self.versions = connected(watch, seconds) if watch is not None else None
 
     def __enter__(self) -> Client:
         return self
@@ -69,37 +67,15 @@ class Client:
         return self.version
 
 
-class Connection:
-    """A connection whose lines are waited for."""
-
-    def __init__(self, place: str, seconds: float) -> None:
-        self.loop, self.seconds = Loop(), seconds
-        self.stream = Stream(self.loop, Endpoint(place).connect())
-        self.lines: collections.deque[bytes] = collections.deque()
-        self.stream.give(None, self.go_on)
-
-    def go_on(self, events: int) -> None:
-        if events & WRITE:
-            self.stream.flush()
-        if events & READ:
-            self.lines.extend(self.stream.lines())
-
-    def line(self) -> str:
-        """The next line."""
-        end = time.monotonic() + self.seconds
-        while not self.lines:
-            if self.stream.is_ended:
-                raise self.stream.fault or ConnectionError("the server ended the connection")
-            if time.monotonic() >= end:
-                raise TimeoutError(f"no line came in {self.seconds:g} s")
-            self.stream.wait(True)
-            self.loop.turn(end - time.monotonic())
-        return self.lines.popleft().decode(errors="replace")
+def connected(place: str, seconds: float) -> Lines:
+    """The lines of a place, each of which has to come within so many seconds."""
+    loop = Loop()
+    return Lines(loop, Stream(loop, Endpoint(place).connect()), seconds)
 
 
 def ask_snapshot(place: str, seconds: float = 60) -> Database:
     """The database of a running server at its newest version, from its place of --show, or from that of updates."""
-    connection = Connection(place, seconds)
+    connection = connected(place, seconds)
     with contextlib.closing(connection.stream):
         connection.stream.write(b"snapshot\n")
         lines = [connection.line()]

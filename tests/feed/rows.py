@@ -229,7 +229,7 @@ def queued(checks):
     feed.loop, feed.batches = Loop(), argparse.Namespace(ask=lambda: None)
     feed.asks, feed.program = Stream(feed.loop, reading[0]), Program(feed.loop, ["sleep", str(PATIENCE)], None)
     row, began = b"ask,\n", time.process_time()
-    while not feed.program.is_full():
+    while not feed.program.stream.is_full:
         os.write(reading[1], row * 12000)  # less than the pipe holds
         feed.take_asks(0)
     took = time.process_time() - began

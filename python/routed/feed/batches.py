@@ -12,6 +12,8 @@ MOST_VAIN = 8  # refusals in a row from which nothing followed
 REFUSED_ROW = re.compile(r"row \d+ refused: .+")
 OTHERS = "another program has published, and the feed has to be the only one: end that program, and start the feed again"
 UNKNOWN = "the program's database isn't the one that the feed began with: start the feed again"
+# The first words of refusals behind which no batch is taken any more, and what the feed adds to their lines.
+LAST = {"exhausted": "", "journal": "", "stopped": "", "expected": f": {OTHERS}", "absent": f": {UNKNOWN}"}
 
 
 def named(change: Change) -> str:
@@ -20,11 +22,10 @@ def named(change: Change) -> str:
 
 
 class Batches:
-    """One batch at a time: the next is written once the line of the last has come."""
+    """One batch at a time: the next is written once the line of the last has come. `database` is the program's, at its version."""
 
     def __init__(self, database: Database, say: Callable[[str], None], count: Callable[[str], None]) -> None:
         self.database, self.say, self.count = database, say, count  # the last is called with the first word of each refusal of a batch
-        self.given = database.rows  # the links and marks that the program has at its version
         self.barred: dict[Key, Row] = {}  # those that the program refused
         self.sent: list[Change] = []  # the changes of the batch whose line hasn't come
         self.before, self.behind = 0, 0  # asks whose lines haven't come: sent before that batch, and behind it
@@ -33,29 +34,22 @@ class Batches:
         self.is_cut = False  # whether there is more to do than that batch
         self.vain = 0  # refusals in a row from which nothing followed
 
-    @property
-    def version(self) -> int:
-        return self.database.version
-
-    def links(self) -> set[Key]:
-        """The keys of the links and marks that the program has or was sent."""
-        return self.given.keys() | {change.key for change in self.sent if not change.is_removal}
-
     def next(self, wanted: dict[Key, Row], changed: Collection[Key] | None = None) -> str:
         """The text of the next batch towards the wanted rows, drops first; empty where there is none. If it is known which keys have
         changed since the last look, others are looked at only where that left something to be done."""
-        keys = self.given.keys() | wanted.keys() if changed is None or self.is_cut else changed
+        given = self.database.rows
+        keys = given.keys() | wanted.keys() if changed is None or self.is_cut else changed
         if self.barred:
             wanted = {key: row for key, row in wanted.items() if self.barred.get(key) != row}
-        gone = [key for key in keys if key in self.given and key not in wanted]
-        puts = [key for key in keys if (row := wanted.get(key)) and (had := self.given.get(key)) is not row and had != row]
+        gone = [key for key in keys if key in given and key not in wanted]
+        puts = [key for key in keys if (row := wanted.get(key)) and (had := given.get(key)) is not row and had != row]
         changes = [*map(removal_of, sorted(gone, key=rank)), *(wanted[key] for key in sorted(puts, key=rank))]
         self.sent, self.is_cut, self.row = changes[:self.size], len(changes) > self.size, ""
         return self.batch().text() if self.sent else ""
 
     def batch(self) -> Batch:
         """The batch that was sent."""
-        return Batch(self.version + 1, tuple(self.sent))
+        return Batch(self.database.version + 1, tuple(self.sent))
 
     def ask(self) -> None:
         """Counts an ask row that was sent. Its line comes in its turn."""
@@ -78,7 +72,7 @@ class Batches:
         found = re.fullmatch(r"version (\d+)|batch (\d+) refused: (.+)", line)
         if not found:
             return False
-        if not self.sent or (found[1] or found[2]) != str(self.version + 1):
+        if not self.sent or (found[1] or found[2]) != str(self.database.version + 1):
             raise Stopped(f"{line}: {OTHERS}")
         self.before, self.behind = self.behind, 0
         if found[1]:
@@ -101,10 +95,8 @@ class Batches:
         """Goes on with what can be put: in smaller batches, until the change that is at fault is the only one of its batch."""
         changes, self.sent, self.is_cut = self.sent, [], True
         self.count(why[0])
-        if why[0] in ("exhausted", "journal", "stopped"):  # no batch is taken any more
-            raise Stopped(line)
-        if why[0] in ("expected", "absent"):
-            raise Stopped(f"{line}: {OTHERS if why[0] == 'expected' else UNKNOWN}")
+        if why[0] in LAST:
+            raise Stopped(line + LAST[why[0]])
         self.vain += 1
         if why[0] == "counted" and not self.row:
             self.say(f"{line}: changes were left open, which are dropped with this batch; trying again")

@@ -41,9 +41,7 @@ def from_front(program: Program, version: int, line: str) -> Database:
     """That which `routed-tools listen` tells. This line came first."""
     if line != f"version {version}":
         raise Stopped(f"{program.name}: it is at version {version}, and its database isn't known, for it answered: {line}")
-    lines = []
-    while (line := program.line()) != "snapshot end":
-        lines.append(line)
+    lines = list(iter(program.line, "snapshot end"))
     if lines and RUN.fullmatch(lines[0]):
         del lines[0]
     database, count = after("\n".join(lines).encode())

@@ -17,6 +17,10 @@ import sys
 import time
 from collections.abc import Callable
 
+from .. import program
+from ..front import processes
+from ..front.metrics import Figures
+from ..model.database import Database
 from ..model.journals import in_batches
 from ..model.rows import Key, rank
 from ..net.endpoints import Endpoint, say as put_out
@@ -24,10 +28,9 @@ from ..net.http import Page
 from ..net.loop import READ, WRITE, Loop, Stopped
 from ..net.notify import Supervised
 from ..net.stream import Stream
-from ..program import number
+from ..net.tlvs import messages
 from .batches import Batches
 from .database import begun, run_of
-from .figures import FeedFigures
 from .links import Network, Source, grouped
 from .program import Program
 from .sids import SidFile, Values
@@ -47,7 +50,7 @@ class Lost(Exception):
         self.last, self.again = last, again
 
 
-Next = Callable[[bytes, int], "tuple[int, bytes, int] | None"]  # kind and body of the message there, and where it ends; None if it is cut
+Form = tuple[int, Callable[[bytes, int], tuple[int, int]]]  # of messages: the bytes of a header, and what reads it
 Take = Callable[[int, bytes], "bool | None"]  # takes a message: whether the network changed, None for one that isn't about the network
 
 
@@ -56,8 +59,8 @@ class Session:
 
     other, last = "the router", b""  # who is at the other side, and the last bytes that it is sent
 
-    def __init__(self, asked: argparse.Namespace, feed: Hearing, network: Callable[[], Network], following: Next, take: Take) -> None:
-        self.asked, self.feed, self.network, self.following, self.take = asked, feed, network, following, take
+    def __init__(self, asked: argparse.Namespace, feed: Hearing, network: Callable[[], Network], form: Form, take: Take) -> None:
+        self.asked, self.feed, self.network, self.form, self.take = asked, feed, network, form, take
         self.streams: list[Stream] = []
 
     def named(self) -> str:
@@ -83,8 +86,7 @@ class Session:
             if stream.is_ended or stream.fault:
                 where = " in the midst of a message" * bool(data)
                 raise Lost(stream.why() if stream.fault else f"{self.other} closed the connection{where}")
-            while found := self.following(data, at):
-                kind, body, at = found
+            for kind, body, at in messages(data, *self.form):
                 told.append(self.take(kind, body))
         except Lost as fault:
             self.feed.lose(fault)
@@ -96,12 +98,8 @@ class Session:
 
     def close(self, last: bytes | None = None) -> None:
         """Ends the session, by these last bytes or the usual ones, if the connection is still there."""
-        last = self.last if last is None else last
         for stream in self.streams:
-            if last and not stream.is_ended and not stream.fault:
-                stream.hang_up(last)
-            else:
-                stream.close()
+            stream.leave(self.last if last is None else last)
         self.streams = []
 
 
@@ -148,9 +146,8 @@ class Hearing:
     def report(self, network: Network) -> None:
         """Says the notes of links that weren't said; and with --verbose, where it has changed, how many links are left out for each
         reason, and which are new there."""
-        for key, note in sorted(network.notes.items()):
-            if key not in self.noted:
-                self.asked.say(note)
+        for key in sorted(network.notes.keys() - self.noted):
+            self.asked.say(network.notes[key])
         self.noted.update(network.notes)
         if not self.asked.verbose or network.left == self.left:
             return
@@ -169,18 +166,17 @@ class Feed(Hearing):
     """A feed that runs: its program, its session and what is to be done next."""
 
     def __init__(self, asked: argparse.Namespace, make: Connect) -> None:
-        self.figures = FeedFigures(self, asked)
-        loop = Loop(self.figures.failed, selectors.PollSelector())  # standard input may be a regular file
+        loop = Loop(self.failed, selectors.PollSelector())  # standard input may be a regular file
         super().__init__(asked, make, loop, asked.quiet, asked.hold)
-        self.supervised = Supervised(loop, lambda: self.figures.told(self))
+        self.figures, self.supervised = figures_of(self), Supervised(loop, self.status)
         self.files = {name: SidFile(name, path) for name, path in (("sids", asked.sids), ("srlgs", asked.srlgs)) if path}
         self.program = Program(loop, asked.command, asked.to)
-        self.batches: Batches | None = None  # once it is known what the program has
-        self.is_connected, self.was_lost = False, False
+        self.batches = Batches(Database(), asked.say, self.refused)
+        self.is_begun, self.is_connected, self.was_lost = False, False, False  # the first: whether it is known what the program has
         self.heard_at: float | None = None
         self.asks = Stream(loop, 0, is_shared=True) if asked.command or asked.to else None
         self.try_at, self.look_at = 0.0, math.inf  # when a connection is tried, and when the network is looked at next
-        self.network: Network | None = None  # as it was looked at last
+        self.network = Network("", None)  # as it was looked at last
         self.awaited: set[Key] = set()  # links that the program has, and the router didn't tell of yet: they are held until `told_at`
         self.awaited_values: dict[str, Values] = {}  # the same of their lines in the files
 
@@ -192,8 +188,8 @@ class Feed(Hearing):
         if self.files:
             run = run_of(self.program)
             for file in self.files.values():
-                file.begin(run)
-        self.batches = Batches(database, self.asked.say, self.refused)
+                file.head = f"run,{run}\n" if run else ""
+        self.batches.database, self.is_begun = database, True
         self.supervised.ready()
         if database.version:
             marks = len(database.marks())
@@ -210,20 +206,31 @@ class Feed(Hearing):
             if now >= self.due():
                 self.look(now)
             if self.asks:
-                self.asks.wait(not self.program.is_full())
-            following = min(self.try_at, self.due())
-            self.loop.turn(following - time.monotonic() if following < math.inf else None)
+                self.asks.wait(not self.program.stream.is_full)
+            self.loop.turn(min(self.try_at, self.due()) - time.monotonic())
+
+    def status(self) -> str:
+        """The status line of the unit."""
+        if not self.is_begun:
+            return "asking what the server has"
+        return (f"version {self.batches.database.version}, {self.network.counts()[0]} links, "
+                f"{'connected' if self.is_connected else 'no connection'} to {self.asked.where}")
+
+    def failed(self, line: str) -> None:
+        """An exception has ended a connection."""
+        self.figures.add("routed_feed_exceptions_total")
+        self.asked.say(line)
 
     def due(self) -> float:
         """When the network is looked at next; never where nothing is to be done, or a batch is on its way."""
-        if self.batches is None or self.batches.sent:
+        if self.batches.sent:
             return math.inf
         return min(self.told_at, max(self.look_at, min(self.event_at + TOGETHER, self.look_at + LONGEST)))
 
     def up(self, session: Session) -> None:
-        assert self.batches is not None
         super().up(session)
-        self.is_connected, self.awaited = True, self.batches.links()
+        self.is_connected, sent = True, {change.key for change in self.batches.sent if not change.is_removal}
+        self.awaited = self.batches.database.rows.keys() | sent
         self.awaited_values = {name: dict(file.labels) for name, file in self.files.items() if self.awaited}
         self.is_telling = bool(self.awaited)
         self.heard(0, True)
@@ -246,9 +253,8 @@ class Feed(Hearing):
             self.look_at = min(self.look_at, self.heard_at + self.asked.collect)
 
     def take_lines(self) -> None:
-        assert self.batches is not None
         while self.program.lines:
-            line = self.program.lines.popleft().decode(errors="replace")
+            line = self.program.line()
             if self.batches.read(line):
                 if self.batches.is_cut:
                     self.look_at = min(self.look_at, time.monotonic())
@@ -261,7 +267,7 @@ class Feed(Hearing):
             file.refused()
 
     def take_asks(self, _: int) -> None:
-        assert self.asks is not None and self.batches is not None
+        assert self.asks is not None
         rows = self.asks.lines()
         if self.asks.is_ended:
             if self.asks.fault:
@@ -282,21 +288,16 @@ class Feed(Hearing):
             self.opened.close()
         if self.asks:
             self.asks.wait(False)
-        self.program.end(is_read=self.batches is not None)
+        self.program.end(is_read=self.is_begun)
 
     def look(self, now: float) -> None:
         """Writes the next batch towards the network as it is."""
         self.look_at = math.inf
-        assert self.batches is not None
-        if self.session is None:
-            return
-        try:
-            network = self.session.network()
-        except Exception as fault:
-            self.loop.end(self.session, fault)
+        network = self.loop.call(self.session, self.session.network) if self.session else None
+        if network is None:
             return
         whole, is_telling = network.whole() if self.is_telling else set(), self.is_telling
-        self.awaited = {key for key in self.awaited if key in self.batches.given and key not in network.rows and key not in whole}
+        self.awaited = {key for key in self.awaited if key in self.batches.database.rows and key not in network.rows and key not in whole}
         if now >= self.told_at:
             if self.awaited and not network.rows and self.asked.quiet < math.inf:
                 self.asked.say(f"the router tells of no link: {len(self.awaited)} links and marks are dropped")
@@ -306,7 +307,7 @@ class Feed(Hearing):
         for name, held in self.awaited_values.items():
             self.awaited_values[name] = {key: held[key] for key in held.keys() - values[name].keys() - whole}
             values[name] = {**values[name], **self.awaited_values[name]}
-        held_rows = {key: grouped(self.batches.given[key], self.asked.sid_group, key in values["sids"]) for key in self.awaited}
+        held_rows = {key: grouped(self.batches.database.rows[key], self.asked.sid_group, key in values["sids"]) for key in self.awaited}
         wanted = {**network.rows, **held_rows}
         text = self.batches.next(wanted, network.changed if network is self.network and not is_telling else None)
         self.network, network.changed = network, set()
@@ -316,23 +317,39 @@ class Feed(Hearing):
         self.report(network)
 
 
-class Once(Hearing):
-    """A session whose network is written once it has been told."""
+def figures_of(feed: Feed) -> Figures:
+    """What a feed counts."""
+    figures = Figures()
+    figures.gauge("routed_feed_connected", "Whether there is a connection to the router, 1 or 0.", lambda: int(feed.is_connected))
+    figures.age("routed_feed_heard_age_seconds", "Seconds since the router sent anything; absent where it never did.",
+                lambda: feed.heard_at)
+    figures.gauge("routed_feed_version", "The version of the last batch that was accepted.",
+                  lambda: feed.batches.database.version if feed.is_begun else None)
+    figures.gauge("routed_feed_links", "Links of the network.", lambda: feed.network.counts()[0])
+    figures.gauge("routed_feed_marks", "Routers without transit.", lambda: feed.network.counts()[1])
+    figures.gauge("routed_feed_left_out", "Links that are left out, by the reason.", lambda: feed.network.counts()[2], "reason")
+    figures.counter("routed_feed_refused_batches_total", "Batches that the program refused, by the first word of the reason.", "word")
+    if feed.asked.quiet < math.inf:
+        figures.counter("routed_feed_emptied_total", "New sessions in which the router told of nothing, so that all was dropped.")
+    figures.counter("routed_feed_exceptions_total", "Connections that were ended by an exception in the code of this tool.")
+    program.build_info(figures, program.find())
+    processes.add(figures)
+    return figures
 
-    def __init__(self, asked: argparse.Namespace, make: Connect) -> None:
-        times = (asked.quiet, asked.hold) if asked.quiet < math.inf else (max(asked.collect, 1.0), math.inf)
-        super().__init__(asked, make, Loop(selector=selectors.PollSelector()), *times)
 
-    def run(self) -> None:
-        self.connect()
-        while (left := self.told_at - time.monotonic()) > 0:
-            self.loop.turn(left if left < math.inf else None)
-        assert self.session is not None
-        self.session.close()
-        network = self.session.network()
-        rows, _ = in_batches([network.rows[key].text() for key in sorted(network.rows, key=rank)])
-        put_out(*rows)
-        self.report(network)
+def once(asked: argparse.Namespace, make: Connect) -> None:
+    """Writes the network of a session once it has been told."""
+    times = (asked.quiet, asked.hold) if asked.quiet < math.inf else (max(asked.collect, 1.0), math.inf)
+    hearing = Hearing(asked, make, Loop(selector=selectors.PollSelector()), *times)
+    hearing.connect()
+    while (left := hearing.told_at - time.monotonic()) > 0:
+        hearing.loop.turn(left)
+    assert hearing.session is not None
+    hearing.session.close()
+    network = hearing.session.network()
+    rows, _ = in_batches([network.rows[key].text() for key in sorted(network.rows, key=rank)])
+    put_out(*rows)
+    hearing.report(network)
 
 
 def host(text: str) -> str:
@@ -344,7 +361,7 @@ def host(text: str) -> str:
 
 def options(asked: argparse.ArgumentParser, **defaults: object) -> None:
     """What every feed takes. `where` among these defaults says where the router is, and `quiet` when it has told all."""
-    seconds = number("seconds", 0, 86400, float)
+    seconds = program.number("seconds", 0, 86400, float)
     asked.add_argument("--collect", type=seconds, default=0.2, metavar="S", help="seconds that changes are collected")
     asked.add_argument("--hold", type=seconds, default=20.0, metavar="S",
                        help="seconds after a connection is there that links of before are held, of which the router doesn't tell")
@@ -353,7 +370,7 @@ def options(asked: argparse.ArgumentParser, **defaults: object) -> None:
     asked.add_argument("--metrics", type=Endpoint, metavar="PLACE", help="where figures are read, by HTTP at /metrics")
     asked.add_argument("--sids", metavar="FILE",
                        help="where adjacency SIDs are told, as lines sid,VERSION,ROUTER,LOCAL,LABEL; it is made anew")
-    asked.add_argument("--sid-group", type=number("number", 0, 31), metavar="N",
+    asked.add_argument("--sid-group", type=program.number("number", 0, 31), metavar="N",
                        help="the administrative group, 0 to 31, of exactly the links that have an adjacency SID")
     asked.set_defaults(**{"quiet": math.inf, "srlgs": None} | defaults)
     asked.add_argument("--once", action="store_true", help="write the present network as one journal, and end")
@@ -382,7 +399,7 @@ def run(name: str, parser: argparse.ArgumentParser, words: list[str] | None, con
     feed = None
     try:
         if asked.once:
-            Once(asked, connect).run()
+            once(asked, connect)
         else:
             feed = Feed(asked, connect)
             feed.run()

@@ -1,7 +1,6 @@
 """Where the rows of a feed go, and where their lines come from."""
 from __future__ import annotations
 
-import collections
 import contextlib
 import os
 import shlex
@@ -11,47 +10,39 @@ from collections.abc import Callable
 
 from ..net.endpoints import Endpoint, tried
 from ..net.loop import READ, WRITE, Loop, Stopped
-from ..net.stream import Stream
+from ..net.stream import Lines, Stream
 
 ANSWER = 60.0  # seconds that the program has for each line by which it tells what it has
 PATIENCE = 5.0  # seconds that the program has to end, or to say why, once it takes no more rows
 FULL = 1 << 20  # bytes that wait for the program before asks wait too
 
 
-class Program:
-    """What takes rows and writes lines: a command, a place of `routed-tools listen`, or whatever is at standard output and input.
-    `take` is called once there are lines."""
+class Program(Lines):
+    """What takes rows and writes lines: a command, a place of `routed-tools listen`, or whatever is at standard output and input."""
 
-    def __init__(self, loop: Loop, command: list[str], endpoint: Endpoint | None, take: Callable[[], None] = lambda: None) -> None:
-        self.loop, self.take = loop, take
+    def __init__(self, loop: Loop, command: list[str], endpoint: Endpoint | None) -> None:
+        self.take: Callable[[], object] = lambda: None  # is called once there are lines
         self.child: subprocess.Popen | None = None
-        self.lines: collections.deque[bytes] = collections.deque()  # whole ones that weren't taken yet
         self.is_broken, self.heard_at = False, 0.0  # it takes no more rows
         if endpoint:
             self.name = endpoint.text
             with tried(f"can't connect to {self.name}"):
-                self.stream = Stream(loop, endpoint.connect())
+                stream = Stream(loop, endpoint.connect())
         elif command:
             self.name = " ".join(shlex.join(command).split())  # one line
-            self.stream = self.started(command)
+            (rows_out, rows_in), (lines_out, lines_in) = os.pipe(), os.pipe()
+            try:
+                with tried(f"can't start {self.name}"):
+                    self.child = subprocess.Popen(command, stdin=rows_out, stdout=lines_in)
+            finally:
+                os.close(rows_out)
+                os.close(lines_in)
+            stream = Stream(loop, lines_out, rows_in)
         else:
             self.name = "standard input and output"
-            self.stream = Stream(loop, 0, 1, is_shared=True)
-        self.stream.give(None, self.go_on)
-        self.stream.wait(True)
-
-    def started(self, command: list[str]) -> Stream:
-        (rows_out, rows_in), (lines_out, lines_in) = os.pipe(), os.pipe()
-        try:
-            with tried(f"can't start {self.name}"):
-                self.child = subprocess.Popen(command, stdin=rows_out, stdout=lines_in)
-        finally:
-            os.close(rows_out)
-            os.close(lines_in)
-        return Stream(self.loop, lines_out, rows_in)
-
-    def is_full(self) -> bool:
-        return len(self.stream.waiting) >= FULL
+            stream = Stream(loop, 0, 1, is_shared=True)
+        stream.most = FULL
+        super().__init__(loop, stream, ANSWER)
 
     def write(self, text: str | bytes) -> None:
         """Writes rows. Where they aren't taken any more the program's last lines say why, or the error does."""
@@ -71,13 +62,12 @@ class Program:
         raise Stopped(f"{self.name}: rows can't be written: {self.stream.why()}")
 
     def go_on(self, events: int) -> None:
-        if events & WRITE:
-            self.stream.flush()
-            self.look()
+        super().go_on(events & WRITE)
+        self.look()
         if events & READ:
-            found, self.heard_at = self.stream.lines(), time.monotonic()
-            self.lines.extend(found)
-            if found:
+            count, self.heard_at = len(self.lines), time.monotonic()
+            super().go_on(READ)
+            if len(self.lines) > count:
                 self.take()
             if self.stream.is_ended:
                 if self.stream.fault and not self.is_broken:
@@ -86,13 +76,11 @@ class Program:
         self.stream.wait(True)
 
     def line(self) -> str:
-        """The next line, by itself: nothing else is done before it comes."""
-        end = time.monotonic() + ANSWER
-        while not self.lines:
-            if time.monotonic() >= end:
-                raise Stopped(f"{self.name}: no line came for {ANSWER:g} s, by which the feed learns what is there")
-            self.loop.turn(end - time.monotonic())
-        return self.lines.popleft().decode(errors="replace")
+        """The next line, by itself."""
+        try:
+            return super().line()
+        except TimeoutError:
+            raise Stopped(f"{self.name}: no line came for {ANSWER:g} s, by which the feed learns what is there") from None
 
     def end(self, is_read: bool) -> None:
         """Writes no more rows. The lines that it still writes are taken, where they are read, and its own child ends."""

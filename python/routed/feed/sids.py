@@ -13,6 +13,7 @@ from collections.abc import Mapping
 from ..model.rows import Key, Row, rank
 from ..net.endpoints import tried
 from ..net.loop import Stopped
+from ..net.stream import write_all
 from .batches import Batches
 
 Values = Mapping[Key, int | frozenset[int]]  # what is told of links: labels, or SRLGs
@@ -23,7 +24,7 @@ class SidFile:
     before until then, never one that lacks SIDs, and sees by the inode that it is another one."""
 
     def __init__(self, name: str, path: str) -> None:
-        self.path, self.length, self.head = path, 0, ""
+        self.path, self.length, self.head = path, 0, ""  # the last is the first line, which has the run
         self.word, self.option = name[:-1], f"--{name} {path}"
         self.beside: str | None = f"{path}.new"
         self.labels: Values = {}  # by link: what the last lines say
@@ -38,14 +39,14 @@ class SidFile:
     def write(self, batches: Batches, known: Values, rows: dict[Key, Row]) -> None:
         """Writes what changes, before the batch that `batches` has made or, where there is none, for the present version."""
         wanted = {**known, **self.put_off(batches, known, rows)}
-        number = batches.version + bool(batches.sent)
+        number = batches.database.version + bool(batches.sent)
         keys = {key for key in self.labels.keys() | wanted.keys() if self.labels.get(key) != wanted.get(key)}
         if batches.sent:
             keys, self.again = keys | self.again, set()
         lines = []
         for key in sorted(keys, key=rank):
             # a link that the program had before the feed came has the label at the program's version, too
-            since = batches.version if self.beside and key in batches.given else number
+            since = batches.database.version if self.beside and key in batches.database.rows else number
             value = wanted.get(key, "")
             text = " ".join(map(str, sorted(value))) if isinstance(value, frozenset) else value
             lines.append(f"{self.word},{since},{','.join(key)},{text}\n")
@@ -56,21 +57,15 @@ class SidFile:
         """The labels of links whose SID is gone, if a later batch changes the link."""
         sent = {change.key for change in batches.sent}
         return {key: label for key, label in self.labels.items()
-                if key not in known and key in batches.given and key not in sent and batches.given[key] != rows.get(key)}
-
-    def begin(self, run: str | None) -> None:
-        """The lines are of this run of the program."""
-        self.head = f"run,{run}\n" if run else ""
+                if key not in known and key in batches.database.rows and key not in sent and batches.database.rows[key] != rows.get(key)}
 
     def append(self, text: str) -> None:
-        """Writes whole lines by one write; what is cut is taken back."""
+        """Writes whole lines; what is cut is taken back."""
         data = (self.head * (not self.length) + text).encode()
         with tried(self.option):
             try:
-                if data and os.write(self.file, data) != len(data):
-                    os.write(self.file, data[-1:])  # it says why
-                    raise Stopped(f"{self.option}: a write was cut")
-            except (OSError, Stopped):
+                write_all(self.file, data)
+            except OSError:
                 os.ftruncate(self.file, self.length)
                 raise
             self.length += len(data)

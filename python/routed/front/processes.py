@@ -37,7 +37,7 @@ def read(number: int) -> Process | None:
                    float("inf") if most == resource.RLIM_INFINITY else most)
 
 
-def add(figures: Figures, numbers: Callable[[], dict[str, int]]) -> None:
+def add(figures: Figures, numbers: Callable[[], dict[str, int]] = lambda: {"front": os.getpid()}) -> None:
     """Adds the figures of processes. `numbers` returns their numbers by the names that the label `process` has."""
     def each(name: str) -> Callable[[], dict[str, float]]:
         return lambda: {label: getattr(found, name) for label, number in numbers().items() if (found := read(number))}

@@ -3,16 +3,18 @@ from __future__ import annotations
 
 import heapq
 import itertools
+import math
 import os
 import selectors
 import time
 import traceback
 from collections.abc import Callable
-from typing import Any, Protocol
+from typing import Any, Protocol, TypeVar
 
 READ, WRITE = selectors.EVENT_READ, selectors.EVENT_WRITE
 TOP = os.path.dirname(os.path.dirname(os.path.dirname(os.path.abspath(__file__)))) + "/"
 MOST_TEXT = 500  # characters of an exception's text in a line of the log
+Result = TypeVar("Result")
 
 
 class Stopped(Exception):
@@ -57,12 +59,11 @@ class Loop:
     def after(self, seconds: float, call: Callable[[], object], owner: Owner | None = None) -> None:
         heapq.heappush(self.times, (time.monotonic() + seconds, next(self.numbers), owner, call))
 
-    def turn(self, most: float | None = None) -> None:
+    def turn(self, most: float = math.inf) -> None:
         """Waits for an event or a time, so many seconds at most, and makes all calls that are due."""
         if self.times:
-            left = self.times[0][0] - time.monotonic()
-            most = left if most is None or left < most else most
-        ready = self.selector.select(most if most is None else max(most, 0))
+            most = min(most, self.times[0][0] - time.monotonic())
+        ready = self.selector.select(max(most, 0) if most < math.inf else None)
         for key, events in ready:
             if self.keys.get(key.fd) is key:  # else it was changed in this turn
                 owner, call = key.data
@@ -74,12 +75,13 @@ class Loop:
         while self.times and self.times[0][0] <= due:
             self.call(*heapq.heappop(self.times)[2:])
 
-    def call(self, owner: Owner | None, call: Callable[..., object], *given: Any) -> None:
-        """Calls this for its owner."""
+    def call(self, owner: Owner | None, call: Callable[..., Result], *given: Any) -> Result | None:
+        """Calls this for its owner. What it returns; None where an exception has ended its owner."""
         try:
-            call(*given)
+            return call(*given)
         except Exception as fault:
             self.end(owner, fault)
+            return None
 
     def end(self, owner: Owner | None, fault: Exception) -> None:
         """Ends an owner for an exception. Its files are no longer waited for then, so that an exception in its end can't come again."""

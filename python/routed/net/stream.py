@@ -1,11 +1,13 @@
 """A connection that never blocks: what comes is read as bytes or as lines, and what isn't taken at once waits."""
 from __future__ import annotations
 
+import collections
 import contextlib
 import os
 import select
 import socket
 import struct
+import time
 from collections.abc import Callable
 
 from .loop import READ, WRITE, Loop, Owned, Owner
@@ -150,6 +152,13 @@ class Stream:
             self.wait(True)
             self.loop.after(LINGER, self.close)
 
+    def leave(self, last: bytes) -> None:
+        """Ends it by these bytes; at once where there are none, or nobody to take them."""
+        if last and not self.is_ended and not self.fault:
+            self.hang_up(last)
+        else:
+            self.close()
+
     def drop(self, _: int) -> None:
         """Reads what nobody wants any more."""
         self.read()
@@ -186,6 +195,34 @@ class Stream:
             return host, f"address={host} port={port}"
         except OSError:  # it has gone already
             return None, "gone"
+
+
+class Lines:
+    """A stream whose lines are kept until they are taken, and waited for. One has to come within so many seconds."""
+
+    def __init__(self, loop: Loop, stream: Stream, seconds: float) -> None:
+        self.loop, self.stream, self.seconds = loop, stream, seconds
+        self.lines: collections.deque[bytes] = collections.deque()  # whole ones that weren't taken yet
+        stream.give(None, self.go_on)
+        stream.wait(True)
+
+    def go_on(self, events: int) -> None:
+        if events & WRITE:
+            self.stream.flush()
+        if events & READ:
+            self.lines.extend(self.stream.lines())
+
+    def line(self) -> str:
+        """The next line, by itself: nothing else is done before it comes."""
+        end = time.monotonic() + self.seconds
+        while not self.lines:
+            if self.stream.is_ended:
+                raise self.stream.fault or ConnectionError("the server ended the connection")
+            if time.monotonic() >= end:
+                raise TimeoutError(f"no line came in {self.seconds:g} s")
+            self.stream.wait(True)
+            self.loop.turn(end - time.monotonic())
+        return self.lines.popleft().decode(errors="replace")
 
 
 def write_all(file: int, data: bytes) -> None:

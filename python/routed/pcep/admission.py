@@ -66,10 +66,7 @@ class Admission:
         """Ends a connection by its last bytes, or without a byte."""
         self.front.say("warning", f"{peer}: {REASONS[reason]}")
         self.front.count("turned_away", reason)
-        if last:
-            stream.hang_up(last)
-        else:
-            stream.close()
+        stream.leave(last)
 
 
 class Returning:

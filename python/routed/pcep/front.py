@@ -1,5 +1,4 @@
 """What all PCCs share: the server's answers and versions, the network, SIDs, the LSPs of a file, figures and signals."""
-import os
 import signal
 import socket
 import time
@@ -88,7 +87,7 @@ class Front:
                       lambda: self.replies.lost if self.replies else 0)
         figures.gauge("routed_pcep_run", "The number of the server's run; absent if it told none.", lambda: self.number_of_run)
         program.build_info(figures, program.find())
-        processes.add(figures, lambda: {"front": os.getpid()})
+        processes.add(figures)
         self.supervised = Supervised(self.loop, self.status)
         self.admission = Admission(self)
         take_signals(self.loop, (signal.SIGTERM, signal.SIGINT, signal.SIGHUP), self.signalled)

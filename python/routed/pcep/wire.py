@@ -1,11 +1,12 @@
 """The bytes of PCEP: messages, their objects and the TLVs of objects (RFC 5440 6 and 7)."""
+import itertools
 import math
 import socket
 import struct
 from collections.abc import Iterable
 from typing import NamedTuple
 
-from ..net.tlvs import tlvs
+from ..net.tlvs import messages, tlvs
 
 OPEN, KEEPALIVE, REQUEST, REPLY, NOTIFICATION, ERROR, CLOSE, REPORT, UPDATE, INITIATE = 1, 2, 3, 4, 5, 6, 7, 10, 11, 12
 # Classes of objects; the RFC's names of some: O_RRO the reported route, O_BANDWIDTH of type 1 a request's.
@@ -14,7 +15,7 @@ OPEN, KEEPALIVE, REQUEST, REPLY, NOTIFICATION, ERROR, CLOSE, REPORT, UPDATE, INI
 T_NO_PATH_VECTOR, T_STATEFUL, T_NAME, T_LSP_IDS, T_LSP_ERROR, T_SR, T_SETUP_TYPE, T_SETUP_TYPES = 1, 16, 17, 18, 20, 26, 28, 34
 T_OVERLOAD = 2  # of a NOTIFICATION: seconds
 IGP_METRIC, TE_METRIC, SID_DEPTH = 1, 2, 11
-MOST = 65535  # bytes of a message
+HEADER, MOST = 4, 65535  # bytes of a message
 MALFORMED = 3  # the reason of a Close
 NAI_ADJACENCY = 3  # an SR-ERO's NAI type: the addresses of both interfaces
 IS_MPLS, NO_NAI, NO_SID = 1, 8, 4  # flags of an SR-ERO subobject: M, F, S
@@ -65,27 +66,26 @@ def message(kind: int, *objects: bytes) -> bytes:
     return struct.pack("!BBH", 0x20, kind, len(body) + 4) + body
 
 
+def front(data: bytes, at: int) -> tuple[int, int]:
+    """The kind and the bytes of the message that begins there."""
+    first, kind, size = struct.unpack_from("!BBH", data, at)
+    if first >> 5 != 1 or size < 4:
+        raise Malformed
+    return kind, size
+
+
 def cut(data: bytes, most: int = MOST) -> tuple[list[tuple[int, bytes]], bytes]:
     """The first whole messages of bytes, so many at most, as kinds and bodies, and what remains."""
-    found: list[tuple[int, bytes]] = []
-    at = 0
-    while len(data) - at >= 4 and len(found) < most:
-        first, kind, size = struct.unpack_from("!BBH", data, at)
-        if first >> 5 != 1 or size < 4:
-            raise Malformed(found)
-        if len(data) - at < size:
-            break
-        found.append((kind, data[at + 4:at + size]))
-        at += size
-    return found, data[at:]
+    found = list(itertools.islice(messages(data, HEADER, front), most))
+    return [(kind, body) for kind, body, _ in found], data[found[-1][2] if found else 0:]
 
 
 def has_message(data: bytes) -> bool:
     """Whether the first message is there whole, or can't be one."""
-    if len(data) < 4:
-        return False
-    first, _, size = struct.unpack_from("!BBH", data)
-    return first >> 5 != 1 or size < 4 or len(data) >= size
+    try:
+        return len(data) >= HEADER and len(data) >= front(data, 0)[1]
+    except Malformed:
+        return True
 
 
 def objects_of(body: bytes) -> list[Object]:

@@ -18,7 +18,7 @@ from ...pcep.keys import keys, set_key
 from ...program import number
 from ..feed import Hearing, Lost, Session, options, run
 from .lsdb import PROTOCOLS, Lsdb
-from .messages import KEEPALIVE, NOTIFICATION, OPEN, UPDATE, Fault, accepted, message, next_message, opening, update_of
+from .messages import HEADER, KEEPALIVE, NOTIFICATION, OPEN, UPDATE, Fault, accepted, front, message, opening, update_of
 
 OPENING = 30.0  # seconds that the peer has for its Open
 TICK = 1.0  # seconds from one look at the timers to the next
@@ -34,7 +34,7 @@ class Peer(Session):
 
     def __init__(self, asked: argparse.Namespace, feed: Hearing) -> None:
         self.lsdb = Lsdb(asked)
-        super().__init__(asked, feed, self.lsdb.network, next_message, self.message)
+        super().__init__(asked, feed, self.lsdb.network, (HEADER, front), self.message)
         self.peer_as = asked.peer_as or asked.number
         self.door: Door | None = None
         self.wanted = OPEN  # the message that has to come; UPDATE once the session is up
@@ -61,7 +61,6 @@ class Peer(Session):
         if self.door:
             self.door.shut()
             self.door.listener.close()
-            self.door = None
 
     def let_in(self, stream: Stream) -> None:
         if stream.peer()[0] != self.asked.peer.address[0]:

@@ -50,10 +50,8 @@ def message(kind: int, body: bytes = b"") -> bytes:
     return MARKER + struct.pack(">HB", HEADER + len(body), kind) + body
 
 
-def next_message(data: bytes, at: int) -> tuple[int, bytes, int] | None:
-    """The kind and the body of the message that begins there, and where it ends; None while it isn't whole."""
-    if len(data) - at < HEADER:
-        return None
+def front(data: bytes, at: int) -> tuple[int, int]:
+    """The kind and the bytes of the message that begins there."""
     if not data.startswith(MARKER, at):
         raise Fault(1, 1, "a message without its marker")
     size, kind = struct.unpack_from(">HB", data, at + len(MARKER))
@@ -61,7 +59,7 @@ def next_message(data: bytes, at: int) -> tuple[int, bytes, int] | None:
         raise Fault(1, 2, f"a message of kind {kind} with {size} bytes", struct.pack(">H", size))
     if kind not in LEAST:
         raise Fault(1, 3, f"a message of kind {kind}", bytes([kind]))
-    return (kind, data[at + HEADER:at + size], at + size) if len(data) >= at + size else None
+    return kind, size
 
 
 def opening(number: int, identifier: bytes) -> bytes:

@@ -29,6 +29,7 @@ BEFORE_LSA = 12  # bytes of a message's body: address of an interface, area, is 
 WRAPPED = {(speed * 10**9 % 2**32) / 8: speed for speed in (10, 25, 40, 50, 100, 200, 400, 800)}
 
 Area = tuple[str, str]  # an area and a router
+dotted = socket.inet_ntoa  # an address, or the number of an LSA
 
 
 class RouterLinks(NamedTuple):
@@ -55,10 +56,6 @@ class LinkSid(NamedTuple):
 
 Content = RouterLinks | TeLsa | LinkSid | str | None  # of an LSA: UNREAD where it can't be read, None where nothing of it is needed
 LsaKey = tuple[str, int, bytes, str]  # area, type, id and router
-
-
-def dotted(data: bytes) -> str:
-    return socket.inet_ntoa(data[:4])
 
 
 def first(body: bytes, wanted: int) -> bytes | None:
@@ -140,12 +137,9 @@ class Lsdb:
         return True
 
     def network(self) -> Network:
-        """As `look` says. LSAs that were only refreshed need no new look."""
-        self.looked = self.looked or self.look()
-        return self.looked
-
-    def look(self) -> Network:
-        """What the LSAs show now."""
+        """What the LSAs show now. Those that were only refreshed need no new look."""
+        if self.looked:
+            return self.looked
         up: dict[Area, dict[str, tuple[str, int]]] = {}
         labels: dict[tuple[str, str, str], dict[bytes, int]] = {}
         links: list[tuple[LsaKey, TeLsa, str]] = []
@@ -175,7 +169,8 @@ class Lsdb:
                     f"{WRAPPED[told.most]} Gbit/s, counted in 32 bits; it is put as announced")
         for area, router, local in {(*of, local) for of, adjacent in up.items() for local in adjacent} - announced:
             network.tell((area, router, local), Told((router, local), "no TE LSA"))
-        return network.settle()
+        self.looked = network.settle()
+        return self.looked
 
 
 def between(link: Link, router: str, up: dict[Area, dict[str, tuple[str, int]]], area: str) -> Link | str:

@@ -32,7 +32,7 @@ class Router(Session):
 
     def __init__(self, asked: argparse.Namespace, feed: Hearing) -> None:
         self.lsdb = Lsdb(bool(asked.sids), asked.sid_group)
-        super().__init__(asked, feed, self.lsdb.network, next_message, self.message)
+        super().__init__(asked, feed, self.lsdb.network, (HEADER.size, front), self.message)
         for made in sockets(asked.router, asked.port):
             self.watch(Stream(feed.loop, made))
         feed.up(self)
@@ -44,15 +44,12 @@ class Router(Session):
         return self.lsdb.take(body, kind == LSA_DELETE) if kind in (LSA_UPDATE, LSA_DELETE) else None
 
 
-def next_message(data: bytes, at: int) -> tuple[int, bytes, int] | None:
-    """The kind and the body of the message that begins there, and where it ends; None while it isn't whole."""
-    if len(data) - at < HEADER.size:
-        return None
+def front(data: bytes, at: int) -> tuple[int, int]:
+    """The kind and the bytes of the message that begins there."""
     version, kind, length, _ = HEADER.unpack_from(data, at)
     if version != VERSION:
         raise Lost(f"a message of version {version}")
-    end = at + HEADER.size + length
-    return (kind, data[at + HEADER.size:end], end) if len(data) >= end else None
+    return kind, HEADER.size + length
 
 
 def pair_of_sockets(address: str) -> list[socket.socket]:
@@ -76,9 +73,7 @@ def sockets(router: str, port: int) -> list[socket.socket]:
         probe.connect((router, port))
         address = probe.getsockname()[0]  # of this machine, as the router sees it
     with contextlib.ExitStack() as made:
-        asking, listening = pair_of_sockets(address)
-        made.enter_context(asking)
-        made.enter_context(listening)
+        asking, listening = [made.enter_context(each) for each in pair_of_sockets(address)]
         asking.connect((router, port))
         try:
             hearing, peer = listening.accept()
