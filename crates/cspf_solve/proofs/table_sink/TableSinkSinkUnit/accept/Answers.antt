@@ -6,6 +6,7 @@ pub returns-in-Ok-clause-accepted : goal.returns-in-Ok-clause-accepted
 returns-in-Ok-clause-accepted c = λ all front.
     let batch = c.args.batch.now in (
       fits_whole c.args.self.now.table.database batch.number batch.changes all front c.in-Ok.ensures.ok,
+      c.in_ok-line.ensures,
       rw (c.in-Ok.ensures.changed, kept_all batch.changes all front c.in-Ok.ensures.ok.short) refl,
     )
 

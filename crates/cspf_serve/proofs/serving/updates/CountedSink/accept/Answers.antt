@@ -11,7 +11,7 @@ learn-requires g c = c.steps.ensures.source ∙ (c.apply.ensures.source ∙ sym 
 pub returns-in-Ok-clause-accepted : goal.returns-in-Ok-clause-accepted
 returns-in-Ok-clause-accepted g c = λ all front.
     let after : CountedState g.row.J.Denot = record { publisher = c.apply.new.self; steps = c.learn-in-Ok.new.self } in
-    subst (λ (p : CountedState g.row.J.Denot). (publisher_spec g.J.Write.contents).accepts p (record c.args.batch.now { changes = all }) after) c.self.view_is (
+    subst (λ (p : CountedState g.row.J.Denot). (publisher_spec g.J.Write.contents).accepts p (record c.args.batch.now { changes = all }) c.in_ok-line.line.items after) c.self.view_is (
       published_whole g.J.Write.contents c.self.inside.publisher c.apply.new.self c.args.batch.now all front (record {
         next = c.in-Ok.ensures.next;
         batches = c.in-Ok.ensures.published;
@@ -20,6 +20,7 @@ returns-in-Ok-clause-accepted g c = λ all front.
       }),
       c.apply.ensures.source,
       record { later = c.learn-in-Ok.ensures.own; counted = omega (arith, c.steps.ensures.count, c.learn-in-Ok.ensures.other_count) },
+      c.in_ok-line.ensures,
     )
 
 pub returns-in-Err-clause-refused : goal.returns-in-Err-clause-refused
