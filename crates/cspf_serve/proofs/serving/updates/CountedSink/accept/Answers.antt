@@ -1,5 +1,7 @@
 use Rattle.std.proofs.Common.{length, refl, sym, ap, subst, ◌∙◌, arith}
+use Rattle.cspf_model.specs.Numbered.{NumberedChanges}
 use Rattle.cspf_publish.specs.JournalSteps.{count_of}
+use Rattle.cspf_stream.specs.Lines.{version_line}
 use Rattle.cspf_serve.specs.UpdatesStates.{CountedState, publisher_spec}
 use Rattle.cspf_serve.proofs.StepsOfRun.{counted_again, counted_by}
 use Rattle.cspf_serve.proofs.UpdatesSteps.{published_whole, apply_error_whole}
@@ -20,7 +22,7 @@ returns-in-Ok-clause-accepted g c = λ all front.
       }),
       c.apply.ensures.source,
       record { later = c.learn-in-Ok.ensures.own; counted = omega (arith, c.steps.ensures.count, c.learn-in-Ok.ensures.other_count) },
-      c.in_ok-line.ensures,
+      c.in_ok-line.ensures ∙ ap (λ (b : NumberedChanges). version_line b.number) c.batch.view_is,
     )
 
 pub returns-in-Err-clause-refused : goal.returns-in-Err-clause-refused
