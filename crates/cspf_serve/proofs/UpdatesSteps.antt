@@ -82,7 +82,7 @@ module _ {J : Type 0} (contents : J → Option (List ℕ)) (first : PublisherSta
   version = ap length of.published.batches
 
   module _ (number count : ℕ) (line : List ℕ) (t : RowsState (CountedState J)) where
-    right_accepted : IsRightEnd r.sink.publisher.stopped (length r.sink.publisher.batches) number count (length r.changes) → IsNextBatch r.sink.publisher (record { number = number; changes = r.changes }) → IsAccepted s.run number count
+    right_accepted : IsRightEnd r.sink.publisher.stopped (length r.sink.publisher.batches) (length r.sink.publisher.batches + 1) number count (length r.changes) → IsNextBatch r.sink.publisher (record { number = number; changes = r.changes }) → IsAccepted s.run number count
     right_accepted right next = record {
       room = omega (arith, version, right.room);
       next = omega (arith, version, right.next);
@@ -110,7 +110,7 @@ module _ {J : Type 0} (contents : J → Option (List ℕ)) (first : PublisherSta
             refused = ap (λ (x : RowsState (CountedState J)). x.refused) a.after ∙ of.refused;
           },
           rw goes (inl (record {
-            answered = inl (taken, a.line_is, refl);
+            answered = inl (taken, a.taken.1.3, refl);
             going = refl;
             published = λ accepted. refl;
             counted = λ accepted. record {
@@ -144,14 +144,14 @@ module _ {J : Type 0} (contents : J → Option (List ℕ)) (first : PublisherSta
           refl,
         )
 
-    not_right : (p : CountedState J) (why : BatchRefusal) → p ≡ r.sink → r.sink.publisher.stopped ≡ false → IsWrongEnd r.sink.publisher.stopped (length r.sink.publisher.batches) number count (length r.changes) why
+    not_right : (p : CountedState J) (why : BatchRefusal) → p ≡ r.sink → r.sink.publisher.stopped ≡ false → IsWrongEnd r.sink.publisher.stopped (length r.sink.publisher.batches) (length r.sink.publisher.batches + 1) number count (length r.changes) why
         → IsEnded p (refused_batch_line number why)
     not_right p why same going is =
         refuses p why going same (wrong_end s.run r.sink.publisher.stopped (length r.sink.publisher.batches) number count (length r.changes) why going version (ap length of.changes) is)
 
-    -- the batch is refused if no further batch may be published, or if the `end` row has a wrong
-    -- number or a wrong count of changes
-    wrong : (p : CountedState J) (why : BatchRefusal) → p ≡ r.sink → IsWrongEnd r.sink.publisher.stopped (length r.sink.publisher.batches) number count (length r.changes) why → IsEnded p (refused_batch_line number why)
+    -- if no batch may follow any more, or the end row has the wrong number or the wrong count of
+    -- changes, the batch is refused
+    wrong : (p : CountedState J) (why : BatchRefusal) → p ≡ r.sink → IsWrongEnd r.sink.publisher.stopped (length r.sink.publisher.batches) (length r.sink.publisher.batches + 1) number count (length r.changes) why → IsEnded p (refused_batch_line number why)
     wrong p refusal.Stopped same is =
         let stops : s.stopped ≡ true = sym of.published.stopped ∙ is in (
           record { run = after_refused_batch s.run; stopped = true; text = s.text; steps = s.steps },
@@ -169,8 +169,8 @@ module _ {J : Type 0} (contents : J → Option (List ℕ)) (first : PublisherSta
     whole : (p : CountedState J) → p.publisher ≡ r.sink.publisher → p.steps ≡ r.sink.steps → p ≡ r.sink
     whole p same steps = λ i. record { publisher = same i; steps = steps i }
 
-    -- if the `end` row is right but its batch isn't published, the batch is refused
-    unpublished : (p : CountedState J) (why : ApplyError) → IsRightEnd r.sink.publisher.stopped (length r.sink.publisher.batches) number count (length r.changes)
+    -- if the end row is right but its batch isn't published, the batch is refused
+    unpublished : (p : CountedState J) (why : ApplyError) → IsRightEnd r.sink.publisher.stopped (length r.sink.publisher.batches) (length r.sink.publisher.batches + 1) number count (length r.changes)
         → IsApplyError contents r.sink.publisher p.publisher (record { number = number; changes = r.changes }) why → p.publisher.batches ≡ r.sink.publisher.batches
         → p.publisher.source ≡ r.sink.publisher.source → p.steps ≡ r.sink.steps → IsEnded p (refused_batch_line number (refusal_of why))
     unpublished p error.Stopped right is same source steps = absurd (false≢true (sym right.going ∙ is.0))

@@ -17,6 +17,7 @@ use Rattle.cspf_rows.specs.Rows.{row_of}
 use Rattle.cspf_stream.specs.declared.open_changes.OpenChanges.{OpenChanges}
 use Rattle.cspf_stream.specs.OpenChanges.{AreOpen}
 use Rattle.cspf_stream.specs.RowAnswers.{AnswersOf}
+use Rattle.cspf_stream.specs.Lines.{version_line}
 use Rattle.cspf_stream.specs.Sinks.{SinkSpec}
 use Rattle.cspf_stream.specs.StreamStops.{FailsOf}
 use Rattle.cspf_solve.specs.Script.{open_batch, after_batch}
@@ -82,9 +83,11 @@ pub record IsPublished {J : Type 0} (contents : J → Option (List ℕ)) (old ne
 abbrev pub publisher_spec : {J : Type 0} → (J → Option (List ℕ)) → SinkSpec (CountedState J)
 publisher_spec contents = record {
   version = λ c. length c.publisher.batches;
+  next = λ c. length c.publisher.batches + 1;
   stopped = λ c. c.publisher.stopped;
-  accepts = λ c b new.
-      IsPublished contents c.publisher new.publisher b × (new.publisher.source ≡ c.publisher.source) × AreNowCounted new.publisher.batches c.steps.steps new.steps.steps;
+  accepts = λ c b line new.
+      IsPublished contents c.publisher new.publisher b × (new.publisher.source ≡ c.publisher.source) × AreNowCounted new.publisher.batches c.steps.steps new.steps.steps
+      × (line ≡ version_line b.number);
   refuses = λ c b why new.
       (error : ApplyError) × (why ≡ refusal_of error) × IsApplyError contents c.publisher new.publisher b error
       × (new.publisher.batches ≡ c.publisher.batches) × (new.publisher.source ≡ c.publisher.source) × (new.steps ≡ c.steps);

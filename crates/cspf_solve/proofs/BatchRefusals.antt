@@ -1,5 +1,5 @@
 -- If a batch is refused for a reason, it isn't accepted.
-use Rattle.std.proofs.Common.{◌≡◌, ℕ, Bool, false, length, sym, ◌∙◌, arith}
+use Rattle.std.proofs.Common.{◌≡◌, ℕ, ◌+◌, Bool, false, length, sym, ◌∙◌, arith}
 use Rattle.std.proofs.lemmas.Bool.{false≢true}
 use Rattle.cspf_model.specs.Laws.{RefusedIsUnfit}
 use Rattle.cspf_model.specs.Refusals.{IsRefusal}
@@ -15,7 +15,7 @@ IsKept s number count why = (¬ IsAccepted s number count) × IsBatchRefusal s n
 
 -- if an `end` row is wrong for the reason `why`, its batch isn't accepted, and `why` is the reason
 pub wrong_end : (s : RunState) (stopped : Bool) (version number count changes : ℕ) (why : BatchRefusal) → stopped ≡ false → version ≡ current_version s → changes ≡ length s.changes
-    → IsWrongEnd stopped version number count changes why → IsKept s number count why
+    → IsWrongEnd stopped version (version + 1) number count changes why → IsKept s number count why
 wrong_end s stopped version number count changes refusal.Stopped going is_version is_count wrong = absurd (false≢true (sym going ∙ wrong))
 wrong_end s stopped version number count changes refusal.Exhausted going is_version is_count wrong = (λ a. omega (arith, a.room, is_version, wrong.1), omega (arith, is_version, wrong.1))
 wrong_end s stopped version number count changes (refusal.WrongNumber expected) going is_version is_count wrong = (
@@ -33,7 +33,7 @@ wrong_end s stopped version number count changes (refusal.Journal written) going
 -- if an `end` row is right, and its batch doesn't fit the database for the reason `why`, the batch
 -- is refused for this reason
 pub unfit_end : RefusedIsUnfit → (s : RunState) (stopped : Bool) (version number count changes : ℕ) (why : Refusal) → version ≡ current_version s → changes ≡ length s.changes
-    → IsRightEnd stopped version number count changes → IsRefusal (current_database s) (open_batch s number) why → IsKept s number count (refusal.Unfit why)
+    → IsRightEnd stopped version (version + 1) number count changes → IsRefusal (current_database s) (open_batch s number) why → IsKept s number count (refusal.Unfit why)
 unfit_end unfit s stopped version number count changes why is_version is_count right is = (
   λ a. unfit (current_database s) (open_batch s number) why is a.fits,
   (omega (arith, is_version, right.room), omega (arith, is_version, right.next), right.counted ∙ is_count, is),

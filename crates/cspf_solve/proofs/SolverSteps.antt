@@ -40,8 +40,8 @@ module _ (more : OneMoreBatch) (unfit : RefusedIsUnfit) (r t : RowsState TableSi
       let longer : length (s.accepted ++ (open_batch s number ∷ [])) ≡ length s.accepted + 1 = length-append s.accepted (open_batch s number ∷ []) in (
         after_batch s number,
         record {
-          table = ap (λ (x : TableSink). x.table.database) takes.1 ∙ rw (of.table, of.changes) (sym (more s.accepted (open_batch s number)));
-          version = ap (λ (x : TableSink). x.version) takes.1 ∙ ap (λ n. n + 1) of.version ∙ sym longer;
+          table = ap (λ (x : TableSink). x.table.database) takes.2 ∙ rw (of.table, of.changes) (sym (more s.accepted (open_batch s number)));
+          version = ap (λ (x : TableSink). x.version) takes.2 ∙ ap (λ n. n + 1) of.version ∙ sym longer;
           changes = ap (λ (x : RowsState TableSink). x.changes) a.after;
           answers = ap (λ (x : RowsState TableSink). x.answers) a.after ∙ of.answers;
           refused = ap (λ (x : RowsState TableSink). x.refused) a.after ∙ of.refused;
@@ -53,7 +53,7 @@ module _ (more : OneMoreBatch) (unfit : RefusedIsUnfit) (r t : RowsState TableSi
             counted = right.counted ∙ ap length of.changes;
             fits = rw (of.table, of.changes) at takes.0;
           },
-          a.line_is,
+          takes.1,
           refl,
         ),
         refl,

@@ -6,6 +6,7 @@ use Rattle.cspf_model.specs.Changes.{Fits, after_changes}
 use Rattle.cspf_model.specs.Refusals.{IsRefusal}
 use Rattle.cspf_model.specs.declared.refusal.Refusal.{Refusal}
 use Rattle.cspf_ero.specs.ReplyLine.{IsReply}
+use Rattle.cspf_stream.specs.Lines.{version_line}
 use Rattle.cspf_stream.specs.Sinks.{SinkSpec}
 use Rattle.cspf_stream.specs.declared.batch_refusal.BatchRefusal.TheVariants as refusal
 use Rattle.cspf_solve.specs.declared.table_sink.TableSink.{TableSink}
@@ -15,8 +16,9 @@ use Rattle.cspf_solve.specs.declared.table_sink.TableSink.{TableSink}
 abbrev pub table_spec : SinkSpec TableSink
 table_spec = record {
   version = λ sink. sink.version;
+  next = λ sink. sink.version + 1;
   stopped = λ sink. false;
-  accepts = λ old b new. Fits old.table.database b × (new ≡ record {
+  accepts = λ old b line new. Fits old.table.database b × (line ≡ version_line b.number) × (new ≡ record {
     table = record old.table { database = after_changes old.table.database b.changes };
     version = old.version + 1;
   });

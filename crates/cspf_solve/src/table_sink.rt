@@ -4,7 +4,7 @@ ghost use Rattle.std.specs.Prelude.{◌≡◌};
 
 use cspf_ero::reply_line;
 use cspf_model::{Batch, Request};
-use cspf_stream::{BatchRefusal, Sink};
+use cspf_stream::{BatchRefusal, Sink, StreamLine};
 use cspf_trees::TreeTable;
 use std::alloc::{AllocError, Global};
 
@@ -24,17 +24,28 @@ impl Sink<()> for TableSink {
         self.version
     }
 
+    fn next_number(&self) -> u32 {
+        self.version + 1
+    }
+
     fn is_stopped(&self) -> bool {
         false
     }
 
-    fn accept(&mut self, _context: &(), _alloc: Global, batch: &Batch) -> Result<(), BatchRefusal> {
+    fn accept(
+        &mut self,
+        _context: &(),
+        alloc: Global,
+        batch: &Batch,
+    ) -> Result<Result<Vec<u8>, BatchRefusal>, AllocError> {
+        let version = batch.number;
+        let line = StreamLine::Version { version }.bytes(alloc)?;
         match self.table.try_absorb(batch) {
             Ok(()) => {
                 self.version += 1;
-                Ok(())
+                Ok(Ok(line))
             }
-            Err(why) => Err(BatchRefusal::Unfit(why)),
+            Err(why) => Ok(Err(BatchRefusal::Unfit(why))),
         }
     }
 

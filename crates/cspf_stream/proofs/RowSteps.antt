@@ -2,7 +2,7 @@
 -- open changes, and the counts of answers and refusals.
 use Rattle.std.proofs.Common.{◌≡◌, ℕ, ◌+◌, ◌⊎◌, List, [], Result, Ok, Err, IfOk, OnErr, inr, refl, ap, subst, ◌∙◌}
 use Rattle.cspf_model.specs.declared.batch.Change.{Change}
-use Rattle.cspf_stream.specs.Lines.{version_line, refused_batch_line}
+use Rattle.cspf_stream.specs.Lines.{refused_batch_line}
 use Rattle.cspf_stream.specs.OpenChanges.{AreOpen}
 use Rattle.cspf_stream.specs.RowsTaken.{RowsLead, IsBatchTaken, IsBatchDropped, IsEndAccepted, IsEndRefused}
 use Rattle.cspf_stream.specs.Sinks.{SinkSpec}
@@ -15,16 +15,15 @@ at_error P (Ok x) holds = tt
 at_error P (Err e) holds = holds
 
 module _ {S : Type 0} (spec : SinkSpec S) (k k' : Rows S) (number count : ℕ) (none : AreOpen k'.changes []) (answers : k'.answers ≡ k.answers) where
-  -- Let the sink accept the batch of an `end` row. Then the code's new value `k'` stores a state in
-  -- which the batch is accepted, and no change is open.
-  pub accepted : k'.refused ≡ k.refused → ((all : List Change) → AreOpen k.changes all → IsBatchTaken spec k.sink number count all k'.sink)
-      → RowsLead k k' (λ s t. IsEndAccepted spec s number count (version_line number) t)
-  accepted refused taken = λ s kept. (
+  -- If the sink accepts the batch of an `end` row, the code's value `k'` is in the state after the
+  -- row, as `KeepsRows` defines it. In this state the batch is accepted, and no change is open.
+  pub accepted : (lines : List ℕ) → k'.refused ≡ k.refused → ((all : List Change) → AreOpen k.changes all → IsBatchTaken spec k.sink number count all lines k'.sink)
+      → RowsLead k k' (λ s t. IsEndAccepted spec s number count lines t)
+  accepted lines refused taken = λ s kept. (
     record { sink = k'.sink; changes = []; answers = s.answers; refused = s.refused },
     record { sink = refl; changes = none; answers = answers ∙ kept.answers; refused = refused ∙ kept.refused },
     record {
-      taken = subst (λ (x : S). IsBatchTaken spec x number count s.changes k'.sink) kept.sink (taken s.changes kept.changes);
-      line_is = refl;
+      taken = subst (λ (x : S). IsBatchTaken spec x number count s.changes lines k'.sink) kept.sink (taken s.changes kept.changes);
       after = refl;
     },
   )

@@ -4,7 +4,7 @@ use Rattle.cspf_model.specs.declared.batch.Change.{Change}
 use Rattle.cspf_rows.specs.declared.row.Row.{Row}
 use Rattle.cspf_rows.specs.declared.row_error.RowError.{RowError}
 use Rattle.cspf_stream.specs.EndRows.{IsRightEnd, IsWrongEnd}
-use Rattle.cspf_stream.specs.Lines.{version_line, refused_batch_line}
+use Rattle.cspf_stream.specs.Lines.{refused_batch_line}
 use Rattle.cspf_stream.specs.OpenChanges.{AreOpen}
 use Rattle.cspf_stream.specs.RefusedRows.{refused_row_line}
 use Rattle.cspf_stream.specs.Sinks.{SinkSpec}
@@ -35,28 +35,31 @@ abbrev pub RowsLead : {S : Type 0} → Rows S → Rows S → (RowsState S → Ro
 RowsLead {S} old new Step = (s : RowsState S) → KeepsRows old s → (t : RowsState S) × KeepsRows new t × Step s t
 
 module _ {S : Type 0} (spec : SinkSpec S) where
-  -- An `end` row of a stream with this number and count is right for this sink and these open
-  -- changes.
-  abbrev pub IsRightFor : S → ℕ → ℕ → List Change → Type 0
-  IsRightFor sink number count changes = IsRightEnd (spec.stopped sink) (spec.version sink) number count (length changes)
+  -- An `end` row of a stream with this number and count is right for this sink, if this many changes
+  -- are open.
+  abbrev pub IsRightFor : S → ℕ → ℕ → ℕ → Type 0
+  IsRightFor sink number count changes = IsRightEnd (spec.stopped sink) (spec.version sink) (spec.next sink) number count changes
 
-  -- The `end` row is right, and the sink accepts the open changes as the batch of this row. The
-  -- sink then goes to the state `new`.
-  abbrev pub IsBatchTaken : S → ℕ → ℕ → List Change → S → Type 0
-  IsBatchTaken sink number count changes new =
-      IsRightFor sink number count changes × spec.accepts sink (record { number = number; changes = changes }) new
+  -- why such an `end` row is wrong
+  abbrev pub IsWrongFor : S → ℕ → ℕ → ℕ → BatchRefusal → Type 0
+  IsWrongFor sink number count changes why = IsWrongEnd (spec.stopped sink) (spec.version sink) (spec.next sink) number count changes why
+
+  -- The `end` row is right, and the sink accepts the open changes as the batch of this row, with
+  -- these lines. The sink then goes to the state `new`.
+  abbrev pub IsBatchTaken : S → ℕ → ℕ → List Change → List ℕ → S → Type 0
+  IsBatchTaken sink number count changes lines new =
+      IsRightFor sink number count (length changes) × spec.accepts sink (record { number = number; changes = changes }) lines new
 
   -- The batch of an `end` row is refused for the reason `why`. If the `end` row is wrong, the sink
   -- doesn't change.
   abbrev pub IsBatchDropped : S → ℕ → ℕ → List Change → BatchRefusal → S → Type 0
   IsBatchDropped sink number count changes why new =
-      (IsWrongEnd (spec.stopped sink) (spec.version sink) number count (length changes) why × (new ≡ sink))
-      ⊎ (IsRightFor sink number count changes × spec.refuses sink (record { number = number; changes = changes }) why new)
+      (IsWrongFor sink number count (length changes) why × (new ≡ sink))
+      ⊎ (IsRightFor sink number count (length changes) × spec.refuses sink (record { number = number; changes = changes }) why new)
 
   -- The batch of an `end` row is accepted. Afterwards no change is open.
   pub record IsEndAccepted (s : RowsState S) (number count : ℕ) (line : List ℕ) (t : RowsState S) : Type 0 where
-    pub taken : IsBatchTaken s.sink number count s.changes t.sink
-    pub line_is : line ≡ version_line number
+    pub taken : IsBatchTaken s.sink number count s.changes line t.sink
     pub after : t ≡ record { sink = t.sink; changes = []; answers = s.answers; refused = s.refused }
 
   -- The batch of an `end` row is refused. Afterwards no change is open.

@@ -4,7 +4,6 @@
 
 ghost use Rattle.std.specs.Prelude.{◌≡◌, ◌+◌, ◌<◌, ◌≤◌, ◌⊎◌, ◌^◌, ℕ, [], List, IfOk, IfErr, IfSome, IfNone, OnOk, OnErr};
 ghost use Rattle.cspf_model.specs.declared.batch.Change.{Change as Changed};
-ghost use Rattle.cspf_stream.specs.EndRows.{IsRightEnd, IsWrongEnd};
 ghost use Rattle.cspf_stream.specs.OpenChanges.{AreOpen};
 
 use crate::{BatchRefusal, OpenChanges, Sink, Step, StreamLine, refused_row};
@@ -28,7 +27,7 @@ pub struct Rows<S> {
 
 impl<S> Rows<S> {
     ghost use Rattle.cspf_stream.specs.RowCounts.{CanCountOneMore, GrowsByOneAtMost};
-    ghost use Rattle.cspf_stream.specs.RowsTaken.{RowsLead, IsBatchTaken, IsBatchDropped, IsEndAccepted, IsEndRefused, IsStepTaken, IsRowTaken, IsStepLost, IsRowLost};
+    ghost use Rattle.cspf_stream.specs.RowsTaken.{RowsLead, IsRightFor, IsWrongFor, IsBatchTaken, IsBatchDropped, IsEndAccepted, IsEndRefused, IsStepTaken, IsRowTaken, IsStepLost, IsRowLost};
 
     /// The state before the first row of a stream: no change is open, and nothing was answered or
     /// refused.
@@ -45,8 +44,8 @@ impl<S> Rows<S> {
         }
     }
 
-    /// Answers row `place`, counted from 1, and returns the row's line. The line of a change is
-    /// empty. The line of an accepted batch is made before the sink gets the batch.
+    /// Answers the row with this number, counted from 1, and returns its line, which is empty for a
+    /// change.
     pub fn answer<C>(
         &mut self,
         context: &C,
@@ -100,8 +99,7 @@ impl<S> Rows<S> {
     }
 
     /// Gives the open changes to the sink as the batch of an `end` row with this number and count,
-    /// or refuses this batch. Returns the line of the `end` row. Afterwards no changes are open.
-    /// The line of an accepted batch is made before the sink gets the batch.
+    /// or refuses them. Returns the lines of the `end` row. Afterwards no changes are open.
     fn end<C>(
         &mut self,
         context: &C,
@@ -121,11 +119,10 @@ impl<S> Rows<S> {
         ensures answers { self.new.answers ≡ self.old.answers }
         ensures refused { self.new.refused ≤ self.old.refused + 1 }
     {
-        let version = StreamLine::Version { version: number }.bytes(alloc)?;
-        let found = self.give(context, alloc, number, count);
+        let found = self.give(context, alloc, number, count)?;
         self.changes.clear();
         match found {
-            Ok(()) => Ok(version),
+            Ok(lines) => Ok(lines),
             Err(refusal) => {
                 self.refused += 1;
                 StreamLine::RefusedBatch { number, refusal }.bytes(alloc)
@@ -133,58 +130,62 @@ impl<S> Rows<S> {
         }
     }
 
-    /// If the `end` row with this number and count is right, gives the open changes to the sink as
-    /// the batch with this number. The changes stay open.
+    /// Gives the open changes to the sink as the batch with this number, if the `end` row with this
+    /// number and count is right. Returns the lines of an accepted batch, or the reason for a
+    /// refusal. The changes stay open.
     fn give<C>(
         &mut self,
         context: &C,
         alloc: Global,
         number: u32,
         count: u32,
-    ) -> Result<(), BatchRefusal>
+    ) -> Result<Result<Vec<u8>, BatchRefusal>, AllocError>
     where
         S: Sink<C>,
-        ensures accepted { OnOk result ((all : List Changed) → AreOpen self.old.changes all
-            → IsBatchTaken S.spec self.old.sink number count all self.new.sink) }
-        ensures refused { IfErr result (λ why. (all : List Changed) → AreOpen self.old.changes all
-            → IsBatchDropped S.spec self.old.sink number count all why self.new.sink) }
+        ensures accepted { IfOk result (λ found. IfOk found (λ lines. (all : List Changed)
+            → AreOpen self.old.changes all
+            → IsBatchTaken S.spec self.old.sink number count all lines.items self.new.sink)) }
+        ensures refused { IfOk result (λ found. IfErr found (λ why. (all : List Changed)
+            → AreOpen self.old.changes all
+            → IsBatchDropped S.spec self.old.sink number count all why self.new.sink)) }
+        ensures lost { OnErr result (self.new.sink ≡ self.old.sink) }
+        ensures open { (all : List Changed) → AreOpen self.old.changes all
+            → AreOpen self.new.changes all }
         ensures changes { self.new.changes.count ≡ self.old.changes.count }
         ensures answers { self.new.answers ≡ self.old.answers }
         ensures refusals { self.new.refused ≡ self.old.refused }
     {
-        let (stopped, version) = (self.sink.is_stopped(), self.sink.version());
-        if let Some(refusal) = wrong_end(stopped, version, number, count, self.changes.count) {
-            return Err(refusal);
+        if let Some(refusal) = self.wrong_end::<C>(number, count) {
+            return Ok(Err(refusal));
         }
         self.changes.batch.number = number;
         self.sink.accept(context, alloc, &self.changes.batch)
     }
-}
 
-/// Why an `end` row is refused before the sink gets its batch, or `None` if the `end` row is right.
-fn wrong_end(
-    stopped: bool,
-    version: u32,
-    number: u32,
-    count: u32,
-    changes: u64,
-) -> Option<BatchRefusal>
-    ensures wrong { IfSome result (λ why. IsWrongEnd stopped version number count changes why) }
-    ensures right { IfNone result (IsRightEnd stopped version number count changes) }
-{
-    if stopped {
-        return Some(BatchRefusal::Stopped);
+    /// Why an `end` row with this number and count is refused before the sink gets its batch, or
+    /// `None` if the `end` row is right.
+    fn wrong_end<C>(&self, number: u32, count: u32) -> Option<BatchRefusal>
+    where
+        S: Sink<C>,
+        ensures wrong { IfSome result (λ why.
+            IsWrongFor S.spec self.now.sink number count self.now.changes.count why) }
+        ensures right { IfNone result (
+            IsRightFor S.spec self.now.sink number count self.now.changes.count) }
+    {
+        if self.sink.is_stopped() {
+            return Some(BatchRefusal::Stopped);
+        }
+        if self.sink.version() >= MOST_VERSIONS {
+            return Some(BatchRefusal::Exhausted);
+        }
+        let expected = self.sink.next_number();
+        if number != expected {
+            return Some(BatchRefusal::WrongNumber { expected });
+        }
+        let counted = self.changes.count;
+        if u64::from(count) != counted {
+            return Some(BatchRefusal::WrongCount { counted });
+        }
+        None
     }
-    if version >= MOST_VERSIONS {
-        return Some(BatchRefusal::Exhausted);
-    }
-    if number != version + 1 {
-        return Some(BatchRefusal::WrongNumber {
-            expected: version + 1,
-        });
-    }
-    if u64::from(count) != changes {
-        return Some(BatchRefusal::WrongCount { counted: changes });
-    }
-    None
 }

@@ -1,4 +1,4 @@
-ghost use Rattle.std.specs.Prelude.{◌≡◌, ◌+◌, ◌<◌, List, IfOk, IfErr, OnOk};
+ghost use Rattle.std.specs.Prelude.{◌≡◌, ◌<◌, List, IfOk, IfErr, OnErr};
 ghost use Rattle.cspf_model.specs.declared.batch.Change.{Change as Changed};
 ghost use Rattle.cspf_stream.specs.OpenChanges.{AreKeptChanges};
 ghost use Rattle.cspf_stream.specs.Sinks.{SinkSpec};
@@ -14,23 +14,37 @@ pub trait Sink<C> {
     /// The version of the sink, which batches it accepts or refuses, and how it answers requests.
     ghost spec: { SinkSpec Self };
 
-    /// The version of the sink: how many batches the sink has accepted.
+    /// The version of the sink, which each accepted batch raises.
     fn version(&self) -> u32
         ensures { result ≡ spec.version self.now };
+
+    /// The number of the next batch.
+    fn next_number(&self) -> u32
+        requires room { spec.version self.now < MOST_VERSIONS }
+        ensures { result ≡ spec.next self.now };
 
     /// Whether the sink is stopped, so that it accepts no more batches.
     fn is_stopped(&self) -> bool
         ensures { result ≡ spec.stopped self.now };
 
-    /// Accepts or refuses a batch. `batch` has only the first `KEPT_CHANGES` open changes: at most
-    /// one change more than a batch may have.
-    fn accept(&mut self, context: &C, alloc: Global, batch: &Batch) -> Result<(), BatchRefusal>
+    /// Accepts or refuses a batch. The batch has only the first `KEPT_CHANGES` of the open changes:
+    /// at most one change more than a batch may have. Returns the lines of an accepted batch, which
+    /// are made before the sink changes, or the reason for a refusal.
+    fn accept(
+        &mut self,
+        context: &C,
+        alloc: Global,
+        batch: &Batch,
+    ) -> Result<Result<Vec<u8>, BatchRefusal>, AllocError>
         requires room { spec.version self.old < MOST_VERSIONS }
-        requires next { batch.now.number ≡ spec.version self.old + 1 }
-        ensures accepted { OnOk result ((all : List Changed) → AreKeptChanges batch.now.changes all
-            → spec.accepts self.old (record batch.now { changes = all }) self.new) }
-        ensures refused { IfErr result (λ why. (all : List Changed) → AreKeptChanges batch.now.changes all
-            → spec.refuses self.old (record batch.now { changes = all }) why self.new) };
+        requires next { batch.now.number ≡ spec.next self.old }
+        ensures accepted { IfOk result (λ found. IfOk found (λ lines. (all : List Changed)
+            → AreKeptChanges batch.now.changes all
+            → spec.accepts self.old (record batch.now { changes = all }) lines.items self.new)) }
+        ensures refused { IfOk result (λ found. IfErr found (λ why. (all : List Changed)
+            → AreKeptChanges batch.now.changes all
+            → spec.refuses self.old (record batch.now { changes = all }) why self.new)) }
+        ensures lost { OnErr result (self.new ≡ self.old) };
 
     /// The line that answers a request at the current version. The sink may keep results for later
     /// requests, but the value that callers see is unchanged.

@@ -13,7 +13,7 @@ use cspf_ero::reply_line;
 use cspf_model::{Batch, Request, one_refusal};
 use cspf_publish::{Publisher, SeenSteps, Told};
 use cspf_rows::Row;
-use cspf_stream::{Answering, BatchRefusal, Rows, Sink};
+use cspf_stream::{Answering, BatchRefusal, Rows, Sink, StreamLine};
 use csv::ByteRecord;
 use std::alloc::{AllocError, Global};
 use std::io::Write;
@@ -65,17 +65,28 @@ impl<J: Write, R: Wait> Sink<R> for Counted<J> {
         self.publisher.version()
     }
 
+    fn next_number(&self) -> u32 {
+        self.publisher.version() + 1
+    }
+
     fn is_stopped(&self) -> bool {
         self.publisher.is_stopped()
     }
 
-    fn accept(&mut self, rt: &R, alloc: Global, batch: &Batch) -> Result<(), BatchRefusal> {
+    fn accept(
+        &mut self,
+        rt: &R,
+        alloc: Global,
+        batch: &Batch,
+    ) -> Result<Result<Vec<u8>, BatchRefusal>, AllocError> {
+        let version = batch.number;
+        let line = StreamLine::Version { version }.bytes(alloc)?;
         match self.publisher.apply(rt, alloc, batch) {
             Ok(_) => {
                 self.steps.learn(&self.publisher.steps());
-                Ok(())
+                Ok(Ok(line))
             }
-            Err(error) => Err(refusal_of(error)),
+            Err(error) => Ok(Err(refusal_of(error))),
         }
     }
 

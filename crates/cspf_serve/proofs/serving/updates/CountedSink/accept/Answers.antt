@@ -1,5 +1,7 @@
 use Rattle.std.proofs.Common.{length, refl, sym, ap, subst, ◌∙◌, arith}
+use Rattle.cspf_model.specs.Numbered.{NumberedChanges}
 use Rattle.cspf_publish.specs.JournalSteps.{count_of}
+use Rattle.cspf_stream.specs.Lines.{version_line}
 use Rattle.cspf_serve.specs.UpdatesStates.{CountedState, publisher_spec}
 use Rattle.cspf_serve.proofs.StepsOfRun.{counted_again, counted_by}
 use Rattle.cspf_serve.proofs.UpdatesSteps.{published_whole, apply_error_whole}
@@ -11,7 +13,7 @@ learn-requires g c = c.steps.ensures.source ∙ (c.apply.ensures.source ∙ sym 
 pub returns-in-Ok-clause-accepted : goal.returns-in-Ok-clause-accepted
 returns-in-Ok-clause-accepted g c = λ all front.
     let after : CountedState g.row.J.Denot = record { publisher = c.apply.new.self; steps = c.learn-in-Ok.new.self } in
-    subst (λ (p : CountedState g.row.J.Denot). (publisher_spec g.J.Write.contents).accepts p (record c.args.batch.now { changes = all }) after) c.self.view_is (
+    subst (λ (p : CountedState g.row.J.Denot). (publisher_spec g.J.Write.contents).accepts p (record c.args.batch.now { changes = all }) c.in_ok-line.line.items after) c.self.view_is (
       published_whole g.J.Write.contents c.self.inside.publisher c.apply.new.self c.args.batch.now all front (record {
         next = c.in-Ok.ensures.next;
         batches = c.in-Ok.ensures.published;
@@ -20,6 +22,7 @@ returns-in-Ok-clause-accepted g c = λ all front.
       }),
       c.apply.ensures.source,
       record { later = c.learn-in-Ok.ensures.own; counted = omega (arith, c.steps.ensures.count, c.learn-in-Ok.ensures.other_count) },
+      c.in_ok-line.ensures ∙ ap (λ (b : NumberedChanges). version_line b.number) c.batch.view_is,
     )
 
 pub returns-in-Err-clause-refused : goal.returns-in-Err-clause-refused
