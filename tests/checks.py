@@ -1,6 +1,7 @@
 """What passed and what failed, and the last line that says it. Who imports this finds the tools of this tree, too."""
 import argparse
 import os
+import signal
 import sys
 import traceback
 
@@ -8,6 +9,9 @@ TOP = os.path.dirname(os.path.dirname(os.path.abspath(__file__)))
 TOOLS = os.path.join(TOP, "tools/routed-tools")
 sys.path.insert(1, os.path.join(TOP, "python"))
 from reference.shortened import shortened
+
+if signal.getsignal(signal.SIGINT) is signal.SIG_IGN:  # as a shell leaves it to what runs in the background, but Ctrl-C is tested
+    signal.signal(signal.SIGINT, signal.default_int_handler)
 
 MOST_SHORTENED = 3  # streams of a part
 MOST_SHOWN = 2000  # characters of a stream that was made short

@@ -274,8 +274,7 @@ def interrupted(program, checks, room):
 def ends(checks, child, words):
     """The tool ends at SIGINT, without a word."""
     child.send_signal(signal.SIGINT)
-    err = child.stderr.read()
-    checks.same(f"Ctrl-C: {' '.join(words[:2])}", (child.wait(PATIENCE), err), (130, ""))
+    checks.same(f"Ctrl-C: {' '.join(words[:2])}", (child.wait(PATIENCE), child.stderr.read()), (130, ""))
     child.stderr.close()
 
 

@@ -241,7 +241,7 @@ def virtual(checks, room):
     checks.true("pip install --no-build-isolation ./python", ran.returncode == 0, ran.stdout[-500:] + ran.stderr[-500:])
     checks.true("OPERATORS.md quotes it", "`pip install --no-build-isolation ./python`" in text_of("docs/run/OPERATORS.md"))
     ran = subprocess.run([os.path.join(place, "bin/routed-tools"), "listen", "--help"], env=env, capture_output=True, text=True, cwd=room)
-    checks.same("routed-tools of the environment", (ran.returncode, ran.stdout[:14]), (0, "usage: listen "))
+    checks.same("routed-tools of the environment", (ran.returncode, ran.stdout[:27]), (0, "usage: routed-tools listen "))
 
 
 def linted(checks, room):

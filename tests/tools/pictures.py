@@ -163,10 +163,10 @@ def places(_, checks):
     for name, words, line in (("a reply of no lines", ("--ask", "7"), "--ask needs --replies, the lines that it is one of"),
                               ("a version below 0", ("--version", "-1"), "argument --version: invalid version value: '-1'")):
         status, picture, said = draw(PAIR + "end,1,2\n", *words)
-        checks.same(f"{name} is refused", (status, picture, said.splitlines()[-1:]), (2, "", [f"draw: error: {line}"]))
+        checks.same(f"{name} is refused", (status, picture, said.splitlines()[-1:]), (2, "", [f"routed-tools draw: error: {line}"]))
     status, picture, said = draw(PAIR + "end,1,2\n", replies=REPLY)
     checks.same("replies of which none is drawn are refused", (status, picture, said.splitlines()[-1:]),
-                (2, "", ["draw: error: --replies needs --ask, which says whose route is drawn"]))
+                (2, "", ["routed-tools draw: error: --replies needs --ask, which says whose route is drawn"]))
     for name, rows, why in (("no rows", "<svg/>\n", "it is a network of another format: .*"),
                             ("a word that is no kind", PAIR + "end,1,2\nfoo\n", "row 4 refused: kind; .*"),
                             ("too few fields", "put,1.1.1.1\n", "row 1 refused: fields; .*"),

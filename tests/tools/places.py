@@ -27,9 +27,8 @@ def places(program, checks, versions, room):
                 found = ran.returncode, ran.stdout, ran.stderr.splitlines()[-1:]
             except subprocess.TimeoutExpired as late:
                 found = "it listens", late.stdout, []
-            line = (f"listen: error: argument {option}: {place!r} is no place: that is the path of a UNIX socket (with a slash where it "
-                    "has "
-                    "a colon), a port from 0 to 65535, ADDRESS:PORT or [ADDRESS]:PORT")
+            line = (f"routed-tools listen: error: argument {option}: {place!r} is no place: that is the path of a UNIX socket "
+                    "(with a slash where it has a colon), a port from 0 to 65535, ADDRESS:PORT or [ADDRESS]:PORT")
             checks.same(f"{option} {place!r}", (*found, os.listdir(room)), (2, "", [line], []))
             for name in os.listdir(room):
                 os.remove(os.path.join(room, name))
