@@ -9,7 +9,7 @@
 
 mod book_row;
 mod book_rows;
-mod end_row;
+mod book_sink;
 mod error;
 mod kept_rows;
 mod laws;
