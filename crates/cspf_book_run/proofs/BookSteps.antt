@@ -73,8 +73,8 @@ module _ (unfit : RefusedIsUnfit) (r t : RowsState BookSink) (s : BookRunState) 
   )
   why_dropped why sink (inr (right, (unfits, is, refuses, book, batches))) = (
     rw is
-    (unfit_end s.book.version (s.batches + 1) s.changes s.book.base number count unfit false unfits (rw (of.book, of.batches, of.changes) at right)
-    (rw (of.book, of.changes) at refuses)),
+        (unfit_end s.book.version (s.batches + 1) s.changes s.book.base number count unfit false unfits (rw (of.book, of.batches, of.changes) at right)
+        (rw (of.book, of.changes) at refuses)),
     book,
     batches,
   )

@@ -65,8 +65,8 @@ module _ (more : OneMoreBatch) (unfit : RefusedIsUnfit) (r t : RowsState TableSi
       (wrong_end (length s.accepted) (length s.accepted + 1) s.changes (database_after s.accepted) number count false why refl (rw (of.version, of.changes) at wrong), same)
   why_dropped why sink (inr (right, (unfits, is, refuses, same))) = (
     rw is
-    (unfit_end (length s.accepted) (length s.accepted + 1) s.changes (database_after s.accepted) number count unfit false unfits (rw (of.version, of.changes) at right)
-    (rw (of.table, of.changes) at refuses)),
+        (unfit_end (length s.accepted) (length s.accepted + 1) s.changes (database_after s.accepted) number count unfit false unfits (rw (of.version, of.changes) at right)
+        (rw (of.table, of.changes) at refuses)),
     same,
   )
 

@@ -10,8 +10,8 @@ returns-in-Ok-clause-accepted c = λ all front.
     let same = kept_all batch.changes all front c.in-Ok.ensures.ok.short in (
       fits_whole c.args.self.now.book.base batch.number batch.changes all front c.in-Ok.ensures.ok,
       base_lines_are c.args.self.now batch.number _ _ batch.changes all c.deref.result.now c.deref-2.result.now c.in_ok-lines.lines.items same
-      (ap (λ (b : NumberedChanges). b.number) c.batch.view_is) (ap (λ n. n + 1) c.version-version.ensures)
-      (c.deref.ensures.value ∙ c.in_ok-over.ensures) (rw (c.deref-2.ensures.value) c.in_ok-lost.ensures) c.in_ok-lines.ensures,
+          (ap (λ (b : NumberedChanges). b.number) c.batch.view_is) (ap (λ n. n + 1) c.version-version.ensures)
+          (c.deref.ensures.value ∙ c.in_ok-over.ensures) (rw (c.deref-2.ensures.value) c.in_ok-lost.ensures) c.in_ok-lines.ensures,
       rw same at c.in-Ok.ensures.changed,
       refl,
     )
