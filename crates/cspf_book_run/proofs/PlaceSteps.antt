@@ -1,6 +1,6 @@
 -- The state of a run after a `place` or `release` row.
-use Rattle.std.proofs.Common.{◌≡◌, ℕ, ◌+◌, ◌<◌, ◌≤◌, List, Some, inl, inr, refl, ap, subst, ◌∙◌, arith}
-use Rattle.cspf_model.specs.Best.{Answer, unknown_from, unknown_to, no_route, route, IsBestAnswer}
+use Rattle.std.proofs.Common.{◌≡◌, ℕ, ◌+◌, ◌<◌, List, Some, inl, inr, refl, ap, subst, ◌∙◌}
+use Rattle.cspf_model.specs.Best.{Answer, IsBestAnswer}
 use Rattle.cspf_model.specs.declared.request.Request.{Request}
 use Rattle.cspf_stream.specs.declared.rows.Rows.{Rows}
 use Rattle.cspf_book.specs.BookState.{BookState, effective_beside, HasRoomFor, IsAnswerPlaced, IsPlaceError}
@@ -24,13 +24,6 @@ refused_by s q Memory refusal is room error = absurd (cc is)
 refused_by s q Full refusal is room error = subst (IsPlaceRefusal s q) (let same : unplaced.Full ≡ refusal = cc is in same) (room, error)
 refused_by s q TooManyLinks refusal is room error = subst (IsPlaceRefusal s q) (let same : unplaced.Links ≡ refusal = cc is in same) (room, error)
 refused_by s q Twice refusal is room error = subst (IsPlaceRefusal s q) (let same : unplaced.Twice ≡ refusal = cc is in same) (room, error)
-
--- Placing a request never lowers the version.
-pub placed_version : (old new : BookState) (q : Request) (hold : ℕ) (answer : Answer) → IsAnswerPlaced old q hold answer new → old.version ≤ new.version
-placed_version old new q hold unknown_from is = omega (arith, ap (λ (b : BookState). b.version) is)
-placed_version old new q hold unknown_to is = omega (arith, ap (λ (b : BookState). b.version) is)
-placed_version old new q hold no_route is = omega (arith, ap (λ (b : BookState). b.version) is)
-placed_version old new q hold (route walk) is = omega (arith, is.version)
 
 -- ---- what the book does for a row
 
