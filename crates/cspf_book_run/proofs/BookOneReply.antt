@@ -1,5 +1,5 @@
 -- Each row of a book has only one answer.
-use Rattle.std.proofs.Common.{◌≡◌, ℕ, suc, ◌<◌, ◌++◌, List, [], ◌∷◌, take, drop, IsTrue, Result, Ok, Err, inl, inr, refl, sym, ap, subst, ◌∙◌, codes, arith}
+use Rattle.std.proofs.Common.{◌≡◌, ℕ, suc, ◌+◌, ◌<◌, ◌++◌, List, [], ◌∷◌, take, drop, IsTrue, Result, Ok, Err, inl, inr, refl, sym, ap, subst, ◌∙◌, codes, arith}
 use Rattle.std.proofs.Math.Bridge.{le_prop}
 use Rattle.cspf_model.specs.Best.{Answer, unknown_from, unknown_to, no_route, route, IsBestAnswer}
 use Rattle.cspf_model.specs.Database.{HaveOwnKeys}
@@ -12,8 +12,7 @@ use Rattle.cspf_stream.specs.RowAnswers.{AreAnswered}
 use Rattle.cspf_stream.specs.Steps.{step_of}
 use Rattle.cspf_stream.specs.declared.step.Step.{Step}
 use Rattle.cspf_stream.specs.declared.step.Step.TheVariants as step
-use Rattle.cspf_stream.specs.declared.batch_refusal.BatchRefusal.{BatchRefusal}
-use Rattle.cspf_stream.specs.declared.batch_refusal.BatchRefusal.TheVariants as refusal
+use Rattle.cspf_stream.proofs.BatchRefusals.{refusal_once}
 use Rattle.cspf_book.specs.declared.placement.Placement.{Placement}
 use Rattle.cspf_book.specs.Placements.{has_id}
 use Rattle.cspf_book.specs.BookState.{BookState, effective_beside, IsAnswerPlaced, IsPlacedAlong, IsPlacementOf}
@@ -25,38 +24,12 @@ use Rattle.cspf_book_run.specs.declared.refusals.ReleaseRefusal.{ReleaseRefusal}
 use Rattle.cspf_book_run.specs.declared.refusals.ReleaseRefusal.TheVariants as unreleased
 use Rattle.cspf_book_run.specs.BookLines.{IsPlaceReply}
 use Rattle.cspf_book_run.specs.BookRows.{book_row_of}
-use Rattle.cspf_book_run.specs.BookScript.{BookRunState, book_start, book_answers, open_base_batch, after_answer, IsBaseRefusal, IsBaseEndAnswered, IsAskAnswered, IsPlaceRefusal, IsPlaceAnswered, IsPlaceTaken, IsReleaseRefusal, IsReleaseTaken, IsBookStepAnswered, IsBookRowAnswered}
+use Rattle.cspf_book_run.specs.BookScript.{BookRunState, book_start, book_answers, after_answer, IsBaseEndAnswered, IsAskAnswered, IsPlaceRefusal, IsPlaceAnswered, IsPlaceTaken, IsReleaseRefusal, IsReleaseTaken, IsBookStepAnswered, IsBookRowAnswered}
 use Rattle.cspf_book_run.specs.BookScriptLaws.{BooksHaveOneReply}
 use Rattle.cspf_book_run.proofs.LostOnce.{lost_once}
 
 abbrev pub SameBookReply : List ℕ → BookRunState → List ℕ → BookRunState → Type 0
 SameBookReply l s m t = (l ≡ m) × (s ≡ t)
-
-refusal_once : OneRefusal → (s : BookRunState) (number count : ℕ) (why other : BatchRefusal)
-    → IsBaseRefusal s number count why → IsBaseRefusal s number count other → why ≡ other
-refusal_once one s number count refusal.Stopped other a b = absurd a
-refusal_once one s number count refusal.Memory other a b = absurd a
-refusal_once one s number count (refusal.Journal written) other a b = absurd a
-refusal_once one s number count why refusal.Stopped a b = absurd b
-refusal_once one s number count why refusal.Memory a b = absurd b
-refusal_once one s number count why (refusal.Journal written) a b = absurd b
-refusal_once one s number count refusal.Exhausted refusal.Exhausted a b = refl
-refusal_once one s number count refusal.Exhausted (refusal.WrongNumber e) a b = absurd (omega (arith, a, b.0))
-refusal_once one s number count refusal.Exhausted (refusal.WrongCount k) a b = absurd (omega (arith, a, b.0))
-refusal_once one s number count refusal.Exhausted (refusal.Unfit w) a b = absurd (omega (arith, a, b.0))
-refusal_once one s number count (refusal.WrongNumber e) refusal.Exhausted a b = absurd (omega (arith, a.0, b))
-refusal_once one s number count (refusal.WrongNumber e) (refusal.WrongNumber f) a b = ap refusal.WrongNumber (a.2 ∙ sym b.2)
-refusal_once one s number count (refusal.WrongNumber e) (refusal.WrongCount k) a b = absurd (a.1 b.1)
-refusal_once one s number count (refusal.WrongNumber e) (refusal.Unfit w) a b = absurd (a.1 b.1)
-refusal_once one s number count (refusal.WrongCount k) refusal.Exhausted a b = absurd (omega (arith, a.0, b))
-refusal_once one s number count (refusal.WrongCount k) (refusal.WrongNumber e) a b = absurd (b.1 a.1)
-refusal_once one s number count (refusal.WrongCount k) (refusal.WrongCount l) a b = ap refusal.WrongCount (a.3 ∙ sym b.3)
-refusal_once one s number count (refusal.WrongCount k) (refusal.Unfit w) a b = absurd (a.2 b.2)
-refusal_once one s number count (refusal.Unfit w) refusal.Exhausted a b = absurd (omega (arith, a.0, b))
-refusal_once one s number count (refusal.Unfit w) (refusal.WrongNumber e) a b = absurd (b.1 a.1)
-refusal_once one s number count (refusal.Unfit w) (refusal.WrongCount k) a b = absurd (b.2 a.2)
-refusal_once one s number count (refusal.Unfit w) (refusal.Unfit v) a b =
-    ap refusal.Unfit (one s.book.base (open_base_batch s number) w v a.3 b.3)
 
 end_once : OneRefusal → (s : BookRunState) (number count : ℕ) (l m : List ℕ) (t u : BookRunState)
     → IsBaseEndAnswered s number count l t → IsBaseEndAnswered s number count m u → SameBookReply l t m u
@@ -66,7 +39,7 @@ end_once one s number count l m t u (inl (a, (ids, lost, line), after)) (inl (b,
 end_once one s number count l m t u (inl a) (inr b) = absurd (b.1 a.0)
 end_once one s number count l m t u (inr a) (inl b) = absurd (a.1 b.0)
 end_once one s number count l m t u (inr a) (inr b) =
-    (a.3 ∙ rw (refusal_once one s number count a.0 b.0 a.2 b.2) (sym b.3), a.4 ∙ sym b.4)
+    (a.3 ∙ rw (refusal_once s.book.version (s.batches + 1) s.changes s.book.base number count one a.0 b.0 a.2 b.2) (sym b.3), a.4 ∙ sym b.4)
 
 ask_once : OneBestAnswer → HasOneReplyLine → (s : BookRunState) (q : Request) (l m : List ℕ) (t u : BookRunState)
     → IsAskAnswered s q l t → IsAskAnswered s q m u → SameBookReply l t m u

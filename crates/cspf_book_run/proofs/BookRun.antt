@@ -50,10 +50,10 @@ all_rows place s t (fields ∷ rows) lines a =
       ),
     )
 
-module _ {K : Type 0} (contents : K → Option (List ℕ)) (k : KeptRows K) (fresh : KeepsBook k.rows book_start) (first : IsBookBefore 1 k.rows) where
+module _ {K : Type 0} (contents : K → Option (List ℕ)) (k : KeptRows K) (fresh : KeepsBook k.rows.rows book_start) (first : IsBookBefore 1 k.rows) where
   -- before the row with this number the code is in this state of the run
   record IsBookAt (place : ℕ) (b : KeptRows K) (s : KeptState) : Type 0 where
-    kept : KeepsBook b.rows s.state
+    kept : KeepsBook b.rows.rows s.state
     before : IsBookBefore place b.rows
     written : Appends (contents k.keep) (contents b.keep) s.keep
 
@@ -64,13 +64,13 @@ module _ {K : Type 0} (contents : K → Option (List ℕ)) (k : KeptRows K) (fre
       let counts = a.answered.counts in
       let before : IsBookBefore (suc place) b'.rows = record {
         rows = omega (arith, at.before.rows, counts.rows);
-        count = omega (arith, at.before.count, counts.count);
-        answers = omega (arith, at.before.answers, counts.answers);
-        refused = omega (arith, at.before.refused, counts.refused);
+        count = omega (arith, at.before.count, counts.others.count);
+        answers = omega (arith, at.before.answers, counts.others.answers);
+        refused = omega (arith, at.before.refused, counts.others.refused);
       } in (
         record { state = led.0; keep = s.keep ++ a.text },
         record { kept = led.1; before = before; written = Appends-trans (contents k.keep) (contents b.keep) (contents b'.keep) s.keep a.text at.written a.written },
-        (led.2, ap (λ x. s.keep ++ x) led.3),
+        (led.2.0, ap (λ x. s.keep ++ x) led.2.1),
       )
 
   led : (b : KeptRows K) (done : Rows) (lines : List ℕ) → AreAnswered (IsRowKept contents) 1 k done lines b
@@ -92,7 +92,7 @@ module _ {K : Type 0} (contents : K → Option (List ℕ)) (k : KeptRows K) (fre
 
   -- the lines and the summary of a run that ends
   pub run_ends : (too_many : Bool) (all : Option (List (List (List ℕ)))) (b : KeptRows K) (old new : Option (List ℕ)) (summary : Summary) → HasRun (IsRowKept contents) IsBookLast 1000000 too_many all k b old new
-      → ((s : BookRunState) → KeepsBook b.rows s → summary ≡ book_summary_of b.rows.read s too_many)
+      → ((s : BookRunState) → KeepsBook b.rows.rows s → summary ≡ book_summary_of b.rows.read s too_many)
       → IfSome all (λ rows. (lines : List ℕ) × IsBookRun rows lines summary × Appends old new lines)
   run_ends too_many None b old new summary run is = tt
   run_ends too_many (Some rows) b old new summary run is =
@@ -140,7 +140,7 @@ module _ {K : Type 0} (contents : K → Option (List ℕ)) (k : KeptRows K) (fre
   next_text place b b' s done (fields ∷ rest) text at (inl next) =
       let row = next.1 in
       let one = row.answered.lead s.state at.kept in
-      (row.text, inl (next.0, one.0, one.2, one.3), row.written)
+      (row.text, inl (next.0, one.0, one.2.0, one.2.1), row.written)
   next_text place b b' s done (fields ∷ rest) text at (inr next) = ([], inr (next.0, next.1 s.state at.kept, refl), rw next.2 (Appends-nil (contents b.keep)))
 
   -- If the answer to a row fails, memory was refused, or the row's text wasn't written whole to the
@@ -170,9 +170,9 @@ module _ {K : Type 0} (contents : K → Option (List ℕ)) (k : KeptRows K) (fre
           keeps = c.3;
           line = cut.0;
           next = one.0;
-          answered = one.2;
-          part = subst (λ (x : List ℕ). written < length x) one.3 cut.4;
-          whole_kept = ap (λ (x : List ℕ). c.0.keep ++ take written x) one.3;
+          answered = one.2.0;
+          part = subst (λ (x : List ℕ). written < length x) one.2.1 cut.4;
+          whole_kept = ap (λ (x : List ℕ). c.0.keep ++ take written x) one.2.1;
         },
         r.written,
         Appends-trans (contents k.keep) (contents a.before.keep) (contents b.keep) c.0.keep (take written cut.1) c.1.written cut.5,

@@ -1,170 +1,127 @@
--- The state of a run after an end row or an answer.
-use Rattle.std.proofs.Common.{◌≡◌, ℕ, ◌+◌, List, [], ◌∷◌, ◌++◌, length, inl, inr, refl, sym, ap, subst, ◌∙◌, arith}
+-- The state of a run after a row of the base: a change, an end row or a request.
+use Rattle.std.proofs.Common.{◌≡◌, ℕ, ◌+◌, false, List, [], ◌∷◌, ◌++◌, length, inl, inr, refl, ap, subst, ◌∙◌}
 use Rattle.std.specs.List.{flat_map}
-use Rattle.cspf_model.specs.Changes.{Fits, after_changes}
+use Rattle.cspf_model.specs.Changes.{after_changes}
 use Rattle.cspf_model.specs.Laws.{RefusedIsUnfit}
-use Rattle.cspf_model.specs.Refusals.{IsRefusal}
 use Rattle.cspf_model.specs.declared.batch.Change.{Change}
-use Rattle.cspf_model.specs.declared.refusal.Refusal.{Refusal}
 use Rattle.cspf_stream.specs.OpenChanges.{AreOpen}
-use Rattle.cspf_stream.specs.Lines.{refused_batch_line}
+use Rattle.cspf_stream.specs.RowsTaken.{RowsState, RowsLead, IsEndAccepted, IsEndRefused, IsBatchDropped, IsStepTaken}
 use Rattle.cspf_stream.specs.declared.batch_refusal.BatchRefusal.{BatchRefusal}
-use Rattle.cspf_stream.specs.declared.batch_refusal.BatchRefusal.TheVariants as refusal
-use Rattle.cspf_stream.proofs.KeptChanges.{kept_all, fits_whole, refusal_whole}
-use Rattle.cspf_book.specs.BookState.{BookState}
+use Rattle.cspf_stream.specs.declared.rows.Rows.{Rows}
+use Rattle.cspf_stream.specs.declared.step.Step.{Step}
+use Rattle.cspf_stream.specs.declared.step.Step.TheVariants as step
+use Rattle.cspf_stream.proofs.BatchRefusals.{IsNotAccepted, wrong_end, unfit_end}
 use Rattle.cspf_book.specs.LostRoutes.{AreLost}
 use Rattle.cspf_book.specs.OverLinks.{over}
 use Rattle.cspf_book.specs.declared.over.Over.{Over}
-use Rattle.cspf_book_run.specs.declared.book_rows.BookRows.{BookRows}
+use Rattle.cspf_book_run.specs.declared.book_sink.BookSink.{BookSink}
 use Rattle.cspf_book_run.specs.BookLines.{over_line, lost_line, base_line}
-use Rattle.cspf_book_run.specs.BookScript.{BookRunState, IsBaseAccepted, IsBaseRefusal, IsBaseEndAnswered, open_base_batch, after_base_batch, after_open_change, after_refused_base_batch}
-use Rattle.cspf_book_run.specs.BookEnds.{IsRightBookEnd, IsWrongBookEnd, IsBatchApplied}
+use Rattle.cspf_book_run.specs.BookScript.{BookRunState, AreBaseLines, IsBaseEndAnswered, IsBookStepAnswered, after_answer, after_base_batch, after_open_change, after_refused_base_batch}
+use Rattle.cspf_book_run.specs.BookSinks.{book_spec, state_with}
 use Rattle.cspf_book_run.specs.BookStates.{BookLeads}
 
--- The batch isn't accepted, and `why` is the reason.
-abbrev pub IsNotApplied : BookRunState → ℕ → ℕ → BatchRefusal → Type 0
-IsNotApplied s number count why = (¬ IsBaseAccepted s number count) × IsBaseRefusal s number count why
+-- The lines that the code makes of the stored changes are the lines of the base batch.
+pub base_lines_are : (sink : BookSink) (number n version : ℕ) (kept all : List Change) (overs : List Over) (ids lines : List ℕ) → kept ≡ all → n ≡ number → version ≡ sink.book.version + 1
+    → overs ≡ over sink.book.placements kept → AreLost sink.book.base (after_changes sink.book.base kept) sink.book.placements ids
+    → lines ≡ flat_map over_line overs ++ flat_map lost_line ids ++ base_line n version → AreBaseLines (state_with sink all) number lines
+base_lines_are sink number n version kept all overs ids lines same numbered versioned are_over are_lost are_lines =
+    (ids, rw same at are_lost, are_lines ∙ rw (are_over, same, numbered, versioned) refl)
 
--- If an end row is wrong for the reason `why`, its batch isn't accepted, and `why` is the reason.
-pub wrong_base_end : (s : BookRunState) (version batches number count changes : ℕ) (why : BatchRefusal) → version ≡ s.book.version → batches ≡ s.batches → changes ≡ length s.changes
-    → IsWrongBookEnd version batches number count changes why → IsNotApplied s number count why
-wrong_base_end s version batches number count changes refusal.Stopped is_version is_batches is_count wrong = absurd wrong
-wrong_base_end s version batches number count changes refusal.Exhausted is_version is_batches is_count wrong = (λ a. omega (arith, a.room, is_version, wrong), omega (arith, is_version, wrong))
-wrong_base_end s version batches number count changes (refusal.WrongNumber expected) is_version is_batches is_count wrong = (
-  λ a. wrong.1 (omega (arith, a.next, is_batches)),
-  (omega (arith, is_version, wrong.0), λ e. wrong.1 (omega (arith, e, is_batches)), omega (arith, is_batches, wrong.2)),
-)
-wrong_base_end s version batches number count changes (refusal.WrongCount counted) is_version is_batches is_count wrong = (
-  λ a. wrong.2 (a.counted ∙ sym is_count),
-  (omega (arith, is_version, wrong.0), omega (arith, is_batches, wrong.1), λ e. wrong.2 (e ∙ sym is_count), wrong.3 ∙ is_count),
-)
-wrong_base_end s version batches number count changes (refusal.Unfit why) is_version is_batches is_count wrong = absurd wrong
-wrong_base_end s version batches number count changes refusal.Memory is_version is_batches is_count wrong = absurd wrong
-wrong_base_end s version batches number count changes (refusal.Journal written) is_version is_batches is_count wrong = absurd wrong
+-- The state `r` of the code's rows agrees with the state `s` of the run.
+pub record IsOfRun (r : RowsState BookSink) (s : BookRunState) : Type 0 where
+  pub book : r.sink.book ≡ s.book
+  pub batches : r.sink.batches ≡ s.batches
+  pub changes : r.changes ≡ s.changes
+  pub answers : r.answers ≡ s.answers
+  pub refused : r.refused ≡ s.refused
 
--- If an end row is wrong (`IsWrongBookEnd`) and the code refuses its batch, the row is answered as
--- `IsBaseEndAnswered` states.
-pub end_refused : (k k' : BookRows) (number count : ℕ) (why : BatchRefusal) (line : List ℕ)
-    → IsWrongBookEnd k.book.version k.batches number count k.changes.count why
-    → BookLeads k k' (λ s t. (line ≡ refused_batch_line number why) × (t ≡ after_refused_base_batch s))
-    → BookLeads k k' (λ s t. IsBaseEndAnswered s number count line t)
-end_refused k k' number count why line wrong lead s kept =
-    let l = lead s kept in
-    let w = wrong_base_end s k.book.version k.batches number count k.changes.count why (ap (λ (b : BookState). b.version) kept.book) kept.batches kept.changes.count wrong in
-    (l.0, l.1, inr (why, w.0, w.1, l.2.0, l.2.1))
+-- `Says` holds for a state `after` of the run, with which the state `t` of the code's rows agrees.
+abbrev Answered : (BookRunState → Type 0) → RowsState BookSink → Type 0
+Answered Says t = (after : BookRunState) × IsOfRun t after × Says after
 
--- Let an end row be right (`IsRightBookEnd`). If its batch is applied, or is refused because it
--- doesn't fit (`IsBatchApplied`), the row is answered as `IsBaseEndAnswered` states.
-applied_answer : RefusedIsUnfit → (s t : BookRunState) (version batches number count changes : ℕ) (line : List ℕ) → version ≡ s.book.version → batches ≡ s.batches → changes ≡ length s.changes
-    → IsRightBookEnd version batches number count changes → IsBatchApplied s number line t → IsBaseEndAnswered s number count line t
-applied_answer unfit s t version batches number count changes line is_version is_batches is_count right (inl (fits, lines, after)) = inl (
-  record {
-    room = omega (arith, is_version, right.room);
-    next = omega (arith, is_batches, right.next);
-    counted = right.counted ∙ is_count;
-    fits = fits;
-  },
-  lines,
-  after,
-)
-applied_answer unfit s t version batches number count changes line is_version is_batches is_count right (inr (why, is, line_is, after)) = inr (
-  refusal.Unfit why,
-  λ a. unfit s.book.base (open_base_batch s number) why is a.fits,
-  (omega (arith, is_version, right.room), omega (arith, is_batches, right.next), right.counted ∙ is_count, is),
-  line_is,
-  after,
-)
-
--- Let an end row be right (`IsRightBookEnd`). If the code applies its batch, or refuses the batch
--- because it doesn't fit, the row is answered as `IsBaseEndAnswered` states.
-pub end_applied : RefusedIsUnfit → (k k' : BookRows) (number count : ℕ) (line : List ℕ) → IsRightBookEnd k.book.version k.batches number count k.changes.count
-    → BookLeads k k' (λ s t. IsBatchApplied s number line t) → BookLeads k k' (λ s t. IsBaseEndAnswered s number count line t)
-end_applied unfit k k' number count line right lead s kept =
-    let l = lead s kept in
-    (l.0, l.1, applied_answer unfit s l.0 k.book.version k.batches number count k.changes.count line (ap (λ (b : BookState). b.version) kept.book) kept.batches kept.changes.count right l.2)
-
--- In this module, the batch with this number has the changes since the last end row that the code
--- stores.
-module _ (k k' : BookRows) (number : ℕ) where
-  pub batch_applied : (overs : List Over) (ids lines : List ℕ) (version : ℕ)
-      → Fits k.book.base (record { number = number; changes = k.changes.batch.changes })
-      → overs ≡ over k.book.placements k.changes.batch.changes
-      → AreLost k.book.base (after_changes k.book.base k.changes.batch.changes) k.book.placements ids
-      → lines ≡ flat_map over_line overs ++ flat_map lost_line ids ++ base_line number version
-      → version ≡ k.book.version + 1
-      → k'.book ≡ record { base = after_changes k.book.base k.changes.batch.changes; version = k.book.version + 1; placements = k.book.placements }
-      → k'.batches ≡ k.batches + 1 → AreOpen k'.changes [] → k'.answers ≡ k.answers → k'.refused ≡ k.refused
-      → BookLeads k k' (λ s t. IsBatchApplied s number lines t)
-  batch_applied overs ids lines version fits are_over are_lost are_lines is_version book batches opened answers refused s kept =
-      let all : k.changes.batch.changes ≡ s.changes = kept_all k.changes.batch.changes s.changes kept.changes.changes fits.short in
-      let whole = fits_whole k.book.base number k.changes.batch.changes s.changes kept.changes.changes fits in (
+module _ (unfit : RefusedIsUnfit) (r t : RowsState BookSink) (s : BookRunState) (of : IsOfRun r s) (number count : ℕ) (line : List ℕ) where
+  accepted : IsEndAccepted book_spec r number count line t → Answered (IsBaseEndAnswered s number count line) t
+  accepted a =
+      let right = a.taken.0 in
+      let takes = a.taken.1 in (
         after_base_batch s,
         record {
-          book = rw (all, kept.book) at book;
-          batches = batches ∙ ap (λ n. n + 1) kept.batches;
-          changes = opened;
-          answers = answers ∙ kept.answers;
-          refused = refused ∙ kept.refused;
+          book = rw (of.book, of.changes) at takes.2;
+          batches = takes.3 ∙ ap (λ n. n + 1) of.batches;
+          changes = ap (λ (x : RowsState BookSink). x.changes) a.after;
+          answers = ap (λ (x : RowsState BookSink). x.answers) a.after ∙ of.answers;
+          refused = ap (λ (x : RowsState BookSink). x.refused) a.after ∙ of.refused;
         },
         inl (
-          subst (λ (b : BookState). Fits b.base (open_base_batch s number)) kept.book whole,
-          (
-            ids,
-            rw (all, kept.book) at are_lost,
-            are_lines ∙ rw (are_over, is_version, all, kept.book) refl,
-          ),
+          record {
+            room = rw of.book at right.room;
+            next = rw of.batches at right.next;
+            counted = right.counted ∙ ap length of.changes;
+            fits = rw (of.book, of.changes) at takes.0;
+          },
+          rw (of.book, of.changes) at takes.1,
           refl,
         ),
       )
 
-  pub batch_unfit : (why : Refusal) (lines : List ℕ) (mid : BookRows)
-      → IsRefusal k.book.base (record { number = number; changes = k.changes.batch.changes }) why
-      → mid.book ≡ k.book → mid.batches ≡ k.batches → mid.changes.batch.changes ≡ k.changes.batch.changes → mid.changes.count ≡ k.changes.count
-      → mid.answers ≡ k.answers → mid.refused ≡ k.refused
-      → BookLeads mid k' (λ s t. (lines ≡ refused_batch_line number (refusal.Unfit why)) × (t ≡ after_refused_base_batch s))
-      → BookLeads k k' (λ s t. IsBatchApplied s number lines t)
-  batch_unfit why lines mid is book batches changes count answers refused lead s kept =
-      let l = lead s (record {
-        book = book ∙ kept.book;
-        batches = batches ∙ kept.batches;
-        changes = record { changes = changes ∙ kept.changes.changes; count = count ∙ kept.changes.count };
-        answers = answers ∙ kept.answers;
-        refused = refused ∙ kept.refused;
-      }) in
-      let whole = refusal_whole k.book.base number k.changes.batch.changes s.changes why kept.changes.changes is in
-      (l.0, l.1, inr (why, subst (λ (b : BookState). IsRefusal b.base (open_base_batch s number) why) kept.book whole, l.2.0, l.2.1))
-
-  -- If the code drops the changes since the last end row and counts a refusal, the next state of
-  -- the run is `after_refused_base_batch`.
-  pub batch_refused : (why : BatchRefusal) (lines : List ℕ) → lines ≡ refused_batch_line number why
-      → k'.book ≡ k.book → k'.batches ≡ k.batches → AreOpen k'.changes [] → k'.answers ≡ k.answers → k'.refused ≡ k.refused + 1
-      → BookLeads k k' (λ s t. (lines ≡ refused_batch_line number why) × (t ≡ after_refused_base_batch s))
-  batch_refused why lines line_is book batches opened answers refused s kept = (
-    after_refused_base_batch s,
-    record {
-      book = book ∙ kept.book;
-      batches = batches ∙ kept.batches;
-      changes = opened;
-      answers = answers ∙ kept.answers;
-      refused = refused ∙ ap (λ n. n + 1) kept.refused;
-    },
-    (line_is, refl),
+  why_dropped : (why : BatchRefusal) (sink : BookSink) → IsBatchDropped book_spec r.sink number count r.changes why sink
+      → IsNotAccepted s.book.version (s.batches + 1) s.changes s.book.base number count why × (sink.book ≡ r.sink.book) × (sink.batches ≡ r.sink.batches)
+  why_dropped why sink (inl (wrong, same)) = (
+    wrong_end s.book.version (s.batches + 1) s.changes s.book.base number count false why refl (rw (of.book, of.batches, of.changes) at wrong),
+    ap (λ (x : BookSink). x.book) same,
+    ap (λ (x : BookSink). x.batches) same,
+  )
+  why_dropped why sink (inr (right, (unfits, is, refuses, book, batches))) = (
+    rw is
+        (unfit_end s.book.version (s.batches + 1) s.changes s.book.base number count unfit false unfits (rw (of.book, of.batches, of.changes) at right)
+        (rw (of.book, of.changes) at refuses)),
+    book,
+    batches,
   )
 
--- If the code adds a change to the changes since the last end row, the next state of the run is
--- `after_open_change`.
-pub change_opened : (k k' : BookRows) (c : Change) (lines : List ℕ) → lines ≡ []
-    → ((all : List Change) → AreOpen k.changes all → AreOpen k'.changes (all ++ c ∷ []))
-    → k'.book ≡ k.book → k'.batches ≡ k.batches → k'.answers ≡ k.answers → k'.refused ≡ k.refused
-    → BookLeads k k' (λ s t. (lines ≡ []) × (t ≡ after_open_change s c))
-change_opened k k' c lines none opened book batches answers refused s kept = (
-  after_open_change s c,
-  record {
-    book = book ∙ kept.book;
-    batches = batches ∙ kept.batches;
-    changes = opened s.changes kept.changes;
-    answers = answers ∙ kept.answers;
-    refused = refused ∙ kept.refused;
-  },
-  (none, refl),
-)
+  refused : IsEndRefused book_spec r number count line t → Answered (IsBaseEndAnswered s number count line) t
+  refused a =
+      let d = why_dropped a.why t.sink a.dropped in (
+        after_refused_base_batch s,
+        record {
+          book = d.1 ∙ of.book;
+          batches = d.2 ∙ of.batches;
+          changes = ap (λ (x : RowsState BookSink). x.changes) a.after;
+          answers = ap (λ (x : RowsState BookSink). x.answers) a.after ∙ of.answers;
+          refused = ap (λ (x : RowsState BookSink). x.refused) a.after ∙ ap (λ n. n + 1) of.refused;
+        },
+        inr (a.why, d.0.0, d.0.1, a.line_is, refl),
+      )
+
+changed : (r : RowsState BookSink) (s : BookRunState) (c : Change) → IsOfRun r s → IsOfRun (record r { changes = r.changes ++ c ∷ [] }) (after_open_change s c)
+changed r s c of = record { book = of.book; batches = of.batches; changes = ap (λ cs. cs ++ c ∷ []) of.changes; answers = of.answers; refused = of.refused }
+
+replied : (r : RowsState BookSink) (s : BookRunState) → IsOfRun r s → IsOfRun (record r { answers = r.answers + 1 }) (after_answer s s.book)
+replied r s of = record { book = of.book; batches = of.batches; changes = of.changes; answers = ap (λ n. n + 1) of.answers; refused = of.refused }
+
+step_taken : RefusedIsUnfit → (r t : RowsState BookSink) (s : BookRunState) (asked : Step) (line : List ℕ) → IsOfRun r s → IsStepTaken book_spec r asked line t
+    → Answered (IsBookStepAnswered s asked line) t
+step_taken unfit r t s (step.Change c) line of a = (after_open_change s c, rw a.1 (changed r s c of), (a.0, refl))
+step_taken unfit r t s (step.End number count) line of (inl a) = accepted unfit r t s of number count line a
+step_taken unfit r t s (step.End number count) line of (inr a) = refused unfit r t s of number count line a
+step_taken unfit r t s (step.Ask q) line of a = (after_answer s s.book, rw a.1 (replied r s of), (a.0.0, rw of.book at a.0.1, rw of.book at a.0.2, refl))
+
+-- If the code's rows do what a row of the base asks for, as `IsStepTaken` of `cspf_stream` states,
+-- the row is answered as `IsBookStepAnswered` states for a run.
+pub base_row : RefusedIsUnfit → (k k' : Rows BookSink) (asked : Step) (line : List ℕ) → RowsLead k k' (λ r t. IsStepTaken book_spec r asked line t)
+    → BookLeads k k' (λ s t. IsBookStepAnswered s asked line t)
+base_row unfit k k' asked line lead s kept =
+    let r : RowsState BookSink = record { sink = k.sink; changes = s.changes; answers = k.answers; refused = k.refused } in
+    let led = lead r (record { sink = refl; changes = kept.changes; answers = refl; refused = refl }) in
+    let of : IsOfRun r s = record { book = kept.book; batches = kept.batches; changes = refl; answers = kept.answers; refused = kept.refused } in
+    let a = step_taken unfit r led.0 s asked line of led.2 in (
+      a.0,
+      record {
+        book = ap (λ (x : BookSink). x.book) led.1.sink ∙ a.1.book;
+        batches = ap (λ (x : BookSink). x.batches) led.1.sink ∙ a.1.batches;
+        changes = subst (λ cs. AreOpen k'.changes cs) a.1.changes led.1.changes;
+        answers = led.1.answers ∙ a.1.answers;
+        refused = led.1.refused ∙ a.1.refused;
+      },
+      a.2,
+    )

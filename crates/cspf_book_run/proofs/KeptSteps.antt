@@ -1,21 +1,24 @@
 -- What goes to the accepted rows' writer `keep` for a row: the row's text if the row changes the
 -- version, and otherwise nothing.
-use Rattle.std.proofs.Common.{◌≡◌, ◌==◌, ℕ, ◌≤◌, Bool, true, false, cond, List, [], length, Result, Ok, Err, inl, inr, refl, sym, ap, ◌∙◌, eq-eqb, arith}
+use Rattle.std.proofs.Common.{◌≡◌, ◌==◌, ℕ, ◌+◌, ◌≤◌, Bool, true, false, cond, List, [], length, Result, Ok, Err, inl, inr, refl, sym, ap, ◌∙◌, eq-eqb, arith}
 use Rattle.std.proofs.lemmas.Bool.{false≢true}
 use Rattle.std.proofs.lemmas.List.{take_all}
 use Rattle.cspf_model.specs.declared.batch.Change.{Change}
 use Rattle.cspf_rows.specs.declared.row_error.RowError.{RowError}
 use Rattle.cspf_rows.specs.BatchText.{batch_text}
+use Rattle.cspf_stream.specs.RowCounts.{GrowsByOneAtMost}
 use Rattle.cspf_stream.specs.Steps.{step_of}
+use Rattle.cspf_stream.specs.declared.rows.Rows.{Rows}
 use Rattle.cspf_stream.specs.declared.step.Step.{Step}
 use Rattle.cspf_stream.specs.declared.step.Step.TheVariants as step
 use Rattle.cspf_book.specs.BookState.{BookState}
 use Rattle.cspf_book_run.specs.declared.book_row.BookRow.{BookRow}
 use Rattle.cspf_book_run.specs.declared.book_row.BookRow.TheVariants as book_row
 use Rattle.cspf_book_run.specs.declared.book_rows.BookRows.{BookRows}
+use Rattle.cspf_book_run.specs.declared.book_sink.BookSink.{BookSink}
 use Rattle.cspf_book_run.specs.BookRows.{book_row_of}
 use Rattle.cspf_book_run.specs.BookScript.{BookRunState, IsBookStepAnswered, IsBookRowAnswered, open_base_batch}
-use Rattle.cspf_book_run.specs.BookStates.{KeepsBook, IsAnsweredByBook}
+use Rattle.cspf_book_run.specs.BookStates.{KeepsBook, BookLeads}
 use Rattle.cspf_book_run.specs.Kept.{text_of_step, text_of_row, kept_of}
 use Rattle.cspf_book_run.specs.KeptStates.{IsTextOfStep, IsTextOfRow, IsRenumbered, IsAnsweredAndKept}
 
@@ -49,10 +52,10 @@ kept_text : (place : ℕ) (s t : BookRunState) (fields : List (List ℕ)) (line 
 kept_text place s t fields line raw text version after a is before later kept =
     kept ∙ rw (before, later) (either_text (t.book.version == s.book.version) raw (text_of_row s fields (book_row_of fields)) (λ other. row_text place s t fields (book_row_of fields) line raw a other is))
 
-renumbered_keeps : (old new : BookRows) (s : BookRunState) → IsRenumbered old new → KeepsBook old s → KeepsBook new s
+renumbered_keeps : (old new : BookRows) (s : BookRunState) → IsRenumbered old new → KeepsBook old.rows s → KeepsBook new.rows s
 renumbered_keeps old new s same kept = record {
-  book = same.book ∙ kept.book;
-  batches = same.batches ∙ kept.batches;
+  book = ap (λ (x : BookSink). x.book) same.sink ∙ kept.book;
+  batches = ap (λ (x : BookSink). x.batches) same.sink ∙ kept.batches;
   changes = record { changes = same.changes ∙ kept.changes.changes; count = same.count ∙ kept.changes.count };
   answers = same.answers ∙ kept.answers;
   refused = same.refused ∙ kept.refused;
@@ -61,29 +64,30 @@ renumbered_keeps old new s same kept = record {
 -- Suppose that the code makes a row's text, then answers the row, and then empties the text if the
 -- version is unchanged. Then `IsAnsweredAndKept` holds.
 pub answered_and_kept : (place : ℕ) (old numbered new : BookRows) (fields : List (List ℕ)) (line raw text : List ℕ) (version after : ℕ)
-    → IsRenumbered old numbered → ((s : BookRunState) → KeepsBook old s → IsTextOfRow s fields (book_row_of fields) raw)
-    → IsAnsweredByBook place numbered (book_row_of fields) line new → version ≡ numbered.book.version → after ≡ new.book.version → text ≡ cond (after == version) [] raw
-    → IsAnsweredAndKept place old fields line text new
-answered_and_kept place old numbered new fields line raw text version after same texts answered before later kept = record {
+    → IsRenumbered old numbered → ((s : BookRunState) → KeepsBook old.rows s → IsTextOfRow s fields (book_row_of fields) raw)
+    → BookLeads numbered.rows new.rows (λ s t. IsBookRowAnswered place s (book_row_of fields) line t) → new.read ≡ numbered.read + 1 → GrowsByOneAtMost numbered.rows new.rows
+    → version ≡ numbered.rows.sink.book.version → after ≡ new.rows.sink.book.version → text ≡ cond (after == version) [] raw → IsAnsweredAndKept place old fields line text new
+answered_and_kept place old numbered new fields line raw text version after same texts lead read grows before later kept = record {
   lead = λ s keeps.
       let there = renumbered_keeps old numbered s same keeps in
-      let l = answered.lead s there in (
+      let l = lead s there in (
         l.0,
         l.1,
-        l.2,
-        kept_text place s l.0 fields line raw text version after l.2 (texts s keeps) (before ∙ ap (λ (b : BookState). b.version) there.book) (later ∙ ap (λ (b : BookState). b.version) l.1.book) kept,
+        (l.2, kept_text place s l.0 fields line raw text version after l.2 (texts s keeps) (before ∙ ap (λ (b : BookState). b.version) there.book) (later ∙ ap (λ (b : BookState). b.version) l.1.book) kept),
       );
   counts = record {
-    rows = omega (arith, answered.counts.rows, same.read);
-    count = omega (arith, answered.counts.count, same.count);
-    answers = omega (arith, answered.counts.answers, same.answers);
-    refused = omega (arith, answered.counts.refused, same.refused);
+    rows = omega (arith, read, same.read);
+    others = record {
+      count = omega (arith, grows.count, same.count);
+      answers = omega (arith, grows.answers, same.answers);
+      refused = omega (arith, grows.refused, same.refused);
+    };
   };
 }
 
 -- If the changes since the last end row are no more than a batch may have, the code stores all of
 -- them. The text of the stored changes is then the text of all these changes.
-pub batch_kept : (k : BookRows) (s : BookRunState) (number : ℕ) (text : List ℕ) → KeepsBook k s → length s.changes ≤ 4096
+pub batch_kept : (k : Rows BookSink) (s : BookRunState) (number : ℕ) (text : List ℕ) → KeepsBook k s → length s.changes ≤ 4096
     → text ≡ batch_text (record { number = number; changes = k.changes.batch.changes }) → text ≡ batch_text (open_base_batch s number)
 batch_kept k s number text kept few is =
     is ∙ ap (λ (cs : List Change). batch_text (record { number = number; changes = cs })) (kept.changes.changes ∙ take_all 4097 s.changes (omega (arith, few)))

@@ -1,28 +1,27 @@
 -- Which lines a run of a book writes for a stream of rows, and the summary of the run. The stream
 -- and the lines are lists of bytes.
-use Rattle.std.specs.Prelude.{◌≡◌, ◌≢◌, ℕ, ◌+◌, ◌<◌, ◌≤◌, ◌⊎◌, Bool, IsTrue, List, [], ◌∷◌, ◌++◌, take, length, Result, Ok, Err}
+use Rattle.std.specs.Prelude.{◌≡◌, ℕ, ◌+◌, ◌<◌, ◌≤◌, ◌⊎◌, Bool, IsTrue, List, [], ◌∷◌, ◌++◌, take, length, Result, Ok, Err}
 use Rattle.std.specs.List.{flat_map}
 use Rattle.cspf_model.specs.declared.batch.Change.{Change}
 use Rattle.cspf_model.specs.declared.limits.TheConstants.{MOST_VERSIONS}
 use Rattle.cspf_model.specs.declared.request.Request.{Request}
 use Rattle.cspf_model.specs.Best.{Answer, IsBestAnswer}
-use Rattle.cspf_model.specs.Changes.{Fits, after_changes, no_links}
+use Rattle.cspf_model.specs.Changes.{after_changes, no_links}
 use Rattle.cspf_model.specs.Numbered.{NumberedChanges}
-use Rattle.cspf_model.specs.Refusals.{IsRefusal}
 use Rattle.cspf_ero.specs.ReplyLine.{IsReply}
 use Rattle.cspf_rows.specs.declared.limits.TheConstants.{MOST_ROWS}
 use Rattle.cspf_rows.specs.declared.row_error.RowError.{RowError}
 use Rattle.cspf_rows.specs.Records.{rows_of}
 use Rattle.cspf_stream.specs.declared.batch_refusal.BatchRefusal.{BatchRefusal}
-use Rattle.cspf_stream.specs.declared.batch_refusal.BatchRefusal.TheVariants as refusal
-use Rattle.cspf_stream.specs.Lines.{refused_batch_line}
+use Rattle.cspf_stream.specs.EndRows.{IsBatchAccepted, IsBatchRefusal}
+use Rattle.cspf_stream.specs.Lines.{refused_batch_line, last_line}
 use Rattle.cspf_stream.specs.RefusedRows.{refused_row_line}
 use Rattle.cspf_stream.specs.RowAnswers.{AnswersOf, AreAnswered}
 use Rattle.cspf_stream.specs.Steps.{step_of}
 use Rattle.cspf_stream.specs.declared.step.Step.{Step}
 use Rattle.cspf_stream.specs.declared.step.Step.TheVariants as step
 use Rattle.cspf_solve.specs.declared.summary.Summary.{Summary}
-use Rattle.cspf_solve.specs.Script.{is_too_many, last_line, unended_count}
+use Rattle.cspf_solve.specs.Script.{is_too_many, unended_count}
 use Rattle.cspf_book.specs.declared.error.PlaceError.TheVariants.{Full, TooManyLinks, Twice}
 use Rattle.cspf_book.specs.Placements.{has_id, others}
 use Rattle.cspf_book.specs.Effective.{effective}
@@ -109,29 +108,9 @@ after_release s id = record s {
 }
 
 -- The changes since the last end row are accepted as the base batch with this number and count. The
--- version is below 1,000,000, and `number` is the number of the next base batch. `count` is how
--- many changes there are, and the batch fits the base.
-pub record IsBaseAccepted (s : BookRunState) (number count : ℕ) : Type 0 where
-  pub room : s.book.version < MOST_VERSIONS
-  pub next : number ≡ s.batches + 1
-  pub counted : count ≡ length s.changes
-  pub fits : Fits s.book.base (open_base_batch s number)
-
--- Why the changes since the last end row are refused as the base batch with this number and count.
--- The first of these reasons that applies is given. `Stopped`, `Memory` and `Journal` never apply,
--- because a run has no journal and ends if memory is refused.
-abbrev pub IsBaseRefusal : BookRunState → ℕ → ℕ → BatchRefusal → Type 0
-IsBaseRefusal s number count refusal.Stopped = ⊥
-IsBaseRefusal s number count refusal.Exhausted = MOST_VERSIONS ≤ s.book.version
-IsBaseRefusal s number count (refusal.WrongNumber expected) =
-    (s.book.version < MOST_VERSIONS) × (number ≢ s.batches + 1) × (expected ≡ s.batches + 1)
-IsBaseRefusal s number count (refusal.WrongCount counted) =
-    (s.book.version < MOST_VERSIONS) × (number ≡ s.batches + 1) × (count ≢ length s.changes) × (counted ≡ length s.changes)
-IsBaseRefusal s number count (refusal.Unfit why) =
-    (s.book.version < MOST_VERSIONS) × (number ≡ s.batches + 1) × (count ≡ length s.changes)
-    × IsRefusal s.book.base (open_base_batch s number) why
-IsBaseRefusal s number count refusal.Memory = ⊥
-IsBaseRefusal s number count (refusal.Journal written) = ⊥
+-- number of the next base batch counts base batches alone.
+abbrev pub IsBaseAccepted : BookRunState → ℕ → ℕ → Type 0
+IsBaseAccepted s number count = IsBatchAccepted s.book.version (s.batches + 1) s.changes s.book.base number count
 
 -- The lines of an accepted base batch. First comes an `over` line for each link and priority at
 -- which the placements count more bandwidth than the link has. Then comes a `lost` line for each
@@ -145,7 +124,8 @@ AreBaseLines s number lines =
 abbrev pub IsBaseEndAnswered : BookRunState → ℕ → ℕ → List ℕ → BookRunState → Type 0
 IsBaseEndAnswered s number count line after =
     (IsBaseAccepted s number count × AreBaseLines s number line × (after ≡ after_base_batch s))
-    ⊎ ((why : BatchRefusal) × (¬ IsBaseAccepted s number count) × IsBaseRefusal s number count why
+    ⊎ ((why : BatchRefusal) × (¬ IsBaseAccepted s number count)
+    × IsBatchRefusal s.book.version (s.batches + 1) s.changes s.book.base number count why
     × (line ≡ refused_batch_line number why) × (after ≡ after_refused_base_batch s))
 
 -- An `ask` row is answered with the best answer in the effective database. This is the base with

@@ -10,14 +10,14 @@ use Rattle.cspf_stream.specs.declared.step.Step.{Step}
 use Rattle.cspf_stream.specs.declared.step.Step.TheVariants as step
 use Rattle.cspf_book_run.specs.declared.book_row.BookRow.{BookRow}
 use Rattle.cspf_book_run.specs.declared.book_row.BookRow.TheVariants as book_row
-use Rattle.cspf_solve.specs.Script.{last_line}
+use Rattle.cspf_stream.specs.Lines.{last_line}
 use Rattle.cspf_solve.specs.declared.error.SolveError.TheVariants as run_error
 use Rattle.cspf_book_run.specs.declared.book_rows.BookRows.{BookRows}
 use Rattle.cspf_book_run.specs.declared.error.BookError.{BookError}
 use Rattle.cspf_book_run.specs.declared.error.BookError.TheVariants as error
 use Rattle.cspf_book_run.specs.declared.kept_rows.KeptRows.{KeptRows}
 use Rattle.cspf_book_run.specs.BookScript.{BookRunState, book_answers}
-use Rattle.cspf_book_run.specs.BookStates.{KeepsBook, CountsBookRow}
+use Rattle.cspf_book_run.specs.BookStates.{KeepsBook, BookLeads, CountsBookRow}
 use Rattle.cspf_book_run.specs.Kept.{text_of_step, text_of_row, kept_of}
 
 -- `text` is the text that goes to the writer `keep` for a row of the base, if the row is accepted.
@@ -38,19 +38,17 @@ IsTextOfRow s fields (Ok (book_row.Release id)) text = text ≡ text_of_row s fi
 -- The two states are the same, except for the number of the batch that stores the changes since the
 -- last end row.
 pub record IsRenumbered (old new : BookRows) : Type 0 where
-  pub book : new.book ≡ old.book
-  pub batches : new.batches ≡ old.batches
-  pub changes : new.changes.batch.changes ≡ old.changes.batch.changes
-  pub count : new.changes.count ≡ old.changes.count
+  pub sink : new.rows.sink ≡ old.rows.sink
+  pub changes : new.rows.changes.batch.changes ≡ old.rows.changes.batch.changes
+  pub count : new.rows.changes.count ≡ old.rows.changes.count
+  pub answers : new.rows.answers ≡ old.rows.answers
+  pub refused : new.rows.refused ≡ old.rows.refused
   pub read : new.read ≡ old.read
-  pub answers : new.answers ≡ old.answers
-  pub refused : new.refused ≡ old.refused
 
 -- Row `place` is answered, and `text` goes to `keep`, the writer of accepted rows, for this row.
 -- The answer takes the code from the state `old` to the state `new`.
 pub record IsAnsweredAndKept (place : ℕ) (old : BookRows) (fields : List (List ℕ)) (line text : List ℕ) (new : BookRows) : Type 0 where
-  pub lead : (s : BookRunState) → KeepsBook old s
-      → (t : BookRunState) × KeepsBook new t × book_answers place s fields line t × (text ≡ kept_of s fields t)
+  pub lead : BookLeads old.rows new.rows (λ s t. book_answers place s fields line t × (text ≡ kept_of s fields t))
   pub counts : CountsBookRow old new
 
 -- The row is answered, and its text is written to `keep`, the writer of accepted rows.
@@ -71,4 +69,4 @@ IsRowNotKept contents (error.Keep written) place old fields new =
 
 -- The line is the last line of a run that ends in the code's state.
 abbrev pub IsBookLast : {K : Type 0} → KeptRows K → Bool → List ℕ → Type 0
-IsBookLast k too_many line = (s : BookRunState) → KeepsBook k.rows s → line ≡ last_line too_many s.changes
+IsBookLast k too_many line = (s : BookRunState) → KeepsBook k.rows.rows s → line ≡ last_line too_many s.changes

@@ -1,9 +1,9 @@
 -- The definitions that this crate's contracts use.
 pub mod BookRows
 pub mod BookLines
-pub mod BookEnds
 pub mod PlaceErrors
 pub mod BookScript
+pub mod BookSinks
 pub mod Kept
 pub mod BookOutput
 pub mod BookScriptLaws

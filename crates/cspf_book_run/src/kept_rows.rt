@@ -49,7 +49,7 @@ impl<K> Ending for KeptRows<K> {
     ghost last = { IsBookLast };
 
     fn last_line(&self, alloc: Global, too_many: bool) -> Result<Vec<u8>, AllocError> {
-        self.rows.last_line(alloc, too_many)
+        self.rows.rows.last_line(alloc, too_many)
     }
 }
 

@@ -1,4 +1,5 @@
 //! The run of a book: one thread reads a stream of rows, and writes the lines that answer each row.
+//! `Rows` of `cspf_stream` answers the rows of the base, and the book is its sink.
 //!
 //! `specs/BookRows.antt` defines how a record is read as a row. `specs/BookScript.antt` defines the
 //! lines of a run and its summary, from the bytes of the stream. `specs/Kept.antt` defines the text
@@ -9,7 +10,7 @@
 
 mod book_row;
 mod book_rows;
-mod end_row;
+mod book_sink;
 mod error;
 mod kept_rows;
 mod laws;

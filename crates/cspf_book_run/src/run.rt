@@ -69,7 +69,7 @@ fn answer_all<R: Read, W: Write, K: Write>(
     writer: &mut W,
 ) -> Result<Summary, BookError>
     requires plain { IsPlain rows.old }
-    requires fresh { KeepsBook book.old.rows book_start }
+    requires fresh { KeepsBook book.old.rows.rows book_start }
     requires first { IsBookBefore 1 book.old.rows }
     ensures whole { IfOk result (λ summary. IfSome (rows_left R.remaining rows.old) (λ all.
         (lines : List ℕ) × IsBookRun all lines summary

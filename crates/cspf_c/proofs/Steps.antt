@@ -5,7 +5,8 @@ use Rattle.std.proofs.lemmas.Bool.{lt-ltb, le-ltb}
 use Rattle.std.proofs.lemmas.List.{take_all, take_at}
 use Rattle.cspf_rows.specs.Rows.{row_of}
 use Rattle.cspf_stream.specs.RowAnswers.{AreAnswered as AreTaken}
-use Rattle.cspf_solve.specs.Script.{RunState, start, at_next_row, IsRowAnswered, AreRowsAnswered, IsSolveRun, is_too_many, last_line, summary_of}
+use Rattle.cspf_stream.specs.Lines.{last_line}
+use Rattle.cspf_solve.specs.Script.{RunState, start, at_next_row, IsRowAnswered, AreRowsAnswered, IsSolveRun, is_too_many, summary_of}
 use Rattle.cspf_solve.specs.SolveLaws.{CountsByOne, GoesOnByOneRow}
 use Rattle.cspf_solve.specs.declared.summary.Summary.{Summary}
 use Rattle.cspf_solve.specs.SolverStates.{KeepsRun, IsPast}

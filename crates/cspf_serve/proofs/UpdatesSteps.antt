@@ -18,16 +18,16 @@ use Rattle.cspf_rows.specs.Rows.{row_of}
 use Rattle.cspf_rows.specs.declared.row.Row.{Row}
 use Rattle.cspf_rows.specs.declared.row.Row.TheVariants as row
 use Rattle.cspf_rows.specs.declared.row_error.RowError.{RowError}
-use Rattle.cspf_stream.specs.EndRows.{IsRightEnd, IsWrongEnd}
+use Rattle.cspf_stream.specs.EndRows.{IsRightEnd, IsStoppedOrWrong}
 use Rattle.cspf_stream.specs.Lines.{refused_batch_line}
 use Rattle.cspf_stream.specs.OpenChanges.{AreKeptChanges, AreOpen}
 use Rattle.cspf_stream.specs.RowsTaken.{RowsState, KeepsRows, RowsLead, IsEndAccepted, IsEndRefused, IsBatchDropped, IsRowTaken, IsRowLost}
 use Rattle.cspf_stream.specs.declared.batch_refusal.BatchRefusal.{BatchRefusal}
 use Rattle.cspf_stream.specs.declared.batch_refusal.BatchRefusal.TheVariants as refusal
 use Rattle.cspf_stream.specs.declared.rows.Rows.{Rows}
+use Rattle.cspf_stream.proofs.BatchRefusals.{IsNotAccepted, wrong_end, unfit_end}
 use Rattle.cspf_stream.proofs.KeptChanges.{kept_all, refusal_whole}
-use Rattle.cspf_solve.specs.Script.{RunState, open_batch, after_change_row, after_refused_row, after_refused_batch, after_reply, IsAccepted, IsBatchRefusal}
-use Rattle.cspf_solve.proofs.BatchRefusals.{wrong_end, unfit_end}
+use Rattle.cspf_solve.specs.Script.{RunState, open_batch, after_change_row, after_refused_row, after_refused_batch, after_reply, IsAccepted}
 use Rattle.cspf_serve.specs.LiveWords.{refusal_of}
 use Rattle.cspf_serve.specs.Updates.{UpdatesState, AreNowCounted, IsEndUpdate, IsUpdateAnswered, IsUpdateLost, at_next_update}
 use Rattle.cspf_serve.specs.UpdatesStates.{CountedState, KeptUpdates, IsPublished, ArePublished, KeepsUpdates, IsUpdateTaken, IsUpdateFailed, publisher_spec, after_published}
@@ -128,7 +128,8 @@ module _ {J : Type 0} (contents : J → Option (List ℕ)) (first : PublisherSta
 
     -- if a run over one stream of rows would refuse the batch, the run over updates and clients
     -- refuses it by the same line
-    refuses : (p : CountedState J) (why : BatchRefusal) → r.sink.publisher.stopped ≡ false → p ≡ r.sink → (¬ IsAccepted s.run number count) × IsBatchRefusal s.run number count why
+    refuses : (p : CountedState J) (why : BatchRefusal) → r.sink.publisher.stopped ≡ false → p ≡ r.sink
+        → IsNotAccepted (length s.run.accepted) (length s.run.accepted + 1) s.run.changes (database_after s.run.accepted) number count why
         → IsEnded p (refused_batch_line number why)
     refuses p why going same is =
         let goes : s.stopped ≡ false = sym of.published.stopped ∙ going in (
@@ -144,14 +145,14 @@ module _ {J : Type 0} (contents : J → Option (List ℕ)) (first : PublisherSta
           refl,
         )
 
-    not_right : (p : CountedState J) (why : BatchRefusal) → p ≡ r.sink → r.sink.publisher.stopped ≡ false → IsWrongEnd r.sink.publisher.stopped (length r.sink.publisher.batches) (length r.sink.publisher.batches + 1) number count (length r.changes) why
+    not_right : (p : CountedState J) (why : BatchRefusal) → p ≡ r.sink → r.sink.publisher.stopped ≡ false → IsStoppedOrWrong r.sink.publisher.stopped (length r.sink.publisher.batches) (length r.sink.publisher.batches + 1) number count (length r.changes) why
         → IsEnded p (refused_batch_line number why)
     not_right p why same going is =
-        refuses p why going same (wrong_end s.run r.sink.publisher.stopped (length r.sink.publisher.batches) number count (length r.changes) why going version (ap length of.changes) is)
+        refuses p why going same (wrong_end (length s.run.accepted) (length s.run.accepted + 1) s.run.changes (database_after s.run.accepted) number count r.sink.publisher.stopped why going (rw (version, of.changes) at is))
 
     -- if no batch may follow any more, or the end row has the wrong number or the wrong count of
     -- changes, the batch is refused
-    wrong : (p : CountedState J) (why : BatchRefusal) → p ≡ r.sink → IsWrongEnd r.sink.publisher.stopped (length r.sink.publisher.batches) (length r.sink.publisher.batches + 1) number count (length r.changes) why → IsEnded p (refused_batch_line number why)
+    wrong : (p : CountedState J) (why : BatchRefusal) → p ≡ r.sink → IsStoppedOrWrong r.sink.publisher.stopped (length r.sink.publisher.batches) (length r.sink.publisher.batches + 1) number count (length r.changes) why → IsEnded p (refused_batch_line number why)
     wrong p refusal.Stopped same is =
         let stops : s.stopped ≡ true = sym of.published.stopped ∙ is in (
           record { run = after_refused_batch s.run; stopped = true; text = s.text; steps = s.steps },
@@ -162,9 +163,9 @@ module _ {J : Type 0} (contents : J → Option (List ℕ)) (first : PublisherSta
     wrong p refusal.Exhausted same is = not_right p refusal.Exhausted same is.0 is
     wrong p (refusal.WrongNumber expected) same is = not_right p (refusal.WrongNumber expected) same is.0 is
     wrong p (refusal.WrongCount counted) same is = not_right p (refusal.WrongCount counted) same is.0 is
-    wrong p (refusal.Unfit why) same is = absurd is
-    wrong p refusal.Memory same is = absurd is
-    wrong p (refusal.Journal written) same is = absurd is
+    wrong p (refusal.Unfit why) same (still, is) = absurd is
+    wrong p refusal.Memory same (still, is) = absurd is
+    wrong p (refusal.Journal written) same (still, is) = absurd is
 
     whole : (p : CountedState J) → p.publisher ≡ r.sink.publisher → p.steps ≡ r.sink.steps → p ≡ r.sink
     whole p same steps = λ i. record { publisher = same i; steps = steps i }
@@ -178,7 +179,7 @@ module _ {J : Type 0} (contents : J → Option (List ℕ)) (first : PublisherSta
     unpublished p (error.WrongNumber expected) right is same source steps = absurd (is.1 right.next)
     unpublished p (error.Refused why) right is same source steps =
         refuses p (refusal.Unfit why) right.going (whole p is.3 steps)
-        (unfit_end unfit s.run r.sink.publisher.stopped (length r.sink.publisher.batches) number count (length r.changes) why version (ap length of.changes) right
+        (unfit_end (length s.run.accepted) (length s.run.accepted + 1) s.run.changes (database_after s.run.accepted) number count unfit r.sink.publisher.stopped why (rw (version, of.changes) at right)
         (rw (of.published.batches, of.changes) at is.2))
     unpublished p error.Memory right is same source steps =
         let goes : s.stopped ≡ false = sym of.published.stopped ∙ right.going in (

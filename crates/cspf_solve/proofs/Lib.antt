@@ -1,5 +1,4 @@
 -- The lemmas of this crate's proofs.
-pub mod BatchRefusals
 pub mod SolverSteps
 pub mod OneReply
 pub mod RowCounts

@@ -1,14 +1,13 @@
 -- Two runs over the same rows of a stream write the same lines.
-use Rattle.std.proofs.Common.{◌≡◌, ℕ, List, [], ◌∷◌, ◌++◌, take, Result, Ok, Err, inl, inr, refl, sym, ap, ◌∙◌, append_assoc, arith}
+use Rattle.std.proofs.Common.{◌≡◌, ℕ, ◌+◌, List, [], ◌∷◌, ◌++◌, take, Result, Ok, Err, inl, inr, refl, sym, ap, ◌∙◌, append_assoc}
 use Rattle.cspf_model.specs.Laws.{OneBestAnswer, OneRefusal}
 use Rattle.cspf_ero.specs.ReplyLine.{HasOneReplyLine}
 use Rattle.cspf_rows.specs.Rows.{row_of}
 use Rattle.cspf_rows.specs.declared.row.Row.{Row}
 use Rattle.cspf_rows.specs.declared.row.Row.TheVariants as row
 use Rattle.cspf_rows.specs.declared.row_error.RowError.{RowError}
-use Rattle.cspf_stream.specs.declared.batch_refusal.BatchRefusal.{BatchRefusal}
-use Rattle.cspf_stream.specs.declared.batch_refusal.BatchRefusal.TheVariants as refusal
-use Rattle.cspf_solve.specs.Script.{RunState, start, at_next_row, current_database, open_batch, IsBatchRefusal, IsEndAnswered, IsRowAnswered, AreRowsAnswered}
+use Rattle.cspf_stream.proofs.BatchRefusals.{refusal_once}
+use Rattle.cspf_solve.specs.Script.{RunState, start, at_next_row, current_version, current_database, IsEndAnswered, IsRowAnswered, AreRowsAnswered}
 use Rattle.cspf_solve.specs.SolveLaws.{HaveOneReply}
 
 abbrev Rows : Type 0
@@ -17,39 +16,13 @@ Rows = List (List (List ℕ))
 abbrev pub SameReply : List ℕ → RunState → List ℕ → RunState → Type 0
 SameReply l s m t = (l ≡ m) × (s ≡ t)
 
-refusal_once : OneRefusal → (s : RunState) (number count : ℕ) (why other : BatchRefusal)
-    → IsBatchRefusal s number count why → IsBatchRefusal s number count other → why ≡ other
-refusal_once one s number count refusal.Stopped other a b = absurd a
-refusal_once one s number count refusal.Memory other a b = absurd a
-refusal_once one s number count (refusal.Journal written) other a b = absurd a
-refusal_once one s number count why refusal.Stopped a b = absurd b
-refusal_once one s number count why refusal.Memory a b = absurd b
-refusal_once one s number count why (refusal.Journal written) a b = absurd b
-refusal_once one s number count refusal.Exhausted refusal.Exhausted a b = refl
-refusal_once one s number count refusal.Exhausted (refusal.WrongNumber e) a b = absurd (omega (arith, a, b.0))
-refusal_once one s number count refusal.Exhausted (refusal.WrongCount k) a b = absurd (omega (arith, a, b.0))
-refusal_once one s number count refusal.Exhausted (refusal.Unfit w) a b = absurd (omega (arith, a, b.0))
-refusal_once one s number count (refusal.WrongNumber e) refusal.Exhausted a b = absurd (omega (arith, a.0, b))
-refusal_once one s number count (refusal.WrongNumber e) (refusal.WrongNumber f) a b = ap refusal.WrongNumber (a.2 ∙ sym b.2)
-refusal_once one s number count (refusal.WrongNumber e) (refusal.WrongCount k) a b = absurd (a.1 b.1)
-refusal_once one s number count (refusal.WrongNumber e) (refusal.Unfit w) a b = absurd (a.1 b.1)
-refusal_once one s number count (refusal.WrongCount k) refusal.Exhausted a b = absurd (omega (arith, a.0, b))
-refusal_once one s number count (refusal.WrongCount k) (refusal.WrongNumber e) a b = absurd (b.1 a.1)
-refusal_once one s number count (refusal.WrongCount k) (refusal.WrongCount l) a b = ap refusal.WrongCount (a.3 ∙ sym b.3)
-refusal_once one s number count (refusal.WrongCount k) (refusal.Unfit w) a b = absurd (a.2 b.2)
-refusal_once one s number count (refusal.Unfit w) refusal.Exhausted a b = absurd (omega (arith, a.0, b))
-refusal_once one s number count (refusal.Unfit w) (refusal.WrongNumber e) a b = absurd (b.1 a.1)
-refusal_once one s number count (refusal.Unfit w) (refusal.WrongCount k) a b = absurd (b.2 a.2)
-refusal_once one s number count (refusal.Unfit w) (refusal.Unfit v) a b =
-    ap refusal.Unfit (one (current_database s) (open_batch s number) w v a.3 b.3)
-
 end_once : OneRefusal → (s : RunState) (number count : ℕ) (l m : List ℕ) (t u : RunState)
     → IsEndAnswered s number count l t → IsEndAnswered s number count m u → SameReply l t m u
 end_once one s number count l m t u (inl a) (inl b) = (a.1 ∙ sym b.1, a.2 ∙ sym b.2)
 end_once one s number count l m t u (inl a) (inr b) = absurd (b.1 a.0)
 end_once one s number count l m t u (inr a) (inl b) = absurd (a.1 b.0)
 end_once one s number count l m t u (inr a) (inr b) =
-    (a.3 ∙ rw (refusal_once one s number count a.0 b.0 a.2 b.2) (sym b.3), a.4 ∙ sym b.4)
+    (a.3 ∙ rw (refusal_once (current_version s) (current_version s + 1) s.changes (current_database s) number count one a.0 b.0 a.2 b.2) (sym b.3), a.4 ∙ sym b.4)
 
 pub answered_once : OneBestAnswer → HasOneReplyLine → OneRefusal → (s : RunState) (r : Result Row RowError) (l m : List ℕ) (t u : RunState)
     → IsRowAnswered s r l t → IsRowAnswered s r m u → SameReply l t m u

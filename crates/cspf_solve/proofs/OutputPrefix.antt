@@ -7,7 +7,8 @@ use Rattle.cspf_ero.specs.ReplyLine.{HasOneReplyLine}
 use Rattle.cspf_rows.specs.Rows.{row_of}
 use Rattle.cspf_solve.specs.declared.summary.Summary.{Summary}
 use Rattle.cspf_solve.specs.declared.error.SolveError.TheVariants as solve_error
-use Rattle.cspf_solve.specs.Script.{RunState, start, at_next_row, IsRowAnswered, AreRowsAnswered, IsSolveRun, is_too_many, last_line}
+use Rattle.cspf_stream.specs.Lines.{last_line}
+use Rattle.cspf_solve.specs.Script.{RunState, start, at_next_row, IsRowAnswered, AreRowsAnswered, IsSolveRun, is_too_many}
 use Rattle.cspf_solve.specs.OutputAtError.{AreFirstAnswered, IsBegunByRows, IsNextText}
 use Rattle.cspf_solve.specs.SolveLaws.{StopsAtAPrefix}
 use Rattle.cspf_solve.proofs.OneReply.{answered_once, all_once, answered_split}

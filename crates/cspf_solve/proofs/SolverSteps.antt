@@ -10,12 +10,12 @@ use Rattle.cspf_rows.specs.declared.row_error.RowError.{RowError}
 use Rattle.cspf_stream.specs.OpenChanges.{AreOpen}
 use Rattle.cspf_stream.specs.RowsTaken.{RowsState, RowsLead, IsEndAccepted, IsEndRefused, IsBatchDropped, IsRowTaken}
 use Rattle.cspf_stream.specs.declared.batch_refusal.BatchRefusal.{BatchRefusal}
+use Rattle.cspf_stream.proofs.BatchRefusals.{IsNotAccepted, wrong_end, unfit_end}
 use Rattle.cspf_solve.specs.declared.solver.Solver.{Solver}
 use Rattle.cspf_solve.specs.declared.table_sink.TableSink.{TableSink}
-use Rattle.cspf_solve.specs.Script.{RunState, at_next_row, after_refused_row, after_change_row, after_reply, after_batch, after_refused_batch, open_batch, IsAccepted, IsBatchRefusal, IsEndAnswered, IsRowAnswered}
+use Rattle.cspf_solve.specs.Script.{RunState, at_next_row, after_refused_row, after_change_row, after_reply, after_batch, after_refused_batch, open_batch, IsEndAnswered, IsRowAnswered}
 use Rattle.cspf_solve.specs.SolverStates.{KeepsRun}
 use Rattle.cspf_solve.specs.TableSinks.{table_spec}
-use Rattle.cspf_solve.proofs.BatchRefusals.{wrong_end, unfit_end}
 
 -- The state `r` of the solver's rows agrees with the state `s` of the run. Both have the same
 -- database, version and open changes, and the same counts of answers and refusals.
@@ -60,26 +60,28 @@ module _ (more : OneMoreBatch) (unfit : RefusedIsUnfit) (r t : RowsState TableSi
       )
 
   why_dropped : (why : BatchRefusal) (sink : TableSink) → IsBatchDropped table_spec r.sink number count r.changes why sink
-      → (¬ IsAccepted s number count) × IsBatchRefusal s number count why × (sink ≡ r.sink)
-  why_dropped why sink (inl wrong) =
-      let is = wrong_end s false r.sink.version number count (length r.changes) why refl of.version (ap length of.changes) wrong.0 in
-      (is.0, is.1, wrong.1)
-  why_dropped why sink (inr (right, refuses)) =
-      let is = unfit_end unfit s false r.sink.version number count (length r.changes) refuses.0 of.version (ap length of.changes) right (rw (of.table, of.changes) at refuses.2) in
-      (is.0, rw refuses.1 is.1, refuses.3)
+      → IsNotAccepted (length s.accepted) (length s.accepted + 1) s.changes (database_after s.accepted) number count why × (sink ≡ r.sink)
+  why_dropped why sink (inl (wrong, same)) =
+      (wrong_end (length s.accepted) (length s.accepted + 1) s.changes (database_after s.accepted) number count false why refl (rw (of.version, of.changes) at wrong), same)
+  why_dropped why sink (inr (right, (unfits, is, refuses, same))) = (
+    rw is
+        (unfit_end (length s.accepted) (length s.accepted + 1) s.changes (database_after s.accepted) number count unfit false unfits (rw (of.version, of.changes) at right)
+        (rw (of.table, of.changes) at refuses)),
+    same,
+  )
 
   refused : IsEndRefused table_spec r number count line t → Answered s (IsEndAnswered s number count line) t
   refused a =
       let d = why_dropped a.why t.sink a.dropped in (
         after_refused_batch s,
         record {
-          table = ap (λ (x : TableSink). x.table.database) d.2 ∙ of.table;
-          version = ap (λ (x : TableSink). x.version) d.2 ∙ of.version;
+          table = ap (λ (x : TableSink). x.table.database) d.1 ∙ of.table;
+          version = ap (λ (x : TableSink). x.version) d.1 ∙ of.version;
           changes = ap (λ (x : RowsState TableSink). x.changes) a.after;
           answers = ap (λ (x : RowsState TableSink). x.answers) a.after ∙ of.answers;
           refused = ap (λ (x : RowsState TableSink). x.refused) a.after ∙ ap (λ n. n + 1) of.refused;
         },
-        inr (a.why, d.0, d.1, a.line_is, refl),
+        inr (a.why, d.0.0, d.0.1, a.line_is, refl),
         refl,
       )
 

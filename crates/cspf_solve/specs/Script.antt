@@ -1,14 +1,12 @@
 -- The lines and the summary of a run, as a function of the bytes of its rows.
-use Rattle.std.specs.Prelude.{◌≡◌, ◌≢◌, ℕ, ◌+◌, ◌<◌, ◌≤◌, ◌⊎◌, nat_lt, if◌then◌else◌, Bool, true, false, List, [], ◌∷◌, ◌++◌, take, length, Result, Ok, Err}
+use Rattle.std.specs.Prelude.{◌≡◌, ℕ, ◌+◌, ◌⊎◌, nat_lt, if◌then◌else◌, Bool, true, false, List, [], ◌∷◌, ◌++◌, take, length, Result, Ok, Err}
 use Rattle.cspf_model.specs.declared.batch.Change.{Change}
 use Rattle.cspf_model.specs.declared.batch.Change.TheVariants as change
 use Rattle.cspf_model.specs.Numbered.{NumberedChanges}
 use Rattle.cspf_model.specs.Database.{Database}
-use Rattle.cspf_model.specs.Changes.{Fits, database_after}
-use Rattle.cspf_model.specs.Refusals.{IsRefusal}
+use Rattle.cspf_model.specs.Changes.{database_after}
 use Rattle.cspf_model.specs.Best.{Answer, IsBestAnswer}
 use Rattle.cspf_ero.specs.ReplyLine.{IsReply}
-use Rattle.cspf_model.specs.declared.limits.TheConstants.{MOST_VERSIONS}
 use Rattle.cspf_rows.specs.declared.limits.TheConstants.{MOST_ROWS}
 use Rattle.cspf_rows.specs.declared.row.Row.{Row}
 use Rattle.cspf_rows.specs.declared.row.Row.TheVariants as row
@@ -16,10 +14,10 @@ use Rattle.cspf_rows.specs.declared.row_error.RowError.{RowError}
 use Rattle.cspf_rows.specs.Records.{rows_of}
 use Rattle.cspf_rows.specs.Rows.{row_of}
 use Rattle.cspf_stream.specs.declared.batch_refusal.BatchRefusal.{BatchRefusal}
-use Rattle.cspf_stream.specs.declared.batch_refusal.BatchRefusal.TheVariants as refusal
+use Rattle.cspf_stream.specs.EndRows.{IsBatchAccepted, IsBatchRefusal}
 use Rattle.cspf_solve.specs.declared.summary.Summary.{Summary}
 use Rattle.cspf_stream.specs.RefusedRows.{refused_row_line}
-use Rattle.cspf_stream.specs.Lines.{version_line, refused_batch_line, too_many_line, end_line}
+use Rattle.cspf_stream.specs.Lines.{version_line, refused_batch_line, last_line}
 
 -- the state of a run between two rows of its stream
 pub record RunState : Type 0 where
@@ -79,36 +77,16 @@ after_refused_batch s = record s { changes = []; refused = s.refused + 1 }
 abbrev pub after_reply : RunState → RunState
 after_reply s = record s { answers = s.answers + 1 }
 
--- An `end` row with this number and count is accepted. The version is below 1,000,000, and `number`
--- is the next version. `count` is the number of open changes, and these changes fit the database as
--- a batch.
-pub record IsAccepted (s : RunState) (number count : ℕ) : Type 0 where
-  pub room : current_version s < MOST_VERSIONS
-  pub next : number ≡ current_version s + 1
-  pub counted : count ≡ length s.changes
-  pub fits : Fits (current_database s) (open_batch s number)
-
--- Why the batch of an `end` row with this number and count is refused. The first reason that
--- applies is given. `Stopped`, `Journal` and `Memory` never apply, because a run has no journal and
--- ends if memory is refused.
-abbrev pub IsBatchRefusal : RunState → ℕ → ℕ → BatchRefusal → Type 0
-IsBatchRefusal s number count refusal.Stopped = ⊥
-IsBatchRefusal s number count refusal.Exhausted = MOST_VERSIONS ≤ current_version s
-IsBatchRefusal s number count (refusal.WrongNumber expected) =
-    (current_version s < MOST_VERSIONS) × (number ≢ current_version s + 1) × (expected ≡ current_version s + 1)
-IsBatchRefusal s number count (refusal.WrongCount counted) =
-    (current_version s < MOST_VERSIONS) × (number ≡ current_version s + 1) × (count ≢ length s.changes) × (counted ≡ length s.changes)
-IsBatchRefusal s number count (refusal.Unfit why) =
-    (current_version s < MOST_VERSIONS) × (number ≡ current_version s + 1) × (count ≡ length s.changes)
-    × IsRefusal (current_database s) (open_batch s number) why
-IsBatchRefusal s number count refusal.Memory = ⊥
-IsBatchRefusal s number count (refusal.Journal written) = ⊥
+-- an `end` row with this number and count is accepted: the open changes are a right next batch
+abbrev pub IsAccepted : RunState → ℕ → ℕ → Type 0
+IsAccepted s number count = IsBatchAccepted (current_version s) (current_version s + 1) s.changes (current_database s) number count
 
 -- an `end` row is answered with the version that its batch makes, or with the refusal of its batch
 abbrev pub IsEndAnswered : RunState → ℕ → ℕ → List ℕ → RunState → Type 0
 IsEndAnswered s number count line after =
     (IsAccepted s number count × (line ≡ version_line number) × (after ≡ after_batch s number))
-    ⊎ ((why : BatchRefusal) × (¬ IsAccepted s number count) × IsBatchRefusal s number count why
+    ⊎ ((why : BatchRefusal) × (¬ IsAccepted s number count)
+    × IsBatchRefusal (current_version s) (current_version s + 1) s.changes (current_database s) number count why
     × (line ≡ refused_batch_line number why) × (after ≡ after_refused_batch s))
 
 -- row `s.rows`, counted from 1, is answered with this line, and leads to the state `after`
@@ -131,12 +109,6 @@ AreRowsAnswered s (fields ∷ rows) lines after =
 -- the stream has more than 1,000,000 rows
 abbrev pub is_too_many : List (List (List ℕ)) → Bool
 is_too_many rows = nat_lt MOST_ROWS (length rows)
-
--- The last line of a run. If there are too many rows, the line reports only this. Otherwise it says
--- how many changes are still open, and is empty if no changes are open.
-abbrev pub last_line : Bool → List Change → List ℕ
-last_line true changes = too_many_line
-last_line false changes = end_line changes
 
 -- The number that is added to the count of refusals at the end of a run: 1 if changes are still
 -- open, and 0 otherwise. If there are too many rows, the number is always 0.

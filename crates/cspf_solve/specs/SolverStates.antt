@@ -4,10 +4,11 @@ use Rattle.cspf_model.specs.Changes.{database_after}
 use Rattle.cspf_rows.specs.declared.limits.TheConstants.{MOST_ROWS}
 use Rattle.cspf_rows.specs.declared.row.Row.{Row}
 use Rattle.cspf_rows.specs.declared.row_error.RowError.{RowError}
+use Rattle.cspf_stream.specs.Lines.{last_line}
 use Rattle.cspf_stream.specs.OpenChanges.{AreOpen}
 use Rattle.cspf_stream.specs.Runs as run
 use Rattle.cspf_solve.specs.declared.solver.Solver.{Solver}
-use Rattle.cspf_solve.specs.Script.{RunState, at_next_row, last_line, IsRowAnswered}
+use Rattle.cspf_solve.specs.Script.{RunState, at_next_row, IsRowAnswered}
 
 -- The solver is in the state `s` of a run: it has the database of the accepted batches, and the
 -- counts of this state. It keeps only the first open changes: at most one change more than a batch

@@ -7,7 +7,7 @@ use crate::Summary;
 use crate::table_sink::TableSink;
 use cspf_model::{absorbing, one_refusal};
 use cspf_rows::{Row, RowError};
-use cspf_stream::{Answering, Ending, Rows, StreamLine};
+use cspf_stream::{Answering, Ending, Rows};
 use cspf_trees::{MOST_TREES, TreeTable};
 use csv::ByteRecord;
 use std::alloc::{AllocError, Global};
@@ -60,7 +60,8 @@ impl Ending for Solver {
 }
 
 impl Solver {
-    ghost use Rattle.cspf_solve.specs.Script.{RunState, start, at_next_row, IsRowAnswered, last_line, summary_of};
+    ghost use Rattle.cspf_solve.specs.Script.{RunState, start, at_next_row, IsRowAnswered, summary_of};
+    ghost use Rattle.cspf_stream.specs.Lines.{last_line};
     ghost use Rattle.cspf_solve.specs.SolverStates.{KeepsRun, AreFew, AreWithinOne, AreCounted};
     ghost use Rattle.cspf_trees.specs.declared.limits.TheConstants.{MOST_TREES};
 
@@ -116,11 +117,7 @@ impl Solver {
         ensures { IfOk result (λ line. (s : RunState) → KeepsRun self.now s
             → line.items ≡ last_line too_many s.changes) }
     {
-        if too_many {
-            StreamLine::TooManyRows.bytes(alloc)
-        } else {
-            self.rows.changes.last_line(alloc)
-        }
+        self.rows.last_line(alloc, too_many)
     }
 
     /// The summary of a run that ends in this state.

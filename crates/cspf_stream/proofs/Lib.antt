@@ -1,4 +1,5 @@
 -- The lemmas of this crate's proofs.
+pub mod BatchRefusals
 pub mod Going
 pub mod KeptChanges
 pub mod RowsOfSteps

@@ -1,6 +1,6 @@
 -- The lines that answer the rows of a stream, except replies and the lines of refused rows. Each
 -- line ends with one line feed.
-use Rattle.std.specs.Prelude.{ℕ, nat_lt, if◌then◌else◌, List, [], ◌++◌, length, codes}
+use Rattle.std.specs.Prelude.{ℕ, nat_lt, if◌then◌else◌, Bool, true, false, List, [], ◌++◌, length, codes}
 use Rattle.std.specs.Fmt.{decimal}
 use Rattle.cspf_model.specs.declared.batch.Change.{Change}
 use Rattle.cspf_stream.specs.BatchWords.{batch_words}
@@ -27,3 +27,9 @@ too_many_line = codes "too many rows\n"
 -- changes are open
 abbrev pub end_line : List Change → List ℕ
 end_line changes = if nat_lt 0 (length changes) then unended_line (length changes) else []
+
+-- The last line of a run. If there are too many rows, the line reports only this. Otherwise it says
+-- how many changes are still open, and is empty if no changes are open.
+abbrev pub last_line : Bool → List Change → List ℕ
+last_line true changes = too_many_line
+last_line false changes = end_line changes

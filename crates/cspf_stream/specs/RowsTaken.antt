@@ -3,7 +3,7 @@ use Rattle.std.specs.Prelude.{◌≡◌, ℕ, ◌+◌, ◌⊎◌, List, [], ◌�
 use Rattle.cspf_model.specs.declared.batch.Change.{Change}
 use Rattle.cspf_rows.specs.declared.row.Row.{Row}
 use Rattle.cspf_rows.specs.declared.row_error.RowError.{RowError}
-use Rattle.cspf_stream.specs.EndRows.{IsRightEnd, IsWrongEnd}
+use Rattle.cspf_stream.specs.EndRows.{IsRightEnd, IsStoppedOrWrong}
 use Rattle.cspf_stream.specs.Lines.{refused_batch_line}
 use Rattle.cspf_stream.specs.OpenChanges.{AreOpen}
 use Rattle.cspf_stream.specs.RefusedRows.{refused_row_line}
@@ -40,9 +40,9 @@ module _ {S : Type 0} (spec : SinkSpec S) where
   abbrev pub IsRightFor : S → ℕ → ℕ → ℕ → Type 0
   IsRightFor sink number count changes = IsRightEnd (spec.stopped sink) (spec.version sink) (spec.next sink) number count changes
 
-  -- why such an `end` row is wrong
+  -- why such an `end` row is refused before its batch goes to the sink
   abbrev pub IsWrongFor : S → ℕ → ℕ → ℕ → BatchRefusal → Type 0
-  IsWrongFor sink number count changes why = IsWrongEnd (spec.stopped sink) (spec.version sink) (spec.next sink) number count changes why
+  IsWrongFor sink number count changes why = IsStoppedOrWrong (spec.stopped sink) (spec.version sink) (spec.next sink) number count changes why
 
   -- The `end` row is right, and the sink accepts the open changes as the batch of this row, with
   -- these lines. The sink then goes to the state `new`.

@@ -26,6 +26,7 @@ pub struct Rows<S> {
 }
 
 impl<S> Rows<S> {
+    ghost use Rattle.cspf_stream.specs.Lines.{last_line};
     ghost use Rattle.cspf_stream.specs.RowCounts.{CanCountOneMore, GrowsByOneAtMost};
     ghost use Rattle.cspf_stream.specs.RowsTaken.{RowsLead, IsRightFor, IsWrongFor, IsBatchTaken, IsBatchDropped, IsEndAccepted, IsEndRefused, IsStepTaken, IsRowTaken, IsStepLost, IsRowLost};
 
@@ -95,6 +96,19 @@ impl<S> Rows<S> {
                 self.answers += 1;
                 Ok(line)
             }
+        }
+    }
+
+    /// The last line of a run. If there are too many rows, the line reports only this. Otherwise it
+    /// says how many changes are still open, and is empty if no changes are open.
+    pub fn last_line(&self, alloc: Global, too_many: bool) -> Result<Vec<u8>, AllocError>
+        ensures { IfOk result (λ line. (all : List Changed) → AreOpen self.now.changes all
+            → line.items ≡ last_line too_many all) }
+    {
+        if too_many {
+            StreamLine::TooManyRows.bytes(alloc)
+        } else {
+            self.changes.last_line(alloc)
         }
     }
 

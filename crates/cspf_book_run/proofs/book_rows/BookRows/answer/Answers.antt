@@ -1,8 +1,7 @@
-use Rattle.std.proofs.Common.{refl}
+use Rattle.std.proofs.Common.{◌+◌, ap}
 use Rattle.csv.specs.Records.{fields_of}
 use Rattle.cspf_book_run.proofs.BookRowLemmas.{readable_row}
 use Rattle.cspf_book_run.proofs.KeptSteps.{answered_and_kept}
-use Rattle.cspf_book_run.proofs.PlaceSteps.{row_counted}
 use Rattle.cspf_book_run.proofs.book_rows.BookRows.answer.Goals as goal
 
 pub line_of-requires-clause-row : goal.line_of-requires-clause-row
@@ -12,6 +11,5 @@ pub returns-clause-answered : goal.returns-clause-answered
 returns-clause-answered c =
     answered_and_kept c.args.place c.args.self.now c.text_of.new.self _ (fields_of c.args.fields.now) c.in_ok-line.line.items c.in_ok-raw.raw.items _ _ _ c.text_of.ensures.same
     (rw c.read-row.ensures at c.in_ok-raw.ensures.text)
-    (row_counted c.args.place c.text_of.new.self c.line_of.new.self _ _ c.read-row.result c.in_ok-line.line.items c.read-row.ensures c.in_ok-line.ensures.answered c.line_of.ensures.counts
-    refl refl refl refl refl refl)
+    (rw c.read-row.ensures at c.in_ok-line.ensures.answered) (ap (λ n. n + 1) c.line_of.ensures.read) c.line_of.ensures.counts
     c.version-version.ensures c.version.ensures c.text_if_new-text.ensures

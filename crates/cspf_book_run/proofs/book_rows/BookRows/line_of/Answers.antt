@@ -6,4 +6,4 @@ pub returns-in-Ok-clause-answered : goal.returns-in-Ok-clause-answered
 returns-in-Ok-clause-answered c = rw c.in-Ok.is c.take_row.ensures.answered
 
 pub returns-in_ok-line-in-Err-clause-answered : goal.returns-in_ok-line-in-Err-clause-answered
-returns-in_ok-line-in-Err-clause-answered c = rw c.in-Err.is (refusal_counted c.args.self.now _ _ _ c.in_ok-line-in-Err.ensures refl refl refl refl refl)
+returns-in_ok-line-in-Err-clause-answered c = rw c.in-Err.is (refusal_counted c.args.self.now.rows _ refl refl refl refl refl _ _ c.in_ok-line-in-Err.ensures)
