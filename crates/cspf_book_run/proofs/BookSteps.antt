@@ -17,13 +17,13 @@ use Rattle.cspf_book.specs.declared.over.Over.{Over}
 use Rattle.cspf_book_run.specs.declared.book_sink.BookSink.{BookSink}
 use Rattle.cspf_book_run.specs.BookLines.{over_line, lost_line, base_line}
 use Rattle.cspf_book_run.specs.BookScript.{BookRunState, AreBaseLines, IsBaseEndAnswered, IsBookStepAnswered, after_answer, after_base_batch, after_open_change, after_refused_base_batch}
-use Rattle.cspf_book_run.specs.BookSinks.{book_spec, state_with}
+use Rattle.cspf_book_run.specs.BookSinks.{book_spec, book_state_with}
 use Rattle.cspf_book_run.specs.BookStates.{BookLeads}
 
 -- The lines that the code makes of the stored changes are the lines of the base batch.
 pub base_lines_are : (sink : BookSink) (number n version : ℕ) (kept all : List Change) (overs : List Over) (ids lines : List ℕ) → kept ≡ all → n ≡ number → version ≡ sink.book.version + 1
     → overs ≡ over sink.book.placements kept → AreLost sink.book.base (after_changes sink.book.base kept) sink.book.placements ids
-    → lines ≡ flat_map over_line overs ++ flat_map lost_line ids ++ base_line n version → AreBaseLines (state_with sink all) number lines
+    → lines ≡ flat_map over_line overs ++ flat_map lost_line ids ++ base_line n version → AreBaseLines (book_state_with sink all) number lines
 base_lines_are sink number n version kept all overs ids lines same numbered versioned are_over are_lost are_lines =
     (ids, rw same at are_lost, are_lines ∙ rw (are_over, same, numbered, versioned) refl)
 

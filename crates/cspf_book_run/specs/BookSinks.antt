@@ -18,8 +18,8 @@ use Rattle.cspf_book_run.specs.BookScript.{BookRunState, AreBaseLines, after_bas
 use Rattle.cspf_book_run.specs.declared.book_sink.BookSink.{BookSink}
 
 -- a state of a run that has this sink and these open changes
-abbrev pub state_with : BookSink → List Change → BookRunState
-state_with sink changes = record { book = sink.book; batches = sink.batches; changes = changes; answers = 0; refused = 0 }
+abbrev pub book_state_with : BookSink → List Change → BookRunState
+book_state_with sink changes = record { book = sink.book; batches = sink.batches; changes = changes; answers = 0; refused = 0 }
 
 -- what a book does as a sink: it accepts the base batches that fit its base, and answers requests
 -- with best answers in the effective database
@@ -28,8 +28,8 @@ book_spec = record {
   version = λ sink. sink.book.version;
   next = λ sink. sink.batches + 1;
   stopped = λ sink. false;
-  accepts = λ old b lines new. Fits old.book.base b × AreBaseLines (state_with old b.changes) b.number lines
-      × (new.book ≡ (after_base_batch (state_with old b.changes)).book) × (new.batches ≡ old.batches + 1);
+  accepts = λ old b lines new. Fits old.book.base b × AreBaseLines (book_state_with old b.changes) b.number lines
+      × (new.book ≡ (after_base_batch (book_state_with old b.changes)).book) × (new.batches ≡ old.batches + 1);
   refuses = λ old b refused new. (why : Refusal) × (refused ≡ refusal.Unfit why) × IsRefusal old.book.base b why
       × (new.book ≡ old.book) × (new.batches ≡ old.batches);
   replies = λ sink q line. (answer : Answer) × IsBestAnswer (effective sink.book.base sink.book.placements) q answer
