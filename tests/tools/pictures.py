@@ -310,11 +310,12 @@ def sizes(_, checks):
                     and root.get("viewBox").split()[2] == root.get("width"))
         checks.true(f"the route of {routers} routers", "stroke-width:3;" in shapes(picture, "route")[0].get("style"))
         checks.true(f"the names of its ends among {routers}", {f"R{middle}", f"R{middle + 1}"} <= {text.text for text in names(picture)})
-    _, part, _ = draw(LINE + "end,1,4\n", "--around", "R1", "--hops", "1", places="1.1.1.1 0 0 R1\n2.2.2.2 1 0 R2\n3.3.3.3 2 0 R3\n")
-    checks.same("the part round a router", sorted(text.text for text in names(part)), ["R1", "R2"])
-    status, picture, said = draw(LINE + "end,1,4\n", "--around", "R9")
+    cities = "1.1.1.1 0 0 Oslo\n2.2.2.2 1 0 Bergen\n3.3.3.3 2 0 Tromso\n"
+    _, part, _ = draw(LINE + "end,1,4\n", "--around", "Oslo", "--hops", "1", places=cities)
+    checks.same("the part round a router", sorted(text.text for text in names(part)), ["Bergen", "Oslo"])
+    status, picture, said = draw(LINE + "end,1,4\n", "--around", "Narvik")
     checks.same("no such router", (status, picture, said),
-                (1, "", "draw: --around: the network has no routers R9; give the address of one\n"))
+                (1, "", "draw: --around: the network has no routers Narvik; give the address of one\n"))
 
 
 def pictures(program, checks):

@@ -15,7 +15,7 @@ LINKS (
   L2 ( B C ) 16.00 0.00 {other} 0.00 ( )
 )
 DEMANDS (
-  D1 ( A C ) 1 2.00 UNLIMITED
+  A_C ( A C ) 1 2.00 UNLIMITED
 )
 """
 
