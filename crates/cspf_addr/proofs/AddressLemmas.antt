@@ -54,10 +54,6 @@ record Four (first second third fourth : Option ℕ) (all : List ℕ) : Type 0 w
 four_steps : (first second third fourth : Option ℕ) (all : List ℕ)
     → option_and_then (λ a. option_and_then (λ b. option_and_then (λ c. option_and_then (λ d. Some (a ∷ b ∷ c ∷ d ∷ [])) fourth) third) second) first ≡ Some all
     → Four first second third fourth all
-four_steps None second third fourth all found = absurd (cc)
-four_steps (Some a) None third fourth all found = absurd (cc)
-four_steps (Some a) (Some b) None fourth all found = absurd (cc)
-four_steps (Some a) (Some b) (Some c) None all found = absurd (cc)
 four_steps (Some a) (Some b) (Some c) (Some d) all found = record {
   a = a;
   b = b;
@@ -69,6 +65,7 @@ four_steps (Some a) (Some b) (Some c) (Some d) all found = record {
   fourth_is = refl;
   whole = cc;
 }
+four_steps first second third fourth all found = absurd (cc)
 
 -- The text is the decimal texts of the four octets `all`, separated by points, and each octet is
 -- below 256.

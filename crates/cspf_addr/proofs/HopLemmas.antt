@@ -1,5 +1,5 @@
 -- Lemmas on the texts of hops: which text is read as which hop.
-use Rattle.std.proofs.Common.{◌≡◌, ℕ, ◌-◌, Bool, true, false, List, [], ◌∷◌, ◌++◌, length, get_or, Option, Some, None, Ok, refl, sym, arith, Result, Err, ◌∙◌, ap, ◌<◌, ◌+◌, cond, eqb, take, lit<}
+use Rattle.std.proofs.Common.{◌≡◌, ℕ, ◌-◌, Bool, true, false, List, [], ◌∷◌, ◌++◌, length, get_or, Option, Some, None, Ok, refl, sym, arith, Result, ◌∙◌, ap, ◌<◌, ◌+◌, cond, eqb, take, lit<}
 use Rattle.std.proofs.lemmas.List.{take_at, take_all, take_more, length_push}
 use Rattle.std.proofs.lemmas.Bool.{eqb-true}
 use Rattle.std.specs.Option.{option_and_then}
@@ -49,8 +49,7 @@ two_steps : (found : Result PrefixParts PrefixError) (letter : Option Bool) (hop
 two_steps (Ok prefix) (Some loose) hop same =
     let whole : record { prefix = prefix; loose = loose } ≡ hop = cc in
     (ap (λ (h : Hop). Ok h.prefix) whole, ap (λ (h : Hop). Some h.loose) whole)
-two_steps (Ok prefix) None hop same = absurd (cc)
-two_steps (Err e) letter hop same = absurd (cc)
+two_steps found letter hop same = absurd (cc)
 
 letter_cases : (letter : ℕ) (is_loose is_strict loose : Bool) → eqb letter 108 ≡ is_loose
     → eqb letter 115 ≡ is_strict

@@ -83,15 +83,13 @@ lacks_in_hops : (texts : List (List ℕ)) (hops : List Hop) → AreHopTexts text
 lacks_in_hops [] [] each = tt
 lacks_in_hops (text ∷ texts) (hop ∷ hops) each =
     (lacks_in_hop text hop each.0, lacks_in_hops texts hops each.1)
-lacks_in_hops [] (hop ∷ hops) each = absurd each
-lacks_in_hops (text ∷ texts) [] each = absurd each
+lacks_in_hops texts hops each = absurd each
 
 length-AreHopTexts : (texts : List (List ℕ)) (hops : List Hop) → AreHopTexts texts hops
     → length texts ≡ length hops
 length-AreHopTexts [] [] each = refl
 length-AreHopTexts (text ∷ texts) (hop ∷ hops) each = ap suc (length-AreHopTexts texts hops each.1)
-length-AreHopTexts [] (hop ∷ hops) each = absurd each
-length-AreHopTexts (text ∷ texts) [] each = absurd each
+length-AreHopTexts texts hops each = absurd each
 
 -- If texts are the texts of hops, they are read as these hops.
 hops_from-texts : (at : ℕ) (texts : List (List ℕ)) (hops : List Hop) → AreHopTexts texts hops
@@ -99,8 +97,7 @@ hops_from-texts : (at : ℕ) (texts : List (List ℕ)) (hops : List Hop) → Are
 hops_from-texts at [] [] each = refl
 hops_from-texts at (text ∷ texts) (hop ∷ hops) each =
     rw ((hop_texts_read text hop).1 each.0, hops_from-texts (at + 1) texts hops each.1) refl
-hops_from-texts at [] (hop ∷ hops) each = absurd each
-hops_from-texts at (text ∷ texts) [] each = absurd each
+hops_from-texts at texts hops each = absurd each
 
 -- If texts are read as hops, they are the texts of these hops.
 texts_of-hops_from : (at : ℕ) (texts : List (List ℕ)) (hops : List Hop)

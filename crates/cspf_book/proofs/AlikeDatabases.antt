@@ -1,5 +1,5 @@
 -- Databases that differ only in attributes of their links have the same numbers of links, routers and marks.
-use Rattle.std.proofs.Common.{◌≡◌, inl, inr, ℕ, ◌+◌, ◌-◌, Bool, true, false, cond, Option, Some, None, IsSome, is_some, List, [], ◌∷◌, slice_index_or, refl, sym, ap, ◌∙◌, arith}
+use Rattle.std.proofs.Common.{◌≡◌, inl, inr, ℕ, ◌+◌, ◌-◌, Bool, true, false, cond, Option, Some, None, is_some, List, [], ◌∷◌, slice_index_or, refl, sym, ap, ◌∙◌, arith}
 use Rattle.std.specs.Ordering.{nat_cmp, eq_by_cmp}
 use Rattle.std.specs.Cmp.{nat_cmp_total}
 use Rattle.std.specs.Option.{option_map}
@@ -16,11 +16,6 @@ use Rattle.cspf_model.proofs.Databases.CountedRouters.{routers_counted}
 use Rattle.cspf_book.specs.Placements.{ends_of_link}
 use Rattle.cspf_book.specs.Alike.{AreAlike}
 use Rattle.cspf_book.proofs.KeyTests.{same_tests}
-
--- an option that isn't `None` has a value
-some_of : {A : Type 0} (o : Option A) → IsSome o → (x : A) × (o ≡ Some x)
-some_of (Some x) h = (x, refl)
-some_of None h = absurd (cc)
 
 -- Let two optional links have the same `ends_of_link` (key and neighbor), or both be `None`. If the
 -- second is the link `l`, the first is a link with the key and the neighbor of `l`.

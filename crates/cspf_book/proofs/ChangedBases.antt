@@ -84,6 +84,21 @@ keyed_by_last cs k (Put l) is = last_put k cs l (sym is)
 keyed_by_last cs k (Remove from local) is = tt
 keyed_by_last cs k (Node router transit) is = tt
 
+-- If a database has each link at the link's own key, this is still so after changes.
+pub keyed_after : (d : Database) (cs : List Change) → AreAtTheirKeys d → AreAtTheirKeys (after_changes d cs)
+keyed_after d cs keyed k l is = by_last (last_on (link_key k) cs) refl (sym (link_at-after_changes d cs k) ∙ is)
+  where
+    by_last : (o : Option Change) → last_on (link_key k) cs ≡ o → link_after (last_on (link_key k) cs) (link_at d k) ≡ Some l → key_of l ≡ k
+    by_last None none at = keyed k l (ap (λ o. link_after o (link_at d k)) (sym none) ∙ at)
+    by_last (Some (Put m)) last at =
+        let same : Some m ≡ Some l = ap (λ o. link_after o (link_at d k)) (sym last) ∙ at in
+        let one : m ≡ l = cc in
+        last_put k cs l (last ∙ ap (λ (x : Link). Some (Put x)) one)
+    by_last (Some (Remove from local)) last at =
+        let never : None ≡ Some l = ap (λ o. link_after o (link_at d k)) (sym last) ∙ at in absurd (cc)
+    by_last (Some (Node router transit)) last at =
+        let never : None ≡ Some l = ap (λ o. link_after o (link_at d k)) (sym last) ∙ at in absurd (cc)
+
 -- A link that is found at a key of a database has this key.
 pub keyed_by_base : (d : Database) (k : Key) (o : Option Link) → AreAtTheirKeys d → o ≡ link_at d k
     → IfSome o (λ l. key_of l ≡ k)

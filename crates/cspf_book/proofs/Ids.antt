@@ -1,10 +1,10 @@
 -- Lemmas on the index of the placement with an id, and on the list of the placements with other
 -- ids.
-use Rattle.std.proofs.Common.{◌≡◌, ℕ, zero, suc, ◌+◌, ◌-◌, ◌<◌, ◌≤◌, ◌||◌, Bool, true, false, cond, not, List, [], ◌∷◌, ◌++◌, length, map, nat_eq, remove, get_or, refl, sym, ap, ◌∙◌, arith}
+use Rattle.std.proofs.Common.{◌≡◌, ℕ, zero, suc, ◌+◌, ◌-◌, ◌<◌, ◌≤◌, ◌||◌, Bool, true, false, cond, not, List, [], ◌∷◌, ◌++◌, length, map, nat_eq, remove, refl, sym, ap, ◌∙◌, arith}
 use Rattle.std.specs.List.{list_any, IsDistinct, AllByRecursion}
 use Rattle.std.proofs.lemmas.Cmp.{nat_eq_equiv}
 use Rattle.std.proofs.lemmas.List.{append-nil, take_all, drop_all, map-append}
-use Rattle.std.proofs.lemmas.List.Sums.{prefix_len-le-length, position_or_len_is}
+use Rattle.std.proofs.lemmas.List.Sums.{prefix_len-le-length}
 use Rattle.std.proofs.lemmas.Map.Keys.{IsDistinct-head, IsDistinct-tail, IsDistinct-push}
 use Rattle.cspf_book.specs.declared.placement.Placement.{Placement}
 use Rattle.cspf_book.specs.Placements.{id_of, has_id, others, index_of_id}
@@ -105,25 +105,6 @@ id_at-index_of id (p ∷ ps) within =
       | true ↦ λ _. refl
       | false ↦ λ e. id_at-index_of id ps (omega arith)
     ] within
-
--- If none of the placements has the id, the index of the id is the number of placements.
-pub index_of-all : (id : ℕ) (placements : List Placement) (at : ℕ) → length placements ≤ at → at ≤ length placements
-    → ((k : ℕ) (d : Placement) → k < at → nat_eq (id_of (get_or placements k d)) id ≡ false)
-    → at ≡ index_of_id id placements
-index_of-all id [] at behind within before = omega arith
-index_of-all id (p ∷ ps) at behind within before =
-    sym (position_or_len_is (λ q. nat_eq (id_of q) id) (p ∷ ps) at p within (λ k h. before k p h) (λ h. absurd (omega arith)))
-
--- If the placement at index `at` is the first placement with an id, `at` is the index of this id.
-pub index_of-found : (id : ℕ) (placements : List Placement) (at : ℕ) (p : Placement) → at ≤ length placements
-    → ((k : ℕ) (d : Placement) → k < at → nat_eq (id_of (get_or placements k d)) id ≡ false)
-    → p ≡ get_or placements at p → id_of p ≡ id → at ≡ index_of_id id placements
-index_of-found id placements at p within before is same =
-    sym (position_or_len_is (λ q. nat_eq (id_of q) id) placements at p within (λ k h. before k p h)
-    (λ h. ap (λ q. nat_eq (id_of q) id) (sym is) ∙ itself same))
-  where
-    itself : id_of p ≡ id → nat_eq (id_of p) id ≡ true
-    itself e = grind arith
 
 -- Let there be at most `most` placements, and remove the placement at index `at`, if there is one.
 -- If `at` isn't `most`, fewer than `most` placements are left.

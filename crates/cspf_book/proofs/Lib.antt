@@ -9,6 +9,7 @@ pub mod Ids
 pub mod ById
 pub mod RouterBits
 pub mod ByKey
+pub mod TouchedKeys
 pub mod TwiceUsed
 pub mod Covered
 pub mod TableLimits
@@ -20,5 +21,4 @@ pub mod LostRanks
 pub mod OverLists
 pub mod OneLostList
 pub mod UntouchedRoutes
-pub mod MovedEnds
 pub mod KeptSums

@@ -1,14 +1,23 @@
 -- How placing a request changes a book.
-use Rattle.std.proofs.Common.{◌≡◌, ℕ, ◌+◌, ◌≤◌, Some, [], ◌∷◌, ◌++◌, length, arith}
+use Rattle.std.proofs.Common.{◌≡◌, ℕ, ◌+◌, ◌*◌, ◌^◌, ◌<◌, ◌≤◌, Some, List, [], ◌∷◌, ◌++◌, length, remove, ap, subst, ◌∙◌, arith}
+use Rattle.cspf_model.specs.declared.limits.TheConstants.{MOST_VERSIONS}
 use Rattle.cspf_model.specs.declared.request.Request.{Request}
 use Rattle.cspf_model.specs.Best.{Answer, unknown_from, unknown_to, no_route, route}
-use Rattle.cspf_book.specs.declared.limits.TheConstants.{MOST_ROUTES_LINKS}
+use Rattle.cspf_book.specs.declared.limits.TheConstants.{MOST_PLACEMENTS, MOST_ROUTES_LINKS}
 use Rattle.cspf_book.specs.declared.error.PlaceError.{PlaceError}
 use Rattle.cspf_book.specs.declared.error.PlaceError.TheVariants.{Memory, Full, TooManyLinks, Twice}
 use Rattle.cspf_book.specs.declared.placement.Placement.{Placement}
-use Rattle.cspf_book.specs.Placements.{others}
+use Rattle.cspf_book.specs.Placements.{others, counted, index_of_id}
+use Rattle.cspf_model.specs.Database.{Database, Key}
+use Rattle.cspf_book.specs.declared.counts.Counts.{Counts}
+use Rattle.cspf_book.specs.Effective.{effective}
+use Rattle.cspf_book.specs.Inside.{HaveDistinctIds}
+use Rattle.cspf_book.specs.Kept.{IsCountOf, AreSmall, HasSameSums}
 use Rattle.cspf_book.specs.BookState.{BookState, effective_beside, IsAnswerPlaced, IsPlaceError, HasRoomFor, links_placed}
 use Rattle.cspf_book.specs.Offers.{IsOffered, IsOfferRefused}
+use Rattle.cspf_book.proofs.Covered.{counted-others}
+use Rattle.cspf_book.proofs.Ids.{index_of-le, remove-index_of, few_kept}
+use Rattle.cspf_book.proofs.KeptSums.{sums_small}
 
 -- A placement that is offered for an answer to a request is a placement of this request. Its route
 -- has at most `room` links.
@@ -47,3 +56,25 @@ place_error s q room Memory few left refused = few
 place_error s q room Full few left refused = absurd refused
 place_error s q room Twice few left (walk, best, own) = (few, walk, best, own)
 place_error s q room TooManyLinks few left (walk, best, own, many) = (few, walk, best, own, omega (arith, left, many))
+
+-- If a book isn't full of placements with other ids, there is room for a placement with this id.
+pub room_for : (ps : List Placement) (id at : ℕ) → at ≡ index_of_id id ps → HaveDistinctIds ps → length ps ≤ MOST_PLACEMENTS → (at ≡ MOST_PLACEMENTS → ⊥)
+    → length (others id ps) < MOST_PLACEMENTS
+room_for ps id at is own few apart =
+    let kept = few_kept ps at MOST_PLACEMENTS (omega (arith, is, index_of-le id ps)) few apart in
+    omega (arith, kept, ap length (ap (remove ps) is ∙ remove-index_of id ps own))
+
+-- Let `items` be the placements of a book. If the placement at the index of an id is removed, the
+-- placements with other ids are left.
+pub others_left : (ps items : List Placement) (id at : ℕ) → items ≡ ps → at ≡ index_of_id id ps → HaveDistinctIds ps → remove items at ≡ others id ps
+others_left ps items id at all is own = ap (λ qs. remove qs at) all ∙ ap (remove ps) is ∙ remove-index_of id ps own
+
+-- In the two lemmas that follow, the placement with an id is set aside.
+pub effective_aside : (base d : Database) (ps items : List Placement) (id at : ℕ) → items ≡ ps → at ≡ index_of_id id ps → HaveDistinctIds ps
+    → d ≡ effective base (remove items at) → d ≡ effective base (others id ps)
+effective_aside base d ps items id at all is own current = current ∙ ap (effective base) (others_left ps items id at all is own)
+
+pub small_aside : (c d : Counts) (ps items : List Placement) (id at version : ℕ) → items ≡ ps → at ≡ index_of_id id ps → HaveDistinctIds ps
+    → HasSameSums c d → IsCountOf c (remove items at) → ((k : Key) (p : ℕ) → counted ps k p ≤ version * 2 ^ 64) → version < MOST_VERSIONS → AreSmall d
+small_aside c d ps items id at version all is own sums count small few =
+    sums_small c d ps (others id ps) version sums (subst (IsCountOf c) (others_left ps items id at all is own) count) (counted-others id ps) small few

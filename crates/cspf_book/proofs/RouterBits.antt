@@ -2,12 +2,10 @@
 use Rattle.std.proofs.Common.{◌≡◌, ℕ, zero, suc, ◌+◌, ◌*◌, ◌/◌, ◌%◌, ◌^◌, ◌<◌, ◌&&◌, Bool, true, false, not, nat_eq, eqb-true, List, [], ◌∷◌, map, remove, refl, sym, ap, ◌∙◌, arith}
 use Rattle.std.specs.Int.Bits.{bit_and, bit_or, and_zero_l, and_self}
 use Rattle.std.specs.List.{AllByRecursion}
-use Rattle.std.proofs.lemmas.Bool.{false≢true, false_from_ne_true}
+use Rattle.std.proofs.lemmas.Bool.{false≢true}
 use Rattle.std.proofs.lemmas.Nat.{or_comm, and_assoc, and_or_self, and_shr, and_mod, pow_pos, pow_below, mod_below}
 use Rattle.cspf_model.specs.declared.link.Link.{Link}
-use Rattle.cspf_model.specs.declared.batch.Change.{Change}
 use Rattle.cspf_book.specs.declared.placement.Placement.{Placement}
-use Rattle.cspf_book.specs.Following.{changes_router}
 use Rattle.cspf_book.specs.RouterBits.{one_of_32, four_bits, bits_with, bits_of, IsAmong, has_quarters}
 
 -- Bits that are among `bits` are also among `bits` together with further bits.
@@ -29,14 +27,14 @@ among_with bits router [] is = is
 among_with bits router (l ∷ ls) is =
     among_with (bit_or bits (four_bits l.to)) router ls (among_more bits (four_bits l.to) (four_bits router) is)
 
--- Add the bits of the links' neighbors to some bits. If the changes affect no router whose bits are
--- among the result, they affect no neighbor of a link.
-off_links : (cs : List Change) (bits : ℕ) (ls : List Link) → ((router : ℕ) → IsAmong (bits_with bits ls) router → changes_router cs router ≡ false)
-    → AllByRecursion (λ l. changes_router cs l.to ≡ false) ls
-off_links cs bits [] off = tt
-off_links cs bits (l ∷ ls) off = (
-  off l.to (among_with (bit_or bits (four_bits l.to)) l.to ls (among_added bits l.to)),
-  off_links cs (bit_or bits (four_bits l.to)) ls off,
+-- Add the bits of the links' neighbors to some bits. If a claim is true of each router whose bits
+-- are among the result, it is true of each neighbor of a link.
+off_links : (P : ℕ → Type 0) (bits : ℕ) (ls : List Link) → ((router : ℕ) → IsAmong (bits_with bits ls) router → P router)
+    → AllByRecursion (λ l. P l.to) ls
+off_links P bits [] each = tt
+off_links P bits (l ∷ ls) each = (
+  each l.to (among_with (bit_or bits (four_bits l.to)) l.to ls (among_added bits l.to)),
+  off_links P (bit_or bits (four_bits l.to)) ls each,
 )
 
 -- `one_of_32` is greater than 0 and below 2 ^ 32.
@@ -99,24 +97,19 @@ quarters_lost a b = fewer _ _ _ _ _ _ _ _ (lost_first a b) (lost_quarter a b 32)
     fewer false false false true false false false w one two three four none = ap not (four refl)
     fewer false false false false t u v w one two three four none = absurd (false≢true (sym none))
 
--- Let `all` have the bits of all routers that the changes affect. If `all` and `bits` don't share a
--- bit in each quarter, the changes affect no router whose four bits are among `bits`.
-pub apart_bits : (all bits router : ℕ) (cs : List Change) → has_quarters (bit_and all bits) ≡ false → (changes_router cs router ≡ true → IsAmong all router)
-    → IsAmong bits router → changes_router cs router ≡ false
-apart_bits all bits router cs apart has is =
-    false_from_ne_true (changes_router cs router) (λ affected.
-    let own = sym (has affected)
-    ∙ ap (bit_and all) (sym is)
-    ∙ sym (and_assoc (four_bits router) all bits) in
-    false≢true (sym (ap has_quarters own ∙ quarters_lost (bit_and all bits) (four_bits router) apart) ∙ four_quarters router))
+-- If `all` and `bits` don't share a bit in each quarter, no router has its four bits among both.
+pub apart_bits : (all bits router : ℕ) → has_quarters (bit_and all bits) ≡ false → IsAmong bits router → ¬ IsAmong all router
+apart_bits all bits router apart is has =
+    let own = sym has ∙ ap (bit_and all) (sym is) ∙ sym (and_assoc (four_bits router) all bits) in
+    false≢true (sym (ap has_quarters own ∙ quarters_lost (bit_and all bits) (four_bits router) apart) ∙ four_quarters router)
 
--- Let the changes affect no router whose bits the placement has. Then they affect neither the
--- head-end nor the neighbor of a link on the placement's route.
-pub off_route : (cs : List Change) (p : Placement) → ((router : ℕ) → IsAmong (bits_of p) router → changes_router cs router ≡ false)
-    → (changes_router cs p.request.from ≡ false) × AllByRecursion (λ l. changes_router cs l.to ≡ false) p.route
-off_route cs p off = (
-  off p.request.from (among_with (four_bits p.request.from) p.request.from p.route (and_self (four_bits p.request.from))),
-  off_links cs (four_bits p.request.from) p.route off,
+-- If a claim is true of each router whose bits the placement has, it is true of the head-end and of
+-- the neighbor of each link on the placement's route.
+pub off_route : (P : ℕ → Type 0) (p : Placement) → ((router : ℕ) → IsAmong (bits_of p) router → P router)
+    → P p.request.from × AllByRecursion (λ l. P l.to) p.route
+off_route P p each = (
+  each p.request.from (among_with (four_bits p.request.from) p.request.from p.route (and_self (four_bits p.request.from))),
+  off_links P (four_bits p.request.from) p.route each,
 )
 
 -- Remove a placement and its bits from their lists, at the same index. Then the list of bits still

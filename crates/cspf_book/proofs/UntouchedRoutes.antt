@@ -1,171 +1,211 @@
 -- How to tell whether a database that admits a route still admits it after changes. A link of the
--- route is looked up only if the changes affect one of the link's two routers.
-use Rattle.std.proofs.Common.{◌≡◌, ◌↔◌, ℕ, ◌+◌, ◌<◌, ◌≤◌, inl, inr, Bool, true, false, cond, IsTrue, Some, None, List, [], ◌∷◌, length, drop, get_or, nat_eq, refl, sym, ap, ◌∙◌, eq-eqb}
-use Rattle.std.specs.Ordering.{eq_by_cmp}
+-- route is looked up only if the changes may touch its key or the mark of its router.
+use Rattle.std.proofs.Common.{◌≡◌, ◌≢◌, ◌↔◌, ◌⊎◌, ℕ, ◌+◌, ◌<◌, ◌≤◌, inl, inr, Bool, true, false, not, IsTrue, Option, Some, None, List, [], ◌∷◌, length, drop, get_or, nat_eq, refl, sym, ap, subst, ◌∙◌, eqb-true, arith}
+use Rattle.std.specs.Int.Bits.{bit_and, bit_xor, and_zero_r}
 use Rattle.std.specs.FinSet as set
 use Rattle.std.specs.List.{AllByRecursion}
 use Rattle.std.proofs.lemmas.Bool.{false≢true, false_from_ne_true, or_parts}
 use Rattle.cspf_model.specs.declared.link.Link.{Link}
 use Rattle.cspf_model.specs.declared.request.Request.{Request}
 use Rattle.cspf_model.specs.declared.batch.Change.{Change}
-use Rattle.cspf_model.specs.Database.{Database, Key, key_of, link_at, HasReverse, HasTransit}
-use Rattle.cspf_model.specs.Changes.{ChangeKey, change_key_cmp, link_key, mark_key, key_changed, link_left, mark_after, after_change, after_changes}
-use Rattle.cspf_model.specs.Admissible.{IsAdmissible}
-use Rattle.cspf_model.proofs.Databases.Keys.{change_keys_same}
-use Rattle.cspf_model.proofs.Databases.LastChanges.{link_at-after_change}
+use Rattle.cspf_model.specs.Database.{Database, Key, key_of, link_at, AreAtTheirKeys, IsLinkOf, HasReverse}
+use Rattle.cspf_model.specs.Changes.{link_key, mark_key, last_on, link_after, mark_after, after_changes}
+use Rattle.cspf_model.specs.Admissible.{IsAdmitted}
+use Rattle.cspf_model.proofs.Databases.LastChanges.{link_at-after_changes}
 use Rattle.cspf_book.specs.declared.placement.Placement.{Placement}
+use Rattle.cspf_book.specs.declared.touched.Touched.{Touched}
 use Rattle.cspf_book.specs.LostRoutes.{without_bandwidth, AdmitsRoute}
-use Rattle.cspf_book.specs.Following.{changes_router, MayGoOn}
+use Rattle.cspf_book.specs.Following.{MayGoOn}
 use Rattle.cspf_book.specs.RouterBits.{bits_of, IsAmong}
-use Rattle.cspf_book.proofs.ChangedBases.{marked-after_change}
+use Rattle.cspf_book.specs.Touched.{has_moved, has_other_groups, IsTouched, IsLinkEntered, AreTouched, IsFor, IsUntouched}
+use Rattle.cspf_book.proofs.ChangedBases.{marked-after_changes, keyed_after}
 use Rattle.cspf_book.proofs.RouterBits.{off_route}
 use Rattle.cspf_book.proofs.RouteWalks.{admits_followed, goes_on, followed_on, followed_more, followed_all, IsFollowed}
 
--- A change that affects another router than `k.0` has another key than `k`.
-apart : (c : Change) (k : ChangeKey) → nat_eq (key_changed c).0 k.0 ≡ false → eq_by_cmp change_key_cmp k (key_changed c) ≡ false
-apart c k off =
-    false_from_ne_true (eq_by_cmp change_key_cmp k (key_changed c)) (λ tie. false≢true (sym off ∙ eq-eqb (key_changed c).0 k.0 (ap (λ (q : ChangeKey). q.0) (sym (change_keys_same k (key_changed c) tie)))))
+pub not_false : (b : Bool) → not b ≡ false → b ≡ true
+not_false true is = refl
+not_false false is = sym is
 
--- If no change affects a router, the links from this router are unchanged.
-unchanged_link : (d : Database) (cs : List Change) (k : Key) → changes_router cs k.0 ≡ false → link_at (after_changes d cs) k ≡ link_at d k
-unchanged_link d [] k off = refl
-unchanged_link d (c ∷ cs) k off =
-    let parts = or_parts (nat_eq (key_changed c).0 k.0) (changes_router cs k.0) off in
-    unchanged_link (after_change d c) cs k parts.1
-    ∙ link_at-after_change d c k
-    ∙ ap (λ b. cond b (link_left c) (link_at d k)) (apart c (link_key k) parts.0)
+same_number : (a b : ℕ) → not (nat_eq a b) ≡ false → b ≡ a
+same_number a b is = sym (eqb-true a b (not_false (nat_eq a b) is))
 
--- If no change affects a router, the router is marked after the changes exactly if it was marked
--- before. A marked router carries no transit.
-unchanged_mark : (d : Database) (cs : List Change) (router : ℕ) → changes_router cs router ≡ false
-    → set.contains (after_changes d cs).marks router ≡ set.contains d.marks router
-unchanged_mark d [] router off = refl
-unchanged_mark d (c ∷ cs) router off =
-    let parts = or_parts (nat_eq (key_changed c).0 router) (changes_router cs router) off in
-    unchanged_mark (after_change d c) cs router parts.1
-    ∙ marked-after_change d c router
-    ∙ ap (λ b. mark_after (cond b (Some c) None) (set.contains d.marks router)) (apart c (mark_key router) parts.0)
+-- If a link hasn't moved, it is still there, and runs to the same interface.
+kept_ends : (l : Link) (o : Option Link) → ¬ (has_moved l o ≡ true) → (m : Link) × (o ≡ Some m) × (m.to ≡ l.to) × (m.remote ≡ l.remote)
+kept_ends l None stays = absurd (stays refl)
+kept_ends l (Some m) stays =
+    let parts = or_parts (not (nat_eq l.to m.to)) (not (nat_eq l.remote m.remote)) (false_from_ne_true _ stays) in
+    (m, refl, same_number l.to m.to parts.0, same_number l.remote m.remote parts.1)
 
-module _ (d : Database) (cs : List Change) (q : Request) where
-  -- No change affects the router.
-  abbrev IsLeft : ℕ → Type 0
-  IsLeft router = changes_router cs router ≡ false
+module _ (d : Database) (cs : List Change) (t : Touched) (touched : AreTouched d cs t) where
+  abbrev after : Database
+  after = after_changes d cs
 
-  kept_transit : (router : ℕ) → IsLeft router → HasTransit d router → HasTransit (after_changes d cs) router
-  kept_transit router off free marked = free (sym (unchanged_mark d cs router off) ∙ marked)
-
-  kept_admissible : (l : Link) → IsLeft l.from → IsLeft l.to → IsAdmissible d q l → IsAdmissible (after_changes d cs) q l
-  kept_admissible l from to old = record {
-    link = unchanged_link d cs (key_of l) from ∙ old.link;
-    usable = record { admitted = old.usable.admitted; reverse = kept_reverse old.usable.reverse };
-  }
+  -- If the key of a router's mark isn't touched, the mark is unchanged.
+  kept_mark : (router : ℕ) → ¬ IsTouched t (mark_key router) → set.contains after.marks router ≡ set.contains d.marks router
+  kept_mark router off = marked-after_changes d cs router ∙ by_last (last_on (mark_key router) cs) refl
     where
-      kept_reverse : HasReverse d l → HasReverse (after_changes d cs) l
-      kept_reverse has =
-          (has.0, unchanged_link d cs (key_of has.0) (ap (changes_router cs) has.2.from ∙ to) ∙ has.1, has.2)
+      by_last : (o : Option Change) → last_on (mark_key router) cs ≡ o → mark_after o (set.contains d.marks router) ≡ set.contains d.marks router
+      by_last None is = refl
+      by_last (Some c) is = absurd (off (touched.at (mark_key router) c is))
 
-  -- Let no change affect the two routers of a link. If a walk may continue along the link before
-  -- the changes, it may continue along it after them.
-  untouched_goes_on : (links router : ℕ) (l : Link) → IsLeft router → IsLeft l.to → MayGoOn d q links router l
-      → MayGoOn (after_changes d cs) q links router l
-  untouched_goes_on links router l here there old = record {
-    from = old.from;
-    leaves = elim old.leaves [ inl free ↦ inl (kept_transit router here free) | inr none ↦ inr none ];
-    there = record {
-      found = old.there.found;
-      admissible =
-          kept_admissible old.there.found (ap (λ (x : Key × ℕ). changes_router cs x.0.0) old.there.alike ∙ ap (changes_router cs) old.from ∙ here)
-          (ap (λ (x : Key × ℕ). changes_router cs x.1) old.there.alike ∙ there) old.there.admissible;
-      alike = old.there.alike;
-    };
-  }
+  -- The changes leave the link at a key as it is, or its key is entered.
+  kept_or_entered : (k : Key) → (link_at after k ≡ link_at d k) ⊎ IsLinkEntered d after t k
+  kept_or_entered k = by_last (last_on (link_key k) cs) refl
+    where
+      by_last : (o : Option Change) → last_on (link_key k) cs ≡ o → (link_at after k ≡ link_at d k) ⊎ IsLinkEntered d after t k
+      by_last None is = inl (link_at-after_changes d cs k ∙ ap (λ o. link_after o (link_at d k)) is)
+      by_last (Some c) is = inr (touched.at (link_key k) c is)
 
--- Let no change affect the router at which some links start, or the neighbor of one of these links.
--- If a walk can follow the links before the changes, it can follow them after the changes.
-untouched_followed : (d : Database) (cs : List Change) (q : Request) (links router : ℕ) (route : List Link) → changes_router cs router ≡ false
-    → AllByRecursion (λ l. changes_router cs l.to ≡ false) route → IsFollowed d q links router route
-    → IsFollowed (after_changes d cs) q links router route
-untouched_followed d cs q links router [] here off old = tt
-untouched_followed d cs q links router (l ∷ ls) here off old = (
-  untouched_goes_on d cs q links router l here off.0 old.0,
-  untouched_followed d cs q (links + 1) l.to ls off.0 off.1 old.1,
-)
+  -- If the key of a link isn't touched, the reverse of this link still runs to the same interface.
+  kept_back : (r : Link) → IsLinkOf d r → ¬ IsTouched t (link_key (r.to, r.remote))
+      → (m : Link) × (link_at after (key_of r) ≡ Some m) × (m.to ≡ r.to) × (m.remote ≡ r.remote)
+  kept_back r is off = elim (kept_or_entered (key_of r)) [
+    | inl same ↦ (r, same ∙ is, refl, refl)
+    | inr entered ↦ kept_ends r (link_at after (key_of r)) (λ moved. off (entered.reverse r is moved))
+  ]
 
--- Let no change affect a router whose bits the placement has. If the database admits the
--- placement's route, it also admits this route after the changes.
-pub untouched_admits : (d : Database) (cs : List Change) (p : Placement) → ((router : ℕ) → IsAmong (bits_of p) router → changes_router cs router ≡ false)
-    → AdmitsRoute d p → AdmitsRoute (after_changes d cs) p
-untouched_admits d cs p off admits =
-    let parts = off_route cs p off in
-    (admits_followed (after_changes d cs) p).0
-    (untouched_followed d cs (without_bandwidth p.request) 0 p.request.from p.route parts.0 parts.1 ((admits_followed d p).1 admits))
+  -- If the key of a link isn't touched, the link still runs to the same interface. Where groups
+  -- matter, it is also in the same groups.
+  kept_own : (l : Link) → IsLinkOf d l → ¬ IsTouched t (link_key (key_of l))
+      → (m : Link) × (link_at after (key_of l) ≡ Some m) × (m.to ≡ l.to) × (m.remote ≡ l.remote) × (t.groups ≡ true → m.group ≡ l.group)
+  kept_own l is off = elim (kept_or_entered (key_of l)) [
+    | inl same ↦ (l, same ∙ is, refl, refl, λ _. refl)
+    | inr entered ↦
+        let ends = kept_ends l (link_at after (key_of l)) (λ moved. off (entered.own l is moved)) in
+        (ends.0, ends.1, ends.2, ends.3, λ on. same_number l.group ends.0.group (false_from_ne_true _ (λ other. off (entered.groups l is on (ap (has_other_groups l) ends.1 ∙ other)))))
+  ]
 
--- Let the database admit the route now. After the changes, a walk can follow the whole route
--- exactly if a walk from `router` can follow the links from index `i` on. `near` says whether a
--- change affects `router`.
-pub record IsFollowedUpTo (d : Database) (cs : List Change) (p : Placement) (i router : ℕ) (near : Bool) : Type 0 where
-  pub changed : near ≡ changes_router cs router
+  module _ (q : Request) (keyed : AreAtTheirKeys d) (fits : IsFor t q) where
+    abbrev bare : Request
+    bare = without_bandwidth q
+
+    still_admitted : (l m : Link) → (t.groups ≡ true → m.group ≡ l.group) → IsFor t q → IsAdmitted bare l → IsAdmitted bare m
+    still_admitted l m same (inl on) old = record {
+      affinity = record {
+        exclude_any = ap (λ g. bit_and g q.exclude_any) (same on) ∙ old.affinity.exclude_any;
+        include_any = subst (λ g. (q.include_any ≡ 0) ⊎ (bit_and g q.include_any ≢ 0)) (sym (same on)) old.affinity.include_any;
+        include_all = subst (λ g. (q.include_all ≡ 0) ⊎ (bit_xor (bit_and g q.include_all) q.include_all ≡ 0)) (sym (same on)) old.affinity.include_all;
+      };
+      room = omega arith;
+    }
+    still_admitted l m same (inr plain) old = record {
+      affinity = record {
+        exclude_any = ap (bit_and m.group) plain.exclude_any ∙ and_zero_r m.group;
+        include_any = inl plain.include_any;
+        include_all = inl plain.include_all;
+      };
+      room = omega arith;
+    }
+
+    still_reverse : (l m : Link) → key_of m ≡ key_of l → m.to ≡ l.to → m.remote ≡ l.remote → ¬ IsTouched t (link_key (key_of l)) → HasReverse d l → HasReverse after m
+    still_reverse l m key to remote off (r, is, reverse) =
+        let its : ◌≡◌ {A = Key} (r.to, r.remote) (key_of l) = λ i. (reverse.to i, reverse.remote i) in
+        let back = kept_back r is (λ on. off (subst (λ (k : Key). IsTouched t (link_key k)) its on)) in
+        let own = keyed_after d cs keyed (key_of r) back.0 back.1 in (
+          back.0,
+          ap (link_at after) own ∙ back.1,
+          record {
+            from = ap (λ (k : Key). k.0) own ∙ reverse.from ∙ sym to;
+            local = ap (λ (k : Key). k.1) own ∙ reverse.local ∙ sym remote;
+            to = back.2 ∙ reverse.to ∙ sym (ap (λ (k : Key). k.0) key);
+            remote = back.3 ∙ reverse.remote ∙ sym (ap (λ (k : Key). k.1) key);
+          },
+        )
+
+    -- If a walk may continue along an untouched link before the changes, it may continue along it
+    -- after them.
+    pub untouched_goes_on : (links router : ℕ) (l : Link) → IsUntouched t l → MayGoOn d bare links router l → MayGoOn after bare links router l
+    untouched_goes_on links router l off old =
+        let found : Link = old.there.found in
+        let key : key_of found ≡ key_of l = ap (λ (x : Key × ℕ). x.0) old.there.alike in
+        let there : ¬ IsTouched t (link_key (key_of found)) = λ on. off.key (subst (λ (k : Key). IsTouched t (link_key k)) key on) in
+        let own = kept_own found old.there.admissible.link there in
+        let its = keyed_after d cs keyed (key_of found) own.0 own.1 in record {
+          from = old.from;
+          leaves = elim old.leaves [
+            | inl free ↦ inl (λ marked. free (sym (kept_mark router (λ on. off.mark (subst (λ r. IsTouched t (mark_key r)) (sym old.from) on))) ∙ marked))
+            | inr none ↦ inr none
+          ];
+          there = record {
+            found = own.0;
+            admissible = record {
+              link = ap (link_at after) its ∙ own.1;
+              usable = record {
+                admitted = still_admitted found own.0 own.4 fits old.there.admissible.usable.admitted;
+                reverse = still_reverse found own.0 its own.2 own.3 there old.there.admissible.usable.reverse;
+              };
+            };
+            alike = both its own.2 ∙ old.there.alike;
+          };
+        }
+      where
+        both : {a b : Key} {x y : ℕ} → a ≡ b → x ≡ y → ◌≡◌ {A = Key × ℕ} (a, x) (b, y)
+        both k r = λ i. (k i, r i)
+
+    untouched_followed : (links router : ℕ) (route : List Link) → ¬ IsAmong t.bits router → AllByRecursion (λ l. ¬ IsAmong t.bits l.to) route
+        → IsFollowed d bare links router route → IsFollowed after bare links router route
+    untouched_followed links router [] here off old = tt
+    untouched_followed links router (l ∷ ls) here off old = (
+      untouched_goes_on links router l
+          (record {
+            key = λ on. here (subst (IsAmong t.bits) old.0.from on.bits);
+            mark = λ on. here (subst (IsAmong t.bits) old.0.from on.bits);
+          })
+          old.0,
+      untouched_followed (links + 1) l.to ls off.0 off.1 old.1,
+    )
+
+  -- If no touched key has a router whose bits the placement has, the placement keeps its route.
+  pub untouched_admits : (p : Placement) → AreAtTheirKeys d → IsFor t p.request → ((router : ℕ) → IsAmong (bits_of p) router → ¬ IsAmong t.bits router)
+      → AdmitsRoute d p → AdmitsRoute after p
+  untouched_admits p keyed fits off admits =
+      let parts = off_route (λ router. ¬ IsAmong t.bits router) p off in
+      (admits_followed after p).0
+      (untouched_followed p.request keyed fits 0 p.request.from p.route parts.0 parts.1 ((admits_followed d p).1 admits))
+
+-- Let the database `d` admit the route. In the database `e`, a walk can follow the whole route
+-- exactly if a walk from `router` can follow the links from index `i` on.
+pub record IsFollowedUpTo (d e : Database) (p : Placement) (i router : ℕ) : Type 0 where
   pub before : AdmitsRoute d p → IsFollowed d (without_bandwidth p.request) i router (drop i p.route)
   pub after : AdmitsRoute d p
-      → IsFollowed (after_changes d cs) (without_bandwidth p.request) i router (drop i p.route)
-      ↔ IsFollowed (after_changes d cs) (without_bandwidth p.request) 0 p.request.from p.route
+      → IsFollowed e (without_bandwidth p.request) i router (drop i p.route)
+      ↔ IsFollowed e (without_bandwidth p.request) 0 p.request.from p.route
 
-pub up_to_start : (d : Database) (cs : List Change) (p : Placement) (near : Bool) → near ≡ changes_router cs p.request.from
-    → IsFollowedUpTo d cs p 0 p.request.from near
-up_to_start d cs p near is = record {
-  changed = is;
+pub up_to_start : (d e : Database) (p : Placement) → IsFollowedUpTo d e p 0 p.request.from
+up_to_start d e p = record {
   before = λ admits. (admits_followed d p).1 admits;
   after = λ _. (λ all. all, λ all. all);
 }
 
 -- In this module, `l` is the link at index i of the route, and `IsFollowedUpTo` holds for the first
 -- i links.
-module _ (d : Database) (cs : List Change) (p : Placement) (items : List Link) (i router : ℕ) (near far : Bool) (l : Link)
-    (whole : items ≡ p.route) (within : i < length items) (is : l ≡ get_or items i l) (so_far : IsFollowedUpTo d cs p i router near) where
-  abbrev bare : Request
-  bare = without_bandwidth p.request
+module _ (d e : Database) (p : Placement) (items : List Link) (i router : ℕ) (l : Link)
+    (whole : items ≡ p.route) (within : i < length items) (is : l ≡ get_or items i l) (so_far : IsFollowedUpTo d e p i router) where
+  abbrev its : Request
+  its = without_bandwidth p.request
 
-  -- If the walk may continue along the link after the changes, `IsFollowedUpTo` holds for the first
-  -- i + 1 links.
-  pub up_to_found : far ≡ changes_router cs l.to → MayGoOn (after_changes d cs) bare i router l → IsFollowedUpTo d cs p (i + 1) l.to far
-  up_to_found changed go = record {
-    changed = changed;
-    before = λ admits. followed_on d bare p.route items i router l whole within is (so_far.before admits);
+  -- Let the walk be able to continue along the link in `e`, at least if it can in `d`. Then
+  -- `IsFollowedUpTo` holds for the first i + 1 links.
+  pub up_to_more : (MayGoOn d its i router l → MayGoOn e its i router l) → IsFollowedUpTo d e p (i + 1) l.to
+  up_to_more go = record {
+    before = λ admits. followed_on d its p.route items i router l whole within is (so_far.before admits);
     after = λ admits.
-        followed_more (after_changes d cs) bare p.route items i router l whole within is
-        (IsFollowed (after_changes d cs) bare 0 p.request.from p.route) go (so_far.after admits);
+        followed_more e its p.route items i router l whole within is (IsFollowed e its 0 p.request.from p.route)
+        (go (goes_on d its p.route items i router l whole within is (so_far.before admits))) (so_far.after admits);
   }
 
-  -- If no change affects the two routers of the link, `IsFollowedUpTo` holds for the first i + 1
-  -- links without a lookup of the link.
-  pub up_to_passed : far ≡ changes_router cs l.to → near ≡ false → far ≡ false → IsFollowedUpTo d cs p (i + 1) l.to far
-  up_to_passed changed here there = record {
-    changed = changed;
-    before = λ admits. followed_on d bare p.route items i router l whole within is (so_far.before admits);
-    after = λ admits.
-        followed_more (after_changes d cs) bare p.route items i router l whole within is
-        (IsFollowed (after_changes d cs) bare 0 p.request.from p.route)
-        (untouched_goes_on d cs bare i router l (sym so_far.changed ∙ here) (sym changed ∙ there)
-        (goes_on d bare p.route items i router l whole within is (so_far.before admits))) (so_far.after admits);
-  }
-
-  -- If the walk may not continue along the link after the changes, the database doesn't admit the
-  -- route after the changes.
-  pub up_to_broken : ¬ MayGoOn (after_changes d cs) bare i router l → AdmitsRoute d p → IsTrue false ↔ AdmitsRoute (after_changes d cs) p
+  -- If the walk may not continue along the link in `e`, this database doesn't admit the route.
+  pub up_to_broken : ¬ MayGoOn e its i router l → AdmitsRoute d p → IsTrue false ↔ AdmitsRoute e p
   up_to_broken stuck admits = (
     λ never. absurd (false≢true never),
-    λ later.
-        absurd (stuck (goes_on (after_changes d cs) bare p.route items i router l whole within is
-        ((so_far.after admits).1 ((admits_followed (after_changes d cs) p).1 later)))),
+    λ later. absurd (stuck (goes_on e its p.route items i router l whole within is ((so_far.after admits).1 ((admits_followed e p).1 later)))),
   )
 
--- If the database admits the route now, and `IsFollowedUpTo` holds for all links of the route, the
--- database also admits the route after the changes.
-pub up_to_end : (d : Database) (cs : List Change) (p : Placement) (items : List Link) (i router : ℕ) (near : Bool) → items ≡ p.route
-    → length items ≤ i → IsFollowedUpTo d cs p i router near → AdmitsRoute d p → IsTrue true ↔ AdmitsRoute (after_changes d cs) p
-up_to_end d cs p items i router near whole behind so_far admits = (
-  λ _.
-      (admits_followed (after_changes d cs) p).0
-      ((so_far.after admits).0 (followed_all (after_changes d cs) (without_bandwidth p.request) p.route items i router whole behind)),
+-- If `d` admits the route, and `IsFollowedUpTo` holds for all links of the route, `e` also admits
+-- the route.
+pub up_to_end : (d e : Database) (p : Placement) (items : List Link) (i router : ℕ) → items ≡ p.route
+    → length items ≤ i → IsFollowedUpTo d e p i router → AdmitsRoute d p → IsTrue true ↔ AdmitsRoute e p
+up_to_end d e p items i router whole behind so_far admits = (
+  λ _. (admits_followed e p).0 ((so_far.after admits).0 (followed_all e (without_bandwidth p.request) p.route items i router whole behind)),
   λ _. refl,
 )

@@ -1,21 +1,13 @@
 -- Private: how a route is followed link by link in a database, and how the placements that lose
 -- their routes are sorted.
-use Rattle.std.specs.Prelude.{◌≡◌, ◌≢◌, ◌-◌, ◌↔◌, ℕ, Bool, List, AllPairs, Contains, map, nat_eq}
-use Rattle.std.specs.List.{list_any}
+use Rattle.std.specs.Prelude.{◌≡◌, ◌≢◌, ◌-◌, ◌↔◌, ℕ, List, AllPairs, Contains, map}
 use Rattle.cspf_model.specs.declared.link.Link.{Link}
 use Rattle.cspf_model.specs.declared.request.Request.{Request}
-use Rattle.cspf_model.specs.declared.batch.Change.{Change}
 use Rattle.cspf_model.specs.Database.{Database}
-use Rattle.cspf_model.specs.Changes.{key_changed}
 use Rattle.cspf_model.specs.Admissible.{IsAdmissible, MayLeave}
 use Rattle.cspf_book.specs.declared.placement.Placement.{Placement}
 use Rattle.cspf_book.specs.Placements.{ends_of_link, id_of}
 use Rattle.cspf_book.specs.LostRoutes.{IsLost}
-
--- One of the changes affects the router: it changes a link that runs from the router, or it says
--- whether the router carries transit.
-abbrev pub changes_router : List Change → ℕ → Bool
-changes_router changes router = list_any (λ c. nat_eq (key_changed c).0 router) changes
 
 -- The database has an admissible link with the same key as this link, and both links run to the same router.
 pub record HasItsLink (d : Database) (q : Request) (l : Link) : Type 0 where

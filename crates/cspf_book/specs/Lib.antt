@@ -7,7 +7,7 @@ pub mod OverLinks
 pub mod LostRoutes
 pub mod Following
 pub mod RouterBits
-pub mod MovedEnds
+pub mod Touched
 pub mod ByKey
 pub mod Laws
 pub mod Offers

@@ -1,8 +1,9 @@
 -- Private: the bits of routers. If the base changes, a test of these bits shows for most placements
 -- that they keep their routes.
-use Rattle.std.specs.Prelude.{◌≡◌, ℕ, Bool, ◌+◌, ◌*◌, ◌/◌, ◌%◌, ◌^◌, ◌&&◌, not, List, [], ◌∷◌, nat_eq}
+use Rattle.std.specs.Prelude.{◌≡◌, ℕ, Bool, ◌+◌, ◌*◌, ◌/◌, ◌%◌, ◌^◌, ◌&&◌, not, List, [], ◌∷◌, nat_eq, unwrap_or}
 use Rattle.std.specs.Int.Bits.{bit_and, bit_or}
 use Rattle.cspf_model.specs.declared.link.Link.{Link}
+use Rattle.cspf_model.specs.Changes.{ChangeKey}
 use Rattle.cspf_book.specs.declared.placement.Placement.{Placement}
 
 -- one of 32 bits, chosen by `number`
@@ -39,3 +40,7 @@ has_quarters bits =
     && not (nat_eq (bits / 2 ^ 32 % 2 ^ 32) 0)
     && not (nat_eq (bits / 2 ^ 64 % 2 ^ 32) 0)
     && not (nat_eq (bits / 2 ^ 96 % 2 ^ 32) 0)
+
+-- one of 65,536 slots for a key; other keys may have the same slot
+unfoldable pub slot_of : ChangeKey → ℕ
+slot_of k = (k.0 * 1640531527 + unwrap_or k.1 0 * 1367130551) / 2 ^ 16 % 2 ^ 16

@@ -3,6 +3,7 @@
 ghost use Rattle.std.specs.Prelude.{◌≡◌, ◌↔◌, IsTrue, IfSome};
 ghost use Rattle.cspf_model.specs.Database.{key_of, link_at, HasReverse, HasTransit};
 ghost use Rattle.cspf_model.specs.Changes.{link_left, mark_left, after_changes};
+ghost use Rattle.cspf_book.specs.Touched.{has_moved, has_other_groups};
 
 use crate::changed::Changed;
 use crate::effective_links::within_limits;
@@ -59,5 +60,25 @@ pub(crate) fn has_transit_after(base: &Table, changes: &Changed, router: Addr) -
     match changes.last_on((router, None)) {
         Some(change) => !mark_left(change),
         None => base.transit(router),
+    }
+}
+
+/// Whether the link is missing after the changes, or runs to another interface.
+pub(crate) fn has_moved(link: &Link, after: &Option<Link>) -> bool
+    ensures { result ≡ has_moved link.now after.now }
+{
+    match after {
+        Some(other) => link.to != other.to || link.remote != other.remote,
+        None => true,
+    }
+}
+
+/// Whether the link is missing after the changes, or is in other groups.
+pub(crate) fn has_other_groups(link: &Link, after: &Option<Link>) -> bool
+    ensures { result ≡ has_other_groups link.now after.now }
+{
+    match after {
+        Some(other) => link.group.bits() != other.group.bits(),
+        None => true,
     }
 }

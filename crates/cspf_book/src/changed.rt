@@ -1,16 +1,13 @@
 //! The changes of a batch, to be looked up by their keys.
 
-ghost use Rattle.std.specs.Prelude.{◌≡◌, ℕ, false, [], IfOk};
+ghost use Rattle.std.specs.Prelude.{◌≡◌, [], IfOk};
 ghost use Rattle.std.specs.Option.{option_copied};
 ghost use Rattle.cspf_model.specs.Changes.{last_on};
-ghost use Rattle.cspf_book.specs.Following.{changes_router};
-ghost use Rattle.cspf_book.specs.RouterBits.{IsAmong};
 
-use crate::router_bits::{four_bits, has_quarters};
 use cspf_addr::Addr;
 use cspf_model::Change;
 use std::alloc::{AllocError, Global};
-use std::collections::{BTreeMap, BTreeSet};
+use std::collections::BTreeMap;
 use std::marker::Model;
 
 /// The changes of a batch.
@@ -19,10 +16,6 @@ pub(crate) struct Changed<'a> {
     changes: &'a [Change],
     /// The last of the changes with each key.
     last: BTreeMap<(Addr, Option<Addr>), Change>,
-    /// The routers that the changes affect.
-    routers: BTreeSet<Addr>,
-    /// The bits of these routers.
-    bits: u128,
 }
 
 impl<'a> Model for Changed<'a> {
@@ -38,7 +31,7 @@ impl<'a> Model for Changed<'a> {
 
     ghost view = { λ a. a.changes.now };
 
-    ghost invariant = { λ a. IsByKey a.last a.routers a.bits a.changes.now };
+    ghost invariant = { λ a. IsByKey a.last a.changes.now };
 }
 
 impl<'a> Changed<'a> {
@@ -49,32 +42,18 @@ impl<'a> Changed<'a> {
         Changed {
             changes: &[],
             last: BTreeMap::new(alloc),
-            routers: BTreeSet::new(alloc),
-            bits: 0,
         }
     }
 
-    /// Returns these changes, with a map from keys to changes, and the set of the routers that the
-    /// changes affect.
+    /// Returns these changes, with a map from keys to changes.
     pub(crate) fn new(alloc: Global, changes: &'a [Change]) -> Result<Changed<'a>, AllocError>
         ensures { IfOk result (λ changed. changed ≡ changes.now) }
     {
         let mut last = BTreeMap::new(alloc);
-        let mut routers = BTreeSet::new(alloc);
-        let mut bits = 0u128;
         for change in changes {
-            let key = change.key();
-            let router = key.0;
-            last.insert(key, *change)?;
-            routers.insert(router)?;
-            bits |= four_bits(router);
+            last.insert(change.key(), *change)?;
         }
-        Ok(Changed {
-            changes,
-            last,
-            routers,
-            bits,
-        })
+        Ok(Changed { changes, last })
     }
 
     /// The last change with this key, if there is one. The key of a change of a link is the link's
@@ -84,22 +63,5 @@ impl<'a> Changed<'a> {
         ensures { option_copied result ≡ last_on key self.now }
     {
         self.last.get(&key)
-    }
-
-    /// Whether one of the changes affects the router: it changes a link that runs from the router,
-    /// or it says whether the router carries transit.
-    pub(crate) fn has_router(&self, router: Addr) -> bool
-        ensures { result ≡ changes_router self.now router }
-    {
-        self.routers.contains(&router)
-    }
-
-    /// Whether the changes may affect a router whose four bits are all in `bits`. If the result is
-    /// `false`, they affect no such router.
-    pub(crate) fn may_affect(&self, bits: u128) -> bool
-        ensures { result ≡ false → (router : ℕ) → IsAmong bits router
-            → changes_router self.now router ≡ false }
-    {
-        has_quarters(self.bits & bits)
     }
 }

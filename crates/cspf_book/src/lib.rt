@@ -19,11 +19,11 @@ mod laws;
 mod limits;
 mod lost;
 mod moves;
-mod moving;
 mod offer;
 mod over;
 mod placement;
 mod router_bits;
+mod touched;
 mod versions;
 
 pub use book::Book;

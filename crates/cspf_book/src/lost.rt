@@ -1,18 +1,18 @@
 //! Finds the placements that lose their routes when the base changes: the base admits the route
 //! before the changes, but not after them.
 
-ghost use Rattle.std.specs.Prelude.{◌≡◌, ◌↔◌, [], map, IsTrue, IfOk};
+ghost use Rattle.std.specs.Prelude.{◌≡◌, ◌↔◌, [], map, true, IsTrue, IfOk};
 ghost use Rattle.cspf_model.specs.Changes.{after_changes};
 ghost use Rattle.cspf_book.specs.LostRoutes.{without_bandwidth, AdmitsRoute, IsLost, AreLost};
 ghost use Rattle.cspf_book.specs.Following.{HasItsLink, MayGoOn, HaveOtherIds, AreRanksOfLost};
 ghost use Rattle.cspf_book.specs.RouterBits.{bits_of};
-ghost use Rattle.cspf_book.specs.MovedEnds.{moving_changes};
+ghost use Rattle.cspf_book.specs.Touched.{AreTouched, IsFor, HasNoAffinities};
 
 use crate::after::{find_after, has_reverse_after, has_transit_after};
 use crate::changed::Changed;
 use crate::effective_links::within_limits;
-use crate::moving::{has_no_affinities, list_moving};
 use crate::placement::Placement;
+use crate::touched::Touched;
 use cspf_addr::Addr;
 use cspf_db::Table;
 use cspf_graph::accepts;
@@ -77,94 +77,86 @@ fn admits(base: &Table, changes: &Changed, placement: &Placement) -> bool
     true
 }
 
+/// Whether the request has no affinities.
+fn has_no_affinities(request: &Request) -> bool
+    ensures { result ≡ true → HasNoAffinities request.now }
+{
+    request.exclude_any.bits() == 0
+        && request.include_any.bits() == 0
+        && request.include_all.bits() == 0
+}
+
 /// Whether the base still admits the placement's route after the changes. The base has to admit the
-/// route now. A link of the route is looked up only if the changes affect one of its two routers.
-fn still_admits(base: &Table, changes: &Changed, placement: &Placement) -> bool
+/// route now. A link of the route is looked up only if the changes may touch it.
+fn still_admits(base: &Table, changes: &Changed, touched: &Touched, placement: &Placement) -> bool
+    requires touched { AreTouched base.now changes.now touched.now }
+    requires groups { IsFor touched.now placement.now.request }
     ensures { AdmitsRoute base.now placement.now
         → IsTrue result ↔ AdmitsRoute (after_changes base.now changes.now) placement.now }
 {
+    within_limits(base);
     let request = without_bandwidth(&placement.request);
     let mut router = placement.request.from;
-    let mut near = changes.has_router(router);
     for (i, link) in placement.route.links().iter().enumerate() {
-        let far = changes.has_router(link.to);
-        if (near || far) && !may_go_on(base, changes, &request, i, router, link) {
+        if touched.may_touch(link) && !may_go_on(base, changes, &request, i, router, link) {
             return false;
         }
         router = link.to;
-        near = far;
     }
     true
 }
 
-/// Whether the base admits the placement's route now, but not after the changes.
-fn is_lost(base: &Table, none: &Changed, changes: &Changed, placement: &Placement) -> bool
-    requires { none.now ≡ [] }
-    ensures { IsTrue result
-        ↔ IsLost base.now (after_changes base.now changes.now) placement.now }
-{
-    !still_admits(base, changes, placement) && admits(base, none, placement)
-}
-
 /// Whether the base admits the placement's route now, but not after the changes. `bits` has the
-/// bits of the routers on the route. The route is read only if the changes may affect one of these
-/// routers.
-fn is_lost_by_bits(
+/// bits of the routers on the route. The route is read only if the changes may touch a key of one
+/// of these routers.
+fn is_lost(
     base: &Table,
     none: &Changed,
     changes: &Changed,
+    touched: &Touched,
     placement: &Placement,
     bits: u128,
 ) -> bool
     requires none { none.now ≡ [] }
-    requires bits { bits ≡ bits_of placement.now }
-    ensures { IsTrue result
-        ↔ IsLost base.now (after_changes base.now changes.now) placement.now }
-{
-    changes.may_affect(bits) && is_lost(base, none, changes, placement)
-}
-
-/// As `is_lost_by_bits`. `moving` has the changes that move the far end of a link or change a mark.
-/// For a request without affinities, only the changes in `moving` are looked at.
-fn is_lost_by_moving(
-    base: &Table,
-    none: &Changed,
-    changes: &Changed,
-    moving: &Changed,
-    placement: &Placement,
-    bits: u128,
-) -> bool
-    requires none { none.now ≡ [] }
-    requires moving { moving.now ≡ moving_changes base.now changes.now }
+    requires touched { AreTouched base.now changes.now touched.now }
+    requires groups { IsFor touched.now placement.now.request }
     requires bits { bits ≡ bits_of placement.now }
     ensures { IsTrue result
         ↔ IsLost base.now (after_changes base.now changes.now) placement.now }
 {
     within_limits(base);
-    if has_no_affinities(&placement.request) {
-        is_lost_by_bits(base, none, moving, placement, bits)
-    } else {
-        is_lost_by_bits(base, none, changes, placement, bits)
-    }
+    touched.may_affect(bits)
+        && !still_admits(base, changes, touched, placement)
+        && admits(base, none, placement)
 }
 
-/// As `is_lost_by_moving`. The placement is read only if the changes may affect a router on its
-/// route.
+/// As `is_lost`. `touched` has the keys that are touched where groups matter, and `moved` has those
+/// that are touched where they don't. The placement is read only if one of these may be a key of a
+/// router on its route.
 fn is_lost_at(
     base: &Table,
     none: &Changed,
     changes: &Changed,
-    moving: &Changed,
+    touched: &Touched,
+    moved: &Touched,
     placement: &Placement,
     bits: u128,
 ) -> bool
     requires none { none.now ≡ [] }
-    requires moving { moving.now ≡ moving_changes base.now changes.now }
+    requires touched { AreTouched base.now changes.now touched.now }
+    requires moved { AreTouched base.now changes.now moved.now }
+    requires groups { touched.now.groups ≡ true }
     requires bits { bits ≡ bits_of placement.now }
     ensures { IsTrue result
         ↔ IsLost base.now (after_changes base.now changes.now) placement.now }
 {
-    changes.may_affect(bits) && is_lost_by_moving(base, none, changes, moving, placement, bits)
+    within_limits(base);
+    touched.may_affect(bits)
+        && if has_no_affinities(&placement.request) {
+            is_lost(base, none, changes, moved, placement, bits)
+        } else {
+            is_lost(base, none, changes, touched, placement, bits)
+        }
 }
 
 /// Lists the rank of each placement that loses its route. A rank is 7 minus the holding priority of
@@ -176,18 +168,21 @@ fn list_ranks(
     bits: &[u128],
     none: &Changed,
     changes: &Changed,
-    moving: &Changed,
+    touched: &Touched,
+    moved: &Touched,
 ) -> Result<Vec<(u8, u64)>, AllocError>
     requires ids { HaveOtherIds placements.now }
     requires bits { bits.now ≡ map bits_of placements.now }
     requires none { none.now ≡ [] }
-    requires moving { moving.now ≡ moving_changes base.now changes.now }
+    requires touched { AreTouched base.now changes.now touched.now }
+    requires moved { AreTouched base.now changes.now moved.now }
+    requires groups { touched.now.groups ≡ true }
     ensures { IfOk result (λ ranks. AreRanksOfLost base.now (after_changes base.now changes.now)
         placements.now ranks.items) }
 {
     let mut ranks = Vec::new(alloc);
     for (i, placement) in placements.iter().enumerate() {
-        if is_lost_at(base, none, changes, moving, placement, bits[i]) {
+        if is_lost_at(base, none, changes, touched, moved, placement, bits[i]) {
             ranks.push((7 - placement.hold, placement.request.id))?;
         }
     }
@@ -217,9 +212,11 @@ pub(crate) fn lost(
 {
     let none = Changed::none(alloc);
     let changed = Changed::new(alloc, changes)?;
-    let list = list_moving(alloc, base, &changed, changes)?;
-    let moving = Changed::new(alloc, &list)?;
-    let mut ranks = list_ranks(alloc, base, placements, bits, &none, &changed, &moving)?;
+    let touched = Touched::new(alloc, base, &changed, changes, true)?;
+    let moved = Touched::new(alloc, base, &changed, changes, false)?;
+    let mut ranks = list_ranks(
+        alloc, base, placements, bits, &none, &changed, &touched, &moved,
+    )?;
     ranks.sort_unstable();
     ids_of(alloc, &ranks)
 }

@@ -95,26 +95,9 @@ fn offer_of(
 }
 
 /// The best answer to a request in the table's database. If the answer is a route, its placement is
-/// returned too. A route that can't be placed is an error (`placement_on`).
-fn offer(
-    alloc: Global,
-    table: &Table,
-    request: &Request,
-    hold: u8,
-    room: usize,
-) -> Result<(Outcome, Option<Placement>), PlaceError>
-    requires { hold < 8 }
-    ensures best { IfOk result (λ offered. IsBestAnswer table.now request.now (answer_of offered.0)) }
-    ensures placement { IfOk result (λ offered.
-        IsOffered request.now hold room (answer_of offered.0) offered.1) }
-    ensures refused { IfErr result (λ why. IsOfferRefused table.now request.now room why) }
-{
-    let outcome = best(alloc, table, request)?;
-    offer_of(alloc, outcome, request, hold, room)
-}
-
-/// As `offer`. If there is a placement, entries of `counts` are also made for its links, and
-/// `version` is entered for its id. No sum changes. After an error, `ids` is unchanged.
+/// returned too. A route that can't be placed is an error (`placement_on`). If there is a placement,
+/// entries of `counts` are also made for its links, and `version` is entered for its id. No sum
+/// changes. After an error, `ids` is unchanged.
 pub(crate) fn offer_counted(
     alloc: Global,
     table: &Table,
@@ -140,7 +123,8 @@ pub(crate) fn offer_counted(
     ensures none { IfOk result (λ offered. IfNone offered.1 (HasSameIds ids.old ids.new)) }
     ensures err { OnErr result (HasSameIds ids.old ids.new) }
 {
-    let (outcome, offered) = offer(alloc, table, request, hold, room)?;
+    let answer = best(alloc, table, request)?;
+    let (outcome, offered) = offer_of(alloc, answer, request, hold, room)?;
     match offered {
         Some(placement) => {
             counts.enter(placement.route.links())?;

@@ -3,7 +3,7 @@
 //! placement has, the placement keeps its route.
 
 ghost use Rattle.std.specs.Prelude.{◌≡◌, ◌<◌, ◌^◌};
-ghost use Rattle.cspf_book.specs.RouterBits.{one_of_32, four_bits, bits_of, has_quarters};
+ghost use Rattle.cspf_book.specs.RouterBits.{slot_of, one_of_32, four_bits, bits_of, has_quarters};
 
 use crate::placement::Placement;
 use cspf_addr::Addr;
@@ -50,4 +50,18 @@ pub(crate) fn has_quarters(bits: u128) -> bool
         && bits / QUARTER % QUARTER != 0
         && bits / (QUARTER * QUARTER) % QUARTER != 0
         && bits / (QUARTER * QUARTER * QUARTER) % QUARTER != 0
+}
+
+/// One of 65,536 slots for the key of a change. Other keys may have the same slot.
+#[tactic(auto, unfolding(crate::specs::RouterBits::slot_of))]
+pub(crate) fn slot_of(router: Addr, local: Option<Addr>) -> usize
+    ensures slot { result ≡ slot_of (router, local) }
+    ensures small { result < 65536 }
+{
+    let second = match local {
+        Some(local) => u64::from(local.number()),
+        None => 0,
+    };
+    let sum = u64::from(router.number()) * 1_640_531_527 + second * 1_367_130_551;
+    (sum / 65_536 % 65_536) as usize
 }

@@ -82,8 +82,8 @@ impl Ids {
         requires more { vec_len self.old.bits < vec_capacity self.old.bits }
         ensures { HasReplaced self.old self.new at version bits }
     {
-        replace_version(&mut self.versions, at, version);
-        replace_bits(&mut self.bits, at, bits);
+        replace(&mut self.versions, at, version);
+        replace(&mut self.bits, at, bits);
     }
 
     /// Removes the version of this id from the map by ids. Also removes the version and the bits at
@@ -99,28 +99,16 @@ impl Ids {
     }
 }
 
-/// Removes the version at index `at`, if the list has this index, and appends this version. No
-/// memory is allocated.
-fn replace_version(versions: &mut Vec<u32>, at: usize, version: u32)
-    requires { vec_len versions.old < vec_capacity versions.old }
-    ensures { versions.new.items ≡ remove versions.old.items at ++ version ∷ [] }
-{
-    if at < versions.len() {
-        versions.remove(at);
-    }
-    versions.push_reserved(version);
-}
-
-/// Removes the bits at index `at`, if the list has this index, and appends these bits. No memory is
+/// Removes the item at index `at`, if the list has this index, and appends this item. No memory is
 /// allocated.
-fn replace_bits(list: &mut Vec<u128>, at: usize, bits: u128)
+fn replace<T: Copy>(list: &mut Vec<T>, at: usize, item: T)
     requires { vec_len list.old < vec_capacity list.old }
-    ensures { list.new.items ≡ remove list.old.items at ++ bits ∷ [] }
+    ensures { list.new.items ≡ remove list.old.items at ++ item ∷ [] }
 {
     if at < list.len() {
         list.remove(at);
     }
-    list.push_reserved(bits);
+    list.push_reserved(item);
 }
 
 /// How many of the versions are lower than `version`. The versions have to be in increasing order.

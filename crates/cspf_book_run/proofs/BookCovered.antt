@@ -3,16 +3,16 @@
 -- unreserved bandwidth there.
 use Rattle.std.proofs.Common.{◌≡◌, ◌⊎◌, ℕ, zero, suc, ◌+◌, ◌<◌, ◌≤◌, List, [], ◌∷◌, ◌++◌, Result, Ok, Err, IfOk, inl, inr, sym, ap, subst, ◌∙◌, append_assoc, arith}
 use Rattle.std.specs.List.{Contains, flat_map}
-use Rattle.cspf_model.specs.Best.{Answer, unknown_from, unknown_to, no_route, route, IsBestAnswer}
+use Rattle.cspf_model.specs.Best.{Answer, route, IsBestAnswer}
 use Rattle.cspf_model.specs.Walks.{IsWalk}
 use Rattle.cspf_model.specs.Database.{IsLinkOf}
 use Rattle.cspf_model.specs.declared.link.Link.{Link}
 use Rattle.cspf_model.specs.declared.request.Request.{Request}
 use Rattle.cspf_rows.specs.declared.row_error.RowError.{RowError}
 use Rattle.cspf_stream.specs.RowAnswers.{AreAnswered}
-use Rattle.cspf_stream.specs.Steps.{step_of}
-use Rattle.cspf_stream.specs.declared.step.Step.{Step}
-use Rattle.cspf_stream.specs.declared.step.Step.TheVariants as step
+use Rattle.cspf_rows.specs.Steps.{step_of}
+use Rattle.cspf_rows.specs.declared.step.Step.{Step}
+use Rattle.cspf_rows.specs.declared.step.Step.TheVariants as step
 use Rattle.cspf_book.specs.declared.placement.Placement.{Placement}
 use Rattle.cspf_book.specs.Placements.{others}
 use Rattle.cspf_book.specs.Effective.{effective}
@@ -110,9 +110,6 @@ module _ (l : Link) (priority : ℕ) where
     placing_covers : (old new : BookState) (q : Request) (hold : ℕ) (answer : Answer) → q.setup ≡ 7
         → IsBestAnswer (effective_beside old q.id) q answer → IsAnswerPlaced old q hold answer new
         → (X : Type 0) → CoveredOr X old l priority → CoveredOr X new l priority
-    placing_covers old new q hold unknown_from lowest best is X covered = subst (λ (b : BookState). CoveredOr X b l priority) (sym is) covered
-    placing_covers old new q hold unknown_to lowest best is X covered = subst (λ (b : BookState). CoveredOr X b l priority) (sym is) covered
-    placing_covers old new q hold no_route lowest best is X covered = subst (λ (b : BookState). CoveredOr X b l priority) (sym is) covered
     placing_covers old new q hold (route walk) lowest best is X covered = λ there.
         let p : Placement = is.placement in
         let same = is.is_its.request in
@@ -128,6 +125,7 @@ module _ (l : Link) (priority : ℕ) where
               inl (subst (λ (ps : List Placement). IsCovered ps l priority) (ap (λ (x : Request). others x.id old.placements ++ p ∷ []) same ∙ sym is.placements) more)
           | inr x ↦ inr x
         ]
+    placing_covers old new q hold other lowest best is X covered = subst (λ (b : BookState). CoveredOr X b l priority) (sym is) covered
 
     -- `KeepsCover` holds for an accepted base batch: a link that was covered is still covered, or
     -- its `over` line is among the lines of the batch.

@@ -1,7 +1,7 @@
 -- Each row of a book has only one answer.
 use Rattle.std.proofs.Common.{◌≡◌, ℕ, suc, ◌+◌, ◌<◌, ◌++◌, List, [], ◌∷◌, take, drop, IsTrue, Result, Ok, Err, inl, inr, refl, sym, ap, subst, ◌∙◌, codes, arith}
 use Rattle.std.proofs.Math.Bridge.{le_prop}
-use Rattle.cspf_model.specs.Best.{Answer, unknown_from, unknown_to, no_route, route, IsBestAnswer}
+use Rattle.cspf_model.specs.Best.{Answer, route, IsBestAnswer}
 use Rattle.cspf_model.specs.Database.{HaveOwnKeys}
 use Rattle.cspf_model.specs.Laws.{OneBestAnswer, OneRefusal}
 use Rattle.cspf_model.specs.declared.link.Link.{Link}
@@ -9,9 +9,9 @@ use Rattle.cspf_model.specs.declared.request.Request.{Request}
 use Rattle.cspf_ero.specs.ReplyLine.{HasOneReplyLine}
 use Rattle.cspf_rows.specs.declared.row_error.RowError.{RowError}
 use Rattle.cspf_stream.specs.RowAnswers.{AreAnswered}
-use Rattle.cspf_stream.specs.Steps.{step_of}
-use Rattle.cspf_stream.specs.declared.step.Step.{Step}
-use Rattle.cspf_stream.specs.declared.step.Step.TheVariants as step
+use Rattle.cspf_rows.specs.Steps.{step_of}
+use Rattle.cspf_rows.specs.declared.step.Step.{Step}
+use Rattle.cspf_rows.specs.declared.step.Step.TheVariants as step
 use Rattle.cspf_stream.proofs.BatchRefusals.{refusal_once}
 use Rattle.cspf_book.specs.declared.placement.Placement.{Placement}
 use Rattle.cspf_book.specs.Placements.{has_id}
@@ -67,12 +67,10 @@ same_book : (a b : BookState) → a.base ≡ b.base → a.version ≡ b.version 
 same_book a b base version placements = λ i. record { base = base i; version = version i; placements = placements i }
 
 book_once : (old : BookState) (q : Request) (hold : ℕ) (answer : Answer) (a b : BookState) → IsAnswerPlaced old q hold answer a → IsAnswerPlaced old q hold answer b → a ≡ b
-book_once old q hold unknown_from a b x y = x ∙ sym y
-book_once old q hold unknown_to a b x y = x ∙ sym y
-book_once old q hold no_route a b x y = x ∙ sym y
 book_once old q hold (route walk) a b x y =
     let one = placement_once q hold walk x.placement y.placement x.is_its y.is_its in
     same_book a b (x.base ∙ sym y.base) (x.version ∙ sym y.version) (x.placements ∙ rw one (sym y.placements))
+book_once old q hold other a b x y = x ∙ sym y
 
 place_reply_once : HasOneReplyLine → (id version : ℕ) (answer : Answer) (l m : List ℕ) → IsPlaceReply id version answer l → IsPlaceReply id version answer m → l ≡ m
 place_reply_once reply id version answer l m (rest, is, line) (rest2, is2, line2) =
@@ -97,19 +95,13 @@ module _ (best : OneBestAnswer) (s : BookRunState) (q : Request) (hold : ℕ) wh
 
   place_refusal_once : (why other : PlaceRefusal) → IsPlaceRefusal s q why → IsPlaceRefusal s q other → why ≡ other
   place_refusal_once unplaced.Exhausted unplaced.Exhausted a b = refl
-  place_refusal_once unplaced.Exhausted unplaced.Full a b = absurd (omega (arith, a, b.0))
-  place_refusal_once unplaced.Exhausted unplaced.Links a b = absurd (omega (arith, a, b.0))
-  place_refusal_once unplaced.Exhausted unplaced.Twice a b = absurd (omega (arith, a, b.0))
-  place_refusal_once unplaced.Full unplaced.Exhausted a b = absurd (omega (arith, a.0, b))
+  place_refusal_once unplaced.Exhausted other a b = absurd (omega (arith, a, b.0))
+  place_refusal_once why unplaced.Exhausted a b = absurd (omega (arith, a.0, b))
   place_refusal_once unplaced.Full unplaced.Full a b = refl
-  place_refusal_once unplaced.Full unplaced.Links (room, full) (room2, r) = absurd (omega (arith, full, r.0))
-  place_refusal_once unplaced.Full unplaced.Twice (room, full) (room2, r) = absurd (omega (arith, full, r.0))
-  place_refusal_once unplaced.Links unplaced.Exhausted a b = absurd (omega (arith, a.0, b))
-  place_refusal_once unplaced.Links unplaced.Full (room, r) (room2, full) = absurd (omega (arith, full, r.0))
+  place_refusal_once unplaced.Full other (room, full) (room2, r) = absurd (omega (arith, full, r.0))
+  place_refusal_once why unplaced.Full (room, r) (room2, full) = absurd (omega (arith, full, r.0))
   place_refusal_once unplaced.Links unplaced.Links a b = refl
   place_refusal_once unplaced.Links unplaced.Twice (room, (few, walk, is, own, many)) (room2, (few2, other, is2, twice)) = absurd (twice (subst HaveOwnKeys (walk_once walk other is is2) own))
-  place_refusal_once unplaced.Twice unplaced.Exhausted a b = absurd (omega (arith, a.0, b))
-  place_refusal_once unplaced.Twice unplaced.Full (room, r) (room2, full) = absurd (omega (arith, full, r.0))
   place_refusal_once unplaced.Twice unplaced.Links (room2, (few2, other, is2, twice)) (room, (few, walk, is, own, many)) = absurd (twice (subst HaveOwnKeys (walk_once walk other is is2) own))
   place_refusal_once unplaced.Twice unplaced.Twice a b = refl
 

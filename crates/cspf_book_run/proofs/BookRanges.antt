@@ -6,11 +6,11 @@ use Rattle.std.specs.List.{AllByRecursion}
 use Rattle.std.specs.Option.{option_map}
 use Rattle.std.specs.Ordering.{eq_by_cmp}
 use Rattle.cspf_model.specs.declared.batch.Change.{Change}
-use Rattle.cspf_model.specs.declared.batch.Change.TheVariants.{Put, Remove, Node}
+use Rattle.cspf_model.specs.declared.batch.Change.TheVariants.{Put}
 use Rattle.cspf_model.specs.declared.link.Link.{Link}
 use Rattle.cspf_model.specs.declared.request.Request.{Request}
 use Rattle.cspf_model.specs.Admissible.{IsAdmissible}
-use Rattle.cspf_model.specs.Best.{Answer, unknown_from, unknown_to, no_route, route, IsBestAnswer}
+use Rattle.cspf_model.specs.Best.{Answer, route, IsBestAnswer}
 use Rattle.cspf_model.specs.Database.{Database, Key, key_of, link_at, IsLinkOf}
 use Rattle.cspf_model.specs.Changes.{change_key_cmp, link_key, key_changed, link_left, after_change, after_changes}
 use Rattle.cspf_model.proofs.Databases.Keys.{keys_same}
@@ -20,9 +20,9 @@ use Rattle.cspf_rows.specs.Says.{AreRowsRead}
 use Rattle.cspf_rows.specs.Written.{IsLinkInRange}
 use Rattle.cspf_rows.specs.declared.row_error.RowError.{RowError}
 use Rattle.cspf_stream.specs.RowAnswers.{AreAnswered}
-use Rattle.cspf_stream.specs.Steps.{step_of}
-use Rattle.cspf_stream.specs.declared.step.Step.{Step}
-use Rattle.cspf_stream.specs.declared.step.Step.TheVariants as step
+use Rattle.cspf_rows.specs.Steps.{step_of}
+use Rattle.cspf_rows.specs.declared.step.Step.{Step}
+use Rattle.cspf_rows.specs.declared.step.Step.TheVariants as step
 use Rattle.cspf_book.specs.declared.placement.Placement.{Placement}
 use Rattle.cspf_book.specs.Placements.{has_key, bandwidth_on, others, counted}
 use Rattle.cspf_book.specs.Effective.{effective_link, effective}
@@ -38,7 +38,7 @@ use Rattle.cspf_book_run.specs.BookScript.{BookRunState, book_start, IsBookStepA
 use Rattle.cspf_book_run.specs.BookScriptLaws.{IsBookInRange, RowsKeepRange}
 use Rattle.cspf_book_run.specs.BookStates.{IsReadable}
 use Rattle.cspf_book_run.proofs.BookRowLemmas.{readable_row}
-use Rattle.cspf_book_run.proofs.KeptBook.{IsStepInRange, row_in_range, base_of, kinds, one_more_in_range}
+use Rattle.cspf_book_run.proofs.KeptBook.{IsStepInRange, row_in_range, read_row, kinds, one_more_in_range}
 use Rattle.cspf_book_run.proofs.OverExact.{none_at_first}
 
 -- The numbers of a database's links are in the ranges of their types.
@@ -60,8 +60,7 @@ in_range_at_first = record {
 
 left_in_range : (c : Change) (l : Link) → IsChangeInRange c → link_left c ≡ Some l → IsLinkInRange l
 left_in_range (Put m) l range is = let same : m ≡ l = cc in subst IsLinkInRange same range.0
-left_in_range (Remove from local) l range is = absurd (cc)
-left_in_range (Node router transit) l range is = absurd (cc)
+left_in_range other l range is = absurd (cc)
 
 change_in_range : (d : Database) (c : Change) → IsChangeInRange c → AreLinksInRange d → AreLinksInRange (after_change d c)
 change_in_range d c range before l is =
@@ -140,9 +139,6 @@ others_small id placements small k priority below = omega (arith, counted-others
 
 placing_small : (old new : BookState) (q : Request) (hold : ℕ) (answer : Answer) → q.setup ≡ 7 → IsBestAnswer (effective_beside old q.id) q answer
     → IsAnswerPlaced old q hold answer new → AreLinksInRange old.base → AreSumsSmall old.placements → (new.base ≡ old.base) × AreSumsSmall new.placements
-placing_small old new q hold unknown_from seven best is range small = (ap (λ (b : BookState). b.base) is, subst (λ (b : BookState). AreSumsSmall b.placements) (sym is) small)
-placing_small old new q hold unknown_to seven best is range small = (ap (λ (b : BookState). b.base) is, subst (λ (b : BookState). AreSumsSmall b.placements) (sym is) small)
-placing_small old new q hold no_route seven best is range small = (ap (λ (b : BookState). b.base) is, subst (λ (b : BookState). AreSumsSmall b.placements) (sym is) small)
 placing_small old new q hold (route walk) seven best is range small = (is.base, one_more)
   where
     one_more : AreSumsSmall new.placements
@@ -156,6 +152,7 @@ placing_small old new q hold (route walk) seven best is range small = (is.base, 
         subst (λ (ps : List Placement). counted ps k priority < 2 ^ 64) (sym is.placements)
         (sum_small (nat_le p.hold priority) (has_key p.route k) p.request.bandwidth (counted rest k priority) (counted (rest ++ p ∷ []) k priority) room
         (others_small q.id old.placements small k priority below) (sum_by_push (bandwidth_on k priority) rest p))
+placing_small old new q hold other seven best is range small = (ap (λ (b : BookState). b.base) is, subst (λ (b : BookState). AreSumsSmall b.placements) (sym is) small)
 
 -- ---- rows
 
@@ -191,7 +188,7 @@ module _ (read : AreRowsRead) where
       → IsBookRowAnswered place s r line t → IsBookInRange s → IsBookInRange t
   row_keeps place s t fields (Err e) line is a range = same_parts s t (ap (λ (x : BookRunState). x.book) a.1) (ap (λ (x : BookRunState). x.changes) a.1) range
   row_keeps place s t fields (Ok (book_row.Base b)) line is a range =
-      step_in_range s t (step_of b) line (row_in_range fields b ((read fields b).0 (base_of fields b (kinds fields) is))) a range
+      step_in_range s t (step_of b) line (row_in_range fields b ((read fields b).0 (read_row fields (book_row.Base b) (kinds fields) is))) a range
   row_keeps place s t fields (Ok (book_row.Place q hold)) line is (inl (x, after)) range =
       let readable : IsReadable (book_row.Place q hold) = rw is at (readable_row fields) in
       let placed = placing_small s.book t.book q hold x.answer readable.0 x.best x.placed range.base range.sums in

@@ -28,12 +28,8 @@ lowest_setup requests q r h =
 -- If an `ask` row is turned into a `place` row, the setup priority is 7 and the holding priority is
 -- at most 7.
 pub readable_place : (r : Result Row RowError) → IfOk (placed_as_asked r) IsReadable
-readable_place (Err e) = tt
 readable_place (Ok (row.Ask q)) = (refl, q.priority)
-readable_place (Ok (row.Put link)) = tt
-readable_place (Ok (row.Remove from local)) = tt
-readable_place (Ok (row.Node router transit)) = tt
-readable_place (Ok (row.End number count)) = tt
+readable_place other = tt
 
 readable_either : (b c : Bool) (r s t : Result BookRow RowError) → IfOk r IsReadable → IfOk s IsReadable → IfOk t IsReadable → IfOk (cond b r (cond c s t)) IsReadable
 readable_either true c r s t first second third = first
@@ -44,13 +40,9 @@ readable_count : (b : Bool) (r : Result BookRow RowError) → IfOk r IsReadable 
 readable_count true r readable = readable
 readable_count false r readable = tt
 
-readable_base : (r : Result Row RowError) → IfOk (result_map_both book_row.Base (λ e. e) r) IsReadable
-readable_base (Ok row) = tt
-readable_base (Err e) = tt
-
-readable_release : (r : Result ℕ RowError) → IfOk (result_map_both book_row.Release (λ e. e) r) IsReadable
-readable_release (Ok id) = tt
-readable_release (Err e) = tt
+readable_made : {A : Type 0} (make : A → BookRow) (r : Result A RowError) → ((x : A) → IsReadable (make x)) → IfOk (result_map_both make (λ e. e) r) IsReadable
+readable_made make (Ok x) readable = readable x
+readable_made make (Err e) readable = tt
 
 -- In a `place` row that is read from a record, the setup priority is 7 and the holding priority is
 -- at most 7.
@@ -59,5 +51,5 @@ unfolding book_row_of
 readable_row fields =
     readable_either (is_kind fields (codes "place")) (is_kind fields (codes "release")) (place_row_of fields) (release_row_of fields) (result_map_both book_row.Base (λ e. e) (row_of fields))
     (readable_count (length fields == 10) (placed_as_asked (ask_row_of fields)) (readable_place (ask_row_of fields)))
-    (readable_count (length fields == 2) (result_map_both book_row.Release (λ e. e) (number_at fields 2)) (readable_release (number_at fields 2)))
-    (readable_base (row_of fields))
+    (readable_count (length fields == 2) (result_map_both book_row.Release (λ e. e) (number_at fields 2)) (readable_made book_row.Release (number_at fields 2) (λ id. tt)))
+    (readable_made book_row.Base (row_of fields) (λ row. tt))

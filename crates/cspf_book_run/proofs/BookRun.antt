@@ -9,6 +9,7 @@ use Rattle.cspf_stream.specs.Runs.{IsPrefixAnswered, HasRun, FailsAtRow, IsRunSt
 use Rattle.cspf_stream.specs.Runs as run
 use Rattle.cspf_stream.specs.declared.error.RunStop.{RunStop}
 use Rattle.cspf_stream.specs.declared.error.RunStop.TheVariants as run_stop
+use Rattle.cspf_stream.proofs.Going.{none_answered}
 use Rattle.cspf_stream.proofs.Running.{carried}
 use Rattle.cspf_solve.specs.declared.summary.Summary.{Summary}
 use Rattle.cspf_solve.specs.declared.error.SolveError.TheVariants as run_error
@@ -149,8 +150,6 @@ module _ {K : Type 0} (contents : K → Option (List ℕ)) (k : KeptRows K) (fre
       → IsHalted fault all old new (contents b.keep)
   stops_at_row (book_error.Run run_error.Memory) all b old new a =
       by_rows a.before all old new (contents b.keep) a.begun (λ text kept. Appends-kept (contents k.keep) (contents a.before.keep) (contents b.keep) text kept a.failed.0)
-  stops_at_row (book_error.Run run_error.Read) all b old new a = absurd a.failed
-  stops_at_row (book_error.Run (run_error.Write written)) all b old new a = absurd a.failed
   stops_at_row (book_error.Keep written) None b old new a = tt
   stops_at_row (book_error.Keep written) (Some rows) b old new a =
       let r = a.begun in
@@ -177,6 +176,7 @@ module _ {K : Type 0} (contents : K → Option (List ℕ)) (k : KeptRows K) (fre
         r.written,
         Appends-trans (contents k.keep) (contents a.before.keep) (contents b.keep) c.0.keep (take written cut.1) c.1.written cut.5,
       )
+  stops_at_row other all b old new a = absurd a.failed
 
   -- the output of a run that stops
   pub run_stops : (why : RunStop BookError) (all : Option (List (List (List ℕ)))) (failed : Bool) (b : KeptRows K) (old new : Option (List ℕ))
@@ -217,18 +217,9 @@ module _ {K : Type 0} (contents : K → Option (List ℕ)) (k : KeptRows K) (fre
 
   pub read_failed : (why : RunStop BookError) (all : Option (List (List (List ℕ)))) (failed : Bool) (b : KeptRows K) (old new : Option (List ℕ))
       → IsRunStopped (IsRowKept contents) (IsRowNotKept contents) IsBookLast 1000000 why all failed k b old new → book_error_of why ≡ book_error.Run run_error.Read → failed ≡ true
-  read_failed run_stop.Memory all failed b old new a is = absurd (cc is)
   read_failed run_stop.Read all failed b old new a is = a.0
-  read_failed (run_stop.Write written) all failed b old new a is = absurd (cc is)
   read_failed (run_stop.Answer fault) all failed b old new a is = absurd (subst (λ (x : BookError). IsRowNotKept contents x (suc (length a.begun.done)) a.before a.fields b) is a.failed)
-
-none_answered : (s : BookRunState) → AreAnswered book_answers 1 s [] [] s
-unfolding AreAnswered
-none_answered s = (refl, refl)
-
-none_kept : (s : BookRunState) → AreAnswered kept_answers 1 s [] [] s
-unfolding AreAnswered
-none_kept s = (refl, refl)
+  read_failed other all failed b old new a is = absurd (cc is)
 
 -- A run that stops before its first row has written no lines, and nothing to the accepted rows'
 -- writer `keep`.
@@ -242,8 +233,8 @@ halted_at_start (Some text) old keep = (
     done = [];
     rest = rows_of text;
     after = book_start;
-    first = record { split = refl; few = omega arith; answered = none_answered book_start };
-    keeps = none_kept book_start;
+    first = record { split = refl; few = omega arith; answered = none_answered book_answers 1 book_start };
+    keeps = none_answered kept_answers 1 book_start;
   },
   Appends-nil old,
   Appends-nil keep,

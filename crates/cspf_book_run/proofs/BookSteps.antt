@@ -8,8 +8,8 @@ use Rattle.cspf_stream.specs.OpenChanges.{AreOpen}
 use Rattle.cspf_stream.specs.RowsTaken.{RowsState, RowsLead, IsEndAccepted, IsEndRefused, IsBatchDropped, IsStepTaken}
 use Rattle.cspf_stream.specs.declared.batch_refusal.BatchRefusal.{BatchRefusal}
 use Rattle.cspf_stream.specs.declared.rows.Rows.{Rows}
-use Rattle.cspf_stream.specs.declared.step.Step.{Step}
-use Rattle.cspf_stream.specs.declared.step.Step.TheVariants as step
+use Rattle.cspf_rows.specs.declared.step.Step.{Step}
+use Rattle.cspf_rows.specs.declared.step.Step.TheVariants as step
 use Rattle.cspf_stream.proofs.BatchRefusals.{IsNotAccepted, wrong_end, unfit_end}
 use Rattle.cspf_book.specs.LostRoutes.{AreLost}
 use Rattle.cspf_book.specs.OverLinks.{over}

@@ -9,9 +9,9 @@ use Rattle.std.specs.Result.{result_map_both}
 use Rattle.std.specs.Str.{bytes_eq}
 use Rattle.csv.specs.Records.{field_at}
 use Rattle.csv.specs.Writing.{default_writer, row_text}
-use Rattle.cspf_addr.specs.MaskText.{SpellsMask, mask_text, AreMasksRead, AreMasksReadBack}
+use Rattle.cspf_addr.specs.MaskText.{SpellsMask}
 use Rattle.cspf_addr.proofs.MaskLemmas.{short_value}
-use Rattle.cspf_model.specs.Best.{Answer, unknown_from, unknown_to, no_route, route}
+use Rattle.cspf_model.specs.Best.{Answer, route}
 use Rattle.cspf_model.specs.declared.batch.Change.{Change}
 use Rattle.cspf_model.specs.declared.batch.Change.TheVariants as change
 use Rattle.cspf_model.specs.declared.link.Link.{Link}
@@ -22,33 +22,24 @@ use Rattle.cspf_rows.specs.JournalLaws.{IsChangeInRange}
 use Rattle.cspf_rows.specs.Records.{rows_of}
 use Rattle.cspf_rows.specs.Rows.{ask_row_of, row_of}
 use Rattle.cspf_rows.specs.Says.{AreRowsRead, Says, SaysPut}
-use Rattle.cspf_rows.specs.Written.{end_fields, ArePutsReadBack, AreDropsReadBack, AreNodesReadBack, AreEndsReadBack}
+use Rattle.cspf_rows.specs.Written.{end_fields}
 use Rattle.cspf_rows.specs.declared.row.Row.{Row}
 use Rattle.cspf_rows.specs.declared.row.Row.TheVariants as row
 use Rattle.cspf_rows.specs.declared.row_error.RowError.{RowError}
 use Rattle.cspf_rows.specs.declared.row_error.RowError.TheVariants as error
+use Rattle.cspf_rows.proofs.BatchRecords.{AreRowsReadBack, change_row_of}
 use Rattle.cspf_stream.specs.RowAnswers.{AreAnswered}
-use Rattle.cspf_stream.specs.Steps.{step_of}
-use Rattle.cspf_stream.specs.declared.step.Step.{Step}
-use Rattle.cspf_stream.specs.declared.step.Step.TheVariants as step
+use Rattle.cspf_rows.specs.Steps.{step_of}
+use Rattle.cspf_rows.specs.declared.step.Step.{Step}
+use Rattle.cspf_rows.specs.declared.step.Step.TheVariants as step
 use Rattle.cspf_book.specs.BookState.{BookState, IsAnswerPlaced}
 use Rattle.cspf_book_run.specs.declared.book_row.BookRow.{BookRow}
 use Rattle.cspf_book_run.specs.declared.book_row.BookRow.TheVariants as book_row
 use Rattle.cspf_book_run.specs.BookRows.{at_lowest_setup, placed_as_asked, place_row_of, release_row_of, book_row_of}
-use Rattle.cspf_book_run.specs.BookScript.{BookRunState, book_start, book_answers, open_base_batch, after_open_change, after_answer, after_base_batch, IsBaseAccepted, AreBaseLines, IsPlaceAnswered, IsBookStepAnswered, IsBookRowAnswered}
+use Rattle.cspf_book_run.specs.BookScript.{BookRunState, book_start, book_answers, open_base_batch, after_refusal, after_open_change, after_answer, after_base_batch, IsBaseAccepted, AreBaseLines, IsPlaceAnswered, IsBookStepAnswered, IsBookRowAnswered}
 use Rattle.cspf_book_run.specs.Kept.{kept_answers, kept_of, text_of_row, text_of_step}
 use Rattle.cspf_book_run.specs.KeptLaws.{KeptIsTheBook}
 use Rattle.cspf_book_run.proofs.KeptTexts.{StartsPlain, IsPlainRecord, kept_cut, change_plain, end_plain, lines_rows, rows_start}
-
--- the laws of rows on which these proofs rest
-pub record ReadsRows : Type 0 where
-  pub read : AreRowsRead
-  pub puts : ArePutsReadBack
-  pub drops : AreDropsReadBack
-  pub nodes : AreNodesReadBack
-  pub ends : AreEndsReadBack
-  pub masks : AreMasksRead
-  pub back : AreMasksReadBack
 
 -- ---- the ranges of the numbers in a row
 
@@ -121,11 +112,7 @@ ok_same x y e = cc
 
 of_asked : (x : Result Row RowError) (r : BookRow) → placed_as_asked x ≡ Ok r → (q : Request) × (hold : ℕ) × (r ≡ book_row.Place q hold)
 of_asked (Ok (row.Ask q)) r is = (at_lowest_setup q, q.setup, sym (ok_same (book_row.Place (at_lowest_setup q) q.setup) r is))
-of_asked (Ok (row.Put link)) r is = absurd (cc)
-of_asked (Ok (row.Remove from local)) r is = absurd (cc)
-of_asked (Ok (row.Node router transit)) r is = absurd (cc)
-of_asked (Ok (row.End number count)) r is = absurd (cc)
-of_asked (Err e) r is = absurd (cc)
+of_asked other r is = absurd (cc)
 
 of_id : (x : Result ℕ RowError) (r : BookRow) → result_map_both book_row.Release (λ e. e) x ≡ Ok r → (id : ℕ) × (r ≡ book_row.Release id)
 of_id (Ok id) r is = (id, sym (ok_same (book_row.Release id) r is))
@@ -149,45 +136,31 @@ from_release fields r is =
     let made = of_id (number_at fields 2) r n.1 in
     (made.0, made.1, eqb-true (length fields) 2 n.0)
 
--- If the book reads a record as a row of the base, `row_of` reads this record as the same row.
-pub base_of : (fields : List (List ℕ)) (b : Row) → IsOfKind fields → book_row_of fields ≡ Ok (book_row.Base b) → row_of fields ≡ Ok b
-base_of fields b (inl place) is =
-    let made = from_place fields (book_row.Base b) (sym place.1 ∙ is) in absurd (let e : book_row.Base b ≡ book_row.Place made.0 made.1 = made.2 in cc)
-base_of fields b (inr (inl release)) is =
-    let made = from_release fields (book_row.Base b) (sym release.1 ∙ is) in absurd (let e : book_row.Base b ≡ book_row.Release made.0 = made.1 in cc)
-base_of fields b (inr (inr base)) is =
-    let made = of_base (row_of fields) (book_row.Base b) (sym base ∙ is) in
-    let same : book_row.Base b ≡ book_row.Base made.0 = made.1 in
-    let one : b ≡ made.0 = cc in
-    made.2 ∙ ap Ok (sym one)
-
 -- A record with at least two fields is a list of its first field, its second field and the other
 -- fields.
 word_first : (fields : List (List ℕ)) (word : List ℕ) → 2 ≤ length fields → field fields 1 ≡ word → (second : List ℕ) × (others : List (List ℕ)) × (fields ≡ word ∷ second ∷ others)
 unfolding field_at
-word_first [] word two is = absurd (omega arith)
-word_first (x ∷ []) word two is = absurd (omega arith)
 word_first (x ∷ y ∷ ys) word two is = (y, ys, ap (λ w. w ∷ y ∷ ys) is)
+word_first other word two is = absurd (omega arith)
 
-place_of : (fields : List (List ℕ)) (q : Request) (hold : ℕ) → IsOfKind fields → book_row_of fields ≡ Ok (book_row.Place q hold) → StartsPlain fields
-place_of fields q hold (inl place) is =
-    let made = from_place fields (book_row.Place q hold) (sym place.1 ∙ is) in
+-- `row_of` reads a row of the base as the same row. The record of each other row begins with a plain
+-- word (`StartsPlain`).
+abbrev pub IsReadAs : List (List ℕ) → BookRow → Type 0
+IsReadAs fields (book_row.Base b) = row_of fields ≡ Ok b
+IsReadAs fields other = StartsPlain fields
+
+pub read_row : (fields : List (List ℕ)) (r : BookRow) → IsOfKind fields → book_row_of fields ≡ Ok r → IsReadAs fields r
+read_row fields r (inl place) is =
+    let made = from_place fields r (sym place.1 ∙ is) in
     let w = word_first fields (codes "place") (omega (arith, made.3)) place.0 in
-    record { a = 112; b = 108; c = 97; word = 99 ∷ 101 ∷ []; second = w.0; others = w.1; is = w.2; no_mark = refl; plain = refl }
-place_of fields q hold (inr (inl release)) is =
-    let made = from_release fields (book_row.Place q hold) (sym release.1 ∙ is) in absurd (let e : book_row.Place q hold ≡ book_row.Release made.0 = made.1 in cc)
-place_of fields q hold (inr (inr base)) is =
-    let made = of_base (row_of fields) (book_row.Place q hold) (sym base ∙ is) in absurd (let e : book_row.Place q hold ≡ book_row.Base made.0 = made.1 in cc)
-
-release_of : (fields : List (List ℕ)) (id : ℕ) → IsOfKind fields → book_row_of fields ≡ Ok (book_row.Release id) → StartsPlain fields
-release_of fields id (inl place) is =
-    let made = from_place fields (book_row.Release id) (sym place.1 ∙ is) in absurd (let e : book_row.Release id ≡ book_row.Place made.0 made.1 = made.2 in cc)
-release_of fields id (inr (inl release)) is =
-    let made = from_release fields (book_row.Release id) (sym release.1 ∙ is) in
+    subst (IsReadAs fields) (sym made.2) (record { a = 112; b = 108; c = 97; word = 99 ∷ 101 ∷ []; second = w.0; others = w.1; is = w.2; no_mark = refl; plain = refl })
+read_row fields r (inr (inl release)) is =
+    let made = from_release fields r (sym release.1 ∙ is) in
     let w = word_first fields (codes "release") (omega (arith, made.2)) release.0 in
-    record { a = 114; b = 101; c = 108; word = 101 ∷ 97 ∷ 115 ∷ 101 ∷ []; second = w.0; others = w.1; is = w.2; no_mark = refl; plain = refl }
-release_of fields id (inr (inr base)) is =
-    let made = of_base (row_of fields) (book_row.Release id) (sym base ∙ is) in absurd (let e : book_row.Release id ≡ book_row.Base made.0 = made.1 in cc)
+    subst (IsReadAs fields) (sym made.1) (record { a = 114; b = 101; c = 108; word = 101 ∷ 97 ∷ 115 ∷ 101 ∷ []; second = w.0; others = w.1; is = w.2; no_mark = refl; plain = refl })
+read_row fields r (inr (inr base)) is =
+    let made = of_base (row_of fields) r (sym base ∙ is) in
+    subst (IsReadAs fields) (sym made.1) made.2
 
 -- ---- rows that are answered one after the other
 
@@ -211,16 +184,12 @@ none_answered p s t same = (refl, same)
 abbrev opened : BookRunState → List Change → BookRunState
 opened s cs = record s { changes = cs }
 
-module _ (laws : ReadsRows) where
-  spelled : (bits : ℕ) → bits < 2 ^ 32 → SpellsMask (mask_text bits) bits
-  spelled bits small = (laws.masks (mask_text bits) bits).0 (laws.back bits small)
-
+module _ (laws : AreRowsReadBack) where
   -- The record of a change is answered with no line. It adds the change to the open changes.
   change_taken : (p : ℕ) (s : BookRunState) (c : Change) → IsChangeInRange c → book_answers p s (change_fields c) [] (after_open_change s c)
   unfolding book_row_of field_at
-  change_taken p s (change.Put link) range = rw (laws.puts link (mask_text link.group) range.0 (spelled link.group range.1)) (refl, refl)
-  change_taken p s (change.Remove from local) range = rw (laws.drops from local range.0 range.1) (refl, refl)
-  change_taken p s (change.Node router transit) range = rw (laws.nodes router transit range) (refl, refl)
+  change_taken p s (change.Put link) range = rw (change_row_of laws (change.Put link) range) (refl, refl)
+  change_taken p s other range = rw (change_row_of laws other range) (refl, refl)
 
   changes_taken : (cs : List Change) (p : ℕ) (s : BookRunState) → AllByRecursion IsChangeInRange cs → AreAnswered book_answers p s (map change_fields cs) [] (opened s (s.changes ++ cs))
   unfolding AreAnswered
@@ -248,7 +217,7 @@ module _ (laws : ReadsRows) where
   records_plain : (cs : List Change) (number count : ℕ) → AllByRecursion IsChangeInRange cs → number < 2 ^ 32 → count < 2 ^ 32
       → AllByRecursion IsPlainRecord (map change_fields cs ++ (end_fields number count ∷ []))
   records_plain [] number count range small few = (end_plain number count small few, tt)
-  records_plain (c ∷ cs) number count range small few = (change_plain c spelled range.0, records_plain cs number count range.1 small few)
+  records_plain (c ∷ cs) number count range small few = (change_plain laws c range.0, records_plain cs number count range.1 small few)
 
 -- ---- the texts of accepted rows
 
@@ -308,7 +277,15 @@ one_more_in_range (x ∷ cs) c range here = (range.0, one_more_in_range cs c ran
 same_changes : (s t : BookRunState) → t.changes ≡ s.changes → AreOpenInRange s → AreOpenInRange t
 same_changes s t same range = subst (AllByRecursion IsChangeInRange) (sym same) range
 
-module _ (laws : ReadsRows) where
+-- A refused row has no text for the writer `keep`, and leaves the book unchanged.
+refused_remakes : (s t : BookRunState) (text : List ℕ) → AreOpenInRange s → t ≡ after_refusal s → Remakes 1 s t (cond (t.book.version == s.book.version) [] text) × AreOpenInRange t
+refused_remakes s t text range after =
+    let opens = ap (λ (x : BookRunState). x.changes) after in (
+      nothing_kept s t text (ap (λ (x : BookRunState). x.book) after) (ap (λ (x : BookRunState). x.batches) after) (rw opens (omega arith)),
+      same_changes s t opens range,
+    )
+
+module _ (read : AreRowsRead) (laws : AreRowsReadBack) where
   batch_kept : (s t : BookRunState) (number count : ℕ) (line : List ℕ) → AreOpenInRange s → number < 2 ^ 32 → count < 2 ^ 32 → IsBaseAccepted s number count → AreBaseLines s number line
       → t ≡ after_base_batch s → Remakes 1 s t (cond (t.book.version == s.book.version) [] (text_of_step s (step.End number count)))
   batch_kept s t number count line range small few accepted lines after =
@@ -360,50 +337,36 @@ module _ (laws : ReadsRows) where
   -- as the row (`Remakes`).
   placed_remakes : (s t : BookRunState) (fields : List (List ℕ)) (q : Request) (hold : ℕ) (line : List ℕ) (x : IsPlaceAnswered s q hold line t.book) (answer : Answer) → IsAnswerPlaced s.book q hold answer t.book
       → t ≡ after_answer s t.book → book_row_of fields ≡ Ok (book_row.Place q hold) → Remakes 1 s t (cond (t.book.version == s.book.version) [] (row_text default_writer fields))
-  placed_remakes s t fields q hold line x unknown_from placed after is =
-      nothing_kept s t (row_text default_writer fields) placed (ap (λ (y : BookRunState). y.batches) after) (rw (ap (λ (y : BookRunState). y.changes) after) (omega arith))
-  placed_remakes s t fields q hold line x unknown_to placed after is =
-      nothing_kept s t (row_text default_writer fields) placed (ap (λ (y : BookRunState). y.batches) after) (rw (ap (λ (y : BookRunState). y.changes) after) (omega arith))
-  placed_remakes s t fields q hold line x no_route placed after is =
-      nothing_kept s t (row_text default_writer fields) placed (ap (λ (y : BookRunState). y.batches) after) (rw (ap (λ (y : BookRunState). y.changes) after) (omega arith))
   placed_remakes s t fields q hold line x (route walk) placed after is =
-      row_kept s t fields line (λ a. a + 1) placed.version (rw (ap (λ (y : BookRunState). y.changes) after) (omega arith)) (place_of fields q hold (kinds fields) is) (λ p a.
+      row_kept s t fields line (λ a. a + 1) placed.version (rw (ap (λ (y : BookRunState). y.changes) after) (omega arith)) (read_row fields (book_row.Place q hold) (kinds fields) is) (λ p a.
       subst (λ (r : Result BookRow RowError). IsBookRowAnswered p (bare s.book s.batches a) r line (bare t.book t.batches (a + 1))) (sym is)
       (inl (
         record { room = x.room; few = x.few; answer = x.answer; best = x.best; placed = x.placed; reply = x.reply },
         ap (λ (n : ℕ). bare t.book n (a + 1)) (ap (λ (y : BookRunState). y.batches) after),
       )))
+  placed_remakes s t fields q hold line x other placed after is =
+      nothing_kept s t (row_text default_writer fields) placed (ap (λ (y : BookRunState). y.batches) after) (rw (ap (λ (y : BookRunState). y.changes) after) (omega arith))
 
   row_remakes : (p : ℕ) (s t : BookRunState) (fields : List (List ℕ)) (r : Result BookRow RowError) (line : List ℕ) → AreOpenInRange s → book_row_of fields ≡ r → IsBookRowAnswered p s r line t
       → Remakes 1 s t (cond (t.book.version == s.book.version) [] (text_of_row s fields r)) × AreOpenInRange t
-  row_remakes p s t fields (Err e) line range is a =
-      let opens = ap (λ (x : BookRunState). x.changes) a.1 in (
-        nothing_kept s t [] (ap (λ (x : BookRunState). x.book) a.1) (ap (λ (x : BookRunState). x.batches) a.1) (rw opens (omega arith)),
-        same_changes s t opens range,
-      )
+  row_remakes p s t fields (Err e) line range is a = refused_remakes s t [] range a.1
   row_remakes p s t fields (Ok (book_row.Base b)) line range is a =
-      step_remakes s t (step_of b) line range (row_in_range fields b ((laws.read fields b).0 (base_of fields b (kinds fields) is))) a
+      step_remakes s t (step_of b) line range (row_in_range fields b ((read fields b).0 (read_row fields (book_row.Base b) (kinds fields) is))) a
   row_remakes p s t fields (Ok (book_row.Place q hold)) line range is (inl (x, after)) = (
     placed_remakes s t fields q hold line x x.answer x.placed after is,
     same_changes s t (ap (λ (y : BookRunState). y.changes) after) range,
   )
   row_remakes p s t fields (Ok (book_row.Place q hold)) line range is (inr (why, refused, line_is, after)) =
-      let opens = ap (λ (x : BookRunState). x.changes) after in (
-        nothing_kept s t (row_text default_writer fields) (ap (λ (x : BookRunState). x.book) after) (ap (λ (x : BookRunState). x.batches) after) (rw opens (omega arith)),
-        same_changes s t opens range,
-      )
+      refused_remakes s t (row_text default_writer fields) range after
   row_remakes p s t fields (Ok (book_row.Release id)) line range is (inl (room, has, line_is, after)) =
       let opens = ap (λ (x : BookRunState). x.changes) after in (
-        row_kept s t fields line (λ a. a) (ap (λ (x : BookRunState). x.book.version) after) (rw opens (omega arith)) (release_of fields id (kinds fields) is) (λ q a.
+        row_kept s t fields line (λ a. a) (ap (λ (x : BookRunState). x.book.version) after) (rw opens (omega arith)) (read_row fields (book_row.Release id) (kinds fields) is) (λ q a.
             subst (λ (r : Result BookRow RowError). IsBookRowAnswered q (bare s.book s.batches a) r line (bare t.book t.batches a)) (sym is)
             (inl (room, has, line_is, ap (λ (x : BookRunState). bare x.book x.batches a) after))),
         same_changes s t opens range,
       )
   row_remakes p s t fields (Ok (book_row.Release id)) line range is (inr (why, refused, line_is, after)) =
-      let opens = ap (λ (x : BookRunState). x.changes) after in (
-        nothing_kept s t (row_text default_writer fields) (ap (λ (x : BookRunState). x.book) after) (ap (λ (x : BookRunState). x.batches) after) (rw opens (omega arith)),
-        same_changes s t opens range,
-      )
+      refused_remakes s t (row_text default_writer fields) range after
 
 plain_append : (xs ys : List (List (List ℕ))) → AllByRecursion StartsPlain xs → AllByRecursion StartsPlain ys → AllByRecursion StartsPlain (xs ++ ys)
 plain_append [] ys a b = b
@@ -430,19 +393,19 @@ no_rows s t text none same = record {
   runs = λ a. (a, [], λ p. none_answered p (bare s.book s.batches a) (bare t.book t.batches a) (ap (λ (x : BookRunState). bare x.book x.batches a) same));
 }
 
-rows_remake : ReadsRows → (rows : List (List (List ℕ))) (p : ℕ) (s t : BookRunState) (text : List ℕ) → AreOpenInRange s → AreAnswered kept_answers p s rows text t → Remakes (length rows) s t text
+rows_remake : AreRowsRead → AreRowsReadBack → (rows : List (List (List ℕ))) (p : ℕ) (s t : BookRunState) (text : List ℕ) → AreOpenInRange s → AreAnswered kept_answers p s rows text t → Remakes (length rows) s t text
 unfolding AreAnswered
-rows_remake laws [] p s t text range a = no_rows s t text a.0 a.1
-rows_remake laws (fields ∷ rows) p s t text range (kept, next, more, (line, answer, kept_is), whole, rest) =
-    let first = row_remakes laws p s next fields (book_row_of fields) line range refl answer in
-    let others = rows_remake laws rows (suc p) next t more first.1 rest in
+rows_remake read laws [] p s t text range a = no_rows s t text a.0 a.1
+rows_remake read laws (fields ∷ rows) p s t text range (kept, next, more, (line, answer, kept_is), whole, rest) =
+    let first = row_remakes read laws p s next fields (book_row_of fields) line range refl answer in
+    let others = rows_remake read laws rows (suc p) next t more first.1 rest in
     let both = both_remake 1 (length rows) s next t (kept_of s fields next) more first.0 others in
     let count : 1 + length rows ≡ suc (length rows) = omega arith in
     rw (whole, kept_is) (subst (λ (n : ℕ). Remakes n s t (kept_of s fields next ++ more)) count both)
 
-pub kept_is_book : ReadsRows → KeptIsTheBook
-kept_is_book laws rows text t a =
-    let all = rows_remake laws rows 1 book_start t text tt a in
+pub kept_is_book : AreRowsRead → AreRowsReadBack → KeptIsTheBook
+kept_is_book read laws rows text t a =
+    let all = rows_remake read laws rows 1 book_start t text tt a in
     let run = all.runs 0 in
     let cut : rows_of text ≡ all.records = ap rows_of all.is ∙ kept_cut all.records all.plain in
     record {

@@ -1,16 +1,16 @@
 -- What goes to the accepted rows' writer `keep` for a row: the row's text if the row changes the
 -- version, and otherwise nothing.
-use Rattle.std.proofs.Common.{◌≡◌, ◌==◌, ℕ, ◌+◌, ◌≤◌, Bool, true, false, cond, List, [], length, Result, Ok, Err, inl, inr, refl, sym, ap, ◌∙◌, eq-eqb, arith}
+use Rattle.std.proofs.Common.{◌≡◌, ◌==◌, ℕ, ◌+◌, ◌≤◌, Bool, true, false, cond, List, [], length, Result, Ok, inl, inr, refl, sym, ap, ◌∙◌, eq-eqb, arith}
 use Rattle.std.proofs.lemmas.Bool.{false≢true}
 use Rattle.std.proofs.lemmas.List.{take_all}
 use Rattle.cspf_model.specs.declared.batch.Change.{Change}
 use Rattle.cspf_rows.specs.declared.row_error.RowError.{RowError}
 use Rattle.cspf_rows.specs.BatchText.{batch_text}
 use Rattle.cspf_stream.specs.RowCounts.{GrowsByOneAtMost}
-use Rattle.cspf_stream.specs.Steps.{step_of}
+use Rattle.cspf_rows.specs.Steps.{step_of}
 use Rattle.cspf_stream.specs.declared.rows.Rows.{Rows}
-use Rattle.cspf_stream.specs.declared.step.Step.{Step}
-use Rattle.cspf_stream.specs.declared.step.Step.TheVariants as step
+use Rattle.cspf_rows.specs.declared.step.Step.{Step}
+use Rattle.cspf_rows.specs.declared.step.Step.TheVariants as step
 use Rattle.cspf_book.specs.BookState.{BookState}
 use Rattle.cspf_book_run.specs.declared.book_row.BookRow.{BookRow}
 use Rattle.cspf_book_run.specs.declared.book_row.BookRow.TheVariants as book_row
@@ -31,17 +31,14 @@ stays s t P book other = absurd (false≢true (sym other ∙ eq-eqb t.book.versi
 -- `keep` is then `text_of_step` of this row.
 step_text : (s t : BookRunState) (row : Step) (line text : List ℕ) → IsBookStepAnswered s row line t → (t.book.version == s.book.version) ≡ false → IsTextOfStep s row text
     → text ≡ text_of_step s row
-step_text s t (step.Change c) line text a other is = is
-step_text s t (step.Ask q) line text a other is = is
 step_text s t (step.End number count) line text (inl (accepted, lines, after)) other is = is accepted.fits.short
 step_text s t (step.End number count) line text (inr (why, kept, refused, line_is, after)) other is = stays s t _ (ap (λ (x : BookRunState). x.book) after) other
+step_text s t row line text a other is = is
 
 row_text : (place : ℕ) (s t : BookRunState) (fields : List (List ℕ)) (r : Result BookRow RowError) (line text : List ℕ) → IsBookRowAnswered place s r line t
     → (t.book.version == s.book.version) ≡ false → IsTextOfRow s fields r text → text ≡ text_of_row s fields r
-row_text place s t fields (Err e) line text a other is = is
 row_text place s t fields (Ok (book_row.Base row)) line text a other is = step_text s t (step_of row) line text a other is
-row_text place s t fields (Ok (book_row.Place q hold)) line text a other is = is
-row_text place s t fields (Ok (book_row.Release id)) line text a other is = is
+row_text place s t fields r line text a other is = is
 
 either_text : (b : Bool) (raw whole : List ℕ) → (b ≡ false → raw ≡ whole) → cond b [] raw ≡ cond b [] whole
 either_text true raw whole same = refl

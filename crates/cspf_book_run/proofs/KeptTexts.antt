@@ -1,24 +1,20 @@
 -- If records are written as text for `keep`, the writer of accepted rows, this text is read as the
 -- same records.
-use Rattle.std.proofs.Common.{◌≡◌, ℕ, zero, suc, ◌≤◌, ◌<◌, ◌^◌, Bool, true, false, List, [], ◌∷◌, ◌++◌, length, refl, sym, ap, subst, ◌∙◌, append_assoc, arith}
+use Rattle.std.proofs.Common.{◌≡◌, ℕ, zero, suc, ◌≤◌, ◌<◌, ◌^◌, false, List, [], ◌∷◌, ◌++◌, length, refl, sym, ap, subst, ◌∙◌, arith}
 use Rattle.std.proofs.lemmas.List.{length-append}
-use Rattle.std.specs.Fmt.{decimal}
 use Rattle.std.specs.List.{flat_map, AllByRecursion}
 use Rattle.csv.specs.Reading.{default_config, records_from, strip_bom, is_bom}
-use Rattle.csv.specs.Writing.{default_writer, field_text, fields_text, row_text, is_blank}
+use Rattle.csv.specs.Writing.{default_writer, field_text, row_text}
 use Rattle.csv.specs.declared.parser.State.TheVariants as st
-use Rattle.csv.specs.Machine.{next_record}
 use Rattle.csv.proofs.RoundTrip.{read-write-many}
-use Rattle.cspf_addr.specs.MaskText.{SpellsMask, mask_text}
 use Rattle.cspf_model.specs.declared.batch.Change.{Change}
 use Rattle.cspf_model.specs.declared.batch.Change.TheVariants as change
-use Rattle.cspf_rows.specs.BatchText.{record_line, fields_after, change_fields}
-use Rattle.cspf_rows.specs.FieldValues.{flag_number}
+use Rattle.cspf_rows.specs.BatchText.{record_line, change_fields}
 use Rattle.cspf_rows.specs.JournalLaws.{IsChangeInRange}
 use Rattle.cspf_rows.specs.Records.{rows_of}
 use Rattle.cspf_rows.specs.Written.{end_fields}
-use Rattle.cspf_rows.proofs.Lines.{line_text-cons}
-use Rattle.cspf_rows.proofs.PlainFields.{IsUnquoted, AreUnquoted, decimal_unquoted, decimals_unquoted, address_unquoted, mask_unquoted}
+use Rattle.cspf_rows.proofs.BatchRecords.{AreRowsReadBack, change_unquoted, end_unquoted}
+use Rattle.cspf_rows.proofs.CutLines.{line_text-row_text, none_left}
 
 -- A record of at least two fields. The first field needs no quotes, and its first three bytes
 -- aren't a byte order mark.
@@ -32,12 +28,6 @@ pub record StartsPlain (fields : List (List ℕ)) : Type 0 where
   pub is : fields ≡ (a ∷ b ∷ c ∷ word) ∷ second ∷ others
   pub no_mark : is_bom a b c ≡ false
   pub plain : field_text default_writer (a ∷ b ∷ c ∷ word) ≡ a ∷ b ∷ c ∷ word
-
--- An empty text has no records.
-none_left : (n : ℕ) → records_from default_config n st.StartRecord [] ≡ []
-unfolding records_from next_record
-none_left zero = refl
-none_left (suc n) = refl
 
 next_row : (n : ℕ) (x y : List ℕ) (ys : List (List ℕ)) (tail : List ℕ)
     → records_from default_config (suc n) st.StartRecord (row_text default_writer (x ∷ y ∷ ys) ++ tail) ≡ (x ∷ y ∷ ys) ∷ records_from default_config n st.StartRecord tail
@@ -88,61 +78,29 @@ kept_cut rs h = rw (no_mark_rows rs h) (cut_rows _ rs (omega (arith, enough_byte
 
 -- ---- the records of a batch
 
-fields_text-unquoted : (xs : List (List ℕ)) → AreUnquoted xs → fields_text default_writer xs ≡ fields_after xs
-unfolding fields_text
-fields_text-unquoted [] h = refl
-fields_text-unquoted (x ∷ xs) h = rw h.0 (ap (λ rest. 44 ∷ (x ++ rest)) (fields_text-unquoted xs h.1))
-
--- If no field of a record needs quotes, `record_line` gives the text that `csv` writes for this
--- record.
-line_row : (x y : List ℕ) (ys : List (List ℕ)) → AreUnquoted (x ∷ y ∷ ys) → record_line (x ∷ y ∷ ys) ≡ row_text default_writer (x ∷ y ∷ ys)
-unfolding is_blank
-line_row x y ys h =
-    line_text-cons x (y ∷ ys)
-    ∙ rw (h.0, fields_text-unquoted (y ∷ ys) h.1) (sym (append_assoc x (fields_after (y ∷ ys)) (10 ∷ [])))
-
 -- `StartsPlain` holds for the record, and `record_line` gives the text that `csv` writes for it
 pub record IsPlainRecord (fields : List (List ℕ)) : Type 0 where
   pub starts : StartsPlain fields
   pub line : record_line fields ≡ row_text default_writer fields
 
-flag_unquoted : (flag : Bool) → IsUnquoted (decimal (flag_number flag))
-flag_unquoted true = decimal_unquoted 1 (omega arith)
-flag_unquoted false = decimal_unquoted 0 (omega arith)
-
-pub change_plain : (c : Change) → ((bits : ℕ) → bits < 2 ^ 32 → SpellsMask (mask_text bits) bits) → IsChangeInRange c → IsPlainRecord (change_fields c)
-change_plain (change.Put link) spelled range = record {
+pub change_plain : AreRowsReadBack → (c : Change) → IsChangeInRange c → IsPlainRecord (change_fields c)
+change_plain laws (change.Put link) range = record {
   starts = record { a = 112; b = 117; c = 116; word = []; second = _; others = _; is = refl; no_mark = refl; plain = refl };
-  line = line_row _ _ _ (
-    refl,
-    (
-      address_unquoted link.from,
-      (
-        address_unquoted link.local,
-        (
-          address_unquoted link.to,
-          (
-            address_unquoted link.remote,
-            (decimal_unquoted link.metric (omega (arith, range.0.metric)), (mask_unquoted _ _ (spelled link.group range.1), decimals_unquoted link.free (λ priority within. range.0.free priority (omega (arith, link.eight))))),
-          ),
-        ),
-      ),
-    ),
-  );
+  line = line_text-row_text _ _ _ (change_unquoted laws (change.Put link) range);
 }
-change_plain (change.Remove from local) spelled range = record {
+change_plain laws (change.Remove from local) range = record {
   starts = record { a = 100; b = 114; c = 111; word = 112 ∷ []; second = _; others = _; is = refl; no_mark = refl; plain = refl };
-  line = line_row _ _ _ (refl, (address_unquoted from, (address_unquoted local, tt)));
+  line = line_text-row_text _ _ _ (change_unquoted laws (change.Remove from local) range);
 }
-change_plain (change.Node router transit) spelled range = record {
+change_plain laws (change.Node router transit) range = record {
   starts = record { a = 110; b = 111; c = 100; word = 101 ∷ []; second = _; others = _; is = refl; no_mark = refl; plain = refl };
-  line = line_row _ _ _ (refl, (address_unquoted router, (flag_unquoted transit, tt)));
+  line = line_text-row_text _ _ _ (change_unquoted laws (change.Node router transit) range);
 }
 
 pub end_plain : (number count : ℕ) → number < 2 ^ 32 → count < 2 ^ 32 → IsPlainRecord (end_fields number count)
 end_plain number count small few = record {
   starts = record { a = 101; b = 110; c = 100; word = []; second = _; others = _; is = refl; no_mark = refl; plain = refl };
-  line = line_row _ _ _ (refl, (decimal_unquoted number (omega (arith, small)), (decimal_unquoted count (omega (arith, few)), tt)));
+  line = line_text-row_text _ _ _ (end_unquoted number count small few);
 }
 
 pub lines_rows : (rs : List (List (List ℕ))) → AllByRecursion IsPlainRecord rs → flat_map record_line rs ≡ flat_map (row_text default_writer) rs

@@ -1,6 +1,5 @@
 -- The lemmas of this crate's proofs.
 pub mod BookRowLemmas
-pub mod PlaceLines
 pub mod BookSteps
 pub mod PlaceSteps
 pub mod KeptSteps

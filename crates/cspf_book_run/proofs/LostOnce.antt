@@ -13,7 +13,7 @@ head_in x xs = (0, omega arith, refl)
 tail_in : {A : Type 0} (x : A) (xs : List A) (p : A) → Contains xs p → Contains (x ∷ xs) p
 tail_in x xs p (k, within, at) = (suc k, omega arith, at)
 
-cases_in : {A : Type 0} (x : A) (xs : List A) (p : A) → Contains (x ∷ xs) p → (p ≡ x) ⊎ Contains xs p
+pub cases_in : {A : Type 0} (x : A) (xs : List A) (p : A) → Contains (x ∷ xs) p → (p ≡ x) ⊎ Contains xs p
 cases_in x xs p (zero, within, at) = inl (sym at)
 cases_in x xs p (suc k, within, at) = inr (k, omega arith, at)
 

@@ -1,6 +1,6 @@
 -- The `over` lines of a base batch are exactly the lines of the links that the batch sets with too
 -- little bandwidth.
-use Rattle.std.proofs.Common.{◌≡◌, ◌⊎◌, ℕ, zero, suc, ◌+◌, ◌<◌, true, false, cond, Some, None, List, [], ◌∷◌, ◌++◌, map, filter, slice_index, inl, inr, refl, sym, ap, subst, ◌∙◌, append_assoc, append-nil, lit<, arith}
+use Rattle.std.proofs.Common.{◌≡◌, ℕ, zero, suc, ◌+◌, ◌<◌, true, false, cond, Some, None, List, [], ◌∷◌, ◌++◌, map, filter, slice_index, inl, inr, refl, sym, ap, subst, ◌∙◌, append_assoc, append-nil, lit<, arith}
 use Rattle.std.proofs.lemmas.Bool.{ltb-true}
 use Rattle.std.proofs.lemmas.List.Elements.{All-contains, All-from_recursion, Contains-append_cases, Contains-append_left, Contains-append_right}
 use Rattle.std.specs.FinMap.{get-empty, get-insert}
@@ -22,6 +22,7 @@ use Rattle.cspf_book.specs.Laws.{AbsorbingKeepsCovered}
 use Rattle.cspf_book_run.specs.BookLines.{over_line, lost_line, base_line}
 use Rattle.cspf_book_run.specs.BookScriptLaws.{IsSaidOver, IsPutShort, BaseLinesAreExact}
 use Rattle.cspf_book_run.proofs.BookCovered.{said_among, said_first}
+use Rattle.cspf_book_run.proofs.LostOnce.{cases_in}
 use Rattle.cspf_book_run.proofs.OverTexts.{words, words_once, named_among}
 
 -- The database without links has no link.
@@ -39,18 +40,14 @@ module _ (placements : List Placement) where
   abbrev IsShortAt : Link → Over → ℕ → Type 0
   IsShortAt m y p = (p < 8) × (is_over placements m p ≡ true) × (over_at m p ≡ y)
 
-  head : (x y : Over) (zs : List Over) → Contains (x ∷ zs) y → (x ≡ y) ⊎ Contains zs y
-  head x y zs (zero, within, is) = inl is
-  head x y zs (suc k, within, is) = inr (k, omega arith, is)
-
   kept : (m : Link) (y : Over) (ps : List ℕ) → AllByRecursion (λ p. p < 8) ps → Contains (map (over_at m) (filter (is_over placements m) ps)) y
       → (p : ℕ) × IsShortAt m y p
   kept m y [] all (k, within, is) = absurd (omega arith)
   kept m y (p ∷ ps) all there =
       elim (is_over placements m p) as (λ b. is_over placements m p ≡ b → Contains (map (over_at m) (cond b (p ∷ filter (is_over placements m) ps) (filter (is_over placements m) ps))) y → (n : ℕ) × IsShortAt m y n) [
         | true ↦ λ short has.
-            elim (head (over_at m p) y (map (over_at m) (filter (is_over placements m) ps)) has) [
-              | inl here ↦ (p, (all.0, short, here))
+            elim (cases_in (over_at m p) (map (over_at m) (filter (is_over placements m) ps)) y has) [
+              | inl here ↦ (p, (all.0, short, sym here))
               | inr later ↦ kept m y ps all.1 later
             ]
         | false ↦ λ _ has. kept m y ps all.1 has
@@ -63,8 +60,7 @@ module _ (placements : List Placement) where
 
   by_change : (c : Change) (cs : List Change) (y : Over) → Contains (over_by placements c) y → (m : Link) × IsEntry (c ∷ cs) y m
   by_change (Put m) cs y here = let entry = kept m y priorities all_below here in (m, ((0, omega arith, refl), entry.0, entry.1))
-  by_change (Remove from local) cs y here = absurd (omega (arith, here.1))
-  by_change (Node router transit) cs y here = absurd (omega (arith, here.1))
+  by_change other cs y here = absurd (omega (arith, here.1))
 
   put_short : (changes : List Change) (y : Over) → Contains (over placements changes) y → (m : Link) × IsEntry changes y m
   put_short [] y (k, within, is) = absurd (omega arith)

@@ -1,6 +1,5 @@
 -- Only the lines of a base batch include `over` lines, which report too little bandwidth.
-use Rattle.std.proofs.Common.{◌≡◌, ℕ, zero, suc, ◌+◌, ◌/◌, ◌%◌, ◌≤◌, Bool, true, false, cond, not, ◌&&◌, ◌==◌, List, [], ◌∷◌, ◌++◌, codes, slice_index, length, Result, Ok, Err, inl, inr, refl, sym, ap, subst, ◌∙◌, append_assoc, append-nil, arith}
-use Rattle.std.proofs.lemmas.Bool.{and_parts}
+use Rattle.std.proofs.Common.{◌≡◌, ℕ, zero, suc, ◌+◌, ◌/◌, ◌%◌, ◌≤◌, Bool, true, false, ◌==◌, List, [], ◌∷◌, ◌++◌, codes, slice_index, length, Result, Ok, Err, inl, inr, refl, sym, ap, subst, ◌∙◌, append_assoc, append-nil, arith}
 use Rattle.std.specs.Fmt.{decimal}
 use Rattle.hex.specs.Hex.{encode_with, encode_lower, lower_digits}
 use Rattle.cspf_addr.specs.declared.hop_reader.HopsError.TheVariants as hops
@@ -19,11 +18,11 @@ use Rattle.cspf_rows.specs.declared.row_error.RowError.{RowError}
 use Rattle.cspf_rows.specs.declared.row_error.RowError.TheVariants as error
 use Rattle.cspf_stream.specs.BatchWords.{unfit_words, batch_words}
 use Rattle.cspf_stream.specs.RowAnswers.{AreAnswered}
-use Rattle.cspf_stream.specs.Steps.{step_of}
+use Rattle.cspf_rows.specs.Steps.{step_of}
 use Rattle.cspf_stream.specs.declared.batch_refusal.BatchRefusal.{BatchRefusal}
 use Rattle.cspf_stream.specs.declared.batch_refusal.BatchRefusal.TheVariants as refusal
-use Rattle.cspf_stream.specs.declared.step.Step.{Step}
-use Rattle.cspf_stream.specs.declared.step.Step.TheVariants as step
+use Rattle.cspf_rows.specs.declared.step.Step.{Step}
+use Rattle.cspf_rows.specs.declared.step.Step.TheVariants as step
 use Rattle.cspf_book.specs.OverLinks.{over_at}
 use Rattle.cspf_book_run.specs.BookLines.{over_line, IsPlaceReply, place_words, release_words}
 use Rattle.cspf_book_run.specs.BookRows.{book_row_of}
@@ -35,48 +34,9 @@ use Rattle.cspf_book_run.specs.declared.refusals.PlaceRefusal.{PlaceRefusal}
 use Rattle.cspf_book_run.specs.declared.refusals.PlaceRefusal.TheVariants as unplaced
 use Rattle.cspf_book_run.specs.declared.refusals.ReleaseRefusal.{ReleaseRefusal}
 use Rattle.cspf_book_run.specs.declared.refusals.ReleaseRefusal.TheVariants as unreleased
-use Rattle.cspf_book_run.proofs.OverTexts.{IsFree, each_false, letter_o, free_decimal, words, Skips, skips_none, skips_byte, skips_free, skips_append, none_left}
-
--- ---- texts in which no `v` directly follows an `o`
-
--- The text isn't empty, and its first byte isn't `v`.
-abbrev is_other : List ℕ → Bool
-is_other [] = false
-is_other (d ∷ text) = not (d == 118)
-
--- Each letter `o` in the text is followed by a byte that isn't `v`.
-abbrev is_plain : List ℕ → Bool
-is_plain [] = true
-is_plain (c ∷ text) = cond (c == 111) (is_other text) true && is_plain text
-
-second_apart : (text rest z : List ℕ) → is_other text ≡ true → text ++ rest ≡ 118 ∷ z → ⊥
-second_apart [] rest z other same = absurd (cc)
-second_apart (d ∷ text) rest z other same =
-    let head : d ≡ 118 = cc in
-    let none : false ≡ true = subst (λ n. not (n == 118) ≡ true) head other in absurd (cc)
-
-skips_plain : (text : List ℕ) → is_plain text ≡ true → Skips text
-skips_plain [] plain rest before z same = skips_none rest before z same
-skips_plain (c ∷ text) plain rest [] z same =
-    let head : c ≡ 111 = cc in
-    let tail : text ++ rest ≡ 118 ∷ z = cc in
-    let parts = and_parts (cond (c == 111) (is_other text) true) (is_plain text) plain in
-    let other : is_other text ≡ true = subst (λ n. cond (n == 111) (is_other text) true ≡ true) head parts.0 in
-    absurd (second_apart text rest z other tail)
-skips_plain (c ∷ text) plain rest (b ∷ before) z same =
-    let tail : text ++ rest ≡ before ++ 111 ∷ 118 ∷ z = cc in
-    skips_plain text (and_parts (cond (c == 111) (is_other text) true) (is_plain text) plain).1 rest before z tail
+use Rattle.cspf_book_run.proofs.OverTexts.{IsFree, each_false, words, Skips, skips_none, skips_byte, skips_append, is_plain, skips_plain, skips_number, named, word_after, versioned, none_left}
 
 -- ---- the parts of lines
-
-skips_number : (n : ℕ) → Skips (decimal n)
-skips_number n = skips_free (decimal n) (free_decimal 111 letter_o n)
-
-named : (name : List ℕ) (n : ℕ) → is_plain name ≡ true → Skips (name ++ decimal n)
-named name n plain = skips_append name (decimal n) (skips_plain name plain) (skips_number n)
-
-word_after : (text word : List ℕ) → Skips text → is_plain word ≡ true → Skips (text ++ word)
-word_after text word skips plain = skips_append text word skips (skips_plain word plain)
 
 free_at : (digits : List ℕ) (n : ℕ) → IsFree 111 digits → (slice_index digits n == 111) ≡ false
 free_at [] n free = refl
@@ -96,53 +56,35 @@ skips_hex (byte ∷ bytes) =
 
 skips_ero : (e : EroError) → Skips (ero_words e)
 skips_ero ero.Short = skips_plain (codes "short") refl
-skips_ero ero.Length = skips_plain (codes "length") refl
-skips_ero ero.Class = skips_plain (codes "class") refl
-skips_ero ero.Empty = skips_plain (codes "empty") refl
-skips_ero ero.TooManyHops = skips_plain (codes "count") refl
-skips_ero (ero.Unsupported at kind) = skips_plain (codes "unsupported") refl
-skips_ero (ero.Sublength at) = skips_plain (codes "sublength") refl
-skips_ero (ero.PrefixLength at) = skips_plain (codes "prefix-length") refl
+skips_ero other = skips_plain (ero_words other) refl
 
 skips_hops : (f : HopsFault) → Skips (hops_words f)
 skips_hops (fault.Text (hops.BadHop at)) = skips_number at
-skips_hops (fault.Text hops.TooManyHops) = skips_plain (codes "count") refl
-skips_hops fault.Hex = skips_plain (codes "hex") refl
 skips_hops (fault.Ero why) = skips_append (codes "ero ") (ero_words why) (skips_plain (codes "ero ") refl) (skips_ero why)
+skips_hops other = skips_plain (hops_words other) refl
 
 skips_row : (e : RowError) → Skips (row_words e)
-skips_row error.Kind = skips_plain (codes "kind") refl
-skips_row error.Fields = skips_plain (codes "fields") refl
 skips_row (error.Number field) = named (codes "number ") field refl
 skips_row (error.Address field) = named (codes "address ") field refl
 skips_row (error.Mask field) = named (codes "mask ") field refl
-skips_row error.Priority = skips_plain (codes "priority") refl
 skips_row (error.Hops f) = skips_append (codes "hops ") (hops_words f) (skips_plain (codes "hops ") refl) (skips_hops f)
-skips_row error.SelfLink = skips_plain (codes "self-link") refl
-skips_row error.SameEnds = skips_plain (codes "same-ends") refl
+skips_row other = skips_plain (row_words other) refl
 
 skips_unfit : (why : Refusal) → Skips (unfit_words why)
-skips_unfit unfit.TooLong = skips_plain (codes "long") refl
 skips_unfit (unfit.Duplicate at) = named (codes "duplicate ") at refl
 skips_unfit (unfit.Absent at) = named (codes "absent ") at refl
-skips_unfit unfit.Full = skips_plain (codes "full") refl
-skips_unfit unfit.TooManyRouters = skips_plain (codes "routers") refl
-skips_unfit unfit.TooManyMarks = skips_plain (codes "marks") refl
+skips_unfit other = skips_plain (unfit_words other) refl
 
 skips_batch : (why : BatchRefusal) → Skips (batch_words why)
-skips_batch refusal.Stopped = skips_plain (codes "stopped") refl
-skips_batch refusal.Exhausted = skips_plain (codes "exhausted") refl
 skips_batch (refusal.WrongNumber expected) = named (codes "expected ") expected refl
 skips_batch (refusal.WrongCount counted) = named (codes "counted ") counted refl
 skips_batch (refusal.Unfit why) = skips_unfit why
-skips_batch refusal.Memory = skips_plain (codes "memory") refl
 skips_batch (refusal.Journal written) = named (codes "journal ") written refl
+skips_batch other = skips_plain (batch_words other) refl
 
 skips_unplaced : (why : PlaceRefusal) → Skips (place_words why)
 skips_unplaced unplaced.Exhausted = skips_plain (codes "exhausted") refl
-skips_unplaced unplaced.Full = skips_plain (codes "full") refl
-skips_unplaced unplaced.Links = skips_plain (codes "links") refl
-skips_unplaced unplaced.Twice = skips_plain (codes "twice") refl
+skips_unplaced other = skips_plain (place_words other) refl
 
 skips_unreleased : (why : ReleaseRefusal) → Skips (release_words why)
 skips_unreleased unreleased.Exhausted = skips_plain (codes "exhausted") refl
@@ -183,12 +125,6 @@ skips_answer (route links) text is =
     subst (λ (x : List ℕ). Skips (x ++ codes "\n")) (sym is.words)
     (word_after (measures ++ encode_lower (object_of links)) (codes "\n")
     (skips_append measures (encode_lower (object_of links)) (skips_measures (cost_of links) (length links) is.again) (skips_hex (object_of links))) refl)
-
--- A text consists of a word, a number, ` v` and a version. If `is_plain` holds for the word, no
--- `ov` starts within the text (`Skips`).
-versioned : (name : List ℕ) (n version : ℕ) → is_plain name ≡ true → Skips (name ++ decimal n ++ codes " v" ++ decimal version)
-versioned name n version plain =
-    skips_append (name ++ decimal n ++ codes " v") (decimal version) (word_after (name ++ decimal n) (codes " v") (named name n plain) refl) (skips_number version)
 
 skips_reply : (id version : ℕ) (answer : Answer) (line : List ℕ) → IsReply id version answer line → Skips line
 skips_reply id version answer line (text, is, whole) =

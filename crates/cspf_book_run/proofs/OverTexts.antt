@@ -1,7 +1,7 @@
 -- If an `over` line is found in the lines of a base batch, it is one of the `over` lines that the
 -- batch wrote. An `over` line reports too little bandwidth.
-use Rattle.std.proofs.Common.{◌≡◌, ◌≢◌, ℕ, zero, suc, ◌+◌, ◌/◌, ◌%◌, ◌<◌, ◌^◌, Bool, true, false, cond, ◌||◌, ◌==◌, List, [], ◌∷◌, ◌++◌, map, codes, refl, sym, ◌∙◌, append_assoc, append-nil, lt-ltb, ne_eqb, arith}
-use Rattle.std.proofs.lemmas.Bool.{eqb-false}
+use Rattle.std.proofs.Common.{◌≡◌, ◌≢◌, ℕ, zero, suc, ◌+◌, ◌/◌, ◌%◌, ◌<◌, ◌^◌, Bool, true, false, cond, not, ◌||◌, ◌&&◌, ◌==◌, List, [], ◌∷◌, ◌++◌, map, codes, refl, sym, subst, ◌∙◌, append_assoc, append-nil, lt-ltb, ne_eqb, arith}
+use Rattle.std.proofs.lemmas.Bool.{and_parts, eqb-false}
 use Rattle.std.proofs.lemmas.Fmt.{decimal_injective}
 use Rattle.std.proofs.lemmas.List.{append_cancel_left}
 use Rattle.std.proofs.lemmas.List.Folds.{list_any-append}
@@ -101,9 +101,6 @@ cut_once mark (c ∷ u) (d ∷ v) r q a b same =
 abbrev pub words : Over → List ℕ
 words o = codes "er " ++ address_text o.from ++ codes "," ++ address_text o.local ++ codes " " ++ decimal o.priority
 
-words_of : (o : Over) → over_line o ≡ 111 ∷ 118 ∷ (words o ++ 10 ∷ [])
-words_of o = refl
-
 module _ (mark : ℕ) (no : IsMark mark) (word : IsFree mark (codes "er ")) (between : IsFree mark (codes ",")) (blank : IsFree mark (codes " ")) where
   free_words : (o : Over) → IsFree mark (words o)
   free_words o =
@@ -157,20 +154,53 @@ pub skips_append : (v w : List ℕ) → Skips v → Skips w → Skips (v ++ w)
 skips_append v w first second rest before z same =
     let one = first (w ++ rest) before z (sym (append_assoc v w rest) ∙ same) in second rest one.0 z one.1
 
--- Let the byte `c` be neither `v` nor `o`. If no `ov` starts within a text (`Skips`), no `ov`
--- starts within an `o`, the byte `c` and this text together.
-skips_o : (c : ℕ) (text : List ℕ) → c ≢ 118 → (c == 111) ≡ false → Skips text → Skips (111 ∷ c ∷ text)
-skips_o c text other apart skips rest [] z same = let second : c ≡ 118 = cc in absurd (other second)
-skips_o c text other apart skips rest (b ∷ before) z same =
-    let tail : (c ∷ text) ++ rest ≡ before ++ 111 ∷ 118 ∷ z = cc in skips_byte c text apart skips rest before z tail
+-- ---- texts in which no `v` directly follows an `o`
+
+-- The text isn't empty, and its first byte isn't `v`.
+abbrev pub is_other : List ℕ → Bool
+is_other [] = false
+is_other (d ∷ text) = not (d == 118)
+
+-- Each letter `o` in the text is followed by a byte that isn't `v`.
+abbrev pub is_plain : List ℕ → Bool
+is_plain [] = true
+is_plain (c ∷ text) = cond (c == 111) (is_other text) true && is_plain text
+
+second_apart : (text rest z : List ℕ) → is_other text ≡ true → text ++ rest ≡ 118 ∷ z → ⊥
+second_apart [] rest z other same = absurd (cc)
+second_apart (d ∷ text) rest z other same =
+    let head : d ≡ 118 = cc in
+    let none : false ≡ true = subst (λ n. not (n == 118) ≡ true) head other in absurd (cc)
+
+pub skips_plain : (text : List ℕ) → is_plain text ≡ true → Skips text
+skips_plain [] plain rest before z same = skips_none rest before z same
+skips_plain (c ∷ text) plain rest [] z same =
+    let head : c ≡ 111 = cc in
+    let tail : text ++ rest ≡ 118 ∷ z = cc in
+    let parts = and_parts (cond (c == 111) (is_other text) true) (is_plain text) plain in
+    let other : is_other text ≡ true = subst (λ n. cond (n == 111) (is_other text) true ≡ true) head parts.0 in
+    absurd (second_apart text rest z other tail)
+skips_plain (c ∷ text) plain rest (b ∷ before) z same =
+    let tail : text ++ rest ≡ before ++ 111 ∷ 118 ∷ z = cc in
+    skips_plain text (and_parts (cond (c == 111) (is_other text) true) (is_plain text) plain).1 rest before z tail
+
+pub skips_number : (n : ℕ) → Skips (decimal n)
+skips_number n = skips_free (decimal n) (free_decimal 111 letter_o n)
+
+pub named : (name : List ℕ) (n : ℕ) → is_plain name ≡ true → Skips (name ++ decimal n)
+named name n plain = skips_append name (decimal n) (skips_plain name plain) (skips_number n)
+
+pub word_after : (text word : List ℕ) → Skips text → is_plain word ≡ true → Skips (text ++ word)
+word_after text word skips plain = skips_append text word skips (skips_plain word plain)
+
+-- A text consists of a word, a number, ` v` and a version. If `is_plain` holds for the word, no
+-- `ov` starts within the text (`Skips`).
+pub versioned : (name : List ℕ) (n version : ℕ) → is_plain name ≡ true → Skips (name ++ decimal n ++ codes " v" ++ decimal version)
+versioned name n version plain =
+    skips_append (name ++ decimal n ++ codes " v") (decimal version) (word_after (name ++ decimal n) (codes " v") (named name n plain) refl) (skips_number version)
 
 skips_lost : (id : ℕ) → Skips (lost_line id)
-skips_lost id =
-    skips_append (codes "lost " ++ decimal id) (codes "\n")
-    (skips_append (codes "lost ") (decimal id)
-    (skips_byte 108 (codes "ost ") refl (skips_o 115 (codes "t ") (λ same. omega (arith, same)) refl (skips_free (codes "t ") refl)))
-    (skips_free (decimal id) (free_decimal 111 letter_o id)))
-    (skips_free (codes "\n") refl)
+skips_lost id = word_after (codes "lost " ++ decimal id) (codes "\n") (named (codes "lost ") id refl) refl
 
 skips_losts : (ids : List ℕ) → Skips (flat_map lost_line ids)
 skips_losts [] = skips_none
@@ -178,11 +208,7 @@ skips_losts (id ∷ ids) = skips_append (lost_line id) (flat_map lost_line ids) 
 
 skips_base : (number version : ℕ) → Skips (base_line number version)
 skips_base number version =
-    skips_free (base_line number version)
-    (free_append 111 letter_o (codes "base " ++ decimal number ++ codes " v" ++ decimal version) (codes "\n")
-    (free_append 111 letter_o (codes "base " ++ decimal number ++ codes " v") (decimal version)
-    (free_append 111 letter_o (codes "base " ++ decimal number) (codes " v")
-    (free_append 111 letter_o (codes "base ") (decimal number) refl (free_decimal 111 letter_o number)) refl) (free_decimal 111 letter_o version)) refl)
+    word_after (codes "base " ++ decimal number ++ codes " v" ++ decimal version) (codes "\n") (versioned (codes "base ") number version refl) refl
 
 pub none_left : (other z : List ℕ) → [] ≡ other ++ 111 ∷ 118 ∷ z → ⊥
 none_left [] z same = cc

@@ -6,7 +6,6 @@ use Rattle.std.specs.FinMap.{empty, insert, get-insert}
 use Rattle.std.specs.List.{AllByRecursion, Contains, flat_map}
 use Rattle.std.specs.Ordering.{eq_by_cmp}
 use Rattle.cspf_addr.specs.AddressText.{IsAddressTextInjective}
-use Rattle.cspf_model.specs.declared.batch.Change.{Change}
 use Rattle.cspf_model.specs.declared.batch.Change.TheVariants.{Put}
 use Rattle.cspf_model.specs.declared.link.Link.{Link}
 use Rattle.cspf_model.specs.Changes.{after_change, no_links}
@@ -212,7 +211,7 @@ other_link_is_no_excuse one =
     let routers : router 1 ≡ router 2 = sym is.0 ∙ equal.0 in
     omega (arith, routers))
 
-only_one : (x y : Over) → Contains (x ∷ []) y → x ≡ y
+only_one : {A : Type 0} (x y : A) → Contains (x ∷ []) y → x ≡ y
 only_one x y (zero, within, is) = is
 only_one x y (suc k, within, is) = absurd (omega arith)
 
@@ -226,10 +225,6 @@ other_priority_is_no_excuse one =
     omega (arith, numbers))
 
 -- ---- the law of exact `over` lines refuses the last wrong run
-
-only_change : (c d : Change) → Contains (c ∷ []) d → c ≡ d
-only_change c d (zero, within, is) = is
-only_change c d (suc k, within, is) = absurd (omega arith)
 
 pub untrue_over_is_refused : UntrueOverIsRefused
 untrue_over_is_refused = (
@@ -246,7 +241,7 @@ untrue_over_is_refused = (
   λ exact.
       let line : List ℕ = over_line (over_at (right_link 1000) 3) in
       let short = (exact (right_link 1000) 3 (lit< tt) (lit< tt) (lit< tt)).0 ([], base_line 2 3, ap (λ (z : List ℕ). z ++ base_line 2 3) (append-nil line)) in
-      let same : Put (right_link 1000) ≡ Put short.0 = only_change (Put (right_link 1000)) (Put short.0) short.1 in
+      let same : Put (right_link 1000) ≡ Put short.0 = only_one (Put (right_link 1000)) (Put short.0) short.1 in
       let one : right_link 1000 ≡ short.0 = cc in
       let less : 1000 < 600 = subst (λ (m : Link). slice_index m.free 3 < counted (holding 1 ∷ []) (key_of m) 3) (sym one) short.3 in
       omega (arith, less),

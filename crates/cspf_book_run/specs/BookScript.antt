@@ -17,9 +17,9 @@ use Rattle.cspf_stream.specs.EndRows.{IsBatchAccepted, IsBatchRefusal}
 use Rattle.cspf_stream.specs.Lines.{refused_batch_line, last_line}
 use Rattle.cspf_stream.specs.RefusedRows.{refused_row_line}
 use Rattle.cspf_stream.specs.RowAnswers.{AnswersOf, AreAnswered}
-use Rattle.cspf_stream.specs.Steps.{step_of}
-use Rattle.cspf_stream.specs.declared.step.Step.{Step}
-use Rattle.cspf_stream.specs.declared.step.Step.TheVariants as step
+use Rattle.cspf_rows.specs.Steps.{step_of}
+use Rattle.cspf_rows.specs.declared.step.Step.{Step}
+use Rattle.cspf_rows.specs.declared.step.Step.TheVariants as step
 use Rattle.cspf_solve.specs.declared.summary.Summary.{Summary}
 use Rattle.cspf_solve.specs.Script.{is_too_many, unended_count}
 use Rattle.cspf_book.specs.declared.error.PlaceError.TheVariants.{Full, TooManyLinks, Twice}

@@ -14,9 +14,8 @@ use Rattle.cspf_book_run.specs.BookScript.{BookRunState}
 -- A claim that is true of each row that is read. In a `place` row, the setup priority is 7 and the
 -- holding priority is at most 7.
 abbrev pub IsReadable : BookRow → Type 0
-IsReadable (book_row.Base row) = Unit {0}
 IsReadable (book_row.Place q hold) = (q.setup ≡ 7) × (hold < 8)
-IsReadable (book_row.Release id) = Unit {0}
+IsReadable other = Unit {0}
 
 -- The code's rows store the state `s` of the run.
 pub record KeepsBook (k : Rows BookSink) (s : BookRunState) : Type 0 where

@@ -6,9 +6,9 @@ use Rattle.cspf_rows.specs.declared.limits.TheConstants.{MOST_ROWS}
 use Rattle.cspf_rows.specs.declared.row_error.RowError.{RowError}
 use Rattle.cspf_rows.specs.BatchText.{batch_text}
 use Rattle.cspf_stream.specs.RowAnswers.{AnswersOf, AreAnswered}
-use Rattle.cspf_stream.specs.Steps.{step_of}
-use Rattle.cspf_stream.specs.declared.step.Step.{Step}
-use Rattle.cspf_stream.specs.declared.step.Step.TheVariants as step
+use Rattle.cspf_rows.specs.Steps.{step_of}
+use Rattle.cspf_rows.specs.declared.step.Step.{Step}
+use Rattle.cspf_rows.specs.declared.step.Step.TheVariants as step
 use Rattle.cspf_book_run.specs.BookRows.{book_row_of}
 use Rattle.cspf_book_run.specs.BookScript.{BookRunState, book_answers, book_start, open_base_batch}
 use Rattle.cspf_book_run.specs.declared.book_row.BookRow.{BookRow}
@@ -18,17 +18,15 @@ use Rattle.cspf_book_run.specs.declared.book_row.BookRow.TheVariants as book_row
 -- version of the book. For an end row, this is the text of its whole batch. For other rows, it is
 -- empty.
 abbrev pub text_of_step : BookRunState → Step → List ℕ
-text_of_step s (step.Change c) = []
 text_of_step s (step.End number count) = batch_text (open_base_batch s number)
-text_of_step s (step.Ask q) = []
+text_of_step s other = []
 
 -- The text that goes to `keep`, the writer of accepted rows, for a row that makes a new version of
 -- the book. For a `place` or `release` row, this is the text of the row itself.
 abbrev pub text_of_row : BookRunState → List (List ℕ) → Result BookRow RowError → List ℕ
 text_of_row s fields (Err e) = []
 text_of_row s fields (Ok (book_row.Base row)) = text_of_step s (step_of row)
-text_of_row s fields (Ok (book_row.Place q hold)) = row_text default_writer fields
-text_of_row s fields (Ok (book_row.Release id)) = row_text default_writer fields
+text_of_row s fields (Ok other) = row_text default_writer fields
 
 -- The text that goes to the writer `keep` for the row with these fields. `s` is the state before
 -- the row, and `t` is the state after the row. A row is accepted if it makes a new version of the

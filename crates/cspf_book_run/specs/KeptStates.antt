@@ -1,13 +1,13 @@
 -- Private: the state of a run that writes accepted rows to a writer `keep`, and how the answer to
 -- one row changes this state.
-use Rattle.std.specs.Prelude.{◌≡◌, ℕ, ◌<◌, ◌≤◌, Bool, List, take, length, Option, Result, Ok, Err}
+use Rattle.std.specs.Prelude.{◌≡◌, ℕ, ◌<◌, ◌≤◌, Bool, List, take, length, Option, Result, Ok}
 use Rattle.std.specs.Io.KnownBytes.{Appends}
 use Rattle.std.specs.Io.KnownBytes as known
 use Rattle.cspf_model.specs.declared.limits.TheConstants.{MOST_CHANGES}
 use Rattle.cspf_rows.specs.declared.row_error.RowError.{RowError}
-use Rattle.cspf_stream.specs.Steps.{step_of}
-use Rattle.cspf_stream.specs.declared.step.Step.{Step}
-use Rattle.cspf_stream.specs.declared.step.Step.TheVariants as step
+use Rattle.cspf_rows.specs.Steps.{step_of}
+use Rattle.cspf_rows.specs.declared.step.Step.{Step}
+use Rattle.cspf_rows.specs.declared.step.Step.TheVariants as step
 use Rattle.cspf_book_run.specs.declared.book_row.BookRow.{BookRow}
 use Rattle.cspf_book_run.specs.declared.book_row.BookRow.TheVariants as book_row
 use Rattle.cspf_stream.specs.Lines.{last_line}
@@ -24,16 +24,13 @@ use Rattle.cspf_book_run.specs.Kept.{text_of_step, text_of_row, kept_of}
 -- For an end row after more changes than a batch may have, `text` may be any text, because this
 -- batch isn't accepted.
 abbrev pub IsTextOfStep : BookRunState → Step → List ℕ → Type 0
-IsTextOfStep s (step.Change c) text = text ≡ text_of_step s (step.Change c)
 IsTextOfStep s (step.End number count) text = length s.changes ≤ MOST_CHANGES → text ≡ text_of_step s (step.End number count)
-IsTextOfStep s (step.Ask q) text = text ≡ text_of_step s (step.Ask q)
+IsTextOfStep s other text = text ≡ text_of_step s other
 
 -- `text` is the text that goes to the writer `keep` for a row, if the row is accepted.
 abbrev pub IsTextOfRow : BookRunState → List (List ℕ) → Result BookRow RowError → List ℕ → Type 0
-IsTextOfRow s fields (Err e) text = text ≡ text_of_row s fields (Err e)
 IsTextOfRow s fields (Ok (book_row.Base row)) text = IsTextOfStep s (step_of row) text
-IsTextOfRow s fields (Ok (book_row.Place q hold)) text = text ≡ text_of_row s fields (Ok (book_row.Place q hold))
-IsTextOfRow s fields (Ok (book_row.Release id)) text = text ≡ text_of_row s fields (Ok (book_row.Release id))
+IsTextOfRow s fields other text = text ≡ text_of_row s fields other
 
 -- The two states are the same, except for the number of the batch that stores the changes since the
 -- last end row.
@@ -61,11 +58,10 @@ pub record IsRowKept {K : Type 0} (contents : K → Option (List ℕ)) (place : 
 -- wasn't called for this row. Or a write to `keep` failed after a part of the row's text.
 abbrev pub IsRowNotKept : {K : Type 0} → (K → Option (List ℕ)) → BookError → ℕ → KeptRows K → List (List ℕ) → KeptRows K → Type 0
 IsRowNotKept contents (error.Run run_error.Memory) place old fields new = known.Keeps (contents old.keep) (contents new.keep) × (new.keep ≡ old.keep)
-IsRowNotKept contents (error.Run run_error.Read) place old fields new = ⊥
-IsRowNotKept contents (error.Run (run_error.Write written)) place old fields new = ⊥
 IsRowNotKept contents (error.Keep written) place old fields new =
     (line : List ℕ) × (text : List ℕ) × (rows : BookRows) × IsAnsweredAndKept place old.rows fields line text rows
     × (written < length text) × Appends (contents old.keep) (contents new.keep) (take written text)
+IsRowNotKept contents other place old fields new = ⊥
 
 -- The line is the last line of a run that ends in the code's state.
 abbrev pub IsBookLast : {K : Type 0} → KeptRows K → Bool → List ℕ → Type 0

@@ -6,7 +6,7 @@ ghost use Rattle.csv.specs.Records.{fields_of};
 
 use crate::book_row::BookRow;
 use crate::book_sink::BookSink;
-use crate::line::{refused_place, refused_release};
+use crate::line::{TextResult, refused_place, refused_release};
 use crate::row_text::{row_text, text_if_new};
 use cspf_model::{Request, one_refusal};
 use cspf_rows::{RowError, batch_text};
@@ -84,7 +84,7 @@ impl BookRows {
         alloc: Global,
         fields: &ByteRecord,
         row: &Result<BookRow, RowError>,
-    ) -> Result<Vec<u8>, AllocError>
+    ) -> TextResult
         ensures text { IfOk result (λ text. (s : BookRunState) → KeepsBook self.old.rows s
             → IsTextOfRow s (fields_of fields.now) row.now text.items) }
         ensures same { IsRenumbered self.old self.new }
@@ -97,12 +97,7 @@ impl BookRows {
 
     /// The text that goes to the writer `keep` for a row whose fields could be read, if the row is
     /// accepted.
-    fn text_of_read(
-        &mut self,
-        alloc: Global,
-        fields: &ByteRecord,
-        row: &BookRow,
-    ) -> Result<Vec<u8>, AllocError>
+    fn text_of_read(&mut self, alloc: Global, fields: &ByteRecord, row: &BookRow) -> TextResult
         ensures text { IfOk result (λ text. (s : BookRunState) → KeepsBook self.old.rows s
             → IsTextOfRow s (fields_of fields.now) (Ok row.now) text.items) }
         ensures same { IsRenumbered self.old self.new }
@@ -115,7 +110,7 @@ impl BookRows {
     }
 
     /// The text that goes to the writer `keep` for a row of the base, if the row is accepted.
-    fn text_of_step(&mut self, alloc: Global, step: Step) -> Result<Vec<u8>, AllocError>
+    fn text_of_step(&mut self, alloc: Global, step: Step) -> TextResult
         ensures text { IfOk result (λ text. (s : BookRunState) → KeepsBook self.old.rows s
             → IsTextOfStep s step text.items) }
         ensures same { IsRenumbered self.old self.new }
@@ -129,7 +124,7 @@ impl BookRows {
 
     /// The text of the batch that has this number and the changes since the last end row. The text
     /// has only the changes that `changes` stores, which are at most the first 4097.
-    fn text_of_batch(&mut self, alloc: Global, number: u32) -> Result<Vec<u8>, AllocError>
+    fn text_of_batch(&mut self, alloc: Global, number: u32) -> TextResult
         ensures text { IfOk result (λ text. (s : BookRunState) → KeepsBook self.old.rows s
             → length s.changes ≤ MOST_CHANGES → text.items ≡ batch_text (open_base_batch s number)) }
         ensures same { IsRenumbered self.old self.new }
@@ -140,12 +135,7 @@ impl BookRows {
 
     /// Answers row `place`, counted from 1, and returns the lines of the answer. A change is
     /// answered with no lines.
-    fn line_of(
-        &mut self,
-        alloc: Global,
-        place: u64,
-        row: &Result<BookRow, RowError>,
-    ) -> Result<Vec<u8>, AllocError>
+    fn line_of(&mut self, alloc: Global, place: u64, row: &Result<BookRow, RowError>) -> TextResult
         requires few { CanCountOneMore self.old.rows }
         requires row { IfOk row.now IsReadable }
         ensures answered { IfOk result (λ line. BookLeads self.old.rows self.new.rows
@@ -164,7 +154,7 @@ impl BookRows {
     }
 
     /// Answers a row whose fields could be read, and returns the lines of the answer.
-    fn take_row(&mut self, alloc: Global, row: &BookRow) -> Result<Vec<u8>, AllocError>
+    fn take_row(&mut self, alloc: Global, row: &BookRow) -> TextResult
         requires few { CanCountOneMore self.old.rows }
         requires row { IsReadable row.now }
         ensures answered { IfOk result (λ line. BookLeads self.old.rows self.new.rows
@@ -182,7 +172,7 @@ impl BookRows {
     }
 
     /// Places a request with the holding priority `hold`, or refuses the `place` row.
-    fn place(&mut self, alloc: Global, request: &Request, hold: u8) -> Result<Vec<u8>, AllocError>
+    fn place(&mut self, alloc: Global, request: &Request, hold: u8) -> TextResult
         requires few { CanCountOneMore self.old.rows }
         requires setup { request.now.setup ≡ 7 }
         requires hold { hold < 8 }
@@ -205,7 +195,7 @@ impl BookRows {
     }
 
     /// Releases the placement with this id, or refuses the `release` row.
-    fn release(&mut self, alloc: Global, id: u64) -> Result<Vec<u8>, AllocError>
+    fn release(&mut self, alloc: Global, id: u64) -> TextResult
         requires few { CanCountOneMore self.old.rows }
         ensures answered { IfOk result (λ line. BookLeads self.old.rows self.new.rows
             (λ s t. IsReleaseTaken s id line.items t)) }

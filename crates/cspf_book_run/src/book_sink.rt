@@ -8,7 +8,7 @@ use crate::refusals::{PlaceRefusal, ReleaseRefusal};
 use cspf_book::Book;
 use cspf_ero::reply_line;
 use cspf_model::{Batch, MOST_VERSIONS, Request};
-use cspf_stream::{BatchRefusal, Sink};
+use cspf_stream::{BatchAnswer, BatchRefusal, Sink};
 use std::alloc::{AllocError, Global};
 
 /// The book of a run. Its memory grows with the number of placements.
@@ -37,12 +37,7 @@ impl Sink<()> for BookSink {
         false
     }
 
-    fn accept(
-        &mut self,
-        _context: &(),
-        alloc: Global,
-        batch: &Batch,
-    ) -> Result<Result<Vec<u8>, BatchRefusal>, AllocError> {
+    fn accept(&mut self, _context: &(), alloc: Global, batch: &Batch) -> BatchAnswer {
         let over = self.book.over(alloc, batch)?;
         let lost = self.book.lost(alloc, batch)?;
         let version = self.book.version() + 1;

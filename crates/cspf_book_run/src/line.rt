@@ -1,15 +1,18 @@
 //! The lines that a run of a book writes. Each line ends with a line feed.
 
-ghost use Rattle.std.specs.Prelude.{◌≡◌, ◌≤◌, ◌++◌, drop, length, IfOk, OnOk};
+ghost use Rattle.std.specs.Prelude.{◌≡◌, ◌++◌, IfOk, OnOk};
 ghost use Rattle.std.specs.List.{flat_map};
 ghost use Rattle.cspf_model.specs.Outcome.{answer_of};
 ghost use Rattle.cspf_book_run.specs.BookLines.{over_line, lost_line, base_line, released_line, refused_place_line, refused_release_line, IsPlaceReply};
 
 use crate::refusals::{PlaceRefusal, ReleaseRefusal};
 use cspf_book::Over;
-use cspf_ero::reply_line;
+use cspf_ero::reply_line_as;
 use cspf_model::Outcome;
 use std::alloc::{AllocError, Global};
+
+/// The bytes of lines or of a row. There are none if memory is refused.
+pub(crate) type TextResult = Result<Vec<u8>, AllocError>;
 
 /// The lines of an accepted base batch. First comes an `over` line for each link and priority at
 /// which the link has less bandwidth than the placements count on it. Then comes a `lost` line for
@@ -20,7 +23,7 @@ pub(crate) fn base_lines(
     lost: &[u64],
     number: u32,
     version: u32,
-) -> Result<Vec<u8>, AllocError>
+) -> TextResult
     ensures { IfOk result (λ lines. lines.items ≡ flat_map over_line over.now
         ++ flat_map lost_line lost.now ++ base_line number version) }
 {
@@ -45,7 +48,7 @@ fn write_over(alloc: Global, lines: &mut Vec<u8>, over: &[Over]) -> Result<(), A
 }
 
 /// The `over` line of a link and a priority, which reports that the link has too little bandwidth.
-fn line_of_over(alloc: Global, over: &Over) -> Result<Vec<u8>, AllocError>
+fn line_of_over(alloc: Global, over: &Over) -> TextResult
     ensures { IfOk result (λ line. line.items ≡ over_line over.now) }
 {
     let (from, local, priority) = (over.from, over.local, over.priority);
@@ -65,7 +68,7 @@ fn write_lost(alloc: Global, lines: &mut Vec<u8>, lost: &[u64]) -> Result<(), Al
 }
 
 /// The `lost` line of a placement that loses its route: the base no longer admits the route.
-fn line_of_lost(alloc: Global, id: u64) -> Result<Vec<u8>, AllocError>
+fn line_of_lost(alloc: Global, id: u64) -> TextResult
     ensures { IfOk result (λ line. line.items ≡ lost_line id) }
 {
     Ok(format!(in alloc; "lost {id}\n")?.into_bytes())
@@ -73,34 +76,14 @@ fn line_of_lost(alloc: Global, id: u64) -> Result<Vec<u8>, AllocError>
 
 /// The line that answers the `place` row of the request with this id. `version` is the book's
 /// version after the row.
-pub(crate) fn place_line(
-    alloc: Global,
-    id: u64,
-    version: u32,
-    outcome: &Outcome,
-) -> Result<Vec<u8>, AllocError>
+pub(crate) fn place_line(alloc: Global, id: u64, version: u32, outcome: &Outcome) -> TextResult
     ensures { IfOk result (λ line. IsPlaceReply id version (answer_of outcome.now) line.items) }
 {
-    let asked = reply_line(alloc, id, version, outcome)?;
-    let mut line = Vec::from_slice(alloc, b"place")?;
-    line.extend_from_slice(after_word(asked.as_slice()))?;
-    Ok(line)
-}
-
-/// The line without its first word `ask`.
-fn after_word(line: &[u8]) -> &[u8]
-    requires { 3 ≤ length line.now }
-    ensures { result.now ≡ drop 3 line.now }
-{
-    &line[3..]
+    reply_line_as(alloc, "place", id, version, outcome)
 }
 
 /// The line that reports why the request with this id isn't placed.
-pub(crate) fn refused_place(
-    alloc: Global,
-    id: u64,
-    why: PlaceRefusal,
-) -> Result<Vec<u8>, AllocError>
+pub(crate) fn refused_place(alloc: Global, id: u64, why: PlaceRefusal) -> TextResult
     ensures { IfOk result (λ line. line.items ≡ refused_place_line id why) }
 {
     Ok(format!(in alloc; "place {id} refused: {why}\n")?.into_bytes())
@@ -108,18 +91,14 @@ pub(crate) fn refused_place(
 
 /// The line that reports the release of the placement with this id. `version` is the book's version
 /// after the release.
-pub(crate) fn released(alloc: Global, id: u64, version: u32) -> Result<Vec<u8>, AllocError>
+pub(crate) fn released(alloc: Global, id: u64, version: u32) -> TextResult
     ensures { IfOk result (λ line. line.items ≡ released_line id version) }
 {
     Ok(format!(in alloc; "released {id} v{version}\n")?.into_bytes())
 }
 
 /// The line that reports why no placement with this id is released.
-pub(crate) fn refused_release(
-    alloc: Global,
-    id: u64,
-    why: ReleaseRefusal,
-) -> Result<Vec<u8>, AllocError>
+pub(crate) fn refused_release(alloc: Global, id: u64, why: ReleaseRefusal) -> TextResult
     ensures { IfOk result (λ line. line.items ≡ refused_release_line id why) }
 {
     Ok(format!(in alloc; "release {id} refused: {why}\n")?.into_bytes())

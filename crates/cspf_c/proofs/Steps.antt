@@ -32,17 +32,6 @@ none_given taken kept none few = record {
   past = rw few (refl, omega (arith, none));
 }
 
-pub none_counted : (taken : TakenRows) → KeepsRun taken.solver start → taken.answered ≡ 0 → IsCounted taken
-none_counted taken kept none = record {
-  state = start;
-  kept = kept;
-  rows = sym none;
-  changes = omega (arith, none);
-  answers = omega (arith, none);
-  refused = omega (arith, none);
-  most = omega (arith, none);
-}
-
 -- ---- a row that is answered
 
 -- if a session has answered fewer than 1,000,000 rows, it has answered each row that it was given

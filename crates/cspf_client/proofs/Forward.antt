@@ -38,19 +38,12 @@ forward_refused place why s t line refused =
 
 forward_row : (place : ℕ) (s t : SessionState) (r : Result Row RowError) (line : List ℕ) → IsClientRowAnswered place s r line t → HasGoneForward s t
 forward_row place s t (Err why) line a = forward_refused place why s t line a
-forward_row place s t (Ok (row.Put link)) line a = forward_refused place row_error.Kind s t line a
-forward_row place s t (Ok (row.Remove from local)) line a = forward_refused place row_error.Kind s t line a
-forward_row place s t (Ok (row.Node router transit)) line a = forward_refused place row_error.Kind s t line a
-forward_row place s t (Ok (row.End number count)) line a = forward_refused place row_error.Kind s t line a
 forward_row place s t (Ok (row.Ask q)) line a = HasGoneForward-count place s t a.reads
+forward_row place s t (Ok other) line a = forward_refused place row_error.Kind s t line a
 
 forward_unanswered : (fault : AskError) (place : ℕ) (s t : SessionState) (r : Result Row RowError) → IsClientRowUnanswered fault place s r t → HasGoneForward s t
-forward_unanswered fault place s t (Err why) a = forward_equal s t a.1
-forward_unanswered fault place s t (Ok (row.Put link)) a = forward_equal s t a.1
-forward_unanswered fault place s t (Ok (row.Remove from local)) a = forward_equal s t a.1
-forward_unanswered fault place s t (Ok (row.Node router transit)) a = forward_equal s t a.1
-forward_unanswered fault place s t (Ok (row.End number count)) a = forward_equal s t a.1
 forward_unanswered fault place s t (Ok (row.Ask q)) a = HasGoneForward-count place s t a.reads
+forward_unanswered fault place s t other a = forward_equal s t a.1
 
 pub forward : ClientsGoForward
 unfolding AreAnswered
@@ -76,9 +69,8 @@ pub forward_row_stopped : (fails : FailsOf SessionState) → FailsForward fails 
     → IsRowStopped IsClientAnswered fails why place fields s t old new → HasGoneForward s t
 forward_row_stopped fails known stream_error.Memory place fields s t old new a = known place s t fields a.0
 forward_row_stopped fails known stream_error.Read place fields s t old new a = absurd a
-forward_row_stopped fails known stream_error.Write place fields s t old new a = forward_row place s t (row_of fields) a.0 a.1
-forward_row_stopped fails known stream_error.Flush place fields s t old new a = forward_row place s t (row_of fields) a.0 a.1
 forward_row_stopped fails known stream_error.TooManyRows place fields s t old new a = absurd a
+forward_row_stopped fails known why place fields s t old new a = forward_row place s t (row_of fields) a.0 a.1
 
 module _ (all left : Option Rows) (failed : Bool) (s t : SessionState) (old new : Option (List ℕ)) where
   between : StopsBetween IsClientAnswered all s t old new → HasGoneForward s t
@@ -93,9 +85,8 @@ module _ (all left : Option Rows) (failed : Bool) (s t : SessionState) (old new 
   forward_stopped (stop.Stream stream_error.Memory) (inl a) = between a.1
   forward_stopped (stop.Stream stream_error.Memory) (inr a) = absurd a.stops.0
   forward_stopped (stop.Stream stream_error.Read) a = between a.1
-  forward_stopped (stop.Stream stream_error.Write) a = in_row NeverFails never_forward stream_error.Write a
-  forward_stopped (stop.Stream stream_error.Flush) a = in_row NeverFails never_forward stream_error.Flush a
   forward_stopped (stop.Stream stream_error.TooManyRows) a = forward 1 s t a.done a.lines a.answered
+  forward_stopped (stop.Stream why) a = in_row NeverFails never_forward why a
   forward_stopped (stop.Answer fault) a = in_row (IsClientUnanswered fault) (unanswered_forward fault) stream_error.Memory a
 
 -- a client goes forward in a run over its stream, whether the stream ends or stops

@@ -1,12 +1,12 @@
 -- What a client's run has answered if the client's stream has ended, or has stopped before its end.
-use Rattle.std.proofs.Common.{◌≡◌, ℕ, List, Option, Some, Result, Ok, Err, OnOk, IfErr, MatchResult, sym, subst}
+use Rattle.std.proofs.Common.{◌≡◌, ℕ, List, Option, Some, Result, Ok, Err, OnOk, IfErr}
 use Rattle.std.specs.Option.{option_map}
 use Rattle.cspf_rows.specs.Records.{rows_of}
 use Rattle.cspf_stream.specs.RowAnswers.{AreAllAnswered}
 use Rattle.cspf_client.specs.ClientRows.{IsClientAnswered}
 use Rattle.cspf_client.specs.declared.error.ClientError.{ClientError}
 use Rattle.cspf_client.specs.ClientRuns.{IsClientStopped, IsClientRun}
-use Rattle.cspf_client.specs.ServingStates.{ServingState, unread_rows}
+use Rattle.cspf_client.specs.ServingStates.{ServingState}
 
 pub run_of : {Q V : Type 0} (bytes : Q → Option (List ℕ)) (contents : V → Option (List ℕ)) (old new : ServingState Q V) (requests : Q) → old.requests ≡ Some requests → (ended : Result (Unit {0}) ClientError)
     → new.end ≡ ended

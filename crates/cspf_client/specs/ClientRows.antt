@@ -59,11 +59,8 @@ RepliesAreFresh =
 -- after the row
 abbrev pub IsClientRowAnswered : ℕ → SessionState → Result Row RowError → List ℕ → SessionState → Type 0
 IsClientRowAnswered place s (Err why) line t = IsRefusedRow place why s line t
-IsClientRowAnswered place s (Ok (row.Put link)) line t = IsRefusedRow place error.Kind s line t
-IsClientRowAnswered place s (Ok (row.Remove from local)) line t = IsRefusedRow place error.Kind s line t
-IsClientRowAnswered place s (Ok (row.Node router transit)) line t = IsRefusedRow place error.Kind s line t
-IsClientRowAnswered place s (Ok (row.End number count)) line t = IsRefusedRow place error.Kind s line t
 IsClientRowAnswered place s (Ok (row.Ask q)) line t = IsRequestAnswered place q s line t
+IsClientRowAnswered place s (Ok other) line t = IsRefusedRow place error.Kind s line t
 
 -- the row with these fields is answered with this line; `s` and `t` are the states before and after
 -- the row
@@ -83,12 +80,8 @@ pub record IsRequestUnanswered (place : ℕ) (fault : AskError) (s t : SessionSt
 
 -- the row isn't answered because of this fault; `t` is the state afterwards
 abbrev pub IsClientRowUnanswered : AskError → ℕ → SessionState → Result Row RowError → SessionState → Type 0
-IsClientRowUnanswered fault place s (Err why) t = IsRefusalMissing fault s t
-IsClientRowUnanswered fault place s (Ok (row.Put link)) t = IsRefusalMissing fault s t
-IsClientRowUnanswered fault place s (Ok (row.Remove from local)) t = IsRefusalMissing fault s t
-IsClientRowUnanswered fault place s (Ok (row.Node router transit)) t = IsRefusalMissing fault s t
-IsClientRowUnanswered fault place s (Ok (row.End number count)) t = IsRefusalMissing fault s t
 IsClientRowUnanswered fault place s (Ok (row.Ask q)) t = IsRequestUnanswered place fault s t
+IsClientRowUnanswered fault place s other t = IsRefusalMissing fault s t
 
 -- the row with these fields isn't answered because of this fault; `t` is the state afterwards
 abbrev pub IsClientUnanswered : AskError → FailsOf SessionState

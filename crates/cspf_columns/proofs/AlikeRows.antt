@@ -3,11 +3,11 @@
 -- and spans. For each row, the column of ends has the index of the router at which the row ends.
 -- For each row, the column of reverses has the index of the row's reverse, or `NO_LINK`. A router's
 -- span is the range of the rows that begin at it, with bounds of their local addresses.
-use Rattle.std.proofs.Common.{◌≡◌, ◌≢◌, ℕ, ◌+◌, ◌<◌, ◌≤◌, Bool, true, false, List, [], ◌∷◌, ◌++◌, All, Contains, cond, drop, length, map, nat_eq, slice_index, slice_index_or, slice_set, take, refl, sym, ap, subst, ◌∙◌, inl, inr, arith}
+use Rattle.std.proofs.Common.{◌≡◌, ◌≢◌, ℕ, ◌+◌, ◌<◌, ◌≤◌, Bool, true, false, List, [], ◌∷◌, ◌++◌, All, Contains, cond, drop, length, map, nat_eq, slice_index, slice_index_or, slice_set, take, refl, sym, ap, subst, ◌∙◌, inl, inr, arith, rules}
 use Rattle.std.specs.List.{HoldsAt, filter, between}
 use Rattle.std.specs.Ordering.{nat_cmp}
 use Rattle.std.specs.FinSet as set
-use Rattle.std.proofs.lemmas.List.{length-append, length-map, drop-map, get_or-map, map-set, set-get_or, take-map, append-nil}
+use Rattle.std.proofs.lemmas.List.{nil_from_length, length-append, length-map, drop-map, get_or-map, map-set, set-get_or, take-map, append-nil}
 use Rattle.std.proofs.lemmas.List.Edits.{split_between, length-between, get_or-between}
 use Rattle.std.proofs.lemmas.List.Elements.{All-head, All-tail, Contains-get_or, filter-append, filter_passes}
 use Rattle.cspf_model.specs.declared.link.Link.{Link}
@@ -60,11 +60,6 @@ found_alike rows by_key l some at within key d =
     let one : interfaces_of (slice_index_or rows at d) ≡ interfaces_of l = subst (λ n. interfaces_of (slice_index_or rows n d) ≡ interfaces_of l) here row.2 in
     record { from = ap (λ p. p.0.0) one; local = ap (λ p. p.0.1) one; to = ap (λ p. p.1.0) one; remote = ap (λ p. p.1.1) one }
 
-pub still_alike : (rows new : List Link) → RunAlike rows new → (c : Change) → IsAlike rows c → IsAlike new c
-still_alike rows new same (Put l) alike = subst (λ ks. Contains ks (interfaces_of l)) (sym same) alike
-still_alike rows new same (Remove from local) alike = alike
-still_alike rows new same (Node router transit) alike = alike
-
 -- Changes that only replace links by links between the same two interfaces don't change the marks.
 -- A mark says that a router has no transit.
 pub unmarked : (rows : List Link) (cs : List Change) (marks : set.FinSet nat_cmp) → All (IsAlike rows) cs → marks ≡ all_marked marks cs
@@ -76,12 +71,7 @@ unmarked rows (Node router transit ∷ cs) marks all = absurd (All-head (IsAlike
 -- Suppose that `l` and `m` join the same two interfaces, and that `r` and `s` join the same two
 -- interfaces. If `r` is the reverse of `l`, then `s` is the reverse of `m`.
 reverse_alike : (l m r s : Link) → HasSameEnds l m → HasSameEnds r s → IsReverse l r → IsReverse m s
-reverse_alike l m r s same also is = record {
-  from = sym also.from ∙ is.from ∙ same.to;
-  local = sym also.local ∙ is.local ∙ same.remote;
-  to = sym also.to ∙ is.to ∙ same.from;
-  remote = sym also.remote ∙ is.remote ∙ same.local;
-}
+reverse_alike l m r s same also is = search rules
 
 turned_about : (l m : Link) → HasSameEnds l m → HasSameEnds m l
 turned_about l m same = record { from = sym same.from; local = sym same.local; to = sym same.to; remote = sym same.remote }
@@ -99,10 +89,6 @@ count_alike router (l ∷ rows) (m ∷ new) same =
     let rest = count_alike router rows new (ap (drop 1) same) in
     ap (λ b. length (cond b (m ∷ filter p new) (filter p new))) (ap (λ n. nat_eq n router) first)
     ∙ elim (p l) as (λ b. length (cond b (m ∷ filter p new) (filter p new)) ≡ length (cond b (l ∷ filter p rows) (filter p rows))) [ true ↦ omega (arith, rest) | false ↦ rest ]
-
-no_row : {A : Type 0} (xs : List A) → length xs ≡ 0 → xs ≡ []
-no_row [] none = refl
-no_row (x ∷ xs) none = absurd (omega (arith, none))
 
 module _ (rows new : List Link) (same : RunAlike rows new) where
   pub as_many : length new ≡ length rows
@@ -183,8 +169,8 @@ module _ (rows new : List Link) (same : RunAlike rows new) where
       ∙ ap (λ ls. filter p (take first rows) ++ ls) (filter-append p (between first end rows) (drop end rows) ∙ ap (λ ls. ls ++ filter p (drop end rows)) (all_kept p (between first end rows) inside)))
       ∙ length-append (filter p (take first rows)) (between first end rows ++ filter p (drop end rows))
       ∙ ap (λ n. length (filter p (take first rows)) + n) (length-append (between first end rows) (filter p (drop end rows)))) ∙ ap length (sym is.part) in
-      let before : filter p (take first new) ≡ [] = no_row (filter p (take first new)) (count_alike router (take first rows) (take first new) (sym (take-map _ first new) ∙ ap (take first) froms ∙ take-map _ first rows) ∙ omega (arith, parts)) in
-      let behind : filter p (drop end new) ≡ [] = no_row (filter p (drop end new)) (count_alike router (drop end rows) (drop end new) (sym (drop-map _ end new) ∙ ap (drop end) froms ∙ drop-map _ end rows) ∙ omega (arith, parts)) in
+      let before : filter p (take first new) ≡ [] = nil_from_length (filter p (take first new)) (count_alike router (take first rows) (take first new) (sym (take-map _ first new) ∙ ap (take first) froms ∙ take-map _ first rows) ∙ omega (arith, parts)) in
+      let behind : filter p (drop end new) ≡ [] = nil_from_length (filter p (drop end new)) (count_alike router (drop end rows) (drop end new) (sym (drop-map _ end new) ∙ ap (drop end) froms ∙ drop-map _ end rows) ∙ omega (arith, parts)) in
       let still : All (λ l. p l ≡ true) (between first end new) = λ k d h.
       let within : first + k < end = omega (arith, h, length-between new first end (omega (arith, is.order, is.bound, as_many)), is.order) in
       ap p (get_or-between new first end k d within)

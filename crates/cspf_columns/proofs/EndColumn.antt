@@ -1,29 +1,27 @@
 -- Lemmas on changing the column of ends together with the rows. A row is a link. For each row, the
 -- column of ends has the index of the router at which the row ends.
-use Rattle.std.proofs.Common.{◌≡◌, ℕ, suc, ◌-◌, ◌<◌, List, [], ◌∷◌, ◌++◌, All, Contains, length, map, take, drop, slice_index, slice_set, sym, ap, ◌∙◌}
+use Rattle.std.proofs.Common.{◌≡◌, ℕ, suc, ◌-◌, ◌<◌, List, ◌∷◌, ◌++◌, All, Contains, length, map, take, drop, slice_index, slice_set, sym, ap, ◌∙◌, rules, arith}
+use Rattle.std.proofs.lemmas.Grind.{common_steps}
 use Rattle.std.specs.List.{between, insert, remove as without}
 use Rattle.std.proofs.lemmas.List.{length-map, map-append, map-set, take-map, drop-map}
-use Rattle.std.proofs.lemmas.List.Elements.{All-append, All-nil, All-cons, All-take, All-drop, All-set}
+use Rattle.std.proofs.lemmas.List.Elements.{All-append, All-cons, All-take, All-drop, All-set}
 use Rattle.cspf_model.specs.declared.link.Link.{Link}
-use Rattle.cspf_columns.specs.Rows.{AreEndsOf, IsEndColumn, IsPlaceOf}
+use Rattle.cspf_columns.specs.Rows.{AreEndsOf, IsEndColumn}
 
 -- The column of ends has one item for each row (a link). The item is the index of the router at
 -- which the row ends.
 pub length-ends : (rows : List Link) (routers ends : List ℕ) → AreEndsOf rows routers ends → length ends ≡ length rows
-length-ends rows routers ends are =
-    sym (length-map ends (λ e. slice_index routers e)) ∙ ap length are.each ∙ length-map rows (λ (l : Link). l.to)
+length-ends rows routers ends are = search (rules, length-map)
 
 -- applying `f` to a list after an insertion gives the same list as inserting `f x` into the mapped
 -- list
 map-insert : {A B : Type 0} (f : A → B) (xs : List A) (i : ℕ) (x : A) → map f (insert xs i x) ≡ insert (map f xs) i (f x)
-map-insert f xs i x =
-    map-append f (take i xs) (x ∷ drop i xs) ∙ (λ t. sym (take-map f i xs) t ++ f x ∷ sym (drop-map f i xs) t)
+map-insert f xs i x = search (rules, drop-map, map-append, take-map)
 
 -- applying `f` to a list after a removal gives the same list as removing the item at this index
 -- from the mapped list
 map-without : {A B : Type 0} (f : A → B) (xs : List A) (i : ℕ) → map f (without xs i) ≡ without (map f xs) i
-map-without f xs i =
-    map-append f (take i xs) (drop (suc i) xs) ∙ (λ t. sym (take-map f i xs) t ++ sym (drop-map f (suc i) xs) t)
+map-without f xs i = search (rules, drop-map, map-append, take-map)
 
 -- if `P` holds of all items of a list and of the item `x`, `P` holds of all items of the list after
 -- `x` is inserted
@@ -84,11 +82,7 @@ module _ (rows : List Link) (routers ends : List ℕ) (are : IsEndColumn rows ro
 -- column of ends of all rows. For each row, the column of ends has the index of the router at which
 -- the row ends.
 pub ends_joined : (rows more : List Link) (routers ends more_ends : List ℕ) → AreEndsOf rows routers ends → AreEndsOf more routers more_ends → AreEndsOf (rows ++ more) routers (ends ++ more_ends)
-ends_joined rows more routers ends more_ends are also = record {
-  within = All-append (λ e. e < length routers) ends more_ends are.within also.within;
-  each =
-      map-append (λ e. slice_index routers e) ends more_ends ∙ (λ t. are.each t ++ also.each t) ∙ sym (map-append (λ (l : Link). l.to) rows more);
-}
+ends_joined rows more routers ends more_ends are also = grind (arith, common_steps, All-append, map-append)
 
 -- Suppose that the first `at` rows (links) and the first `at` items of the column of ends are
 -- dropped. The remaining items are the column of ends of the remaining rows. For each row, the
@@ -109,13 +103,3 @@ ends_between rows routers ends at next are =
       each =
           sym (take-map (λ e. slice_index routers e) (next - at) (drop at ends)) ∙ ap (take (next - at)) behind.each ∙ take-map (λ (l : Link). l.to) (next - at) (drop at rows);
     }
-
--- Suppose that the link `l` is appended to the rows (links). Suppose also that the index of the
--- router at which `l` ends is appended to the column of ends. The result is the column of ends of
--- all rows.
-pub ends_pushed : (rows : List Link) (routers ends : List ℕ) (l : Link) (end : ℕ) → AreEndsOf rows routers ends → IsPlaceOf routers l.to end → AreEndsOf (rows ++ l ∷ []) routers (ends ++ end ∷ [])
-ends_pushed rows routers ends l end are place =
-    ends_joined rows (l ∷ []) routers ends (end ∷ []) are (record {
-      within = All-cons (λ e. e < length routers) end [] place.within (All-nil (λ e. e < length routers));
-      each = ap (λ n. n ∷ []) place.found;
-    })

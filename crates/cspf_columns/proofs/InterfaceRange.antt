@@ -1,10 +1,8 @@
 -- The rows (links) that begin at one router are in order of their local addresses. If a prefix
 -- covers no address from their lowest to their highest local address, the prefix covers no local
 -- address of these rows.
-use Rattle.std.proofs.Common.{◌≡◌, ℕ, ◌+◌, ◌-◌, ◌<◌, ◌≤◌, ◌↔◌, inl, inr, Bool, true, false, IsTrue, List, All, length, filter, get_or, nat_eq, slice_index, refl, sym, ap, subst, ◌∙◌, arith}
-use Rattle.std.specs.Ordering.{nat_cmp, ordering_then}
-use Rattle.std.specs.declared.cmp.Ordering.TheVariants.{Less, Equal, Greater}
-use Rattle.std.specs.Cmp.{ranked}
+use Rattle.std.proofs.Common.{◌≡◌, ℕ, ◌+◌, ◌-◌, ◌<◌, ◌≤◌, ◌↔◌, inl, inr, Bool, true, false, IsTrue, List, All, length, filter, get_or, nat_eq, slice_index, sym, ap, subst, ◌∙◌, arith, rules}
+use Rattle.std.specs.declared.cmp.Ordering.TheVariants.{Less}
 use Rattle.std.specs.List.{HoldsAt, between}
 use Rattle.std.specs.List.Sorted.{IsNonDecreasingBy}
 use Rattle.std.proofs.lemmas.Bool.{cases_eq, eqb-true}
@@ -28,12 +26,7 @@ use Rattle.cspf_columns.proofs.RouterLists.{Contains-router_list, routers_marked
 
 -- of two keys with the same router, the lower key has the lower address or the same address
 local_le : (j k : Key) → key_cmp j k ≡ Less → j.0 ≡ k.0 → j.1 ≤ k.1
-local_le j k is tie =
-    elim (nat_cmp j.0 k.0) as (λ r. r ≡ nat_cmp j.0 k.0 → ordering_then r (nat_cmp j.1 k.1) ≡ Less → j.1 ≤ k.1) [
-      | Less ↦ λ e _. let low : j.0 < k.0 = ranked j.0 k.0 Less e in absurd (omega arith)
-      | Equal ↦ λ _ less. let low : j.1 < k.1 = ranked j.1 k.1 Less (sym less) in omega arith
-      | Greater ↦ λ _ off. absurd (cc)
-    ] refl is
+local_le j k is tie = search rules
 
 -- the rows (links) that begin at a router are in order of their local addresses
 pub locals_rise : (rows : List Link) (router : ℕ) → AreByKey rows → IsNonDecreasingBy (λ l. l.local) (filter (λ l. nat_eq l.from router) rows)
@@ -68,30 +61,11 @@ module _ (rows : List Link) (first end : ℕ) (some : first < end) (bound : end 
       ap (λ (l : Link). l.local) (get_or-between rows first end (end - first - 1) d (omega (arith, some)) ∙ ap (λ i. get_or rows i d) last ∙ get_or_default rows (end - 1) d e (omega (arith, some, bound))) in
       omega (arith, top, rising k (end - first - 1) d (omega (arith, h, long)) (omega (arith, some, long)))
 
--- the links of a database that begin at one router are in order of their local addresses
-pub links_rise : (d : Database) (rows : List Link) (marks : List ℕ) (part : List Link) (router : ℕ) → marked_database rows marks ≡ d → AreByKey rows → part ≡ links_from d router → IsNonDecreasingBy (λ l. l.local) part
-links_rise d rows marks part router e by_key is =
-    subst (IsNonDecreasingBy (λ l. l.local))
-    (ap (filter (λ (l : Link). nat_eq l.from router)) (sym (links_of-database_of rows by_key) ∙ ap links_of e) ∙ sym is)
-    (locals_rise rows router by_key)
-
--- Suppose that the prefix covers no address from the first row's local address to the last row's
--- local address. Then the prefix covers no row's local address. A row is a link.
-pub none_between : (prefix : PrefixParts) (rows : List Link) (first last : Link) → 0 < length rows → IsNonDecreasingBy (λ l. l.local) rows
-    → ((address : ℕ) → (get_or rows 0 first).local ≤ address → address ≤ (get_or rows (length rows - 1) last).local → ¬ Covers prefix address) → All (λ l. ¬ Covers prefix l.local) rows
-none_between prefix rows first last some rising none k d h =
-    let bottom : (get_or rows 0 first).local ≡ (get_or rows 0 d).local = ap (λ (l : Link). l.local) (get_or_default rows 0 first d some) in
-    let top : (get_or rows (length rows - 1) last).local ≡ (get_or rows (length rows - 1) d).local = ap (λ (l : Link). l.local) (get_or_default rows (length rows - 1) last d (omega (arith, some))) in
-    none (get_or rows k d).local (omega (arith, bottom, rising 0 k d (omega arith) h)) (omega (arith, top, rising k (length rows - 1) d (omega (arith, h)) (omega (arith, some))))
-
 -- the router at an index of the table's column of routers is the router at the same index of the
 -- database's `router_list`
 pub router_at : (d : Database) (rows : List Link) (marks : List ℕ) (routers : List ℕ) (at router : ℕ) → marked_database rows marks ≡ d → routers ≡ router_list (database_of rows) → at < length (router_list d)
     → router ≡ get_or routers at router → router ≡ slice_index (router_list d) at
-router_at d rows marks routers at router e all h read =
-    let listed : routers ≡ router_list d = all ∙ routers_marked rows marks ∙ ap router_list e in
-    let within : at < length routers = subst (λ rs. at < length rs) (sym listed) h in
-    get_or_read_under routers at (length routers) router 0 read within refl ∙ ap (λ rs. slice_index rs at) listed
+router_at d rows marks routers at router e all h read = search (rules, get_or_read_under, routers_marked)
 
 -- each router in `router_list` is a router of the database
 pub known_at : (d : Database) (rows : List Link) (marks : List ℕ) (at : ℕ) → marked_database rows marks ≡ d → at < length (router_list d) → IsRouterOf d (slice_index (router_list d) at)

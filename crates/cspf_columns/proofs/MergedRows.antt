@@ -1,9 +1,9 @@
 -- One step of merging changes into rows (links). The changes and the rows are in order of their
 -- keys.
-use Rattle.std.proofs.Common.{◌≡◌, ℕ, suc, ◌+◌, ◌-◌, ◌<◌, ◌≤◌, nat_lt, true, false, List, [], ◌∷◌, ◌++◌, length, map, drop, get_or, slice_set, refl, sym, ap, subst, ◌∙◌, append_assoc, add-one, append-nil, length-append, length-drop, ◌≢◌, All, arith}
+use Rattle.std.proofs.Common.{◌≡◌, ℕ, suc, ◌+◌, ◌-◌, ◌<◌, ◌≤◌, nat_lt, true, false, List, [], ◌∷◌, ◌++◌, length, map, drop, get_or, slice_set, refl, sym, ap, subst, ◌∙◌, append_assoc, add-one, append-nil, length-append, length-drop, ◌≢◌, All, arith, rules}
 use Rattle.std.specs.Ordering.{is_lt, is_eq}
 use Rattle.std.specs.declared.cmp.Ordering.{Ordering}
-use Rattle.std.specs.declared.cmp.Ordering.TheVariants.{Less, Equal, Greater}
+use Rattle.std.specs.declared.cmp.Ordering.TheVariants.{Less, Greater}
 use Rattle.std.specs.List.{HoldsAt, AllWithin, between, insert, remove as without}
 use Rattle.std.specs.FinMap.{entries}
 use Rattle.std.proofs.lemmas.Bool.Decides.{nat_tests}
@@ -13,7 +13,7 @@ use Rattle.std.proofs.lemmas.List.Edits.{length-between, get_or-between}
 use Rattle.cspf_model.specs.declared.batch.Change.{Change}
 use Rattle.cspf_model.specs.declared.batch.Change.TheVariants.{Put, Remove, Node}
 use Rattle.cspf_model.specs.Database.{Key, key_of, key_cmp}
-use Rattle.cspf_model.specs.Changes.{ChangeKey, change_key_cmp, link_key, mark_key, key_changed}
+use Rattle.cspf_model.specs.Changes.{ChangeKey, change_key_cmp, link_key, key_changed}
 use Rattle.cspf_model.specs.Lemmas.LinkChanges.{relinked}
 use Rattle.cspf_columns.specs.MergeSteps.{EndsBelow}
 use Rattle.cspf_model.specs.Lemmas.RowsLeft.{links_put}
@@ -47,9 +47,7 @@ set-next out rows next l h =
 -- if the link `l` is inserted right after the merged rows (links), the result is the merged rows,
 -- `l`, and the rows from `next` on
 insert-next : (out rows : List Link) (next : ℕ) (l : Link) → insert (out ++ drop next rows) (length out) l ≡ (out ++ l ∷ []) ++ drop next rows
-insert-next out rows next l =
-    ap (λ xs. xs ++ l ∷ drop (length out) (out ++ drop next rows)) (take_at out (drop next rows) (length out) refl) ∙ ap (λ xs. out ++ l ∷ xs) (drop_at out (drop next rows) (length out) refl)
-    ∙ sym (append_assoc out (l ∷ []) (drop next rows))
+insert-next out rows next l = search (rules, append_assoc, drop_at, take_at)
 
 -- if the row (a link) that follows the merged rows is removed, the result is the merged rows
 -- followed by the rows from `next + 1` on
@@ -99,10 +97,7 @@ below_key out rest k by_key last i d lo h =
 -- above `k` after the merged rows are put in front of these rows.
 above_copied : (out rows : List Link) (next : ℕ) (k : Key) → AllWithin (λ m. key_cmp (key_of m) k ≡ Greater) rows next (length rows)
     → AllWithin (λ m. key_cmp (key_of m) k ≡ Greater) (out ++ drop next rows) (length out) (length (out ++ drop next rows))
-above_copied out rows next k gap i d lo h =
-    subst (λ (m : Link). key_cmp (key_of m) k ≡ Greater)
-    (sym (get_or-append_right out (drop next rows) (length out) i d refl lo ∙ get_or-drop next rows (i - length out) d))
-    (gap (next + (i - length out)) d (omega arith) (omega (arith, h, lo, length-append out (drop next rows), length-drop next rows)))
+above_copied out rows next k gap = search (rules, get_or-append_right, get_or-drop, length-append, length-drop)
 
 -- Suppose that a change puts a link. The key of this link is above the key of the last merged row
 -- (a link), and below the keys of the rows from `next` on. The entries of the changed database are
@@ -140,9 +135,7 @@ merged_removal old rows at next k by_key le h has =
 -- The next two lemmas: suppose that the key of a row (a link) isn't below `k` and isn't equal to
 -- `k`. Then the keys of this row and of all later rows are above `k`.
 higher : (o : Ordering) → is_lt o ≡ false → is_eq o ≡ false → o ≡ Greater
-higher Less no_less no_tie = absurd (cc)
-higher Equal no_less no_tie = absurd (cc)
-higher Greater no_less no_tie = refl
+higher o h1 h2 = search rules
 
 pub above_next : (rows : List Link) (next : ℕ) (k : Key) → AreByKey rows → (next < length rows → (d : Link) → is_lt (key_cmp (key_of (get_or rows next d)) k) ≡ false)
     → (next < length rows → (d : Link) → is_eq (key_cmp (key_of (get_or rows next d)) k) ≡ false) → AllWithin (λ m. key_cmp (key_of m) k ≡ Greater) rows next (length rows)
@@ -216,32 +209,9 @@ merged_before old rows at next (Node router transit) by_key le gap last =
 -- below `k`. After these rows are appended to `old`, the key of the last row is still below `k`.
 pub copied_below : (old rows : List Link) (at next : ℕ) (k : ChangeKey) → at ≤ next → next ≤ length rows → EndsBelow old k → AllWithin (λ m. change_key_cmp (link_key (key_of m)) k ≡ Less) rows at next
     → EndsBelow (old ++ between at next rows) k
-copied_below old rows at next k le within last below d h =
-    let part : List Link = between at next rows in
-    let long : length (old ++ part) ≡ length old + length part = length-append old part in
-    let many : length part ≡ next - at = length-between rows at next within in
-    elim (nat_lt at next) as (λ b. nat_lt at next ≡ b → change_key_cmp (link_key (key_of (get_or (old ++ part) (length (old ++ part) - 1) d))) k ≡ Less) [
-      | true ↦ λ e. let some : at < next = grind (arith, nat_tests) in
-          let i : ℕ = length (old ++ part) - 1 - length old in
-          subst (λ (m : Link). change_key_cmp (link_key (key_of m)) k ≡ Less)
-          (sym (get_or-append_right old part (length old) (length (old ++ part) - 1) d refl (omega (arith, long, many, some)) ∙ get_or-between rows at next i d (omega (arith, long, many, some))))
-          (below (at + i) d (omega arith) (omega (arith, long, many, some)))
-      | false ↦ λ e. let none : next ≤ at = grind (arith, nat_tests) in
-          let same : length (old ++ part) ≡ length old = omega (arith, long, many, none) in
-          let end : length old - 1 < length old = omega (arith, same, h) in
-          subst (λ n. change_key_cmp (link_key (key_of (get_or (old ++ part) (n - 1) d))) k ≡ Less) (sym same)
-          (ap (λ (m : Link). change_key_cmp (link_key (key_of m)) k) (get_or_append_left old part d (length old - 1) end) ∙ last d (omega (arith, same, h)))
-    ] refl
+copied_below old rows at next k le within last below = search (rules, get_or-append_right, get_or-between, get_or_append_left, length-append, length-between, nat_lt)
 
 -- Suppose that the key of the last row (a link) is below the key of a change. If the change puts a
 -- link, append this link. The key of the last row is then below each key above the change's key.
 pub put_below : (out : List Link) (c : Change) (k : ChangeKey) → EndsBelow out (key_changed c) → change_key_cmp (key_changed c) k ≡ Less → EndsBelow (out ++ links_put (c ∷ [])) k
-put_below out (Put l) k last less =
-    let behind : length out ≡ length (out ++ l ∷ []) - 1 = omega (arith, length_push out l) in
-    λ d h. ap (λ (m : Link). change_key_cmp (link_key (key_of m)) k) (get_or_at out l [] d (length (out ++ l ∷ []) - 1) behind) ∙ less
-put_below out (Remove from local) k last less =
-    subst (λ (xs : List Link). EndsBelow xs k) (sym (append-nil out))
-    (λ d h. change_keys_total.trans (link_key (key_of (get_or out (length out - 1) d))) (link_key (from, local)) k (last d h) less)
-put_below out (Node router transit) k last less =
-    subst (λ (xs : List Link). EndsBelow xs k) (sym (append-nil out))
-    (λ d h. change_keys_total.trans (link_key (key_of (get_or out (length out - 1) d))) (mark_key router) k (last d h) less)
+put_below out c k last less = search (rules, append-nil, change_keys_total, get_or_at, length_push)

@@ -1,7 +1,7 @@
 -- How the column of reverses changes when one row (a link) is replaced, inserted or removed. During
 -- the change, rows with the key of this row count as having no reverse. For each row, the column of
 -- reverses has the index of the row's reverse, or `NO_LINK`.
-use Rattle.std.proofs.Common.{◌≡◌, ◌≢◌, ℕ, ◌+◌, ◌-◌, ◌<◌, ◌≤◌, ◌⊎◌, List, length, map, cond, eqb, leb, slice_index_or, slice_set, sym, ap, subst, ◌∙◌, inl, inr, arith}
+use Rattle.std.proofs.Common.{◌≡◌, ◌≢◌, ℕ, ◌+◌, ◌-◌, ◌<◌, ◌≤◌, ◌⊎◌, List, length, map, cond, eqb, leb, slice_index_or, slice_set, sym, ap, subst, ◌∙◌, inl, inr, arith, rules}
 use Rattle.std.specs.List.{HoldsAt, insert, remove as without}
 use Rattle.std.proofs.lemmas.Bool.{cases_eq, cases_lt, eq-eqb, ne_eqb, le-leb, lt-leb}
 use Rattle.std.proofs.lemmas.List.{length-set, length-map, get_or-set_same, get_or-set_other, get_or-map}
@@ -65,10 +65,7 @@ module _ (rows : List Link) (column : List ℕ) (k : Key) (few : length rows ≤
       over = slice_set rows at l
 
       over_from : (d : Link) (j : ℕ) → j < length over → IsFrom (same_key k) rows over d j
-      over_from d j inside = elim (cases_eq j at) [
-        | inl same ↦ inl (ap (λ a. key_of (slice_index_or over a d)) same ∙ ap key_of (get_or-set_same rows at l d within) ∙ has_key)
-        | inr apart ↦ inr (j, omega (arith, inside, length-set rows at l), get_or-set_other rows at j l d apart)
-      ]
+      over_from d j inside = search rules
 
       pub put_over : AreReversesBut (same_key k) over column
       put_over = column_of (same_key k) over column (are.many ∙ sym (length-set rows at l)) (λ i d h.

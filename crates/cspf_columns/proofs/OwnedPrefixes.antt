@@ -1,5 +1,5 @@
 -- How the rows (links) that begin at a router decide whether the router owns a prefix (`Owns`).
-use Rattle.std.proofs.Common.{◌≡◌, ℕ, zero, suc, ◌<◌, ◌↔◌, Bool, true, false, cond, IsTrue, List, [], ◌∷◌, All, Contains, length, nat_eq, slice_index_or, refl, sym, ap, subst, ◌∙◌, inl, inr, arith}
+use Rattle.std.proofs.Common.{◌≡◌, ℕ, zero, suc, ◌<◌, ◌↔◌, Bool, true, false, cond, IsTrue, List, [], ◌∷◌, All, Contains, length, nat_eq, slice_index_or, refl, sym, ap, subst, ◌∙◌, arith, rules}
 use Rattle.std.specs.List.{HoldsAt, filter}
 use Rattle.std.proofs.lemmas.Bool.Decides.{nat_tests}
 use Rattle.std.proofs.lemmas.List.Elements.{All-filter, All-contains, All-contains_itself, filter_passes}
@@ -48,8 +48,7 @@ tells_link prefix router d rows false listed hit miss = (
 -- (`Owns`)
 pub owned_itself : (d : Database) (prefix : PrefixParts) (router : ℕ) (b : Bool) → b ≡ true
     → IsRouterOf d router → Covers prefix router → IsTrue b ↔ Owns d prefix router
-owned_itself d prefix router b on known covered =
-    ((λ _. record { known = known; covered = inl covered }), λ _. on)
+owned_itself d prefix router b on known covered = search rules
 
 -- Suppose that the Router ID of a router isn't in the prefix. Then the router owns the prefix
 -- (`Owns`) exactly if the prefix covers the address of one of the router's interfaces.
@@ -57,7 +56,4 @@ pub owned_by_link : (d : Database) (prefix : PrefixParts) (router : ℕ) (b : Bo
     → IsRouterOf d router → ¬ Covers prefix router
     → IsTrue b ↔ ((l : Link) × IsLinkOf d l × BeginsWithin prefix router l)
     → IsTrue b ↔ Owns d prefix router
-owned_by_link d prefix router b known apart tells = (
-  (λ on. record { known = known; covered = inr (tells.0 on) }),
-  λ owns. elim owns.covered [ inl covered ↦ absurd (apart covered) | inr by_link ↦ tells.1 by_link ],
-)
+owned_by_link d prefix router b known apart tells = search rules

@@ -1,5 +1,5 @@
 -- Lemmas on the routers at which rows (links) still begin or end after changes.
-use Rattle.std.proofs.Common.{◌≡◌, ℕ, ◌<◌, ◌≤◌, ◌||◌, Bool, true, false, cond, T, Option, Some, List, [], ◌∷◌, inl, inr, All, Contains, filter, length, map, get_or, nat_eq, refl, sym, ap, subst, ◌∙◌, arith}
+use Rattle.std.proofs.Common.{◌≡◌, ℕ, ◌<◌, ◌≤◌, ◌||◌, Bool, true, false, cond, T, Option, Some, List, [], ◌∷◌, All, Contains, filter, length, map, get_or, nat_eq, refl, sym, ap, subst, ◌∙◌, arith, rules}
 use Rattle.std.specs.Ordering.{nat_cmp}
 use Rattle.std.specs.FinMap.{is_sorted}
 use Rattle.std.specs.FinMap.Entries.{below_all}
@@ -9,8 +9,8 @@ use Rattle.std.proofs.lemmas.List.Elements.{All-head, All-tail, All-map, All-con
 use Rattle.std.proofs.lemmas.List.Folds.{Any-from_list_any, list_any_at}
 use Rattle.cspf_model.specs.declared.link.Link.{Link}
 use Rattle.cspf_model.specs.declared.batch.Change.{Change}
-use Rattle.cspf_model.specs.declared.batch.Change.TheVariants.{Put, Remove, Node}
-use Rattle.cspf_model.specs.Database.{Database, Key, key_of, link_at, EndsAt}
+use Rattle.cspf_model.specs.declared.batch.Change.TheVariants.{Put}
+use Rattle.cspf_model.specs.Database.{Database, Key, key_of, link_at}
 use Rattle.std.specs.Ordering.{eq_by_cmp}
 use Rattle.cspf_columns.specs.Index.{with_nothing, router_list}
 use Rattle.cspf_model.specs.Changes.{change_key_cmp, link_key, key_changed, link_left}
@@ -65,8 +65,7 @@ rising_filter : (p : ℕ → Bool) (routers : List ℕ) → AreRising routers �
 rising_filter p routers rising = true_from_test _ (sorted_filter p routers (test_from_true _ rising))
 
 either_second : (b : Bool) → (b || true) ≡ true
-either_second true = refl
-either_second false = refl
+either_second b = search rules
 
 itself : (n : ℕ) → nat_eq n n ≡ true
 itself n = grind (arith, nat_tests)
@@ -76,24 +75,14 @@ same_number m n tie = grind (arith, nat_tests)
 
 -- the test `is_end_of` passes for the router at which a row (a link) begins
 from_passes : (rows : List Link) (k : ℕ) (d : Link) → k < length rows → is_end_of rows (get_or rows k d).from ≡ true
-from_passes rows k d h =
-    let from : ℕ = (get_or rows k d).from in
-    ap (λ b. any_to rows from || b) (list_any_at (λ (l : Link). nat_eq l.from from) rows k d h (itself from)) ∙ either_second (any_to rows from)
+from_passes rows k d h = search (rules, any_to, either_second, itself, list_any_at)
 
 to_passes : (rows : List Link) (k : ℕ) (d : Link) → k < length rows → is_end_of rows (get_or rows k d).to ≡ true
-to_passes rows k d h =
-    let to : ℕ = (get_or rows k d).to in
-    ap (λ b. b || any_from rows to) (list_any_at (λ (l : Link). nat_eq l.to to) rows k d h (itself to))
+to_passes rows k d h = search (rules, any_from, itself, list_any_at)
 
 -- if the test `is_end_of` passes for a router, a row (a link) begins or ends at this router
 end_from : (rows : List Link) (router : ℕ) → is_end_of rows router ≡ true → AnyEndsAt rows router
-end_from rows router passes =
-    elim (any_to rows router) as (λ b. any_to rows router ≡ b → (b || any_from rows router) ≡ true → AnyEndsAt rows router) [
-      | true ↦ λ on _. let some = Any-from_list_any (λ (l : Link). nat_eq l.to router) rows on in
-          (some.0, some.2, λ d. subst (EndsAt router) (sym (get_or_default rows some.0 d some.1 some.2 ∙ some.3)) (inr (same_number some.1.to router some.4)))
-      | false ↦ λ _ on. let some = Any-from_list_any (λ (l : Link). nat_eq l.from router) rows on in
-          (some.0, some.2, λ d. subst (EndsAt router) (sym (get_or_default rows some.0 d some.1 some.2 ∙ some.3)) (inl (same_number some.1.from router some.4)))
-    ] refl passes
+end_from rows router passes = search (rules, Any-from_list_any, any_from, any_to, get_or_default, same_number)
 
 -- lemmas on keeping only the routers at which rows (links) begin or end
 module _ (rows : List Link) (routers ends : List ℕ) (are : IsEndColumn rows routers ends) where
@@ -118,17 +107,12 @@ module _ (rows : List Link) (routers ends : List ℕ) (are : IsEndColumn rows ro
   -- column of ends for `kept`. Then `kept` is the list of the database's routers. For each row, the
   -- column of ends has the index of the router at which the row ends.
   pub router_list-kept : (kept moved : List ℕ) → AreByKey rows → AreRising routers → kept ≡ filter (is_end_of rows) routers → IsEndColumn rows kept moved → kept ≡ router_list (database_of rows)
-  router_list-kept kept moved by_key rising is column =
-      router_list-column rows kept moved column (subst (All (AnyEndsAt rows)) (sym is) (λ k d h. end_from rows _ (filter_passes (is_end_of rows) routers k d h))) by_key
-      (subst AreRising (sym is) (rising_filter (is_end_of rows) routers rising))
+  router_list-kept kept moved h1 rising is column = search (rules, end_from, filter_passes, is_end_of, rising_filter, router_list-column)
 
 -- lemmas on changes that put links between routers of the list `routers`
 module _ (routers : List ℕ) where
   one_listed : (c : Change) → HasListedEnds routers c → (b : Bool) (o : Option Link) (l : Link) → (o ≡ Some l → HasListedEnds routers (Put l)) → cond b (link_left c) o ≡ Some l → HasListedEnds routers (Put l)
-  one_listed (Put m) known true o l old is = let same : m ≡ l = cc in subst (λ n. HasListedEnds routers (Put n)) same known
-  one_listed (Remove from local) known true o l old is = absurd (cc)
-  one_listed (Node router transit) known true o l old is = absurd (cc)
-  one_listed c known false o l old is = old is
+  one_listed c known b o l old is = search rules
 
   listed_after : (d : Database) (cs : List Change) → ((k : Key) (l : Link) → link_at d k ≡ Some l → HasListedEnds routers (Put l)) → All (HasListedEnds routers) cs
       → (k : Key) (l : Link) → link_at (all_relinked d cs) k ≡ Some l → HasListedEnds routers (Put l)

@@ -1,6 +1,6 @@
 -- How the column of reverses is related to the links of the database. For each row, the column of
 -- reverses has the index of the row's reverse, or `NO_LINK`.
-use Rattle.std.proofs.Common.{◌≡◌, ◌≢◌, ℕ, zero, suc, Bool, cond, All, filter, slice_index, ◌+◌, ◌<◌, ◌≤◌, ◌⊎◌, ◌↔◌, true, false, not, eqb, IsTrue, List, [], ◌∷◌, ◌++◌, length, slice_index_or, refl, sym, ap, subst, ◌∙◌, inl, inr, arith}
+use Rattle.std.proofs.Common.{◌≡◌, ◌≢◌, ℕ, zero, suc, Bool, cond, All, filter, slice_index, ◌+◌, ◌<◌, ◌≤◌, ◌⊎◌, ◌↔◌, true, false, not, eqb, IsTrue, List, [], ◌∷◌, ◌++◌, length, slice_index_or, refl, sym, ap, subst, ◌∙◌, arith, rules}
 use Rattle.std.specs.List.{HoldsAt, between}
 use Rattle.std.proofs.lemmas.Bool.{cases_lt, eqb-true, eqb-false, eq-eqb}
 use Rattle.std.proofs.lemmas.List.{get_or_append_left, get_or_at, get_or_default, get_or-map}
@@ -21,8 +21,7 @@ use Rattle.cspf_columns.proofs.RowOrder.{one_index, own_keys, links_of-database_
 
 -- a disjunction of two falsehoods is false
 pub neither : ⊥ ⊎ ⊥ → ⊥
-neither (inl left) = left
-neither (inr right) = right
+neither h1 = search rules
 
 -- the index of a link's reverse among the rows (links) is also the index of this reverse among the
 -- links of the database
@@ -60,21 +59,14 @@ reverse_test d l n told =
 reverses_beside : (d : Database) (rows : List Link) (marks : List ℕ) (column : List ℕ) (first end at : ℕ) → marked_database rows marks ≡ d → AreByKey rows → AreReversesBut no_key rows column
     → first ≤ end → end ≤ length rows → between first end rows ≡ links_from_index d at → (nth : ℕ) (l : Link) → nth < length (links_from_index d at)
     → IsReverseAt d (slice_index_or (links_from_index d at) nth l) (slice_index_or (between first end column) nth 0)
-reverses_beside d rows marks column first end at makes by_key are order bound part nth l within =
-    let long = length-between rows first end bound in
-    let short : nth < length (between first end rows) = subst (λ ls. nth < length ls) (sym part) within in
-    let inside : first + nth < end = omega (arith, long, short) in
-    let link : slice_index_or (links_from_index d at) nth l ≡ slice_index_or rows (first + nth) l = ap (λ ls. slice_index_or ls nth l) (sym part) ∙ get_or-between rows first end nth l inside in
-    let number : slice_index_or (between first end column) nth 0 ≡ slice_index_or column (first + nth) 0 = get_or-between column first end nth 0 inside in
-    rw (link, number) (index_told d rows marks makes by_key (slice_index_or rows (first + nth) l) (slice_index_or column (first + nth) 0) (are.each (first + nth) l (omega (arith, inside, bound))))
+reverses_beside d rows marks column first end at makes h2 are order bound part nth l within = search (rules, get_or-between, index_told, length-between)
 
 -- The slice of the column of reverses at the range of a router's links has one item for each of
 -- these links. For each row, the column of reverses has the index of the row's reverse, or
 -- `NO_LINK`.
 as_many_beside : (d : Database) (rows : List Link) (column : List ℕ) (first end at : ℕ) → AreReversesBut no_key rows column
     → first ≤ end → end ≤ length rows → between first end rows ≡ links_from_index d at → length (between first end column) ≡ length (links_from_index d at)
-as_many_beside d rows column first end at are order bound part =
-    length-between column first end (omega (arith, are.many, bound)) ∙ sym (length-between rows first end bound) ∙ ap length part
+as_many_beside d rows column first end at are order bound part = search (rules, length-between)
 
 -- for each link that begins at a router, the slice of the column of reverses at the router's span
 -- has the index of the link's reverse, or `NO_LINK`
@@ -94,24 +86,12 @@ reverses_at_span d c marks is makes at span h read =
 -- isn't a reverse of `l`, then `l` has no reverse.
 pub not_back : (rows : List Link) → AreByKey rows → (l : Link) (at : ℕ) (d : Link) → at < length rows → key_of (slice_index_or rows at d) ≡ (l.to, l.remote)
     → ¬ IsReverse l (slice_index_or rows at d) → IsIndexOfReverse no_key rows l NO_LINK
-not_back rows by_key l at d within key apart = record {
-  within = λ some. absurd (some refl);
-  found = λ some. absurd (some refl);
-  kept = λ some. absurd (some refl);
-  none = λ _ j inside is.
-      let same : j ≡ at = one_index rows by_key j at l d inside within ((λ t. (is.from t, is.local t)) ∙ sym key) in
-      absurd (apart (subst (IsReverse l) (ap (λ i. slice_index_or rows i l) same ∙ get_or_default rows at l d within) is));
-}
+not_back rows h1 l at d within key apart = search (rules, get_or_default, one_index)
 
 -- A reverse of the link `l` has the key (`l.to`, `l.remote`). If no row (a link) has this key, then
 -- `l` has no reverse.
 pub none_back : (rows : List Link) (l : Link) → All (λ r. key_of r ≢ (l.to, l.remote)) rows → IsIndexOfReverse no_key rows l NO_LINK
-none_back rows l none = record {
-  within = λ some. absurd (some refl);
-  found = λ some. absurd (some refl);
-  kept = λ some. absurd (some refl);
-  none = λ _ j inside is. absurd (none j l inside (λ t. (is.from t, is.local t)));
-}
+none_back rows l none = search rules
 
 -- if `P` holds of the items that a filter keeps, `P` holds of each item that passes the filter's
 -- test
@@ -134,8 +114,7 @@ none_back_within rows l span is none =
 -- if the row (a link) at the index `i` of a range has the key `k`, the row at the index `first + i`
 -- of all rows has the key `k`
 pub key_within : (rows : List Link) (k : Key) (first end i : ℕ) → end ≤ length rows → i < length (between first end rows) → HoldsAt (λ r. key_of r ≡ k) (between first end rows) i → HoldsAt (λ r. key_of r ≡ k) rows (first + i)
-key_within rows k first end i bound h has d =
-    ap key_of (sym (get_or-between rows first end i d (omega (arith, h, length-between rows first end bound)))) ∙ has d
+key_within rows k first end i bound h has = search (rules, get_or-between, length-between)
 
 -- For each row (a link), `ends` has an index, and at this index `spans` has the span of the router
 -- at which the row ends. A router's span is the range of the rows that begin at it, with bounds of
@@ -156,10 +135,4 @@ spans_at_ends rows routers ends spans are spanned at d h =
 pub one_more : (rows : List Link) (column : List ℕ) (l : Link) (n : ℕ) → l ≡ slice_index_or rows (length column) l → length column < length rows
     → ((i : ℕ) (d : Link) → i < length column → IsIndexOfReverse no_key rows (slice_index_or rows i d) (slice_index_or column i 0)) → IsIndexOfReverse no_key rows l n
     → (i : ℕ) (d : Link) → i < length column + 1 → IsIndexOfReverse no_key rows (slice_index_or rows i d) (slice_index_or (column ++ n ∷ []) i 0)
-one_more rows column l n read h each is i d inside = elim (cases_lt i (length column)) [
-  | inl below ↦ rw (get_or_append_left column (n ∷ []) 0 i below) (each i d below)
-  | inr from ↦
-      let at : length column ≡ i = omega (arith, from, inside) in
-      let here : slice_index_or rows i d ≡ l = ap (λ a. slice_index_or rows a d) (sym at) ∙ get_or_default rows (length column) d l h ∙ sym read in
-      rw (get_or_at column n [] 0 i at, here) is
-]
+one_more rows column l n read h each is i d inside = search (rules, cases_lt, get_or_append_left, get_or_at, get_or_default)

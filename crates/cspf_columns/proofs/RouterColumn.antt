@@ -1,5 +1,5 @@
 -- The list of routers has exactly the routers at which rows (links) begin or end.
-use Rattle.std.proofs.Common.{◌≡◌, ℕ, ◌<◌, ◌||◌, Bool, true, false, Option, Some, None, is_some, List, All, Contains, length, map, get_or, slice_index, inl, inr, refl, sym, ap, subst, ◌∙◌}
+use Rattle.std.proofs.Common.{◌≡◌, ℕ, ◌<◌, ◌||◌, Bool, true, Option, is_some, List, All, Contains, length, map, get_or, slice_index, inl, inr, refl, sym, ap, subst, ◌∙◌, rules}
 use Rattle.std.specs.Ordering.{nat_cmp, eq_by_cmp, is_eq}
 use Rattle.std.specs.Cmp.{nat_cmp_total, Equal-is, eq_by_cmp_equiv, tied_itself}
 use Rattle.std.specs.List.{list_any}
@@ -26,16 +26,11 @@ use Rattle.cspf_columns.proofs.EndColumn.{length-ends}
 
 -- two tests that imply each other have the same result
 alike : (s t : Bool) → (s ≡ true → t ≡ true) → (t ≡ true → s ≡ true) → s ≡ t
-alike true t there back = sym (there refl)
-alike false true there back = back refl
-alike false false there back = refl
+alike s t there back = search rules
 
 -- two options of `Unit` are equal if both are `Some` or both are `None`
 same_nothing : (o p : Option (Unit {0})) → is_some o ≡ is_some p → o ≡ p
-same_nothing None None e = refl
-same_nothing None (Some v) e = absurd (cc)
-same_nothing (Some u) None e = absurd (cc)
-same_nothing (Some u) (Some v) e = refl
+same_nothing o p e = search rules
 
 -- if two lists have the same members, they make the same set of numbers
 numbers_alike : (ms ns : List ℕ) → ((q : ℕ) → list_any (eq_by_cmp nat_cmp q) ms ≡ list_any (eq_by_cmp nat_cmp q) ns) → numbers_in ms ≡ numbers_in ns

@@ -1,7 +1,7 @@
 -- Lemmas on sorted lists of routers, and on the rows (links) that begin at a router of such a list.
-use Rattle.std.proofs.Common.{◌≡◌, ℕ, ◌+◌, ◌<◌, ◌≤◌, ◌↔◌, Bool, true, false, cond, T, IsTrue, Option, List, [], ◌∷◌, ◌-◌, All, Contains, length, map, take, drop, get_or, slice_index, Result, Ok, Err, IfOk, IfErr, IfNone, is_some, is_ok, nat_lt, nat_eq, nat_eq, refl, sym, ap, subst, ◌∙◌, arith}
+use Rattle.std.proofs.Common.{◌≡◌, ℕ, ◌+◌, ◌<◌, ◌≤◌, ◌↔◌, Bool, true, cond, T, IsTrue, Option, List, [], ◌∷◌, ◌-◌, All, Contains, length, map, take, drop, get_or, slice_index, Result, Ok, Err, IfOk, IfErr, IfNone, is_some, is_ok, nat_eq, nat_eq, refl, sym, ap, subst, ◌∙◌, arith, rules}
 use Rattle.std.specs.Ordering.{nat_cmp, eq_by_cmp, is_eq}
-use Rattle.std.specs.declared.cmp.Ordering.TheVariants.{Less, Equal, Greater}
+use Rattle.std.specs.declared.cmp.Ordering.TheVariants.{Less, Greater}
 use Rattle.std.specs.Cmp.{nat_cmp_total, ranked, Equal-is, eq_by_cmp_equiv, tied_itself}
 use Rattle.std.specs.List.{HoldsAt, list_any, between, filter, insert}
 use Rattle.std.specs.List.Sorted.{IsPartitionPoint, IsBinarySearchResult, IsStrictlyIncreasing}
@@ -13,7 +13,6 @@ use Rattle.std.specs.FinSet as set
 use Rattle.std.proofs.lemmas.List.{get_or_default, length-map, take-map, drop-map, nil_from_length, get_or_read_under}
 use Rattle.std.proofs.lemmas.List.Elements.{Contains-get_or}
 use Rattle.std.proofs.lemmas.Map.Views.{list_any-from_Contains, Contains-from_any}
-use Rattle.std.proofs.lemmas.Bool.Decides.{nat_tests}
 use Rattle.cspf_model.specs.declared.link.Link.{Link}
 use Rattle.cspf_columns.specs.declared.spans.Span.{Span}
 use Rattle.cspf_model.specs.Lemmas.CountedEnds.{AnyEndsAt}
@@ -56,8 +55,7 @@ entries_alone (e ∷ es) = ap (λ fs. e ∷ fs) (entries_alone es)
 -- database's routers
 pub router_list-entries : (rows : List Link) (routers : List ℕ) → AreByKey rows → map with_nothing routers ≡ entries (numbers_in (ends_of rows)) → routers ≡ router_list (database_of rows)
 unfolding router_list
-router_list-entries rows routers by_key is =
-    sym (numbers_alone routers) ∙ ap (map (λ (e : ℕ × Unit {0}). e.0)) is ∙ ap (λ ls. finite.keys (numbers_in (ends_of ls))) (sym (links_of-database_of rows by_key))
+router_list-entries rows routers h1 is = search (rules, links_of-database_of, numbers_alone)
 
 -- the list of the database's routers is in increasing order
 pub rising-router_list : (d : Database) → AreRising (router_list d)
@@ -103,12 +101,7 @@ Contains-router_list d keyed router = (
 -- if the routers below the index `at` are lower than `router`, and the routers from `at` on are
 -- higher, the list doesn't have `router`
 pub apart_from_gap : (routers : List ℕ) (router at : ℕ) → IsPartitionPoint (λ y. nat_cmp y router ≡ Less) (λ y. nat_cmp y router ≡ Greater) routers at → Contains routers router → ⊥
-apart_from_gap routers router at gap (k, h, is) =
-    let tie : nat_cmp (get_or routers k router) router ≡ Equal = ap (λ y. nat_cmp y router) is ∙ tied_itself nat_cmp_total router in
-    elim (nat_lt k at) as (λ b. nat_lt k at ≡ b → ⊥) [
-      | true ↦ λ e. let low : nat_cmp (get_or routers k router) router ≡ Less = gap.0 k router (omega arith) (grind (arith, nat_tests)) in cc
-      | false ↦ λ e. let high : nat_cmp (get_or routers k router) router ≡ Greater = gap.1 k router (grind (arith, nat_tests)) h in cc
-    ] refl
+apart_from_gap routers router at gap h2 = search rules
 
 -- if a search of the database's list of routers doesn't find a router, this router isn't a router
 -- of the database
@@ -140,20 +133,13 @@ routers_marked rows marks = refl
 -- at this router
 pub part_at : (d : Database) (rows : List Link) (marks : List ℕ) (routers : List ℕ) (at router : ℕ) (part : List Link) → marked_database rows marks ≡ d → AreByKey rows → routers ≡ router_list (database_of rows)
     → at < length (router_list d) → router ≡ get_or routers at router → part ≡ filter (λ l. nat_eq l.from router) rows → part ≡ links_from_index d at
-part_at d rows marks routers at router part e by_key all h read is =
-    let listed : routers ≡ router_list d = all ∙ routers_marked rows marks ∙ ap router_list e in
-    let within : at < length routers = subst (λ rs. at < length rs) (sym listed) h in
-    is
-    ∙ ap (filter (λ (l : Link). nat_eq l.from router)) (sym (links_of-database_of rows by_key) ∙ ap links_of e)
-    ∙ ap (λ r. filter (λ (l : Link). nat_eq l.from r) (links_of d)) (get_or_read_under routers at (length routers) router 0 read within refl ∙ ap (λ rs. slice_index rs at) listed)
+part_at d rows marks routers at router part e h2 all h read is = search (rules, get_or_read_under, links_of-database_of, routers_marked)
 
 -- At a router's index, the column of spans has the span of this router. A router's span is the
 -- range of the rows that begin at it, with bounds of their local addresses.
 pub span_read : (d : Database) (rows : List Link) (marks : List ℕ) (routers : List ℕ) (spans : List Span) (at : ℕ) (span : Span) → marked_database rows marks ≡ d → routers ≡ router_list (database_of rows)
     → AreSpansOf rows routers spans → at < length (router_list d) → span ≡ get_or spans at span → IsSpanOf rows (slice_index routers at) span
-span_read d rows marks routers spans at span e all are h read =
-    let within : at < length routers = subst (λ rs. at < length rs) (sym (all ∙ routers_marked rows marks ∙ ap router_list e)) h in
-    subst (IsSpanOf rows (slice_index routers at)) (sym read) (are.each at span within)
+span_read d rows marks routers spans at span e all are h read = search (rules, routers_marked)
 
 -- the rows (links) in the range of a router's span are the links that begin at this router
 pub span_at : (d : Database) (rows : List Link) (marks : List ℕ) (routers : List ℕ) (spans : List Span) (at : ℕ) (span : Span) → marked_database rows marks ≡ d → AreByKey rows → routers ≡ router_list (database_of rows)

@@ -1,6 +1,7 @@
 -- The indexes of routers in another list of routers, and the column of ends for this other list.
 -- For each row, the column of ends has the index of the router at which the row ends.
-use Rattle.std.proofs.Common.{◌≡◌, ℕ, zero, suc, ◌+◌, ◌-◌, ◌<◌, ◌≤◌, ◌||◌, Bool, true, false, cond, List, [], ◌∷◌, ◌++◌, inl, inr, All, Contains, filter, length, map, take, drop, get_or, slice_index, slice_range, slice_set, append_assoc, nat_lt, nat_eq, refl, sym, ap, subst, ◌∙◌, arith}
+use Rattle.std.proofs.Common.{◌≡◌, ℕ, zero, suc, ◌+◌, ◌-◌, ◌<◌, ◌≤◌, ◌||◌, Bool, true, false, cond, List, [], ◌∷◌, ◌++◌, inl, inr, All, Contains, filter, length, map, take, drop, get_or, slice_index, slice_range, slice_set, append_assoc, nat_lt, nat_eq, refl, sym, ap, subst, ◌∙◌, arith, rules}
+use Rattle.std.proofs.lemmas.Grind.{common_steps}
 use Rattle.std.specs.List.{list_any, insert}
 use Rattle.std.specs.declared.cmp.Ordering.TheVariants.{Less}
 use Rattle.std.specs.Cmp.{nat_cmp_total, ranked}
@@ -53,21 +54,12 @@ filter_place p (r ∷ rs) (suc k) h on =
 -- Suppose that, at each index, `places` has the number of earlier items that the filter keeps.
 -- Then, for each kept item, `places` has the item's index among the kept items.
 pub filter_places : (p : ℕ → Bool) (routers places : List ℕ) → ((k : ℕ) → k < length routers → slice_index places k ≡ length (filter p (take k routers))) → ArePlacesIn (filter p routers) routers places
-filter_places p routers places placed at h among =
-    subst (IsPlaceOf (filter p routers) (slice_index routers at)) (sym (placed at h))
-    (filter_place p routers at h (All-contains (λ r. p r ≡ true) (filter p routers) (slice_index routers at) (filter_passes p routers) among))
+filter_places p routers places placed = search (rules, All-contains, filter_passes, filter_place)
 
 -- if `f` is already applied to the first `i` items of a list, and is now applied to the next item,
 -- it is applied to the first `i + 1` items
 pub moved_one : (f : ℕ → ℕ) (xs ns : List ℕ) (i : ℕ) → i < length xs → ns ≡ map f (take i xs) ++ drop i xs → slice_set ns i (f (slice_index ns i)) ≡ map f (take (i + 1) xs) ++ drop (i + 1) xs
-moved_one f xs ns i h is =
-    let front : List ℕ = map f (take i xs) in
-    let x : ℕ = slice_index xs i in
-    let rest : List ℕ = drop (i + 1) xs in
-    let at : length front ≡ i = omega (arith, length-map (take i xs) f, length-take i xs, h) in
-    let split : ns ≡ front ++ x ∷ rest = is ∙ ap (λ ys. front ++ ys) (drop_more xs i 0 h) in
-    let read : slice_index ns i ≡ x = ap (λ ys. slice_index ys i) split ∙ get_or_at front x rest 0 i at in
-    (λ t. slice_set (split t) i (f (read t))) ∙ set_at front x rest (f x) i at ∙ sym (ap (λ ys. ys ++ rest) (map_more f xs i 0 h) ∙ append_assoc front (f x ∷ []) rest)
+moved_one f xs ns i h is = grind (arith, common_steps, append_assoc, drop_more, get_or_at, length-map, length-take, map_more, set_at)
 
 -- if each item of the column of ends is replaced by the router's index in `others`, the new items
 -- are the indexes of the same routers in `others`
@@ -108,8 +100,7 @@ some_left m n = elim (nat_lt m n) as (λ b. nat_lt m n ≡ b → b ≡ nat_lt 0 
 -- if a filter keeps exactly a range of the rows (links), some row passes the filter's test exactly
 -- if the range isn't empty
 pub any_span : (p : Link → Bool) (rows : List Link) (first end : ℕ) → end ≤ length rows → slice_range rows first end ≡ filter p rows → nat_lt first end ≡ list_any p rows
-any_span p rows first end bound is =
-    some_left first end ∙ ap (nat_lt 0) (sym (length-between rows first end bound) ∙ ap length is) ∙ sym (any-filter p rows)
+any_span p rows first end bound is = search (rules, any-filter, length-between, nat_lt, some_left)
 
 -- some item of `map f xs` passes a test exactly if `f` of some item of `xs` passes it
 any-map : {A B : Type 0} (p : B → Bool) (f : A → B) (xs : List A) → list_any p (map f xs) ≡ list_any (λ x. p (f x)) xs
@@ -129,17 +120,7 @@ module _ (routers : List ℕ) (rising : AreRising routers) where
 
   -- the routers at two indexes are equal exactly if the indexes are equal
   pub one_place : (i j : ℕ) → i < length routers → j < length routers → nat_eq (slice_index routers i) (slice_index routers j) ≡ nat_eq i j
-  one_place i j hi hj =
-      elim (nat_lt i j) as (λ b. nat_lt i j ≡ b → nat_eq (slice_index routers i) (slice_index routers j) ≡ nat_eq i j) [
-        | true ↦ λ e. let below = lower i j (grind (arith, nat_tests)) hj in grind (arith, nat_tests)
-        | false ↦ λ e. elim (nat_lt j i) as (λ b. nat_lt j i ≡ b → nat_eq (slice_index routers i) (slice_index routers j) ≡ nat_eq i j) [
-          | true ↦ λ f. let above = lower j i (grind (arith, nat_tests)) hi in grind (arith, nat_tests)
-          | false ↦ λ f. let same : i ≡ j = grind (arith, nat_tests) in ap (λ n. nat_eq (slice_index routers n) (slice_index routers j)) same ∙ itself (slice_index routers j) ∙ sym (ap (λ n. nat_eq n j) same ∙ itself j)
-        ] refl
-      ] refl
-    where
-      itself : (n : ℕ) → nat_eq n n ≡ true
-      itself n = grind (arith, nat_tests)
+  one_place i j hi hj = search (rules, lower, nat_lt)
 
   -- An index is an item of the column of ends exactly if a row (a link) ends at the router with
   -- this index. For each row, the column of ends has the index of the router at which the row ends.

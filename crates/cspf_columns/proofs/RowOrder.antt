@@ -1,13 +1,11 @@
 -- Lemmas on rows (links) in order of their keys, and on the database that they make.
-use mathlib.Core.Bool.{true≢false}
-use Rattle.std.proofs.Common.{◌≡◌, ◌≢◌, ℕ, All, ◌<◌, ◌≤◌, ◌⊎◌, inl, inr, nat_lt, Bool, true, false, T, List, [], ◌∷◌, filter, length, map, get_or, slice_set, Result, Ok, Err, IfOk, IfErr, refl, sym, ap, subst, ◌∙◌, arith}
-use Rattle.std.specs.Ordering.{nat_cmp, eq_by_cmp, is_eq, ordering_then}
-use Rattle.std.specs.declared.cmp.Ordering.TheVariants.{Less, Equal, Greater}
+use Rattle.std.proofs.Common.{◌≡◌, ◌≢◌, ℕ, All, ◌<◌, ◌≤◌, ◌⊎◌, inl, inr, nat_lt, Bool, true, false, T, List, [], ◌∷◌, filter, length, map, get_or, slice_set, Result, IfOk, IfErr, refl, sym, ap, subst, ◌∙◌, arith, rules}
+use Rattle.std.specs.Ordering.{eq_by_cmp, is_eq}
+use Rattle.std.specs.declared.cmp.Ordering.TheVariants.{Less, Greater}
 use Rattle.std.specs.List.{HoldsAt, insert, remove as without}
 use Rattle.std.specs.List.Sorted.{IsNonDecreasingBy, IsBinarySearchResult, IsPartitionPoint}
 use Rattle.std.specs.FinSet as set
 use Rattle.std.specs.FinMap.{FinMap, from_entries, is_sorted, entries, entries-insert, entries_sorted, put}
-use Rattle.std.specs.Cmp.{ranked}
 use Rattle.std.proofs.lemmas.Bool.{cases_lt}
 use Rattle.std.proofs.lemmas.Bool.Decides.{nat_tests}
 use Rattle.std.proofs.lemmas.List.{length-map, get_or-map}
@@ -18,7 +16,7 @@ use Rattle.cspf_model.specs.Database.{Database, Key, key_of, key_cmp, HaveOwnKey
 use Rattle.cspf_columns.specs.Index.{links_of}
 use Rattle.cspf_model.specs.Lemmas.LinkChanges.{relinked}
 use Rattle.cspf_model.specs.Lemmas.LinkRows.{entry_of, database_of, AreByKey}
-use Rattle.cspf_model.proofs.Databases.Keys.{key_itself, keys_total, keys_antisymmetric}
+use Rattle.cspf_model.proofs.Databases.Keys.{key_itself, keys_total}
 use Rattle.cspf_columns.proofs.SortedEntries.{test_from_true, true_from_test, put-gap, put-hit, sorted_without, sorted_filter, rises, searchable, distinct, gap_from, entries-from_entries, from_entries-entries}
 
 -- if rows (links) are in order of their keys, no two of them have the same key
@@ -37,8 +35,7 @@ apart_below rows by_key i j d e less within same =
     let no : true ≡ false = sym (key_itself (key_of (get_or rows j e))) ∙ tie in cc
 
 pub one_index : (rows : List Link) → AreByKey rows → (i j : ℕ) (d e : Link) → i < length rows → j < length rows → key_of (get_or rows i d) ≡ key_of (get_or rows j e) → i ≡ j
-one_index rows by_key i j d e within also same =
-    elim (cases_lt i j) [ inl less ↦ absurd (apart_below rows by_key i j d e less also same) | inr upto ↦ elim (cases_lt j i) [ inl less ↦ absurd (apart_below rows by_key j i e d less within (sym same)) | inr also ↦ omega (arith, upto, also) ] ]
+one_index rows h1 i j d e within also same = search (rules, apart_below, cases_lt)
 
 -- if rows (links) are in order of their keys, the rows with their keys are the entries of the
 -- database that the rows make
@@ -89,8 +86,7 @@ by_key-filter p rows by_key = true_from_test _ (sorted_filter keys_total entry_o
 
 -- if a search for a key finds a row (a link), the row has this key
 pub found_key : (rows : List Link) (k : Key) (r : Result ℕ ℕ) → IsBinarySearchResult (λ l. key_cmp (key_of l) k) rows r → IfOk r (HoldsAt (λ l. key_of l ≡ k) rows)
-found_key rows k (Ok at) found = λ d. keys_antisymmetric _ _ (found d)
-found_key rows k (Err at) found = tt
+found_key rows k r found = search rules
 
 -- if a search for a key finds no row (a link), it returns the index at which such a row would be
 -- inserted
@@ -100,12 +96,7 @@ key_gap rows k r by_key found = gap_from (λ l. key_cmp (key_of l) k) rows r fou
 
 -- if the key `j` is lower than the key `k`, the router of `j` isn't above the router of `k`
 from_le : (j k : Key) → key_cmp j k ≡ Less → j.0 ≤ k.0
-from_le j k is =
-    elim (nat_cmp j.0 k.0) as (λ r. r ≡ nat_cmp j.0 k.0 → ordering_then r (nat_cmp j.1 k.1) ≡ Less → j.0 ≤ k.0) [
-      | Less ↦ λ e _. let low : j.0 < k.0 = ranked j.0 k.0 Less e in omega arith
-      | Equal ↦ λ e _. let same : j.0 ≡ k.0 = ranked j.0 k.0 Equal e in omega arith
-      | Greater ↦ λ _ off. absurd (cc)
-    ] refl is
+from_le j k is = search rules
 
 -- if rows (links) are in order of their keys, the routers at which they begin are in non-decreasing
 -- order
@@ -121,9 +112,7 @@ from_rises rows by_key i j d le h =
 
 -- if two keys don't compare as equal, they are different
 pub untied : (j k : Key) → eq_by_cmp key_cmp j k ≡ false → j ≢ k
-untied j k apart same =
-    let tie : eq_by_cmp key_cmp j k ≡ true = subst (λ q. eq_by_cmp key_cmp j q ≡ true) same (key_itself j) in
-    true≢false (sym tie ∙ apart)
+untied j k apart = search rules
 
 -- if a search for a key finds no row (a link), no row has the key
 pub unmet_at_gap : (rows : List Link) (k : Key) (at : ℕ) → IsPartitionPoint (λ l. key_cmp (key_of l) k ≡ Less) (λ l. key_cmp (key_of l) k ≡ Greater) rows at → All (λ l. key_of l ≢ k) rows

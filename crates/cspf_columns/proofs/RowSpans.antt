@@ -1,5 +1,5 @@
 -- Lemmas on the range of the rows (links) that begin at a router.
-use Rattle.std.proofs.Common.{◌≡◌, inl, inr, ℕ, ◌+◌, ◌-◌, ◌<◌, ◌≤◌, Bool, true, false, cond, List, [], ◌∷◌, ◌++◌, All, length, take, drop, get_or, ltb, leb, nat_eq, slice_range, refl, sym, ap, ◌∙◌, arith}
+use Rattle.std.proofs.Common.{◌≡◌, ℕ, ◌+◌, ◌-◌, ◌<◌, ◌≤◌, Bool, true, false, cond, List, [], ◌∷◌, ◌++◌, All, length, take, drop, get_or, ltb, leb, nat_eq, slice_range, refl, sym, ap, ◌∙◌, arith, rules}
 use Rattle.std.specs.List.{filter, between}
 use Rattle.std.specs.List.Sorted.{IsPartitionPoint, IsNonDecreasingBy}
 use Rattle.std.proofs.lemmas.Bool.{cases_lt}
@@ -90,22 +90,7 @@ module _ (rows : List Link) (router first end : ℕ) (rises : IsNonDecreasingBy 
   behind k d past h = omega (arith, rises end k d past h, high (omega (arith, past, h)) d)
 
   pub filter-run : slice_range rows first end ≡ filter (λ l. nat_eq l.from router) rows
-  filter-run =
-      filter-span rows router first end (omega (arith, order, bound)) bound (
-        (λ k d _ h. lower (get_or rows k d).from router (before k d h)),
-        λ k d from h.
-            elim (cases_lt k end) [
-              | inl lt ↦ not_lower (get_or rows k d).from router (omega (arith, run k d from lt))
-              | inr past ↦ not_lower (get_or rows k d).from router (omega (arith, behind k d past h))
-            ],
-      ) (
-        (λ k d _ h.
-            elim (cases_lt k first) [
-              | inl lt ↦ upto (get_or rows k d).from router (omega (arith, before k d lt))
-              | inr from ↦ upto (get_or rows k d).from router (omega (arith, run k d from h))
-            ]),
-        λ k d past h. not_upto (get_or rows k d).from router (behind k d past h),
-      )
+  filter-run = search (rules, before, behind, cases_lt, filter-span, lower, not_lower, not_upto, upto)
 
 -- if the first and the last row (a link) of a range begin at one router, all rows of the range
 -- begin at this router

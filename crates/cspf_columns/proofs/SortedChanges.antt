@@ -1,9 +1,10 @@
 -- How changes are sorted by key: a list of their keys and indexes is sorted, and then the changes
 -- are copied in this order.
-use Rattle.std.proofs.Common.{◌≡◌, ℕ, ◌+◌, ◌<◌, false, List, [], ◌∷◌, ◌++◌, All, length, map, take, None, get_or, refl, sym, ap, subst, ◌∙◌, arith}
+use Rattle.std.proofs.Common.{◌≡◌, ℕ, ◌+◌, ◌<◌, false, List, [], ◌∷◌, ◌++◌, All, length, map, take, None, get_or, sym, ap, subst, ◌∙◌, arith, rules}
+use Rattle.std.proofs.lemmas.Grind.{common_steps}
 use Rattle.std.specs.Ordering.{is_lt, is_eq, eq_by_cmp, nat_cmp, ordering_then, ordering_reverse}
 use Rattle.std.specs.declared.cmp.Ordering.{Ordering}
-use Rattle.std.specs.declared.cmp.Ordering.TheVariants.{Less, Equal, Greater}
+use Rattle.std.specs.declared.cmp.Ordering.TheVariants.{Less}
 use Rattle.std.specs.List.Sorted.{IsPermutation, IsSorted}
 use Rattle.std.proofs.lemmas.List.{take_more, map-append, get_or-map, get_or_default, length-map}
 use Rattle.std.proofs.lemmas.List.Elements.{All-append, All-cons, All-nil}
@@ -27,21 +28,17 @@ module _ (changes : List Change) where
   -- has the key and the index of the same change
   pub places_more : (order : List (ChangeKey × ℕ)) (at : ℕ) (k : ChangeKey) → at < length changes → ((d : Change) → k ≡ key_changed (get_or changes at d))
       → All (IsPlaceOfChange changes) order → All (IsPlaceOfChange changes) (order ++ (k, at) ∷ [])
-  places_more order at k within key all =
-      All-append (IsPlaceOfChange changes) order ((k, at) ∷ []) all (All-cons (IsPlaceOfChange changes) (k, at) [] (record { within = within; key = key }) (All-nil (IsPlaceOfChange changes)))
+  places_more order at k within key all = search (rules, All-append, All-cons, All-nil)
 
   pub listed_more : (order : List (ChangeKey × ℕ)) (at : ℕ) (k : ChangeKey) (d : Change) → at < length changes → map (change_of d) order ≡ take at changes
       → map (change_of d) (order ++ (k, at) ∷ []) ≡ take (at + 1) changes
-  listed_more order at k d within e =
-      map-append (change_of d) order ((k, at) ∷ []) ∙ ap (λ cs. cs ++ get_or changes at d ∷ []) e ∙ sym (take_more changes at d within)
+  listed_more order at k d within e = search (rules, map-append, take_more)
 
   -- if the changes of the first `i` pairs are copied, and the change of the next pair is appended,
   -- the changes of the first `i + 1` pairs are copied
   pub copied_more : (order : List (ChangeKey × ℕ)) (i : ℕ) (place : ChangeKey × ℕ) (c d : Change) (out : List Change) → i < length order → place ≡ get_or order i place → place.1 < length changes
       → c ≡ get_or changes place.1 c → out ≡ map (change_of d) (take i order) → out ++ c ∷ [] ≡ map (change_of d) (take (i + 1) order)
-  copied_more order i place c d out h is within read e =
-      (λ t. e t ++ (read ∙ get_or_default changes place.1 c d within) t ∷ []) ∙ ap (λ p. map (change_of d) (take i order) ++ change_of d p ∷ []) is ∙ sym (map-append (change_of d) (take i order) (get_or order i place ∷ []))
-      ∙ ap (map (change_of d)) (sym (take_more order i place h))
+  copied_more order i place c d out h is within read e = grind (arith, common_steps, get_or_default, map-append, take_more)
 
   -- if the pairs of all changes are permuted, the changes of these pairs are a permutation of the
   -- changes
@@ -63,15 +60,11 @@ place_cmp p q = ordering_then (change_key_cmp p.0 q.0) (nat_cmp p.1 q.1)
 
 -- if `ordering_then o p` isn't `Less`, then `o` isn't `Less`
 first_not_less : (o p : Ordering) → is_lt (ordering_then o p) ≡ false → is_lt o ≡ false
-first_not_less Less p above = above
-first_not_less Equal p above = refl
-first_not_less Greater p above = refl
+first_not_less o p above = search rules
 
 -- an ordering that is neither `Equal` nor `Greater` is `Less`
 only_less : (o p : Ordering) → o ≡ ordering_reverse p → is_lt p ≡ false → is_eq o ≡ false → o ≡ Less
-only_less o Less turned above apart = absurd (cc)
-only_less o Equal turned above apart = let tie = ap is_eq (sym turned) ∙ apart in absurd (cc)
-only_less o Greater turned above apart = turned
+only_less o p turned above apart = search rules
 
 -- Suppose that changes with different keys are copied in the order of their sorted pairs. Then the
 -- keys of the copied changes are in strictly increasing order.

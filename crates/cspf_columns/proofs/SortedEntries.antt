@@ -1,11 +1,11 @@
 -- Lemmas on entries in order of their keys, and on inserting or removing an entry.
-use Rattle.std.proofs.Common.{◌≡◌, ℕ, zero, suc, ◌+◌, ◌<◌, ◌≤◌, ◌&&◌, Bool, true, false, T, List, [], ◌∷◌, cond, filter, length, map, get_or, slice_set, Result, Ok, Err, IfOk, IfErr, refl, sym, ap, subst, ◌∙◌, arith}
+use Rattle.std.proofs.Common.{◌≡◌, ℕ, zero, suc, ◌<◌, ◌≤◌, ◌&&◌, Bool, true, false, T, List, [], ◌∷◌, cond, filter, length, map, get_or, slice_set, Result, IfErr, refl, sym, ap, subst, ◌∙◌, arith, rules}
 use Rattle.std.specs.Ordering.{is_lt, is_eq, eq_by_cmp, ordering_reverse, ordering_index}
 use Rattle.std.specs.declared.cmp.Ordering.{Ordering}
-use Rattle.std.specs.declared.cmp.Ordering.TheVariants.{Less, Equal, Greater}
+use Rattle.std.specs.declared.cmp.Ordering.TheVariants.{Less, Greater}
 use Rattle.std.specs.Cmp.{IsTotalOrder, tied_itself}
-use Rattle.std.specs.List.{AllWithin, AllByRecursion, HoldsAt, IsDistinct, insert, remove as without}
-use Rattle.std.specs.List.Sorted.{IsSortedBy, IsNonDecreasingBy, IsBinarySearchResult, IsPartitionPoint}
+use Rattle.std.specs.List.{AllWithin, AllByRecursion, IsDistinct, insert, remove as without}
+use Rattle.std.specs.List.Sorted.{IsNonDecreasingBy, IsBinarySearchResult, IsPartitionPoint}
 use Rattle.std.specs.FinMap.{FinMap, is_sorted, put, entries, entries-insert, entries_sorted, same_entries_map, from_entries, len-entries, len-empty}
 use Rattle.std.specs.FinMap.Entries.{below_all, by_order}
 use Rattle.std.proofs.lemmas.List.{nil_from_length}
@@ -13,32 +13,26 @@ use Rattle.std.proofs.lemmas.List.Sorted.{searchable_from_sorted}
 
 -- if two tests pass, their conjunction passes
 pub both : (a b : Bool) → T a → T b → T (a && b)
-both true b p q = q
-both false b p q = p
+both a b p q = search rules
 
 -- if the conjunction of two tests passes, the first test passes
 pub both_first : (a b : Bool) → T (a && b) → T a
-both_first true b h = tt
-both_first false b h = h
+both_first a b h = search rules
 
 -- if the conjunction of two tests passes, the second test passes
 pub both_second : (a b : Bool) → T (a && b) → T b
-both_second true b h = h
-both_second false b h = absurd h
+both_second a b h = search rules
 
 -- if `is_lt` passes for an ordering, the ordering is `Less`
 pub less_from : (o : Ordering) → T (is_lt o) → o ≡ Less
-less_from Less p = refl
-less_from Equal p = absurd p
-less_from Greater p = absurd p
+less_from o p = search rules
 
 -- `T b` holds exactly if the test `b` is true
 pub test_from_true : (b : Bool) → b ≡ true → T b
 test_from_true b e = subst T (sym e) tt
 
 pub true_from_test : (b : Bool) → T b → b ≡ true
-true_from_test true h = refl
-true_from_test false h = absurd h
+true_from_test b h = search rules
 
 module _ {A K X : Type 0} {R : K → K → Ordering} (o : IsTotalOrder R) (entry : A → K × X) where
   -- if `x` is greater than `y`, then `y` is less than `x`
@@ -123,9 +117,7 @@ module _ {A K X : Type 0} {R : K → K → Ordering} (o : IsTotalOrder R) (entry
   -- if entries are in order, comparing them with the key `k` gives first `Less`, then `Equal`, and
   -- then `Greater`
   pub searchable : (xs : List A) (k : K) → T (is_sorted R (map entry xs)) → IsNonDecreasingBy (λ y. ordering_index (R (entry y).0 k)) xs
-  searchable xs k sorted =
-      let rising : IsSortedBy (λ a b. is_lt (R (entry a).0 (entry b).0)) xs = λ i d _ h. ap is_lt (turned_less _ _ (rises xs sorted i (i + 1) d (omega arith) h)) in
-      searchable_from_sorted o (λ a. (entry a).0) xs k rising
+  searchable xs k sorted = search (rules, rises, searchable_from_sorted, turned_less)
 
   -- if the key `q` is below all keys of a list, `q` isn't in the list
   below_apart : (q : K) (xs : List A) → T (below_all R q (map entry xs)) → AllByRecursion (λ y. eq_by_cmp R q y ≡ false) (map (λ a. (entry a).0) xs)
@@ -138,17 +130,11 @@ module _ {A K X : Type 0} {R : K → K → Ordering} (o : IsTotalOrder R) (entry
   distinct [] sorted = tt
   distinct (x ∷ xs) sorted = (below_apart (entry x).0 xs (both_first _ _ sorted), distinct xs (both_second _ _ sorted))
 
--- if a search finds an item, comparing this item gives `Equal`
-pub found_from : {X : Type 0} (ord : X → Ordering) (xs : List X) (r : Result ℕ ℕ) → IsBinarySearchResult ord xs r → IfOk r (HoldsAt (λ y. ord y ≡ Equal) xs)
-found_from ord xs (Ok at) found = found
-found_from ord xs (Err at) found = tt
-
 -- if a search finds no item, it returns the index between the items that compare as `Less` and the
 -- items that compare as `Greater`
 pub gap_from : {X : Type 0} (ord : X → Ordering) (xs : List X) (r : Result ℕ ℕ) → IsBinarySearchResult ord xs r → IsNonDecreasingBy (λ y. ordering_index (ord y)) xs
     → IfErr r (IsPartitionPoint (λ y. ord y ≡ Less) (λ y. ord y ≡ Greater) xs)
-gap_from ord xs (Ok at) found rising = tt
-gap_from ord xs (Err at) found rising = found rising
+gap_from ord xs r found rising = search rules
 
 module _ {K X : Type 0} {R : K → K → Ordering} (o : IsTotalOrder R) where
   -- if the key `k` is below all keys of a list of entries, an entry with the key `k` is inserted at

@@ -1,23 +1,23 @@
 -- The pieces of which a reply line consists, and the greatest number of its bytes.
-use Rattle.std.proofs.Common.{◌≡◌, ℕ, ◌*◌, ◌^◌, ◌<◌, ◌≤◌, Bool, true, false, List, [], ◌∷◌, ◌++◌, codes, length, append_assoc, length-append, lit≤, arith}
+use Rattle.std.proofs.Common.{◌≡◌, ℕ, ◌+◌, ◌*◌, ◌^◌, ◌<◌, ◌≤◌, Bool, true, false, List, [], ◌∷◌, ◌++◌, codes, length, append_assoc, length-append, lit≤, arith}
 use Rattle.std.proofs.lemmas.Fmt.{length-decimal-le}
 use Rattle.std.specs.Fmt.{decimal}
 use Rattle.cspf_model.specs.declared.limits.TheConstants.{MOST_ROUTE_LINKS}
 use Rattle.cspf_ero.specs.declared.limits.TheConstants.{MOST_LINE_BYTES, MOST_OBJECT_BYTES}
 use Rattle.cspf_ero.specs.ReplyLine.{yes_or_no}
 
-regrouped : (a id b version c d cost e hops f again g : List ℕ)
-    → a ++ (id ++ (b ++ (version ++ (c ++ (d ++ (cost ++ (e ++ (hops ++ (f ++ (again ++ g))))))))))
-    ≡ a ++ id ++ b ++ version ++ c ++ (d ++ cost ++ e ++ hops ++ f ++ again ++ g)
-regrouped a id b version c d cost e hops f again g = simp append_assoc
+regrouped : (word a id b version c d cost e hops f again g : List ℕ)
+    → word ++ (a ++ (id ++ (b ++ (version ++ (c ++ (d ++ (cost ++ (e ++ (hops ++ (f ++ (again ++ g)))))))))))
+    ≡ word ++ a ++ id ++ b ++ version ++ c ++ (d ++ cost ++ e ++ hops ++ f ++ again ++ g)
+regrouped word a id b version c d cost e hops f again g = simp append_assoc
 
 -- the part of a route's line before its object is written piece by piece, and it is the text that
 -- `measures_text` defines
-pub front_pieces : (id version cost hops again : List ℕ)
-    → codes "ask " ++ (id ++ (codes " v" ++ (version ++ (codes " route cost=" ++ (cost ++ (codes " hops=" ++ (hops ++ (codes " again=" ++ (again ++ codes " ero=")))))))))
-    ≡ codes "ask " ++ id ++ codes " v" ++ version ++ codes " " ++ (codes "route cost=" ++ cost ++ codes " hops=" ++ hops ++ codes " again=" ++ again ++ codes " ero=")
-front_pieces id version cost hops again =
-    regrouped (codes "ask ") id (codes " v") version (codes " ") (codes "route cost=") cost (codes " hops=") hops (codes " again=") again (codes " ero=")
+pub front_pieces : (word id version cost hops again : List ℕ)
+    → word ++ (codes " " ++ (id ++ (codes " v" ++ (version ++ (codes " route cost=" ++ (cost ++ (codes " hops=" ++ (hops ++ (codes " again=" ++ (again ++ codes " ero="))))))))))
+    ≡ word ++ codes " " ++ id ++ codes " v" ++ version ++ codes " " ++ (codes "route cost=" ++ cost ++ codes " hops=" ++ hops ++ codes " again=" ++ again ++ codes " ero=")
+front_pieces word id version cost hops again =
+    regrouped word (codes " ") id (codes " v") version (codes " ") (codes "route cost=") cost (codes " hops=") hops (codes " again=") again (codes " ero=")
 
 -- a line is the same text, whether its pieces are joined from the right, or `words` and `digits`
 -- are joined first
@@ -42,16 +42,17 @@ pub again_letters : (again : Bool) → length (yes_or_no again) ≤ 3
 again_letters true = lit≤ tt
 again_letters false = lit≤ tt
 
--- a line has at most 87 bytes before its object
-pub front_most : (id version cost hops again : List ℕ) → length id ≤ 20 → length version ≤ 10 → length cost ≤ 14 → length hops ≤ 4 → length again ≤ 3
-    → length (codes "ask " ++ (id ++ (codes " v" ++ (version ++ (codes " route cost=" ++ (cost ++ (codes " hops=" ++ (hops ++ (codes " again=" ++ (again ++ codes " ero=")))))))))) ≤ 87
-front_most id version cost hops again a b c d e = simp length-append (omega arith)
+-- a line has at most 84 bytes between its first word and its object
+pub front_most : (word id version cost hops again : List ℕ) → length id ≤ 20 → length version ≤ 10 → length cost ≤ 14 → length hops ≤ 4 → length again ≤ 3
+    → length (word ++ (codes " " ++ (id ++ (codes " v" ++ (version ++ (codes " route cost=" ++ (cost ++ (codes " hops=" ++ (hops ++ (codes " again=" ++ (again ++ codes " ero="))))))))))) ≤ 84 + length word
+front_most word id version cost hops again a b c d e = simp length-append (omega arith)
 
--- a line without a route has at most 50 bytes
-pub short_most : (id version words : List ℕ) → length id ≤ 20 → length version ≤ 10 → length words ≤ 12
-    → length (codes "ask " ++ (id ++ (codes " v" ++ (version ++ (codes " " ++ (words ++ codes "\n")))))) ≤ 50
-short_most id version words a b c = simp length-append (omega arith)
+-- a line without a route has at most 47 bytes after its first word
+pub short_most : (word id version words : List ℕ) → length id ≤ 20 → length version ≤ 10 → length words ≤ 12
+    → length (word ++ (codes " " ++ (id ++ (codes " v" ++ (version ++ (codes " " ++ (words ++ codes "\n"))))))) ≤ 47 + length word
+short_most word id version words a b c = simp length-append (omega arith)
 
--- a line with an object has at most `MOST_LINE_BYTES` bytes
-pub line_most : (front digits object : List ℕ) → length front ≤ 87 → length object ≤ MOST_OBJECT_BYTES → length digits ≡ 2 * length object → length (front ++ digits ++ 10 ∷ []) ≤ MOST_LINE_BYTES
-line_most front digits object a b c = simp length-append (omega arith)
+-- a line with an object has at most `MOST_LINE_BYTES` bytes if its first word has three
+pub line_most : (word front digits object : List ℕ) → length front ≤ 84 + length word → length object ≤ MOST_OBJECT_BYTES → length digits ≡ 2 * length object
+    → length (front ++ digits ++ 10 ∷ []) + 3 ≤ MOST_LINE_BYTES + length word
+line_most word front digits object a b c = simp length-append (omega arith)

@@ -37,6 +37,11 @@ abbrev pub IsReply : ℕ → ℕ → Answer → List ℕ → Type 0
 IsReply id version answer line =
     (text : List ℕ) × IsAnswerText answer text × (line ≡ codes "ask " ++ decimal id ++ codes " v" ++ decimal version ++ codes " " ++ text ++ codes "\n")
 
+-- the same line with the word `word` at its beginning, in place of the word `ask`
+abbrev pub IsReplyAs : List ℕ → ℕ → ℕ → Answer → List ℕ → Type 0
+IsReplyAs word id version answer line =
+    (text : List ℕ) × IsAnswerText answer text × (line ≡ word ++ codes " " ++ decimal id ++ codes " v" ++ decimal version ++ codes " " ++ text ++ codes "\n")
+
 -- there is at most one reply line for a request's id, a version of the database and an answer
 abbrev pub HasOneReplyLine : Type 0
 HasOneReplyLine = (id version : ℕ) (answer : Answer) (line other : List ℕ) → IsReply id version answer line → IsReply id version answer other → line ≡ other

@@ -19,5 +19,5 @@ pub use head::{Head, reply_head};
 pub use laws::{objects_are_read, one_head, one_reply_line, routes_are_read_back};
 pub use limits::{MOST_LINE_BYTES, MOST_OBJECT_BYTES};
 pub use reader::{FIRST_BYTES, read_ero, read_ero_front};
-pub use reply::reply_line;
+pub use reply::{reply_line, reply_line_as};
 pub use writer::write_ero;

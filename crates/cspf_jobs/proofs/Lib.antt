@@ -1,2 +1,4 @@
 -- The lemmas of this crate's proofs.
-pub mod Steps
+pub mod JobSteps
+pub mod Totals
+pub mod DrawSteps

@@ -2,9 +2,9 @@
 use Rattle.std.proofs.Common.{◌≡◌, ℕ, Option, List, Result, Ok, Err, IfOk, OnOk, OnErr, IfSome, inl, inr, refl}
 use Rattle.std.specs.Io.KnownBytes.{Appends}
 use Rattle.cspf_rows.specs.Records.{rows_of}
-use Rattle.cspf_audit.specs.AuditErrors.{IsAuditOf, IsAuditError}
-use Rattle.cspf_audit.specs.declared.audit_error.AuditError.{AuditError}
-use Rattle.cspf_audit.specs.declared.faults.Audit.{Audit}
+use Rattle.cspf_judge.specs.AuditErrors.{IsAuditOf, IsAuditError}
+use Rattle.cspf_judge.specs.declared.audits.audit_error.AuditError.{AuditError}
+use Rattle.cspf_judge.specs.declared.audits.faults.Audit.{Audit}
 use Rattle.cspf_judge.specs.AuditRun.{IsAuditErrorLine, IsAuditRun, audit_lines, audit_status}
 use Rattle.cspf_judge.specs.EarlyEnds.{IfRefused, HasBegun, IsRefusalBegun, IsRefusalWritten, Writes}
 use Rattle.cspf_judge.specs.LineTexts.{judge_line_text}

@@ -1,4 +1,22 @@
 -- The lemmas of this crate's proofs.
+pub mod FullBatches
+pub mod Parts
+pub mod RouterCounts
+pub mod OwnChanges
+pub mod MadeDatabase
+pub mod LawfulParts
+pub mod SnapshotMade
+pub mod RisingLists
+pub mod OneSnapshot
+pub mod Lookups
+pub mod ReplyComparison
+pub mod LineCuts
+pub mod BatchSteps
+pub mod IdPlaces
+pub mod ComparingSteps
+pub mod ReadingSteps
+pub mod ReplySteps
+pub mod AuditSteps
 pub mod AuditRunLines
 pub mod Fronts
 pub mod SnapshotRunLines

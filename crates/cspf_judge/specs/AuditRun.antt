@@ -3,12 +3,12 @@ use Rattle.std.specs.Prelude.{◌≡◌, ℕ, ◌⊎◌, ◌++◌, ◌==◌, if�
 use Rattle.std.specs.Fmt.{decimal}
 use Rattle.std.specs.List.{flat_map}
 use Rattle.cspf_rows.specs.Records.{rows_of}
-use Rattle.cspf_audit.specs.FaultWords.{fault_words}
-use Rattle.cspf_audit.specs.AuditErrors.{IsAuditOf, IsAuditError}
-use Rattle.cspf_audit.specs.declared.audit_error.AuditError.{AuditError}
-use Rattle.cspf_audit.specs.declared.audit_error.AuditError.TheVariants as error
-use Rattle.cspf_audit.specs.declared.faults.Audit.{Audit}
-use Rattle.cspf_audit.specs.declared.faults.AuditFault.{AuditFault}
+use Rattle.cspf_judge.specs.FaultWords.{fault_words}
+use Rattle.cspf_judge.specs.AuditErrors.{IsAuditOf, IsAuditError}
+use Rattle.cspf_judge.specs.declared.audits.audit_error.AuditError.{AuditError}
+use Rattle.cspf_judge.specs.declared.audits.audit_error.AuditError.TheVariants as error
+use Rattle.cspf_judge.specs.declared.audits.faults.Audit.{Audit}
+use Rattle.cspf_judge.specs.declared.audits.faults.AuditFault.{AuditFault}
 use Rattle.cspf_stream.specs.declared.batch_refusal.BatchRefusal.TheVariants as refusal
 use Rattle.cspf_stream.specs.Lines.{refused_batch_line, too_many_line}
 use Rattle.cspf_judge.specs.Inputs.{torn_line, IsFaultLine}

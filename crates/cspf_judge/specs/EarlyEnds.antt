@@ -2,8 +2,8 @@
 -- with an error.
 use Rattle.std.specs.Prelude.{◌≡◌, ◌⊎◌, ℕ, Option, List, ◌++◌}
 use Rattle.std.specs.Io.KnownBytes.{Appends, Keeps}
-use Rattle.cspf_audit.specs.declared.audit_error.AuditError.{AuditError}
-use Rattle.cspf_audit.specs.declared.audit_error.AuditError.TheVariants as audit_error
+use Rattle.cspf_judge.specs.declared.audits.audit_error.AuditError.{AuditError}
+use Rattle.cspf_judge.specs.declared.audits.audit_error.AuditError.TheVariants as audit_error
 use Rattle.cspf_db.specs.declared.replay.UnfitBatch.{UnfitBatch}
 use Rattle.cspf_rows.specs.declared.read_error.ReadError.{ReadError}
 use Rattle.cspf_rows.specs.declared.read_error.ReadError.TheVariants as read_error

@@ -7,8 +7,7 @@ ghost use Rattle.cspf_judge.specs.AuditRun.{IsAuditErrorLine, IsAuditRun, audit_
 ghost use Rattle.cspf_judge.specs.EarlyEnds.{IfRefused, IfFailed, IsAuditFailure, HasBegun, Writes, WritesFront};
 
 use crate::input::requests_end_of;
-use crate::{EarlyEnd, JudgeError, JudgeLine, put_line, refuse};
-use cspf_audit::{Audit, AuditError, audit};
+use crate::{Audit, AuditError, EarlyEnd, JudgeError, JudgeLine, audit, put_line, refuse};
 use cspf_stream::{BatchRefusal, StreamLine};
 use std::alloc::Global;
 use std::io::{Read, Write};

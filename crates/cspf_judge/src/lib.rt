@@ -1,8 +1,16 @@
 //! The judge of journals, requests and replies. It works in one thread, and publishes no versions.
 //!
-//! `run_audit` judges replies against a journal and requests, and `specs/AuditRun.antt` defines its
-//! output. `run_snapshot` writes the batches that make a journal's last database from the empty
-//! database, and `specs/SnapshotRun.antt` defines its output.
+//! `audit` judges replies against a journal and requests. `specs/Lines.antt` defines how the text of
+//! the replies is cut into lines. `specs/Findings.antt` defines the finding about a line, which
+//! depends on a journal's batches, the requests and the earlier lines. `specs/Audits.antt` defines
+//! the audit of all lines. `specs/AuditErrors.antt` defines the audit of whole streams, and why
+//! streams aren't audited. `run_audit` writes an audit, and `specs/AuditRun.antt` defines its output.
+//!
+//! `snapshot` makes the few batches that make a table's database from the empty database, and
+//! `replay` makes the table that batches lead to. `specs/Snapshots.antt` defines the snapshot of a
+//! database, and `specs/SnapshotLaws.antt` says that a database has only one snapshot.
+//! `specs/Replays.antt` defines why batches can't be replayed. `run_snapshot` writes the snapshot of
+//! a journal's last database, and `specs/SnapshotRun.antt` defines its output.
 //!
 //! The crate also has the code that all runs over a journal and requests share. `specs/Inputs.antt`
 //! defines how a journal and requests are read, and the lines that refuse them.
@@ -10,15 +18,19 @@
 #![tactic(auto)]
 
 mod audit_run;
+mod audits;
 mod early_end;
 mod input;
 mod line;
 mod output;
 mod snapshot_run;
+mod snapshots;
 
 pub use audit_run::run_audit;
+pub use audits::{Audit, AuditError, AuditFault, audit};
 pub use early_end::{EarlyEnd, JudgeError};
 pub use input::{accept_rest, batches_of, journal_end_of, requests_of};
 pub use line::JudgeLine;
 pub use output::{put, put_line, refuse};
 pub use snapshot_run::run_snapshot;
+pub use snapshots::{MOST_SNAPSHOT_BATCHES, ReplayError, one_snapshot, replay, snapshot};

@@ -1,6 +1,6 @@
 //! The lines of a run over a journal, requests or replies, except reply lines.
 
-use cspf_audit::AuditFault;
+use crate::AuditFault;
 use cspf_rows::RowError;
 use cspf_stream::StreamLine;
 use std::alloc::{AllocError, Global};

@@ -7,11 +7,10 @@ ghost use Rattle.cspf_rows.specs.Records.{rows_of};
 ghost use Rattle.cspf_judge.specs.EarlyEnds.{IfRefused, WritesFront};
 ghost use Rattle.cspf_judge.specs.SnapshotRun.{IsSnapshotOf, IsSnapshotRefused, WritesSnapshot, HasBegunSnapshot};
 
-use crate::{EarlyEnd, JudgeError, batches_of, put, refuse};
+use crate::{EarlyEnd, JudgeError, batches_of, put, refuse, snapshot};
 use cspf_db::{Table, replay_into};
 use cspf_model::Batch;
 use cspf_rows::batch_text;
-use cspf_snapshot::snapshot;
 use std::alloc::Global;
 use std::io::{Read, Write};
 

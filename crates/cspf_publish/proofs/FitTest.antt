@@ -1,20 +1,18 @@
 -- The test `is_fitting` is true exactly if the batch fits.
-use Rattle.std.proofs.Common.{◌≡◌, ℕ, ◌≤◌, Bool, true, false, not, cond, nat_le, List, [], ◌∷◌, length, map, refl, ap, Decides}
+use Rattle.std.proofs.Common.{◌≡◌, ℕ, ◌≤◌, Bool, false, not, cond, nat_le, List, [], ◌∷◌, length, map, refl, ap, Decides, rules}
 use Rattle.std.specs.List.{list_all, IsDistinct, AllByRecursion}
 use Rattle.std.specs.Ordering.{eq_by_cmp}
 use Rattle.std.proofs.lemmas.Bool.{leb-true, le-leb}
 use Rattle.std.proofs.lemmas.Bool.Decides.{not_from_Decides, Decides-and, Decides-like, Decides-by_and}
 use Rattle.cspf_model.specs.declared.limits.TheConstants.{MOST_CHANGES, MOST_LINKS, MOST_ROUTERS, MOST_MARKS}
 use Rattle.cspf_model.specs.declared.batch.Change.{Change}
-use Rattle.cspf_model.specs.declared.batch.Change.TheVariants.{Put, Remove, Node}
 use Rattle.cspf_model.specs.Numbered.{NumberedChanges}
 use Rattle.cspf_model.specs.Database.{Database, link_count, router_count, mark_count}
 use Rattle.cspf_model.specs.Changes.{ChangeKey, change_key_cmp, key_changed, after_changes, IsPresent, Fits}
 use Rattle.cspf_publish.specs.BatchAbsorption.{are_distinct, is_present, is_fitting, database_with}
 
 not-Decides : (b : Bool) → Decides (not b) (b ≡ false)
-not-Decides true = (λ e. absurd cc, λ e. absurd cc)
-not-Decides false = (λ _. refl, λ _. refl)
+not-Decides b = search rules
 
 nat_le-Decides : (a b : ℕ) → Decides (nat_le a b) (a ≤ b)
 nat_le-Decides a b = (leb-true a b, le-leb a b)
@@ -31,9 +29,7 @@ are_distinct-Decides [] = (λ _. tt, λ _. refl)
 are_distinct-Decides (k ∷ ks) = Decides-and _ (are_distinct ks) (other_keys-Decides k ks) (are_distinct-Decides ks)
 
 is_present-Decides : (d : Database) (c : Change) → Decides (is_present d c) (IsPresent d c)
-is_present-Decides d (Put l) = (λ _. tt, λ _. refl)
-is_present-Decides d (Remove from local) = (λ is. is, λ is. is)
-is_present-Decides d (Node router transit) = (λ _. tt, λ _. refl)
+is_present-Decides d c = search rules
 
 is_fitting-Decides : (d : Database) (b : NumberedChanges) → Decides (is_fitting d b) (Fits d b)
 is_fitting-Decides d b =
@@ -54,17 +50,4 @@ database_with-Fits d b f = ap (λ t. cond t (after_changes d b.changes) d) ((is_
 -- doesn't fit, it is `database_with`.
 pub is_database_with : (d e : Database) (b : NumberedChanges)
     → (Fits d b → e ≡ after_changes d b.changes) → ((¬ Fits d b) → e ≡ d) → e ≡ database_with d b
-is_database_with d e b fits unfit =
-    let by_test : (t : Bool) → is_fitting d b ≡ t → e ≡ cond t (after_changes d b.changes) d = λ t. elim t as (λ t. is_fitting d b ≡ t → e ≡ cond t (after_changes d b.changes) d) [
-      | true ↦ λ is. fits ((is_fitting-Decides d b).0 is)
-      | false ↦ λ is. unfit (not_from_Decides (is_fitting d b) (is_fitting-Decides d b) is)
-    ] in
-    by_test (is_fitting d b) refl
-
-cond-same : (t : Bool) (d : Database) → cond t d d ≡ d
-cond-same true d = refl
-cond-same false d = refl
-
--- a batch without changes changes nothing
-pub database_with-nothing : (d : Database) (number : ℕ) → database_with d (record { number = number; changes = [] }) ≡ d
-database_with-nothing d number = cond-same (is_fitting d (record { number = number; changes = [] })) d
+is_database_with d e b fits unfit = search (rules, is_fitting-Decides, not_from_Decides)

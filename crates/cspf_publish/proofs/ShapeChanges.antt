@@ -1,7 +1,7 @@
 -- A list of batches begins with a shorter list. Both lists have the same number of batches that
 -- change more than unreserved bandwidths. Then the databases that they make have one shape: they
 -- differ at most in unreserved bandwidths.
-use Rattle.std.proofs.Common.{◌≡◌, ℕ, ◌+◌, ◌≤◌, List, [], ◌∷◌, ◌++◌, length, refl, sym, ap, subst, inl, inr, ◌∙◌, arith}
+use Rattle.std.proofs.Common.{◌≡◌, ℕ, ◌+◌, ◌≤◌, List, [], ◌∷◌, ◌++◌, length, refl, sym, ap, subst, inl, inr, ◌∙◌, arith, rules}
 use Rattle.cspf_model.specs.Numbered.{NumberedChanges}
 use Rattle.cspf_model.specs.Database.{Database}
 use Rattle.cspf_model.specs.Changes.{no_links, after_changes, changes_of, database_after}
@@ -38,9 +38,7 @@ none_changed d (b ∷ bs) (inr p) = absurd (omega (arith, p.2))
 after_one_batch : (d : Database) (b : NumberedChanges) (xs ys : List NumberedChanges)
     → HaveOneShape (after_changes (after_changes d b.changes) (changes_of xs)) (after_changes (after_changes d b.changes) (changes_of ys))
     → HaveOneShape (after_changes d (changes_of (b ∷ xs))) (after_changes d (changes_of (b ∷ ys)))
-after_one_batch d b xs ys is =
-    subst (λ e. HaveOneShape e (after_changes d (changes_of (b ∷ ys)))) (sym (after_batch d b xs))
-    (subst (HaveOneShape (after_changes (after_changes d b.changes) (changes_of xs))) (sym (after_batch d b ys)) is)
+after_one_batch d b xs ys is = search (rules, after_batch)
 
 -- A whole list and a prefix of it have the same number of batches that change more than unreserved
 -- bandwidths. Then their databases differ at most in unreserved bandwidths.
@@ -57,9 +55,7 @@ as_many_changes d (b ∷ bs) rest count (inr p) (inr q) =
 
 pub one_shape : (all first : List NumberedChanges) (count : ℕ) → BeginsWith all first → HasShapeChanges first count → HasShapeChanges all count
     → HaveOneShape (database_after first) (database_after all)
-one_shape all first count begins is its =
-    subst (λ bs. HaveOneShape (database_after first) (database_after bs)) (sym begins.1)
-    (as_many_changes no_links first begins.0 count is (subst (λ bs. HasShapeChanges bs count) begins.1 its))
+one_shape all first count begins is its = search (rules, as_many_changes)
 
 -- a further batch that changes at most unreserved bandwidths leaves the count of batches that
 -- change more unchanged

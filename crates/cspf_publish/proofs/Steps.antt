@@ -1,16 +1,14 @@
 -- Each step on the replicas (the two copies of the table of links) keeps their invariant,
 -- `HoldsBetweenSteps`.
-use Rattle.std.proofs.Common.{◌≡◌, ℕ, ◌≢◌, Bool, true, false, List, [], ◌∷◌, ◌++◌, set, refl, sym, ap, ◌∙◌, subst, ⊎_elim}
-use mathlib.Core.Option.{some, some-ne-none}
+use Rattle.std.proofs.Common.{◌≡◌, ℕ, ◌≢◌, true, false, List, [], ◌∷◌, ◌++◌, set, refl, sym, ap, ◌∙◌, subst, ⊎_elim, rules, arith}
+use Rattle.std.proofs.lemmas.Grind.{common_steps}
+use mathlib.Core.Option.{some}
 use lib.ListN.{get_elem?}
 use Rattle.crossbeam_utils.specs.Register.{Admits, Turns, TurnsAt, Forks, Merges}
 use Rattle.atomic_table.proofs.Lists.{at_set, at_snoc}
-use Rattle.logbook.specs.Pages.{Book}
 use Rattle.cspf_model.specs.Numbered.{NumberedChanges}
-use Rattle.cspf_model.specs.Database.{Database}
-use Rattle.cspf_model.specs.Changes.{after_changes, database_after, Fits}
+use Rattle.cspf_model.specs.Changes.{database_after}
 use Rattle.cspf_model.specs.Laws.{LawfulByOneMore, OneMoreBatch}
-use Rattle.cspf_publish.specs.BatchAbsorption.{database_with}
 use Rattle.cspf_journal.specs.Histories.{IsHistory, MayFollow}
 use Rattle.cspf_journal.specs.KnownBatches.{KnownBatches, AreFirstOf, known_with}
 use Rattle.cspf_publish.specs.Operations.{idle_batch}
@@ -20,7 +18,7 @@ use Rattle.cspf_publish.specs.ReplicaRule.{HoldsBetweenSteps, HasItsDatabase, Co
 use Rattle.cspf_publish.specs.declared.seat_view.SeatView.{SeatView}
 use Rattle.cspf_publish.specs.declared.seat_view.SeatView.TheVariants.{New, Asker, Publisher}
 use Rattle.cspf_journal.proofs.Prefixes.{BeginsWith-self, BeginsWith-snoc, IsHistory-snoc}
-use Rattle.cspf_publish.proofs.FitTest.{database_with-Fits, database_with-nothing}
+use Rattle.cspf_publish.proofs.FitTest.{database_with-Fits}
 
 -- each user of the replicas (a new reader, an asker or the publisher) knows the batches of its view
 abbrev AllKnow : ReplicaState → List SeatView → Type 0
@@ -37,39 +35,15 @@ AllKnow-snoc s views w all knows j u e = ⊎_elim (all j u) (λ (t : w ≡ u). s
 -- the new view isn't the publisher's or the replaced view was. A view has the batches that one user
 -- of the replicas knows.
 HasOnePublisher-set : (views : List SeatView) (seat : ℕ) (v w : SeatView) → get_elem? views seat ≡ some v → HasOnePublisher views → (IsPublisher w → IsPublisher v) → HasOnePublisher (set views seat w)
-HasOnePublisher-set views seat v w at one was i j x y ex ey px py =
-    ⊎_elim
-    (λ (s : (i ≡ seat) × (w ≡ x)). ⊎_elim
-    (λ (t : (j ≡ seat) × (w ≡ y)). s.0 ∙ sym t.0)
-    (λ (t : (j ≢ seat) × (get_elem? views j ≡ some y)). s.0 ∙ one seat j v y at t.1 (was (subst IsPublisher (sym s.1) px)) py)
-    (at_set views seat j w y ey))
-    (λ (s : (i ≢ seat) × (get_elem? views i ≡ some x)). ⊎_elim
-    (λ (t : (j ≡ seat) × (w ≡ y)). one i seat x v s.1 at px (was (subst IsPublisher (sym t.1) py)) ∙ sym t.0)
-    (λ (t : (j ≢ seat) × (get_elem? views j ≡ some y)). one i j x y s.1 t.1 px py)
-    (at_set views seat j w y ey))
-    (at_set views seat i w x ex)
+HasOnePublisher-set views seat v w at one was = search (rules, at_set, ⊎_elim)
 
 -- if no view of a list is the publisher's, at most one view is the publisher's after one view is
 -- replaced
 HasOnePublisher-first : (views : List SeatView) (seat : ℕ) (w : SeatView) → ((j : ℕ) (u : SeatView) → get_elem? views j ≡ some u → IsPublisher u → ⊥) → HasOnePublisher (set views seat w)
-HasOnePublisher-first views seat w none i j x y ex ey px py =
-    ⊎_elim
-    (λ (s : (i ≡ seat) × (w ≡ x)). ⊎_elim
-    (λ (t : (j ≡ seat) × (w ≡ y)). s.0 ∙ sym t.0)
-    (λ (t : (j ≢ seat) × (get_elem? views j ≡ some y)). absurd (none j y t.1 py))
-    (at_set views seat j w y ey))
-    (λ (s : (i ≢ seat) × (get_elem? views i ≡ some x)). absurd (none i x s.1 px))
-    (at_set views seat i w x ex)
+HasOnePublisher-first views seat w none = search (rules, at_set, ⊎_elim)
 
 HasOnePublisher-snoc : (views : List SeatView) (w : SeatView) → HasOnePublisher views → (IsPublisher w → ⊥) → HasOnePublisher (views ++ w ∷ [])
-HasOnePublisher-snoc views w one not i j x y ex ey px py =
-    ⊎_elim
-    (λ (s : get_elem? views i ≡ some x). ⊎_elim
-    (λ (t : get_elem? views j ≡ some y). one i j x y s t px py)
-    (λ (t : w ≡ y). absurd (not (subst IsPublisher (sym t) py)))
-    (at_snoc views w y j ey))
-    (λ (s : w ≡ x). absurd (not (subst IsPublisher (sym s) px)))
-    (at_snoc views w x i ex)
+HasOnePublisher-snoc views w one not = search (rules, at_snoc, ⊎_elim)
 
 pub AreFirstOf-self : (known : KnownBatches) → AreFirstOf known known
 AreFirstOf-self known = record { source = refl; begins = BeginsWith-self known.batches }
@@ -77,35 +51,20 @@ AreFirstOf-self known = record { source = refl; begins = BeginsWith-self known.b
 -- after one more batch is published, the views of askers (which answer requests) and new readers
 -- are still right
 Knows-more : (s t : ReplicaState) (b : NumberedChanges) → t.known ≡ known_with s.known.batches s.known.source b → (v : SeatView) → Knows s v → (IsPublisher v → ⊥) → Knows t v
-Knows-more s t b is New knows not = tt
-Knows-more s t b is (Asker known) knows not =
-    let more : AreFirstOf (known_with s.known.batches s.known.source b) known = record { source = knows.source; begins = BeginsWith-snoc s.known.batches known.batches b knows.begins } in
-    subst (λ (k : KnownBatches). AreFirstOf k known) (sym is) more
-Knows-more s t b is (Publisher known) knows not = absurd (not tt)
+Knows-more s t b is v knows not = grind (arith, common_steps, BeginsWith-snoc)
 
 -- after the publisher's first step, the views of askers (which answer requests) and new readers are
 -- still right
 Knows-opens : (s t : ReplicaState) → t.known ≡ s.known → (v : SeatView) → Knows s v → (IsPublisher v → ⊥) → Knows t v
-Knows-opens s t is New knows not = tt
-Knows-opens s t is (Asker known) knows not = subst (λ (k : KnownBatches). AreFirstOf k known) (sym is) knows
-Knows-opens s t is (Publisher known) knows not = absurd (not tt)
+Knows-opens s t is v knows not = search rules
 
 is_open_by : (s : ReplicaState) (v : SeatView) → Knows s v → IsPublisher v → s.is_open ≡ true
-is_open_by s New knows is = absurd is
-is_open_by s (Asker known) knows is = absurd is
-is_open_by s (Publisher known) knows is = knows.1
+is_open_by s v knows is = search rules
 
 -- The invariant of the replicas (the table's two copies), `HoldsBetweenSteps`, holds at the start.
 -- Then the only user of the replicas is the writer, and it knows no batches.
 pub begins : (s : ReplicaState) → IsHistory s.known.batches → HasItsDatabase s → CountsShapeChanges s → IsCopyByRight s → HoldsBetweenSteps s (New ∷ [])
-begins s history has counts right = record {
-  history = history;
-  database = has;
-  shapes = counts;
-  right = right;
-  seats = AllKnow-snoc s [] New (λ j u e. absurd (some-ne-none u (sym e))) tt;
-  one_publisher = HasOnePublisher-snoc [] New (λ i j v w e f p q. absurd (some-ne-none v (sym e))) (λ p. p);
-}
+begins s history has counts right = search rules
 
 -- the invariant of the replicas (the table's two copies), `HoldsBetweenSteps`, still holds after a
 -- new reader is made, which knows no batches
@@ -161,51 +120,19 @@ opens seat v s next was now database same as_many right views w at =
 -- the publisher publishes the next batch
 pub publishes : LawfulByOneMore → (seat : ℕ) (v : SeatView) (s next : ReplicaState) (b : NumberedChanges) → v ≡ Publisher s.known → MayFollow s.known.batches b
     → next.known ≡ known_with s.known.batches s.known.source b → next.is_open ≡ true → HasItsDatabase next → CountsShapeChanges next → next.right ≡ s.right → TurnsAt HoldsBetweenSteps seat v s next Publishes
-publishes law seat v s next b mine follows is now has counts right views w at =
-    let own : IsPublisher v = subst IsPublisher (sym mine) tt in
-    let history : IsHistory next.known.batches = subst (λ (k : KnownBatches). IsHistory k.batches) (sym is) (IsHistory-snoc law s.known.batches b w.history follows) in
-    let all : AllKnow next (set views seat (Publisher next.known)) = λ j u e. ⊎_elim
-    (λ (t : (j ≡ seat) × (Publisher next.known ≡ u)). subst (λ (z : SeatView). Knows next z) t.1 (refl, now))
-    (λ (t : (j ≢ seat) × (get_elem? views j ≡ some u)). Knows-more s next b is u (w.seats j u t.1) (λ p. t.0 (w.one_publisher j seat u v t.1 at p own)))
-    (at_set views seat j (Publisher next.known) u e) in (
-      Publisher next.known,
-      record {
-        history = history;
-        database = has;
-        shapes = counts;
-        right = right ∙ (w.right ∙ sym (ap (λ (k : KnownBatches). k.source) is));
-        seats = all;
-        one_publisher = HasOnePublisher-set views seat v (Publisher next.known) at w.one_publisher (λ p. own);
-      },
-      record {
-        batch = b;
-        follows = follows;
-        batches = ap (λ (k : KnownBatches). k.batches) is;
-        source = ap (λ (k : KnownBatches). k.source) is;
-        before = mine;
-        after = refl;
-      },
-    )
+publishes law seat v s next b mine follows is now has counts right = search (rules, HasOnePublisher-set, IsHistory-snoc, Knows-more, at_set, ⊎_elim)
 
 note_of-Knows : (s : ReplicaState) (v : SeatView) → Knows s v → Knows s (note_of v)
-note_of-Knows s New knows = tt
-note_of-Knows s (Asker known) knows = knows
-note_of-Knows s (Publisher known) knows = subst (λ (k : KnownBatches). AreFirstOf s.known k) (sym knows.0) (AreFirstOf-self s.known)
+note_of-Knows s v knows = search rules
 
 note_of-IsPublisher : (v : SeatView) → IsPublisher (note_of v) → ⊥
-note_of-IsPublisher New p = p
-note_of-IsPublisher (Asker known) p = p
-note_of-IsPublisher (Publisher known) p = p
+note_of-IsPublisher v p = search rules
 
 view_with_note-Knows : (s : ReplicaState) (v told : SeatView) → Knows s v → Knows s told → Knows s (view_with_note v told)
-view_with_note-Knows s New told knows its = note_of-Knows s told its
-view_with_note-Knows s (Asker known) told knows its = knows
-view_with_note-Knows s (Publisher known) told knows its = knows
+view_with_note-Knows s v told knows its = search rules
 
 view_with_note-IsPublisher : (v told : SeatView) → IsPublisher (view_with_note v told) → IsPublisher v
-view_with_note-IsPublisher New told p = note_of-IsPublisher told p
-view_with_note-IsPublisher (Asker known) told p = p
-view_with_note-IsPublisher (Publisher known) told p = p
+view_with_note-IsPublisher v told p = search rules
 
 -- the invariant of the replicas (the table's two copies), `HoldsBetweenSteps`, still holds after
 -- the publisher or an asker makes a note of the batches that it knows
@@ -238,9 +165,7 @@ merges seat v other w s views holds at apart there =
 -- one that its batches make
 pub HasItsDatabase-more : OneMoreBatch → (s : ReplicaState) (b : NumberedChanges) (count : ℕ) → HasItsDatabase s → MayFollow s.known.batches b
     → HasItsDatabase (state_with s b (known_with s.known.batches s.known.source b) count)
-HasItsDatabase-more law s b count has follows =
-    database_with-Fits s.database b (subst (λ (d : Database). Fits d b) (sym has) follows.fits)
-    ∙ (ap (λ (d : Database). after_changes d b.changes) has ∙ sym (law s.known.batches b))
+HasItsDatabase-more law s b count has follows = search (rules, database_with-Fits)
 
 -- After two operations without changes, the count of batches that change more than unreserved
 -- bandwidths is 0 in a replica (a copy of the table). The field `is_open` is true, and the other
@@ -248,15 +173,9 @@ HasItsDatabase-more law s b count has follows =
 pub idle_twice : (s : ReplicaState)
     → state_with (state_with s (idle_batch s.known).batch s.known 0) (idle_batch s.known).batch s.known 0
     ≡ record { right = s.right; database = s.database; known = s.known; shape_changes = 0; is_open = true }
-idle_twice s =
-    let nothing : (d : Database) → database_with d (idle_batch s.known).batch ≡ d = λ d. database_with-nothing d 0 in
-    ap (λ (d : Database). (let it : ReplicaState = record { right = s.right; database = d; known = s.known; shape_changes = 0; is_open = true } in it))
-    (ap (λ (d : Database). database_with d (idle_batch s.known).batch) (nothing s.database) ∙ nothing s.database)
+idle_twice s = search rules
 
 -- A replica is `published_state` if three facts hold. Its `is_open` is true, it has the database of
 -- its batches, and it has a `CopyRight` of the journal that the batches are from.
 pub state_from_known : (s : ReplicaState) → HasItsDatabase s → IsCopyByRight s → s.is_open ≡ true → s ≡ published_state s.known s.shape_changes
-state_from_known s has right now =
-    ap (λ (d : Database). (let it : ReplicaState = record { right = s.right; database = d; known = s.known; shape_changes = s.shape_changes; is_open = s.is_open } in it)) has
-    ∙ (ap (λ (b : Book). (let it : ReplicaState = record { right = b; database = database_after s.known.batches; known = s.known; shape_changes = s.shape_changes; is_open = s.is_open } in it)) right
-    ∙ ap (λ (x : Bool). (let it : ReplicaState = record { right = s.known.source; database = database_after s.known.batches; known = s.known; shape_changes = s.shape_changes; is_open = x } in it)) now)
+state_from_known s has right now = search rules

@@ -22,7 +22,7 @@ use Rattle.cspf_rows.specs.Journal.{change_row, batch_rows, journal_rows, IsJour
 use Rattle.cspf_rows.specs.JournalLaws.{IsChangeInRange, AreInRange, journal_text, AreWritable}
 use Rattle.cspf_rows.proofs.Lines.{line_text-cons}
 use Rattle.cspf_rows.proofs.PlainFields.{IsUnquoted, decimal_unquoted, decimals_unquoted, address_unquoted, mask_unquoted}
-use Rattle.cspf_rows.proofs.CutLines.{AreUnquotedRecords, rows_of-lines}
+use Rattle.cspf_rows.proofs.CutLines.{IsUnquotedRecord, AreUnquotedRecords, rows_of-lines}
 
 -- The records that are written for changes and for `end` rows are read as the same rows. Batches
 -- have no other rows.
@@ -33,6 +33,9 @@ pub record AreRowsReadBack : Type 0 where
   pub ends : AreEndsReadBack
   pub masks : AreMasksRead
   pub back : AreMasksReadBack
+
+pub read_back : ArePutsReadBack → AreDropsReadBack → AreNodesReadBack → AreEndsReadBack → AreMasksRead → AreMasksReadBack → AreRowsReadBack
+read_back puts drops nodes ends masks back = record { puts = puts; drops = drops; nodes = nodes; ends = ends; masks = masks; back = back }
 
 -- no field of the records needs quotes, and the records are read as `rows`
 pub record AreRead (records : List (List (List ℕ))) (rows : List Row) : Type 0 where
@@ -54,41 +57,42 @@ flag_unquoted : (flag : Bool) → IsUnquoted (decimal (flag_number flag))
 flag_unquoted true = decimal_unquoted 1 (omega arith)
 flag_unquoted false = decimal_unquoted 0 (omega arith)
 
+pub end_unquoted : (number count : ℕ) → number < 2 ^ 32 → count < 2 ^ 32 → IsUnquotedRecord (end_fields number count)
+end_unquoted number count small few = (refl, (decimal_unquoted number (omega arith), (decimal_unquoted count (omega arith), tt)))
+
 module _ (laws : AreRowsReadBack) where
   spelled : (bits : ℕ) → bits < 2 ^ 32 → SpellsMask (mask_text bits) bits
   spelled bits small = (laws.masks (mask_text bits) bits).0 (laws.back bits small)
 
-  change_read : (c : Change) → IsChangeInRange c → AreRead (change_fields c ∷ []) (change_row c ∷ [])
-  change_read (change.Put link) range = record {
-    plain = (
+  -- no field of the record of a change needs quotes
+  pub change_unquoted : (c : Change) → IsChangeInRange c → IsUnquotedRecord (change_fields c)
+  change_unquoted (change.Put link) range = (
+    refl,
+    (
+      address_unquoted link.from,
       (
-        refl,
+        address_unquoted link.local,
         (
-          address_unquoted link.from,
+          address_unquoted link.to,
           (
-            address_unquoted link.local,
-            (
-              address_unquoted link.to,
-              (
-                address_unquoted link.remote,
-                (decimal_unquoted link.metric (omega (arith, range.0.metric)), (mask_unquoted _ _ (spelled link.group range.1), decimals_unquoted link.free (λ priority within. range.0.free priority (omega (arith, link.eight))))),
-              ),
-            ),
+            address_unquoted link.remote,
+            (decimal_unquoted link.metric (omega (arith, range.0.metric)), (mask_unquoted _ _ (spelled link.group range.1), decimals_unquoted link.free (λ priority within. range.0.free priority (omega (arith, link.eight))))),
           ),
         ),
       ),
-      tt,
-    );
-    read = rw (laws.puts link (mask_text link.group) range.0 (spelled link.group range.1)) refl;
-  }
-  change_read (change.Remove from local) range = record {
-    plain = ((refl, (address_unquoted from, (address_unquoted local, tt))), tt);
-    read = rw (laws.drops from local range.0 range.1) refl;
-  }
-  change_read (change.Node router transit) range = record {
-    plain = ((refl, (address_unquoted router, (flag_unquoted transit, tt))), tt);
-    read = rw (laws.nodes router transit range) refl;
-  }
+    ),
+  )
+  change_unquoted (change.Remove from local) range = (refl, (address_unquoted from, (address_unquoted local, tt)))
+  change_unquoted (change.Node router transit) range = (refl, (address_unquoted router, (flag_unquoted transit, tt)))
+
+  -- the record of a change is read as the row of this change
+  pub change_row_of : (c : Change) → IsChangeInRange c → row_of (change_fields c) ≡ Ok (change_row c)
+  change_row_of (change.Put link) range = laws.puts link (mask_text link.group) range.0 (spelled link.group range.1)
+  change_row_of (change.Remove from local) range = laws.drops from local range.0 range.1
+  change_row_of (change.Node router transit) range = laws.nodes router transit range
+
+  change_read : (c : Change) → IsChangeInRange c → AreRead (change_fields c ∷ []) (change_row c ∷ [])
+  change_read c range = record { plain = (change_unquoted c range, tt); read = rw (change_row_of c range) refl }
 
   changes_read : (cs : List Change) → AllByRecursion IsChangeInRange cs → AreRead (map change_fields cs) (map change_row cs)
   changes_read [] range = record { plain = tt; read = refl }
@@ -96,7 +100,7 @@ module _ (laws : AreRowsReadBack) where
 
   end_read : (number count : ℕ) → number < 2 ^ 32 → count < 2 ^ 32 → AreRead (end_fields number count ∷ []) (row.End number count ∷ [])
   end_read number count small few = record {
-    plain = ((refl, (decimal_unquoted number (omega arith), (decimal_unquoted count (omega arith), tt))), tt);
+    plain = (end_unquoted number count small few, tt);
     read = rw (laws.ends number count small few) refl;
   }
 
@@ -130,8 +134,7 @@ no_mark_batch : (cs : List Change) (number count : ℕ) (more : List (List (List
     → let text : List ℕ = flat_map record_line ((map change_fields cs ++ (end_fields number count ∷ [])) ++ more) in strip_bom text ≡ text
 no_mark_batch [] number count more = no_mark_line _ _ _ _ _ _ refl
 no_mark_batch (change.Put link ∷ cs) number count more = no_mark_line _ _ _ _ _ _ refl
-no_mark_batch (change.Remove from local ∷ cs) number count more = no_mark_line _ _ _ _ _ _ refl
-no_mark_batch (change.Node router transit ∷ cs) number count more = no_mark_line _ _ _ _ _ _ refl
+no_mark_batch (other ∷ cs) number count more = no_mark_line _ _ _ _ _ _ refl
 
 no_mark : (batches : List NumberedChanges) → strip_bom (flat_map record_line (flat_map batch_records batches)) ≡ flat_map record_line (flat_map batch_records batches)
 unfolding strip_bom

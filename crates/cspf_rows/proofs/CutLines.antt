@@ -29,14 +29,14 @@ fields_text-unquoted (x ∷ xs) h = rw h.0 (ap (λ rest. 44 ∷ (x ++ rest)) (fi
 
 -- if no field of a record needs quotes, `record_line` gives the text that `csv` writes for this
 -- record
-line_text-row_text : (x y : List ℕ) (ys : List (List ℕ)) → AreUnquoted (x ∷ y ∷ ys) → record_line (x ∷ y ∷ ys) ≡ row_text default_writer (x ∷ y ∷ ys)
+pub line_text-row_text : (x y : List ℕ) (ys : List (List ℕ)) → AreUnquoted (x ∷ y ∷ ys) → record_line (x ∷ y ∷ ys) ≡ row_text default_writer (x ∷ y ∷ ys)
 unfolding is_blank
 line_text-row_text x y ys h =
     line_text-cons x (y ∷ ys)
     ∙ rw (h.0, fields_text-unquoted (y ∷ ys) h.1) (sym (append_assoc x (fields_after (y ∷ ys)) (10 ∷ [])))
 
 -- a stream with no bytes left has no records left
-none_left : (n : ℕ) → records_from default_config n st.StartRecord [] ≡ []
+pub none_left : (n : ℕ) → records_from default_config n st.StartRecord [] ≡ []
 unfolding records_from next_record
 none_left zero = refl
 none_left (suc n) = refl

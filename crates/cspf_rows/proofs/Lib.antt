@@ -12,6 +12,7 @@ pub mod RowRefusalLemmas
 pub mod PlainFields
 pub mod CutLines
 pub mod BatchRecords
+pub mod RowsOfSteps
 pub mod WholeBatches
 pub mod JournalParts
 pub mod ProgressLemmas

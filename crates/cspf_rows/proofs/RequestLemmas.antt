@@ -40,14 +40,12 @@ module _ (requests : List Request) (all left next : Option (List (List (List ℕ
   -- if the stream is refused with the error `why` because of the next record, `why` is a valid
   -- error of the whole stream
   pub refused_at : (why : RequestsError) → count < MOST_ROWS → IsRefusedAt (count + 1) (row_of fields) why → IfSome all (λ rows. IsRequestsFault rows why)
-  refused_at fault.Memory few refused = absurd refused
-  refused_at fault.Device few refused = absurd refused
-  refused_at fault.TooManyRows few refused = absurd refused
   refused_at (fault.Bad place error) few refused =
       if_some_more all (λ rows asked. rw refused.0 (first_other (Err error) rows few refused.1 asked)) behind_requests
   refused_at (fault.NotAsk place) few refused =
       let other = refused.1 in
       if_some_more all (λ rows asked. rw refused.0 (other.0, other.1, first_other (Ok other.0) rows few other.2 asked)) behind_requests
+  refused_at other few refused = absurd refused
 
   -- if one more record follows `MOST_ROWS` records, the stream has too many rows
   pub one_too_many : count ≡ MOST_ROWS → IfSome all (λ rows. IsRequestsFault rows fault.TooManyRows)

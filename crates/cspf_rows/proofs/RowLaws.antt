@@ -21,16 +21,8 @@ use Rattle.cspf_rows.proofs.FieldLemmas.{first_step, number_at-spelled, spelled-
 -- a list of eight numbers is the list of its elements at the indices 0 to 7
 eight_items : (xs : List ℕ) → length xs ≡ 8
     → xs ≡ slice_index xs 0 ∷ slice_index xs 1 ∷ slice_index xs 2 ∷ slice_index xs 3 ∷ slice_index xs 4 ∷ slice_index xs 5 ∷ slice_index xs 6 ∷ slice_index xs 7 ∷ []
-eight_items [] n = absurd (omega (arith, n))
-eight_items (a ∷ []) n = absurd (omega (arith, n))
-eight_items (a ∷ b ∷ []) n = absurd (omega (arith, n))
-eight_items (a ∷ b ∷ c ∷ []) n = absurd (omega (arith, n))
-eight_items (a ∷ b ∷ c ∷ d ∷ []) n = absurd (omega (arith, n))
-eight_items (a ∷ b ∷ c ∷ d ∷ e ∷ []) n = absurd (omega (arith, n))
-eight_items (a ∷ b ∷ c ∷ d ∷ e ∷ f ∷ []) n = absurd (omega (arith, n))
-eight_items (a ∷ b ∷ c ∷ d ∷ e ∷ f ∷ g ∷ []) n = absurd (omega (arith, n))
 eight_items (a ∷ b ∷ c ∷ d ∷ e ∷ f ∷ g ∷ h ∷ []) n = refl
-eight_items (a ∷ b ∷ c ∷ d ∷ e ∷ f ∷ g ∷ h ∷ i ∷ rest) n = absurd (omega (arith, n))
+eight_items other n = absurd (omega (arith, n))
 
 -- the lemmas which state that a field is read as the value that it spells
 ruleset fields_said = (number_at-spelled, small_number_at-spelled, priority_at-spelled, address_at-spelled, mask_at-spelled)
@@ -90,43 +82,6 @@ said-ask request (yes below) (no apart) r made = (
   record { id = refl; from = refl; to = refl; setup = refl; bandwidth = refl; exclude_any = refl; include_any = refl; include_all = refl; hops = refl },
 )
 
--- if the fields of a record are read as the attributes of a link, the record says the `put` row of
--- this link
-said-link : AreTextsRead → (fields : List (List ℕ)) (l : Link) (link : LinkFields) → HasLinkFields l link → length fields ≡ 15 → field fields 1 ≡ codes "put"
-    → address_at fields 2 ≡ Ok link.from
-    → address_at fields 3 ≡ Ok link.local
-    → address_at fields 4 ≡ Ok link.to
-    → address_at fields 5 ≡ Ok link.remote
-    → small_number_at fields 6 ≡ Ok link.metric
-    → mask_at fields 7 ≡ Ok link.group
-    → number_at fields 8 ≡ Ok (slice_index link.free 0)
-    → number_at fields 9 ≡ Ok (slice_index link.free 1)
-    → number_at fields 10 ≡ Ok (slice_index link.free 2)
-    → number_at fields 11 ≡ Ok (slice_index link.free 3)
-    → number_at fields 12 ≡ Ok (slice_index link.free 4)
-    → number_at fields 13 ≡ Ok (slice_index link.free 5)
-    → number_at fields 14 ≡ Ok (slice_index link.free 6)
-    → number_at fields 15 ≡ Ok (slice_index link.free 7)
-    → SaysPut fields l
-said-link texts fields l link has count kind from local to remote metric group u0 u1 u2 u3 u4 u5 u6 u7 = record {
-  count = count;
-  kind = kind;
-  from = spelled-address_at texts fields 2 l.from (from ∙ ap Ok (sym has.from));
-  local = spelled-address_at texts fields 3 l.local (local ∙ ap Ok (sym has.local));
-  to = spelled-address_at texts fields 4 l.to (to ∙ ap Ok (sym has.to));
-  remote = spelled-address_at texts fields 5 l.remote (remote ∙ ap Ok (sym has.remote));
-  metric = spelled-small_number_at texts fields 6 l.metric (metric ∙ ap Ok (sym has.metric));
-  group = spelled-mask_at texts fields 7 l.group (group ∙ ap Ok (sym has.group));
-  free_0 = spelled-number_at texts fields 8 (slice_index l.free 0) (u0 ∙ ap (λ free. Ok (slice_index free 0)) (sym has.free));
-  free_1 = spelled-number_at texts fields 9 (slice_index l.free 1) (u1 ∙ ap (λ free. Ok (slice_index free 1)) (sym has.free));
-  free_2 = spelled-number_at texts fields 10 (slice_index l.free 2) (u2 ∙ ap (λ free. Ok (slice_index free 2)) (sym has.free));
-  free_3 = spelled-number_at texts fields 11 (slice_index l.free 3) (u3 ∙ ap (λ free. Ok (slice_index free 3)) (sym has.free));
-  free_4 = spelled-number_at texts fields 12 (slice_index l.free 4) (u4 ∙ ap (λ free. Ok (slice_index free 4)) (sym has.free));
-  free_5 = spelled-number_at texts fields 13 (slice_index l.free 5) (u5 ∙ ap (λ free. Ok (slice_index free 5)) (sym has.free));
-  free_6 = spelled-number_at texts fields 14 (slice_index l.free 6) (u6 ∙ ap (λ free. Ok (slice_index free 6)) (sym has.free));
-  free_7 = spelled-number_at texts fields 15 (slice_index l.free 7) (u7 ∙ ap (λ free. Ok (slice_index free 7)) (sym has.free));
-}
-
 -- Let two reading steps, one after the other, give a value. A claim holds if it follows from the
 -- values of the two steps.
 stepped : {A B : Type 0} {G : Type 0} (r : Result A RowError) (f : A → Result B RowError) (y : B) → (r >>= f) ≡ Ok y → ((x : A) → r ≡ Ok x → f x ≡ Ok y → G) → G
@@ -151,7 +106,26 @@ said-put_row_of texts fields r count kind read =
     stepped (number_at fields 14) _ r after_u5 (λ u6 is_u6 after_u6.
     stepped (number_at fields 15) _ r after_u6 (λ u7 is_u7 after_u7.
     let made = said-put _ _ _ r after_u7 in
-    subst (Says fields) made.1 (said-link texts fields made.0 _ made.2 count kind is_from is_local is_to is_remote is_metric is_group is_u0 is_u1 is_u2 is_u3 is_u4 is_u5 is_u6 is_u7)))))))))))))))
+    let has = made.2 in
+    let said : SaysPut fields made.0 = record {
+      count = count;
+      kind = kind;
+      from = spelled-address_at texts fields 2 made.0.from (is_from ∙ ap Ok (sym has.from));
+      local = spelled-address_at texts fields 3 made.0.local (is_local ∙ ap Ok (sym has.local));
+      to = spelled-address_at texts fields 4 made.0.to (is_to ∙ ap Ok (sym has.to));
+      remote = spelled-address_at texts fields 5 made.0.remote (is_remote ∙ ap Ok (sym has.remote));
+      metric = spelled-small_number_at texts fields 6 made.0.metric (is_metric ∙ ap Ok (sym has.metric));
+      group = spelled-mask_at texts fields 7 made.0.group (is_group ∙ ap Ok (sym has.group));
+      free_0 = spelled-number_at texts fields 8 (slice_index made.0.free 0) (is_u0 ∙ ap (λ free. Ok (slice_index free 0)) (sym has.free));
+      free_1 = spelled-number_at texts fields 9 (slice_index made.0.free 1) (is_u1 ∙ ap (λ free. Ok (slice_index free 1)) (sym has.free));
+      free_2 = spelled-number_at texts fields 10 (slice_index made.0.free 2) (is_u2 ∙ ap (λ free. Ok (slice_index free 2)) (sym has.free));
+      free_3 = spelled-number_at texts fields 11 (slice_index made.0.free 3) (is_u3 ∙ ap (λ free. Ok (slice_index free 3)) (sym has.free));
+      free_4 = spelled-number_at texts fields 12 (slice_index made.0.free 4) (is_u4 ∙ ap (λ free. Ok (slice_index free 4)) (sym has.free));
+      free_5 = spelled-number_at texts fields 13 (slice_index made.0.free 5) (is_u5 ∙ ap (λ free. Ok (slice_index free 5)) (sym has.free));
+      free_6 = spelled-number_at texts fields 14 (slice_index made.0.free 6) (is_u6 ∙ ap (λ free. Ok (slice_index free 6)) (sym has.free));
+      free_7 = spelled-number_at texts fields 15 (slice_index made.0.free 7) (is_u7 ∙ ap (λ free. Ok (slice_index free 7)) (sym has.free));
+    } in
+    subst (Says fields) made.1 said))))))))))))))
 
 -- Let a record say the row `make x y` if its two fields are read as `x` and `y`. Then the record
 -- says each row that `row_of_two` reads from it.

@@ -1,5 +1,5 @@
 -- The reader refuses a record exactly for the reason that the specification gives.
-use Rattle.std.proofs.Common.{◌≡◌, ◌≢◌, ℕ, suc, ◌<◌, ◌^◌, ◌⊎◌, inl, inr, Bool, true, false, cond, eqb, ltb, List, codes, length, Option, Some, None, Result, Ok, Err, refl, sym, ap, ◌∙◌}
+use Rattle.std.proofs.Common.{◌≡◌, ◌≢◌, ℕ, suc, ◌+◌, ◌<◌, ◌^◌, ◌⊎◌, inl, inr, Bool, true, false, cond, eqb, ltb, List, codes, length, Option, Some, None, Result, Ok, Err, refl, sym, ap, ◌∙◌}
 use Rattle.std.specs.Prelude.{◌↔◌}
 use Rattle.std.proofs.Math.Decide.{ℕ_discrete, dec_le}
 use Rattle.std.proofs.lemmas.Bool.{eqb-true, eqb-false, ne_eqb, eq-eqb, ltb-true, false_from_ne_true}
@@ -17,7 +17,7 @@ use Rattle.cspf_rows.specs.FieldValues.{field, number_at, small_number_at, prior
 use Rattle.cspf_rows.specs.FieldTexts.{AreTextsRead}
 use Rattle.cspf_rows.specs.Says.{SpellsNumber, SpellsFlag, SpellsAddress}
 use Rattle.cspf_rows.specs.RowRefusals.{Kind, put_kind, drop_kind, node_kind, end_kind, ask_kind, address, number, small_number, priority, flag, mask, hops, word_of, sorts_of, SpellsSort, IsFieldRefused, SpellOneAddress, AreEndsRefused, AreFieldsRefused, IsRefusedAs, IsRefused, AreRowsRefused, IsRefusedOnce}
-use Rattle.cspf_rows.specs.Rows.{put_between, put, ask_between, ask, put_row_of, drop_row_of, node_row_of, end_row_of, ask_row_of, of_count, row_of, row_of_two}
+use Rattle.cspf_rows.specs.Rows.{put_between, put, ask_between, ask, put_row_of, drop_row_of, node_row_of, end_row_of, ask_row_of, row_of, row_of_two}
 use Rattle.cspf_rows.proofs.HopRefusalLemmas.{mapped_error, fault_told, told_fault}
 use Rattle.cspf_rows.proofs.AttributeLemmas.{put-self, ask-same}
 use Rattle.cspf_rows.proofs.FieldLemmas.{number_at-spelled, spelled-number_at, small_number_at-spelled, spelled-small_number_at, priority_at-spelled, spelled-priority_at, flag_at-spelled, spelled-flag_at, address_at-spelled, spelled-address_at, mask_at-spelled, spelled-mask_at, hops_at-spelled, spelled-hops_at}
@@ -274,35 +274,17 @@ ask_refused texts fields =
 
 -- A record is refused with `Fields` if it doesn't have the number of fields of its kind. Otherwise
 -- the record is refused exactly with the error that reading its fields gives.
-counted : (fields : List (List ℕ)) (count : ℕ) (read : Result Row RowError) (Rest : RowError → Type 0) (e : RowError) → (read ≡ Err e) ↔ Rest e
-    → (cond (eqb (length fields) count) read (Err error.Fields) ≡ Err e) ↔ (((e ≡ error.Fields) × (length fields ≢ count)) ⊎ ((length fields ≡ count) × Rest e))
-counted fields count read Rest e rest = (there (eqb (length fields) count) refl, back)
+counted : (kind : Kind) (fields : List (List ℕ)) (read : Result Row RowError) (e : RowError) → (read ≡ Err e) ↔ AreFieldsRefused kind 2 (sorts_of kind) fields e
+    → (cond (eqb (length fields) (1 + length (sorts_of kind))) read (Err error.Fields) ≡ Err e) ↔ IsRefusedAs kind fields e
+counted kind fields read e rest = (there (eqb (length fields) (1 + length (sorts_of kind))) refl, back)
   where
-    there : (test : Bool) → eqb (length fields) count ≡ test → cond test read (Err error.Fields) ≡ Err e
-        → ((e ≡ error.Fields) × (length fields ≢ count)) ⊎ ((length fields ≡ count) × Rest e)
+    there : (test : Bool) → eqb (length fields) (1 + length (sorts_of kind)) ≡ test → cond test read (Err error.Fields) ≡ Err e → IsRefusedAs kind fields e
     there true is same = inr (eqb-true _ _ is, rest.0 same)
     there false is same = inl (cc, eqb-false _ _ is)
 
-    back : ((e ≡ error.Fields) × (length fields ≢ count)) ⊎ ((length fields ≡ count) × Rest e) → cond (eqb (length fields) count) read (Err error.Fields) ≡ Err e
+    back : IsRefusedAs kind fields e → cond (eqb (length fields) (1 + length (sorts_of kind))) read (Err error.Fields) ≡ Err e
     back (inl (is, other)) = rw (ne_eqb _ _ other, is) refl
     back (inr (same, why)) = rw (eq-eqb _ _ same) (rest.1 why)
-
--- The reader of `put` rows refuses a record with the error `e` exactly if `IsRefusedAs` holds for
--- `e`. The next lemmas state the same for the other kinds of rows.
-put_record : AreTextsRead → (fields : List (List ℕ)) (e : RowError) → (of_count 15 put_row_of fields ≡ Err e) ↔ IsRefusedAs put_kind fields e
-put_record texts fields e = counted fields 15 (put_row_of fields) (AreFieldsRefused put_kind 2 (sorts_of put_kind) fields) e (put_refused texts fields e)
-
-drop_record : AreTextsRead → (fields : List (List ℕ)) (e : RowError) → (of_count 3 drop_row_of fields ≡ Err e) ↔ IsRefusedAs drop_kind fields e
-drop_record texts fields e = counted fields 3 (drop_row_of fields) (AreFieldsRefused drop_kind 2 (sorts_of drop_kind) fields) e (drop_refused texts fields e)
-
-node_record : AreTextsRead → (fields : List (List ℕ)) (e : RowError) → (of_count 3 node_row_of fields ≡ Err e) ↔ IsRefusedAs node_kind fields e
-node_record texts fields e = counted fields 3 (node_row_of fields) (AreFieldsRefused node_kind 2 (sorts_of node_kind) fields) e (node_refused texts fields e)
-
-end_record : AreTextsRead → (fields : List (List ℕ)) (e : RowError) → (of_count 3 end_row_of fields ≡ Err e) ↔ IsRefusedAs end_kind fields e
-end_record texts fields e = counted fields 3 (end_row_of fields) (AreFieldsRefused end_kind 2 (sorts_of end_kind) fields) e (end_refused texts fields e)
-
-ask_record : AreTextsRead → (fields : List (List ℕ)) (e : RowError) → (of_count 10 ask_row_of fields ≡ Err e) ↔ IsRefusedAs ask_kind fields e
-ask_record texts fields e = counted fields 10 (ask_row_of fields) (AreFieldsRefused ask_kind 2 (sorts_of ask_kind) fields) e (ask_refused texts fields e)
 
 -- Let a record be read as `x` if its first field is the word `name`, and as `y` otherwise. If the
 -- result is the error `e`, a claim follows once it is shown for each of the two cases.
@@ -327,21 +309,21 @@ rows_refused texts fields e = (there, back)
 
     there : row_of fields ≡ Err e → IsRefused fields e
     there read =
-        at_word (field fields 1) (codes "put") _ _ e _ refl read (λ word h. inr (put_kind, word, (put_record texts fields e).0 h)) (λ no_put h1.
-        at_word (field fields 1) (codes "drop") _ _ e _ refl h1 (λ word h. inr (drop_kind, word, (drop_record texts fields e).0 h)) (λ no_drop h2.
-        at_word (field fields 1) (codes "node") _ _ e _ refl h2 (λ word h. inr (node_kind, word, (node_record texts fields e).0 h)) (λ no_node h3.
-        at_word (field fields 1) (codes "end") _ _ e _ refl h3 (λ word h. inr (end_kind, word, (end_record texts fields e).0 h)) (λ no_end h4.
-        at_word (field fields 1) (codes "ask") _ _ e _ refl h4 (λ word h. inr (ask_kind, word, (ask_record texts fields e).0 h)) (λ no_ask h5.
+        at_word (field fields 1) (codes "put") _ _ e _ refl read (λ word h. inr (put_kind, word, (counted put_kind fields _ e (put_refused texts fields e)).0 h)) (λ no_put h1.
+        at_word (field fields 1) (codes "drop") _ _ e _ refl h1 (λ word h. inr (drop_kind, word, (counted drop_kind fields _ e (drop_refused texts fields e)).0 h)) (λ no_drop h2.
+        at_word (field fields 1) (codes "node") _ _ e _ refl h2 (λ word h. inr (node_kind, word, (counted node_kind fields _ e (node_refused texts fields e)).0 h)) (λ no_node h3.
+        at_word (field fields 1) (codes "end") _ _ e _ refl h3 (λ word h. inr (end_kind, word, (counted end_kind fields _ e (end_refused texts fields e)).0 h)) (λ no_end h4.
+        at_word (field fields 1) (codes "ask") _ _ e _ refl h4 (λ word h. inr (ask_kind, word, (counted ask_kind fields _ e (ask_refused texts fields e)).0 h)) (λ no_ask h5.
         inl (cc, none no_put no_drop no_node no_end no_ask))))))
 
     back : IsRefused fields e → row_of fields ≡ Err e
     back (inl (is, none_of)) =
         rw (other_word _ _ (none_of put_kind), other_word _ _ (none_of drop_kind), other_word _ _ (none_of node_kind), other_word _ _ (none_of end_kind), other_word _ _ (none_of ask_kind), is) refl
-    back (inr (put_kind, word, why)) = rw word ((put_record texts fields e).1 why)
-    back (inr (drop_kind, word, why)) = rw word ((drop_record texts fields e).1 why)
-    back (inr (node_kind, word, why)) = rw word ((node_record texts fields e).1 why)
-    back (inr (end_kind, word, why)) = rw word ((end_record texts fields e).1 why)
-    back (inr (ask_kind, word, why)) = rw word ((ask_record texts fields e).1 why)
+    back (inr (put_kind, word, why)) = rw word ((counted put_kind fields _ e (put_refused texts fields e)).1 why)
+    back (inr (drop_kind, word, why)) = rw word ((counted drop_kind fields _ e (drop_refused texts fields e)).1 why)
+    back (inr (node_kind, word, why)) = rw word ((counted node_kind fields _ e (node_refused texts fields e)).1 why)
+    back (inr (end_kind, word, why)) = rw word ((counted end_kind fields _ e (end_refused texts fields e)).1 why)
+    back (inr (ask_kind, word, why)) = rw word ((counted ask_kind fields _ e (ask_refused texts fields e)).1 why)
 
 pub refused_once : AreTextsRead → IsRefusedOnce
 refused_once texts fields e other first second =

@@ -1,14 +1,15 @@
 -- Lemmas on the prefixes of a list of rows that consist of whole batches.
-use Rattle.std.proofs.Common.{◌≡◌, ◌≢◌, ℕ, ◌+◌, ◌≤◌, List, [], ◌∷◌, ◌++◌, map, length, Result, Ok, refl, sym, ap, ◌∙◌, append_assoc, arith}
+use Rattle.std.proofs.Common.{◌≡◌, ◌≢◌, ℕ, ◌+◌, ◌≤◌, List, [], ◌∷◌, ◌++◌, map, length, Result, Ok, refl, sym, ap, subst, ◌∙◌, append_assoc, arith}
 use Rattle.std.proofs.lemmas.List.{map-append, length-append, length-map}
 use Rattle.cspf_model.specs.declared.batch.Change.{Change}
-use Rattle.cspf_model.specs.declared.batch.Change.TheVariants as change
 use Rattle.cspf_model.specs.Numbered.{NumberedChanges, AreNumberedFrom}
 use Rattle.cspf_rows.specs.declared.row.Row.{Row}
 use Rattle.cspf_rows.specs.declared.row.Row.TheVariants as row
 use Rattle.cspf_rows.specs.declared.row_error.RowError.{RowError}
 use Rattle.cspf_rows.specs.Journal.{change_row, batch_rows, journal_rows}
-use Rattle.cspf_rows.specs.JournalReading.{EndsBatches, AreBehind}
+use Rattle.cspf_rows.specs.JournalReading.{IsNoPart, EndsBatches, AreBehind}
+use Rattle.cspf_rows.specs.Steps.{step_of}
+use Rattle.cspf_rows.proofs.RowsOfSteps.{change_step}
 
 abbrev ReadRow : Type 0
 ReadRow = Result Row RowError
@@ -23,32 +24,17 @@ pub same_batch : (cs ds : List Change) (m k n l : ℕ) (xs ys : List (Result Row
     → read_rows (map change_row cs ++ (row.End m k ∷ [])) ++ xs ≡ read_rows (map change_row ds ++ (row.End n l ∷ [])) ++ ys
     → (cs ≡ ds) × (m ≡ n) × (xs ≡ ys)
 same_batch [] [] m k n l xs ys e = (refl, cc, cc)
-same_batch [] (change.Put b ∷ ds) m k n l xs ys e = absurd (cc)
-same_batch [] (change.Remove g h ∷ ds) m k n l xs ys e = absurd (cc)
-same_batch [] (change.Node s u ∷ ds) m k n l xs ys e = absurd (cc)
-same_batch (change.Put a ∷ cs) [] m k n l xs ys e = absurd (cc)
-same_batch (change.Remove g h ∷ cs) [] m k n l xs ys e = absurd (cc)
-same_batch (change.Node r t ∷ cs) [] m k n l xs ys e = absurd (cc)
-same_batch (change.Put a ∷ cs) (change.Put b ∷ ds) m k n l xs ys e =
+same_batch [] (d ∷ ds) m k n l xs ys e =
+    let head : row.End m k ≡ change_row d = cc in
+    absurd (cc (ap step_of head ∙ change_step d))
+same_batch (c ∷ cs) [] m k n l xs ys e =
+    let head : row.End n l ≡ change_row c = cc in
+    absurd (cc (ap step_of head ∙ change_step c))
+same_batch (c ∷ cs) (d ∷ ds) m k n l xs ys e =
     let more = same_batch cs ds m k n l xs ys (cc) in
-    let head : a ≡ b = cc in
-    (rw (head, more.0) refl, more.1, more.2)
-same_batch (change.Put a ∷ cs) (change.Remove g h ∷ ds) m k n l xs ys e = absurd (cc)
-same_batch (change.Put a ∷ cs) (change.Node s u ∷ ds) m k n l xs ys e = absurd (cc)
-same_batch (change.Remove g h ∷ cs) (change.Put b ∷ ds) m k n l xs ys e = absurd (cc)
-same_batch (change.Remove f o ∷ cs) (change.Remove g h ∷ ds) m k n l xs ys e =
-    let more = same_batch cs ds m k n l xs ys (cc) in
-    let from : f ≡ g = cc in
-    let local : o ≡ h = cc in
-    (rw (from, local, more.0) refl, more.1, more.2)
-same_batch (change.Remove f o ∷ cs) (change.Node s u ∷ ds) m k n l xs ys e = absurd (cc)
-same_batch (change.Node r t ∷ cs) (change.Put b ∷ ds) m k n l xs ys e = absurd (cc)
-same_batch (change.Node r t ∷ cs) (change.Remove g h ∷ ds) m k n l xs ys e = absurd (cc)
-same_batch (change.Node r t ∷ cs) (change.Node s u ∷ ds) m k n l xs ys e =
-    let more = same_batch cs ds m k n l xs ys (cc) in
-    let router : r ≡ s = cc in
-    let transit : t ≡ u = cc in
-    (rw (router, transit, more.0) refl, more.1, more.2)
+    let head : change_row c ≡ change_row d = cc in
+    let same : c ≡ d = cc (sym (change_step c) ∙ ap step_of head ∙ change_step d) in
+    (rw (same, more.0) refl, more.1, more.2)
 
 -- the rows of a list of batches are the rows of the first batch, followed by the rows of the other
 -- batches
@@ -109,18 +95,13 @@ no_batch [] [] done n k number count (x ∷ xs) rest behind opened counted same 
     let last : EndsBatches n k (Ok (row.End number count)) = rw head at behind in
     last (same, omega arith)
 no_batch [] (c ∷ cs) done n k number count [] rest behind opened counted same e = cc
-no_batch [] (change.Put a ∷ cs) done n k number count (x ∷ xs) rest behind opened counted same e =
-    let head : x ≡ Ok (row.Put a) = cc in
-    rw head at behind
-no_batch [] (change.Remove f o ∷ cs) done n k number count (x ∷ xs) rest behind opened counted same e =
-    let head : x ≡ Ok (row.Remove f o) = cc in
-    rw head at behind
-no_batch [] (change.Node r t ∷ cs) done n k number count (x ∷ xs) rest behind opened counted same e =
-    let head : x ≡ Ok (row.Node r t) = cc in
-    rw head at behind
-no_batch (change.Put a ∷ opens) [] done n k number count xs rest behind opened counted same e = cc
-no_batch (change.Remove f o ∷ opens) [] done n k number count xs rest behind opened counted same e = cc
-no_batch (change.Node r t ∷ opens) [] done n k number count xs rest behind opened counted same e = cc
+no_batch [] (c ∷ cs) done n k number count (x ∷ xs) rest behind opened counted same e =
+    let head : x ≡ Ok (change_row c) = cc in
+    let part : EndsBatches n k (Ok (change_row c)) = rw head at behind in
+    subst (IsNoPart n k) (change_step c) part
+no_batch (c ∷ opens) [] done n k number count xs rest behind opened counted same e =
+    let head : change_row c ≡ row.End number count = cc in
+    cc (sym (change_step c) ∙ ap step_of head)
 no_batch (a ∷ opens) (c ∷ cs) done n k number count xs rest behind opened counted same e =
     no_batch opens cs (done + 1) n k number count xs rest behind (omega arith) (omega arith) same (cc)
 

@@ -5,7 +5,7 @@ use Rattle.std.specs.Bool.{MatchBool}
 use Rattle.cspf_model.specs.declared.batch.Change.{Change}
 use Rattle.cspf_model.specs.Numbered.{NumberedChanges, AreNumberedFrom}
 use Rattle.cspf_rows.specs.declared.journal.JournalStep.{JournalStep}
-use Rattle.cspf_rows.specs.declared.journal.JournalStep.TheVariants as step
+use Rattle.cspf_rows.specs.declared.journal.JournalStep.TheVariants as journal_step
 use Rattle.cspf_rows.specs.declared.journal.reader.JournalReader.{JournalReader}
 use Rattle.cspf_rows.specs.declared.journal.taken_row.Taken.{Taken}
 use Rattle.cspf_rows.specs.declared.journal.taken_row.Taken.TheVariants as taken
@@ -13,18 +13,23 @@ use Rattle.cspf_rows.specs.declared.limits.TheConstants.{MOST_ROWS}
 use Rattle.cspf_rows.specs.declared.row.Row.{Row}
 use Rattle.cspf_rows.specs.declared.row.Row.TheVariants as row
 use Rattle.cspf_rows.specs.declared.row_error.RowError.{RowError}
+use Rattle.cspf_rows.specs.declared.step.Step.{Step}
+use Rattle.cspf_rows.specs.declared.step.Step.TheVariants as step
 use Rattle.cspf_rows.specs.Rows.{row_of}
+use Rattle.cspf_rows.specs.Steps.{step_of}
 use Rattle.cspf_rows.specs.Records.{rows_left}
 use Rattle.cspf_rows.specs.Journal.{IsJournal, journal_rows, change_row}
 use Rattle.cspf_rows.specs.Progress.{HasSeen}
 
+-- The step is neither a change nor the end of the batch with this number and this many changes.
+abbrev pub IsNoPart : ℕ → ℕ → Step → Type 0
+IsNoPart number count (step.Change change) = ⊥
+IsNoPart number count (step.End n k) = ¬ ((n ≡ number) × (k ≡ count))
+IsNoPart number count (step.Ask request) = Unit {0}
+
 -- the row is neither a change nor the `end` row of the batch with this number and this many changes
 abbrev pub EndsBatches : ℕ → ℕ → Result Row RowError → Type 0
-EndsBatches number count (Ok (row.Put link)) = ⊥
-EndsBatches number count (Ok (row.Remove from local)) = ⊥
-EndsBatches number count (Ok (row.Node router transit)) = ⊥
-EndsBatches number count (Ok (row.End n k)) = ¬ ((n ≡ number) × (k ≡ count))
-EndsBatches number count (Ok (row.Ask request)) = Unit {0}
+EndsBatches number count (Ok row) = IsNoPart number count (step_of row)
 EndsBatches number count (Err error) = Unit {0}
 
 -- There are no rows, or the first row doesn't belong to the batch with this number and this many
@@ -71,6 +76,6 @@ pub record HasRead {R : Type 0} (rem : R → Option (List ℕ)) (all : Option (L
 -- what a reader that has read `batches` finds next: one more whole batch, or the end of the batches
 abbrev pub ComesTo : {R : Type 0} → (R → Option (List ℕ)) → Option (List (List (List ℕ))) → JournalReader R
     → List NumberedChanges → NumberedChanges → JournalStep → Type 0
-ComesTo rem all reader batches batch step.Batch = HasRead rem all reader (batches ++ batch ∷ []) [] false
-ComesTo rem all reader batches batch (step.End rest) =
+ComesTo rem all reader batches batch journal_step.Batch = HasRead rem all reader (batches ++ batch ∷ []) [] false
+ComesTo rem all reader batches batch (journal_step.End rest) =
     IfSome all (λ rows. IsJournal rows batches rest × (length rows ≤ MOST_ROWS))

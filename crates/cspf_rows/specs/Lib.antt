@@ -1,6 +1,7 @@
 pub mod Words
 pub mod FieldValues
 pub mod Rows
+pub mod Steps
 pub mod FieldTexts
 pub mod Says
 pub mod Written

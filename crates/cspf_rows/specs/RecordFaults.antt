@@ -9,8 +9,4 @@ use Rattle.cspf_rows.specs.declared.record_error.RecordError.TheVariants as erro
 -- failed read.
 abbrev pub fault_of : ErrorKind → RecordError
 fault_of kind.OutOfMemory = error.Memory
-fault_of (kind.Io why) = error.Device
-fault_of (kind.Utf8 pos why) = error.Device
-fault_of (kind.UnequalLengths pos expected len) = error.Device
-fault_of (kind.Serialize text) = error.Device
-fault_of (kind.Deserialize pos why) = error.Device
+fault_of other = error.Device

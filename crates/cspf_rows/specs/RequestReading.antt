@@ -8,8 +8,6 @@ use Rattle.cspf_rows.specs.Requests.{IsNoRequest}
 
 -- The stream is refused with this error because of row `place`, which is read as `read`.
 abbrev pub IsRefusedAt : ℕ → Result Row RowError → RequestsError → Type 0
-IsRefusedAt place read fault.Memory = ⊥
-IsRefusedAt place read fault.Device = ⊥
-IsRefusedAt place read fault.TooManyRows = ⊥
 IsRefusedAt place read (fault.Bad row error) = (row ≡ place) × (read ≡ Err error)
 IsRefusedAt place read (fault.NotAsk row) = (row ≡ place) × ((other : Row) × IsNoRequest other × (read ≡ Ok other))
+IsRefusedAt place read other = ⊥

@@ -15,11 +15,8 @@ AreRequests records requests = map row_of records ≡ map (λ request. Ok (row.A
 
 -- the row isn't a request
 abbrev pub IsNoRequest : Row → Type 0
-IsNoRequest (row.Put link) = Unit {0}
-IsNoRequest (row.Remove from local) = Unit {0}
-IsNoRequest (row.Node router transit) = Unit {0}
-IsNoRequest (row.End number count) = Unit {0}
 IsNoRequest (row.Ask request) = ⊥
+IsNoRequest other = Unit {0}
 
 -- the first `count` records are requests, and the next record has these fields
 pub record HasRequestsBefore (records : List (List (List ℕ))) (count : ℕ) (fields : List (List ℕ)) : Type 0 where

@@ -1,4 +1,5 @@
 ghost use Rattle.cspf_rows.specs.FieldTexts.{AreTextsRead};
+ghost use Rattle.cspf_rows.specs.Steps.{AreStepsOfRows};
 ghost use Rattle.cspf_rows.specs.Says.{AreRowsRead, SaysOneRow};
 ghost use Rattle.cspf_rows.specs.RowRefusals.{AreRowsRefused, IsRefusedOnce};
 ghost use Rattle.cspf_rows.specs.Written.{ArePutsReadBack, AreDropsReadBack, AreNodesReadBack, AreEndsReadBack, AreAsksReadBack};
@@ -50,3 +51,8 @@ pub fn rows_are_refused()
 {
     texts_are_read();
 }
+
+/// Law: the row of a change asks for this change, and rows that ask for the same step are equal.
+pub fn rows_have_one_step()
+    ensures { AreStepsOfRows }
+{}

@@ -3,7 +3,7 @@
 //! `specs/Rows.antt` defines the row of a record. `specs/FieldValues.antt` defines the value that a
 //! field spells, and `specs/Words.antt` defines the words of a refusal. `specs/Says.antt` has the
 //! formats of the rows, and `specs/RowRefusals.antt` has the reasons why a record is refused.
-//! Reading a row allocates no memory.
+//! `specs/Steps.antt` defines what a row asks for. Reading a row allocates no memory.
 //!
 //! `specs/Records.antt` defines how a stream of bytes is cut into records. `put_all` writes a whole
 //! text to a writer. This repository writes all its texts with `put_all`.
@@ -28,6 +28,7 @@ mod request_reader;
 mod requests_error;
 mod row;
 mod row_error;
+mod step;
 mod stream_faults;
 
 pub use batch::batch_text;
@@ -35,7 +36,7 @@ pub use journal::{
     Journal, JournalReader, JournalStep, Rest, journals_are_one, journals_are_read_back,
     read_journal,
 };
-pub use laws::{rows_are_read, rows_are_read_back, rows_are_refused};
+pub use laws::{rows_are_read, rows_are_read_back, rows_are_refused, rows_have_one_step};
 pub use limits::MOST_ROWS;
 pub use output::put_all;
 pub use read_error::ReadError;
@@ -45,3 +46,4 @@ pub use request_reader::read_requests;
 pub use requests_error::RequestsError;
 pub use row::Row;
 pub use row_error::{HopsFault, RowError};
+pub use step::Step;

@@ -1,6 +1,6 @@
 -- The best route is the walk of the node (the record of a walk) with the end state, the tail-end in
 -- the last leg.
-use Rattle.std.proofs.Common.{◌≡◌, ℕ, ◌+◌, ◌*◌, ◌<◌, ◌≤◌, Option, Some, None, option_map, List, [], ◌∷◌, length, slice_index_or, refl, sym, ap, ◌∙◌, arith}
+use Rattle.std.proofs.Common.{◌≡◌, ℕ, ◌+◌, ◌*◌, ◌<◌, ◌≤◌, Option, Some, None, option_map, List, [], ◌∷◌, length, slice_index_or, sym, ap, ◌∙◌, arith, rules}
 use Rattle.std.proofs.lemmas.List.Quantifiers.{position-Some}
 use Rattle.cspf_model.specs.declared.link.Link.{Link}
 use Rattle.cspf_model.specs.declared.request.Request.{Request}
@@ -43,8 +43,7 @@ route_some d q [] route = absurd (q.two_ends (reached_walk d q [] (end_state q) 
 route_some d q (l ∷ w) route = omega arith
 
 linked : (a : ℕ) (w : List Link) → AreJoined a w → AreLinked w
-linked a [] joined = tt
-linked a (l ∷ w) joined = (refl, joined.1)
+linked a w joined = search rules
 
 pub route_linked : (d : Database) (q : Request) (w : List Link) → IsRoute d q w → AreLinked w
 route_linked d q w route = linked q.from w route.is_walk.joined

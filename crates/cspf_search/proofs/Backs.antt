@@ -1,6 +1,6 @@
 -- The states that a node leads to by a link or by the step to the next leg, and the way back from a
 -- node over its parents. A state is a router in a leg, and a node is the record of a walk.
-use Rattle.std.proofs.Common.{◌≡◌, ℕ, zero, suc, ◌+◌, ◌*◌, ◌^◌, ◌<◌, ◌≤◌, Some, None, IsSome, List, [], ◌∷◌, ◌++◌, length, slice_get, slice_index_or, refl, sym, ap, subst, ◌∙◌, arith}
+use Rattle.std.proofs.Common.{◌≡◌, ℕ, ◌+◌, ◌*◌, ◌^◌, ◌<◌, ◌≤◌, Some, None, IsSome, List, [], ◌∷◌, ◌++◌, length, slice_get, slice_index_or, refl, sym, ap, subst, ◌∙◌, arith, rules}
 use Rattle.std.specs.Ordering.{nat_cmp, ordering_then, is_gt}
 use Rattle.std.specs.declared.cmp.Ordering.{Ordering}
 use Rattle.std.proofs.lemmas.Cmp.{nat_list_cmp_total, tied_itself}
@@ -22,8 +22,7 @@ use Rattle.cspf_search.proofs.Orders.{states_total, cost_of-push, locals_cmp-las
 
 module _ (nodes : List Node) (are : AreNodes nodes) where
   parent_at : (i : ℕ) (d : Node) → i < length nodes → (slice_index_or nodes i d).parent < length nodes
-  parent_at zero d h = rw (are.root d).parent are.some
-  parent_at (suc i) d h = omega (arith, are.back (suc i) d (omega arith) h)
+  parent_at i d h = search rules
 
 module _ (d : Database) (q : Request) (nodes : List Node) (are : AreNodes nodes) (at : ℕ) (within : at < length nodes) (from : Node)
     (there : slice_get nodes at ≡ Some from) where
@@ -110,10 +109,7 @@ module _ (nodes : List Node) (are : AreNodes nodes) (n m : Node) (within : n.par
   parent_within = subst (λ (n : Node). n.parent < length nodes) (sym is) (parent_at nodes are n.parent m within)
 
   parent_linked : 0 < length (walk_of nodes m) → IsSome m.by
-  parent_linked h =
-      let grown : walk_at (walks nodes) n.parent ≡ walk_of nodes m = are.grown n.parent m within ∙ ap (walk_of nodes) (sym is) in
-      let rank : m.rank ≡ walk_rank (walk_of nodes m) = ap (λ (n : Node). n.rank) is ∙ (are.ranked n.parent m within).rank ∙ ap walk_rank grown in
-      subst HasLast (sym is) (are.linked n.parent m within) (omega (arith, rank, h))
+  parent_linked h = search rules
 
   pub behind_more : (passed count : ℕ) → IsBehind nodes n passed count → IsBehind nodes m (passed + 1) count
   behind_more passed count behind =
@@ -129,10 +125,7 @@ module _ (nodes : List Node) (are : AreNodes nodes) (n m : Node) (within : n.par
 -- without their last links, then the last links.
 pub locals_more : (v w v' w' : List Link) (l k : Link) (found goal : Ordering) → v ≡ v' ++ (l ∷ []) → w ≡ w' ++ (k ∷ []) → length v' ≡ length w'
     → ordering_then (locals_cmp v w) found ≡ goal → ordering_then (locals_cmp v' w') (ordering_then (nat_cmp l.local k.local) found) ≡ goal
-locals_more v w v' w' l k found goal ev ew e h =
-    let last : ordering_then (locals_cmp v' w') (nat_cmp l.local k.local) ≡ locals_cmp v w =
-    sym (locals_cmp-last v' w' l k e) ∙ (λ i. locals_cmp (sym ev i) (sym ew i)) in
-    sym (then_assoc (locals_cmp v' w') (nat_cmp l.local k.local) found) ∙ ap (λ o. ordering_then o found) last ∙ h
+locals_more v w v' w' l k found goal ev ew e h = search (rules, locals_cmp-last, then_assoc)
 
 -- If two walks continue the same node (the record of a walk) by one link each, the local addresses
 -- of these two links decide the comparison. If these addresses are equal, the result `found` for
@@ -151,24 +144,14 @@ locals_of_one nodes x y l k found goal by_x by_y one h =
 -- walk.
 pub one_more : (nodes : List Node) → AreNodes nodes → (x : Node) (i : ℕ) → i < length nodes → x ≡ slice_index_or nodes i x → (v : List Link) (l : Link)
     → v ≡ walk_at (walks nodes) i ++ (l ∷ []) → length v ≡ length (walk_of nodes x) + 1
-one_more nodes are x i within is v l ev =
-    let grown : walk_at (walks nodes) i ≡ walk_of nodes x = are.grown i x within ∙ ap (walk_of nodes) (sym is) in
-    let front : v ≡ walk_of nodes x ++ (l ∷ []) = ev ∙ ap (λ u. u ++ (l ∷ [])) grown in
-    omega (arith, ap (λ (u : List Link). length u) front, length_push (walk_of nodes x) l)
+one_more nodes are x i within is v l ev = search (rules, is, length_push)
 
 -- Two walks of the same length each continue a node (the record of a walk) by a link. Their local
 -- addresses are compared in two steps: first the walks of the nodes, then the two links.
 pub locals_by : (nodes : List Node) → AreNodes nodes → (x y : Node) (i j : ℕ) → i < length nodes → j < length nodes → x ≡ slice_index_or nodes i x
     → y ≡ slice_index_or nodes j y → (v w : List Link) (l k : Link) → v ≡ walk_at (walks nodes) i ++ (l ∷ []) → w ≡ walk_at (walks nodes) j ++ (k ∷ [])
     → length v ≡ length w → locals_cmp v w ≡ ordering_then (locals_cmp (walk_of nodes x) (walk_of nodes y)) (nat_cmp l.local k.local)
-locals_by nodes are x y i j hi hj is_x is_y v w l k ev ew e =
-    let grown_x : walk_at (walks nodes) i ≡ walk_of nodes x = are.grown i x hi ∙ ap (walk_of nodes) (sym is_x) in
-    let grown_y : walk_at (walks nodes) j ≡ walk_of nodes y = are.grown j y hj ∙ ap (walk_of nodes) (sym is_y) in
-    let front_v : v ≡ walk_of nodes x ++ (l ∷ []) = ev ∙ ap (λ u. u ++ (l ∷ [])) grown_x in
-    let front_w : w ≡ walk_of nodes y ++ (k ∷ []) = ew ∙ ap (λ u. u ++ (k ∷ [])) grown_y in
-    let lengths : length (walk_of nodes x) ≡ length (walk_of nodes y) =
-    omega (arith, e, ap (λ (u : List Link). length u) front_v, ap (λ (u : List Link). length u) front_w, length_push (walk_of nodes x) l, length_push (walk_of nodes y) k) in
-    (λ t. locals_cmp (front_v t) (front_w t)) ∙ locals_cmp-last (walk_of nodes x) (walk_of nodes y) l k lengths
+locals_by nodes are x y i j hi hj h4 h5 v w l k ev ew e = search (rules, length_push, locals_cmp-last)
 
 -- If two walks continue the same node (the record of a walk) by a link each, the local addresses of
 -- these two links decide the comparison.

@@ -1,6 +1,6 @@
 -- If no route can pass a strict leg, the tail-end can't be reached from the routers where this leg
 -- begins, nor from earlier legs.
-use Rattle.std.proofs.Common.{◌≡◌, ◌⊎◌, inl, inr, ℕ, suc, ◌+◌, ◌*◌, ◌/◌, ◌%◌, ◌<◌, ◌≤◌, List, Contains, length, sym, ap, subst, ◌∙◌, arith}
+use Rattle.std.proofs.Common.{◌≡◌, ◌⊎◌, inl, inr, ℕ, suc, ◌+◌, ◌*◌, ◌/◌, ◌%◌, ◌<◌, ◌≤◌, List, Contains, length, sym, ap, subst, ◌∙◌, arith, rules}
 use Rattle.std.proofs.lemmas.Bool.{cases_lt}
 use Rattle.cspf_model.specs.declared.request.Request.{Request}
 use Rattle.cspf_model.specs.Database.{Database}
@@ -18,11 +18,7 @@ module _ (d : Database) (q : Request) (listed : AreListed d) (leg : ℕ) (broken
     (others : (i : ℕ) → leg * 1024 ≤ i → (bound_at bounds i ≡ 0) ⊎ ((p : ℕ) × Contains starts p × (i ≡ leg * 1024 + p))) where
   -- Each bound in the list `bounds` is either `NO_WAY` or 0.
   either : (i : ℕ) → (bound_at bounds i ≡ NO_WAY) ⊎ (bound_at bounds i ≡ 0)
-  either i =
-      elim (cases_lt i (leg * 1024)) [
-        | inl low ↦ inl (before i low)
-        | inr high ↦ elim (others i high) [ inl zero ↦ inr zero | inr at ↦ inl (ap (bound_at bounds) at.2 ∙ shut at.0 at.1) ]
-      ]
+  either i = search rules
 
   -- Lemmas on a state of the leg (a router in this leg) whose router is one of those where the leg
   -- begins.

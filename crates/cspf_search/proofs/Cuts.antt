@@ -1,5 +1,6 @@
 -- A walk is a route exactly if it reaches the end state, the tail-end in the last leg.
-use Rattle.std.proofs.Common.{◌≡◌, inl, inr, ℕ, suc, ◌+◌, ◌≤◌, List, [], ◌∷◌, ◌++◌, ◌⊎◌, length, map, refl, sym, ap, ◌∙◌, subst, arith, add-one, append_assoc, append-nil}
+use Rattle.std.proofs.Common.{◌≡◌, inl, inr, ℕ, suc, ◌+◌, ◌≤◌, List, [], ◌∷◌, ◌++◌, ◌⊎◌, length, map, refl, sym, ap, ◌∙◌, subst, arith, add-one, append_assoc, append-nil, rules}
+use Rattle.std.proofs.lemmas.Grind.{common_steps}
 use Rattle.std.specs.List.{AllByRecursion, flat_map}
 use Rattle.std.proofs.lemmas.Option.{slice_get_past}
 use Rattle.cspf_model.specs.declared.link.Link.{Link}
@@ -30,8 +31,7 @@ AreJoined-push a [] l j e = (e, tt)
 AreJoined-push a (m ∷ w) l j e = (j.0, AreJoined-push m.to w l j.1 e)
 
 All-push : (P : Link → Type 0) (w : List Link) (l : Link) → AllByRecursion P w → P l → AllByRecursion P (w ++ (l ∷ []))
-All-push P [] l all here = (here, tt)
-All-push P (m ∷ w) l all here = (all.0, All-push P w l all.1 here)
+All-push P w l all here = grind (arith, common_steps)
 
 All-append_parts : (P : Link → Type 0) (v w : List Link) → AllByRecursion P (v ++ w) → AllByRecursion P v × AllByRecursion P w
 All-append_parts P [] w all = (tt, all)
@@ -46,16 +46,13 @@ module _ (d : Database) where
   -- the walk with this link appended begin at routers with transit.
   froms_push : (w : List Link) (l : Link) → AllByRecursion (HasTransit d) (map (λ m. m.from) w) → HasTransit d l.from
       → AllByRecursion (HasTransit d) (map (λ m. m.from) (w ++ (l ∷ [])))
-  froms_push [] l all here = (here, tt)
-  froms_push (m ∷ w) l all here = (all.0, froms_push w l all.1 here)
+  froms_push w l all here = grind (arith, common_steps)
 
   -- If a walk passes only through routers with transit, and may leave its last router by a link,
   -- the walk with this link appended passes only through routers with transit.
   passed_push : (w : List Link) (l : Link) → AllByRecursion (HasTransit d) (routers_passed w) → MayLeave d l.from (length w)
       → AllByRecursion (HasTransit d) (routers_passed (w ++ (l ∷ [])))
-  passed_push [] l all leaves = tt
-  passed_push (m ∷ w) l all (inl transit) = froms_push w l all transit
-  passed_push (m ∷ w) l all (inr none) = absurd (omega (arith, none))
+  passed_push w l all leaves = search (rules, froms_push)
 
   -- If all links of a walk begin at routers with transit, so do all links of each prefix of the
   -- walk.
@@ -65,8 +62,7 @@ module _ (d : Database) where
 
   -- If a walk passes only through routers with transit, so does each prefix of the walk.
   passed_before : (v w : List Link) → AllByRecursion (HasTransit d) (routers_passed (v ++ w)) → AllByRecursion (HasTransit d) (routers_passed v)
-  passed_before [] w all = tt
-  passed_before (m ∷ v) w all = froms_before v w all
+  passed_before v w all = search (rules, froms_before)
 
   -- If all links of a walk begin at routers with transit, so does each single link of the walk.
   froms_at : (v : List Link) (l : Link) (w : List Link) → AllByRecursion (HasTransit d) (map (λ m. m.from) (v ++ (l ∷ w))) → HasTransit d l.from

@@ -1,7 +1,7 @@
 -- The walks that continue a node while labels are offered for it: by the step to the next leg, and
 -- by each link from the node's router. A node is the record of a walk, and a label holds the best
 -- walk found so far to a state.
-use Rattle.std.proofs.Common.{◌≡◌, ◌⊎◌, inl, inr, ℕ, ◌+◌, ◌-◌, ◌/◌, ◌%◌, ◌<◌, ◌≤◌, Bool, true, false, not, nat_eq, Some, None, List, [], ◌∷◌, ◌++◌, filter, length, take, slice_get, slice_index, slice_index_or, refl, sym, ap, subst, ◌∙◌, arith}
+use Rattle.std.proofs.Common.{◌≡◌, ◌⊎◌, inl, inr, ℕ, ◌+◌, ◌-◌, ◌/◌, ◌%◌, ◌<◌, ◌≤◌, Bool, true, false, not, nat_eq, Some, None, List, [], ◌∷◌, ◌++◌, filter, length, take, slice_get, slice_index, slice_index_or, refl, sym, ap, subst, ◌∙◌, arith, rules}
 use Rattle.std.specs.List.{All, Contains}
 use Rattle.std.proofs.lemmas.Bool.{cases_lt, eqb-true, eq-eqb}
 use Rattle.std.proofs.lemmas.List.{take_all}
@@ -79,16 +79,10 @@ module _ (d : Database) (q : Request) (nodes : List Node) (at state : ℕ) (is :
   -- walk.
 
   pub turn_index : state / 1024 < length q.hops → IsStateIndex d q (state + 1024)
-  turn_index h =
-      let place : (state + 1024) % 1024 ≡ state % 1024 = omega arith in
-      record { low = omega arith; place = rw place is.index.place }
+  turn_index h = search rules
 
   pub turn_state : record { leg = (slice_index_or nodes at nowhere).leg + 1; router = (slice_index_or nodes at nowhere).router } ≡ state_at d (state + 1024)
-  turn_state =
-      let place : (state + 1024) % 1024 ≡ state % 1024 = omega arith in
-      let next : (slice_index_or nodes at nowhere).leg + 1 ≡ (state + 1024) / 1024 + 1 = omega (arith, leg) in
-      let same : (slice_index_or nodes at nowhere).router ≡ slice_index (router_list d) ((state + 1024) % 1024) = router ∙ sym (ap (slice_index (router_list d)) place) in
-      λ k. record { leg = next k; router = same k }
+  turn_state = search rules
 
   pub turn_only : (w : List Link) (t : State) → Turns d q nodes at w t → (t ≡ state_at d (state + 1024)) × (w ≡ walk_at (walks nodes) at)
   turn_only w t x =
@@ -125,25 +119,17 @@ module _ (d : Database) (q : Request) (nodes : List Node) (at state : ℕ) (is :
   turn_right w t x = inr (inl x)
 
   pub turn_cases : (w : List Link) (t : State) → CrossesUpTo d q nodes at (state % 1024) 0 w t → CrossesBelow d q nodes (links_of d) at w t ⊎ Turns d q nodes at w t
-  turn_cases w t (inl x) = inl x
-  turn_cases w t (inr (inl x)) = inr x
-  turn_cases w t (inr (inr x)) = absurd (no_row 0 w t x)
+  turn_cases w t h1 = search rules
 
   -- Lemmas on the walks that continue a node by the link `l`, which has the index `row` among the
   -- links from the node's router. A node is the record of a walk.
 
   module _ (row : ℕ) (l : Link) (listed : slice_get (links_from_index d (state % 1024)) row ≡ Some l) (end : ℕ) (ends : IsIndexOf d l.to end) (few : length (router_list d) ≤ 1024) where
     pub link_index : IsStateIndex d q (state - state % 1024 + end)
-    link_index =
-        let place : (state - state % 1024 + end) % 1024 ≡ end = omega (arith, ends.within) in
-        record { low = omega (arith, ends.within, is.index.low); place = rw place ends.within }
+    link_index = search rules
 
     pub link_state : record { leg = (slice_index_or nodes at nowhere).leg; router = l.to } ≡ state_at d (state - state % 1024 + end)
-    link_state =
-        let place : (state - state % 1024 + end) % 1024 ≡ end = omega (arith, ends.within) in
-        let same : (slice_index_or nodes at nowhere).leg ≡ (state - state % 1024 + end) / 1024 + 1 = omega (arith, leg, ends.within) in
-        let to : l.to ≡ slice_index (router_list d) ((state - state % 1024 + end) % 1024) = sym ends.is ∙ sym (ap (slice_index (router_list d)) place) in
-        λ k. record { leg = same k; router = to k }
+    link_state = search rules
 
     pub link_only : (w : List Link) (t : State) → CrossesBy d q nodes at l w t
         → (t ≡ state_at d (state - state % 1024 + end)) × (w ≡ walk_at (walks nodes) at ++ (l ∷ []))
@@ -192,16 +178,14 @@ module _ (d : Database) (q : Request) (nodes : List Node) (at state : ℕ) (is :
     row_cases = either_link d q nodes (links_from_index d (state % 1024)) at row row_within l row_is
 
     pub link_left : (w : List Link) (t : State) → CrossesUpTo d q nodes at (state % 1024) row w t → CrossesUpTo d q nodes at (state % 1024) (row + 1) w t
-    link_left w t (inl x) = inl x
-    link_left w t (inr x) = inr (row_kept w t x)
+    link_left w t h1 = search (rules, row_kept)
 
     pub link_right : (w : List Link) (t : State) → CrossesBy d q nodes at l w t → CrossesUpTo d q nodes at (state % 1024) (row + 1) w t
     link_right w t x = inr (row_new w t x)
 
     pub link_cases : (w : List Link) (t : State) → CrossesUpTo d q nodes at (state % 1024) (row + 1) w t
         → CrossesUpTo d q nodes at (state % 1024) row w t ⊎ CrossesBy d q nodes at l w t
-    link_cases w t (inl x) = inl (inl x)
-    link_cases w t (inr x) = elim (row_cases w t x) [ inl old ↦ inl (inr old) | inr new ↦ inr new ]
+    link_cases w t h1 = search (rules, row_cases)
 
   -- Lemmas for a node whose walk may not leave its router. No label is then offered for a link from
   -- this router. A label holds the best walk found so far to a state.

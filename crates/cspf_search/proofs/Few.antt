@@ -1,9 +1,9 @@
 -- A search has at most 1,024 nodes in each leg, because no two nodes have the same state, and the
 -- database has at most 1,024 routers. A state is a router in a leg, and a node is the record of a
 -- walk.
-use Rattle.std.proofs.Common.{◌≡◌, inl, inr, ℕ, zero, suc, ◌*◌, ◌<◌, ◌≤◌, Bool, true, false, not, nat_eq, List, [], ◌∷◌, filter, length, map, slice_index_or, refl, sym, ◌∙◌, arith}
+use Rattle.std.proofs.Common.{◌≡◌, ℕ, zero, suc, ◌*◌, ◌<◌, ◌≤◌, Bool, true, false, not, nat_eq, List, [], ◌∷◌, filter, length, map, slice_index_or, refl, arith, rules}
 use Rattle.std.specs.List.{All, AllByRecursion, AllPairs, IsDistinct}
-use Rattle.std.proofs.lemmas.Bool.{and_cases, eqb-true, eqb-false, not-true}
+use Rattle.std.proofs.lemmas.Bool.{eqb-false, not-true}
 use Rattle.std.proofs.lemmas.List.{get_or-map, length-map}
 use Rattle.std.proofs.lemmas.List.Elements.{All-filter, All-map, filter_passes, recursion_from_All}
 use Rattle.std.proofs.lemmas.List.Filters.{length-filter_both}
@@ -38,13 +38,7 @@ pub record IsWithin (d : Database) (legs : ℕ) (n : Node) : Type 0 where
 module _ (d : Database) (few : HasFewRouters d) (leg : ℕ) (nodes : List Node) (apart : AreApart nodes) (routers : All (λ n. IsRouterOf d n.router) nodes)
     (here : All (λ n. nat_eq n.leg leg ≡ true) nodes) where
   routers_apart : (i j : ℕ) (e : Node) → i < j → j < length nodes → nat_eq (slice_index_or nodes i e).router (slice_index_or nodes j e).router ≡ false
-  routers_apart i j e low high =
-      let m : Node = slice_index_or nodes i e in
-      let n : Node = slice_index_or nodes j e in
-      elim (and_cases _ _ (apart i j e low high)) [
-        | inl legs ↦ absurd (eqb-false m.leg n.leg legs (eqb-true m.leg leg (here i e (omega arith)) ∙ sym (eqb-true n.leg leg (here j e high))))
-        | inr told ↦ told
-      ]
+  routers_apart i j e low high = search rules
 
   routers_distinct : IsDistinct nat_eq (map (λ (n : Node). n.router) nodes)
   routers_distinct = IsDistinct-from_apart nat_eq (map (λ (n : Node). n.router) nodes) (λ i j e low high.

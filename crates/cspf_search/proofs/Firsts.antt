@@ -1,8 +1,8 @@
 -- The first of all walks that meet one of two conditions is the earlier of two walks: the first
 -- walk that meets the one condition, and the first walk that meets the other.
-use Rattle.std.proofs.Common.{◌≡◌, ◌⊎◌, inl, inr, ℕ, true, false, cond, Option, Some, None, List, refl, ap}
-use Rattle.std.specs.Ordering.{is_gt, ordering_reverse}
-use Rattle.std.specs.declared.cmp.Ordering.TheVariants.{Less, Equal, Greater}
+use Rattle.std.proofs.Common.{◌≡◌, ◌⊎◌, inl, inr, ℕ, true, false, cond, Option, Some, None, List, refl, rules, arith}
+use Rattle.std.proofs.lemmas.Grind.{common_steps}
+use Rattle.std.specs.Ordering.{is_gt}
 use Rattle.std.proofs.lemmas.Cmp.{upto}
 use Rattle.cspf_model.specs.declared.link.Link.{Link}
 use Rattle.cspf_search.specs.declared.arena.Node.{Node}
@@ -13,28 +13,15 @@ use Rattle.cspf_search.specs.Rounds.{IsFirstOf, IsFirst, earlier_of}
 use Rattle.cspf_search.proofs.Orders.{states_total}
 
 turned : (a b : ℕ × List Link) → is_gt (state_cmp a b) ≡ true → is_gt (state_cmp b a) ≡ false
-turned a b h =
-    elim (state_cmp a b) as (λ o. state_cmp b a ≡ ordering_reverse o → is_gt o ≡ true → is_gt (state_cmp b a) ≡ false) [
-      | Less ↦ λ e g. absurd (cc)
-      | Equal ↦ λ e g. absurd (cc)
-      | Greater ↦ λ e g. ap is_gt e
-    ] (states_total.antisymm b a) h
+turned a b h = grind (arith, common_steps, states_total)
 
 module _ (nodes : List Node) (P Q R : List Link → State → Type 0) (from_left : (w : List Link) (t : State) → P w t → R w t)
     (from_right : (w : List Link) (t : State) → Q w t → R w t) (cases : (w : List Link) (t : State) → R w t → P w t ⊎ Q w t) where
   pub left_first : (a : Node) → IsFirstOf nodes P a → ((w : List Link) (t : State) → Q w t → is_gt (state_cmp (a.leg, walk_of nodes a) (t.leg, w)) ≡ false) → IsFirstOf nodes R a
-  left_first a is rest = record {
-    next = is.next;
-    passes = from_left _ _ is.passes;
-    first = λ w t r. elim (cases w t r) [ inl p ↦ is.first w t p | inr q ↦ rest w t q ];
-  }
+  left_first a is rest = search rules
 
   right_first : (b : Node) → IsFirstOf nodes Q b → ((w : List Link) (t : State) → P w t → is_gt (state_cmp (b.leg, walk_of nodes b) (t.leg, w)) ≡ false) → IsFirstOf nodes R b
-  right_first b is rest = record {
-    next = is.next;
-    passes = from_right _ _ is.passes;
-    first = λ w t r. elim (cases w t r) [ inl p ↦ rest w t p | inr q ↦ is.first w t q ];
-  }
+  right_first b is rest = search rules
 
   pub first_both : (a b : Option Node) → IsFirst nodes P a → IsFirst nodes Q b → IsFirst nodes R (earlier_of nodes a b)
   first_both None None p q = λ w t r. elim (cases w t r) [ inl h ↦ p w t h | inr h ↦ q w t h ]
@@ -52,9 +39,4 @@ module _ (nodes : List Node) (P Q R : List Link → State → Type 0) (from_left
 -- walk meets `P` is also the first node whose walk meets `R`.
 pub first_same : (nodes : List Node) (P R : List Link → State → Type 0) → ((w : List Link) (t : State) → P w t → R w t) → ((w : List Link) (t : State) → R w t → P w t)
     → (a : Option Node) → IsFirst nodes P a → IsFirst nodes R a
-first_same nodes P R up down None p = λ w t r. p w t (down w t r)
-first_same nodes P R up down (Some a) p = record {
-  next = p.next;
-  passes = up _ _ p.passes;
-  first = λ w t r. p.first w t (down w t r);
-}
+first_same nodes P R up down a p = search rules

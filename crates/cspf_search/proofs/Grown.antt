@@ -1,20 +1,16 @@
 -- The walks that continue a settled node to a state that isn't settled, and the node that a round
 -- settles. A state is a router in a leg, and a node is the record of a walk.
-use Rattle.std.proofs.Common.{◌≡◌, inl, inr, ℕ, suc, ◌+◌, ◌*◌, ◌<◌, ◌≤◌, false, Some, None, option_map, List, [], ◌∷◌, ◌++◌, zero, length, slice_index_or, refl, sym, ap, subst, ◌∙◌, arith}
-use Rattle.std.specs.Ordering.{is_gt, nat_cmp, ordering_then}
-use Rattle.std.specs.declared.cmp.Ordering.{Ordering}
-use Rattle.std.proofs.lemmas.Bool.Decides.{nat_tests}
+use Rattle.std.proofs.Common.{◌≡◌, inl, inr, ℕ, suc, ◌+◌, ◌*◌, ◌<◌, ◌≤◌, Some, None, option_map, List, [], ◌∷◌, ◌++◌, length, slice_index_or, refl, sym, ap, subst, ◌∙◌, arith, rules}
 use Rattle.std.proofs.lemmas.List.{length_push}
 use Rattle.std.proofs.lemmas.List.Elements.{All-contains}
 use Rattle.std.proofs.lemmas.Option.{get_or_from_slice_get, slice_get-get_or}
 use Rattle.cspf_model.specs.declared.link.Link.{Link}
 use Rattle.cspf_model.specs.declared.request.Request.{Request}
 use Rattle.cspf_model.specs.Database.{Database, AreLinksOf, IsLinkOf, IsRouterOf}
-use Rattle.cspf_model.specs.Walks.{cost_of}
 use Rattle.cspf_search.specs.declared.arena.Node.{Node}
 use Rattle.cspf_search.specs.States.{State, IsStep, by_link, by_turn, Reaches, starts, steps, start_of}
 use Rattle.cspf_graph.specs.Roles.{MayEnter, MayTurn}
-use Rattle.cspf_search.specs.Settled.{IsNoLater, AreSettled, Crosses, IsFirstCrossing, IsStuck, locals_cmp}
+use Rattle.cspf_search.specs.Settled.{IsNoLater, AreSettled, Crosses, IsFirstCrossing, IsStuck}
 use Rattle.cspf_search.specs.Arena.{walk_at, walks, walk_of, state_of, labels_of, AreNodes, AreInLegs, IsNext, root_of}
 use Rattle.cspf_search.specs.Rounds.{CrossesBy, Turns, CrossesBelow, IsFirstOf, IsFirst}
 use Rattle.cspf_search.proofs.Orders.{walk_from_state, rank_from_state}
@@ -30,13 +26,9 @@ reached_router d q from w s starts = from
 reached_router d q from w s (steps r (by_link l a enters leaves)) = (l, a.link, inr refl)
 reached_router d q from w s (steps r (by_turn within target)) = reached_router d q from _ _ r
 
-nothing_before : (cost count : ℕ) (o : Ordering) → 0 < count → is_gt (ordering_then (nat_cmp 0 cost) (ordering_then (nat_cmp 0 count) o)) ≡ false
-nothing_before cost count o some = grind (arith, nat_tests)
-
 -- No walk precedes the walk without links.
 first_empty : (w : List Link) → IsNoLater [] w
-first_empty [] = refl
-first_empty (l ∷ ls) = nothing_before (cost_of (l ∷ ls)) (length (l ∷ ls)) (locals_cmp [] (l ∷ ls)) (omega arith)
+first_empty w = search rules
 
 module _ (d : Database) (q : Request) (links : List Link) (listed : AreLinksOf d links) (nodes : List Node) (apart : AreApart nodes) where
   -- A walk that continues a node by a link to a state without a node meets `Crosses`: it continues
@@ -194,8 +186,7 @@ settled_more d q links listed from few legs nodes are settled n first =
 
 only_root : (q : Request) (i : ℕ) (s : State) (w : List Link) → i < 1 → state_of (slice_index_or (root_of q ∷ []) i nowhere) ≡ s → walk_at (walks (root_of q ∷ [])) i ≡ w
     → (s ≡ start_of q) × (w ≡ [])
-only_root q zero s w h at is = (sym at, sym is)
-only_root q (suc i) s w h at is = absurd (omega arith)
+only_root q i s w h at is = search rules
 
 -- The nodes (records of walks) at the start of a search: the only node is the head-end in the first
 -- leg.

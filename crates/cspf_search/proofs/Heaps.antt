@@ -1,12 +1,10 @@
 -- Lemmas on the keys that are popped from a heap.
-use Rattle.std.proofs.Common.{◌≡◌, ◌⊎◌, inl, inr, ℕ, zero, suc, ◌+◌, ◌<◌, ◌≤◌, false, List, [], ◌∷◌, ◌++◌, length, take, slice_index_or, refl, sym, ap, subst, arith}
+use Rattle.std.proofs.Common.{◌≡◌, ◌⊎◌, inl, inr, ℕ, ◌+◌, ◌<◌, ◌≤◌, false, List, [], ◌∷◌, ◌++◌, length, take, slice_index_or, refl, sym, ap, subst, arith, rules}
+use Rattle.std.proofs.lemmas.Grind.{common_steps}
 use Rattle.std.specs.List.{All, Contains}
 use Rattle.std.specs.List.Sorted.{IsPermutation}
 use Rattle.std.specs.BinaryHeap.{IsHeap, IsUpperBound, PopsGreatest, lt_by_cmp}
 use Rattle.std.specs.Ordering.{nat_cmp, ordering_then, is_lt}
-use Rattle.std.specs.declared.cmp.Ordering.{Ordering}
-use Rattle.std.proofs.lemmas.Bool.{cases_lt}
-use Rattle.std.proofs.lemmas.Bool.Decides.{nat_tests}
 use Rattle.std.proofs.lemmas.List.{get_or_default, take_more}
 use Rattle.std.proofs.lemmas.List.Elements.{All-contains, All-from_recursion, All-tail, Contains-append_cases, Contains-append_right, Contains-push_cases}
 use Rattle.std.proofs.lemmas.List.Sorted.{All-permutation, Contains-permutation, IsPermutation-sym}
@@ -19,19 +17,8 @@ use Rattle.cspf_search.specs.declared.labels.Label.{Label}
 use Rattle.cspf_search.specs.States.{State}
 use Rattle.cspf_search.specs.Frontier.{AreLabels, HeapKey, heap_key_cmp, no_label, label_at, lift, IsKey, IsLive, IsOpenOf, IsUpTo, IsLeast}
 
-no_less_rank : (k rank : ℕ) (o : Ordering) → is_lt (ordering_then (nat_cmp k rank) o) ≡ false → rank ≤ k
-no_less_rank k rank o h = grind (arith, nat_tests)
-
-no_less_index : (k rank j i : ℕ) → k ≡ rank → is_lt (ordering_then (nat_cmp k rank) (nat_cmp j i)) ≡ false → i ≤ j
-no_less_index k rank j i e h = grind (arith, nat_tests)
-
 no_less : (k rank j i : ℕ) → is_lt (ordering_then (nat_cmp k rank) (nat_cmp j i)) ≡ false → (rank < k) ⊎ ((rank ≡ k) × (i ≤ j))
-no_less k rank j i h =
-    let low = no_less_rank k rank (nat_cmp j i) h in
-    elim (cases_lt rank k) [
-      | inl lt ↦ inl lt
-      | inr ge ↦ let e : k ≡ rank = omega arith in inr (omega arith, no_less_index k rank j i e h)
-    ]
+no_less k rank j i h = search rules
 
 -- If the key `x` is the first one that the heap gives, no key of the list has a smaller first part
 -- than `x`, nor the same first part and a smaller index.
@@ -40,8 +27,7 @@ keys_up_to x xs upper y at =
     no_less y.0.0 x.0.0 y.0.1 x.0.1 (All-contains (λ z. lt_by_cmp heap_key_cmp x z ≡ false) xs y (All-from_recursion (λ z. lt_by_cmp heap_key_cmp x z ≡ false) xs upper) at)
 
 only : (x y : HeapKey) → Contains (x ∷ []) y → x ≡ y
-only x y (zero, h, e) = e
-only x y (suc k, h, e) = absurd (omega arith)
+only x y h1 = search rules
 
 -- After a key is popped from a heap, each key that was in the heap is the popped key or is still in
 -- the heap.
@@ -124,11 +110,7 @@ module _ (floor : ℕ) (items left : List HeapKey) (k : ℕ) (within : k < lengt
   -- that have an index from the floor on are then kept. The floor is the first index after the
   -- states (routers in legs) of the closed legs.
   pub key_dropped : looked.0.1 < floor → (key : HeapKey) → Contains (take (k + 1) items) key → floor ≤ key.0.1 → Contains left key
-  key_dropped low key has up =
-      elim (cases key has) [
-        | inl front ↦ kept key front up
-        | inr is ↦ absurd (omega (arith, low, up, ap (λ (x : HeapKey). x.0.1) is))
-      ]
+  key_dropped low key has up = grind (arith, common_steps, cases)
 
   -- Lemmas for the case that the filter keeps this key.
   module _ (new : List HeapKey) (moved : IsPermutation (looked ∷ left) new) where

@@ -1,8 +1,8 @@
 -- The walk of each node (the record of a walk), the settled walk of each state (a router in a leg),
 -- and how both change when one more node is appended.
-use Rattle.std.proofs.Common.{◌≡◌, inl, inr, ℕ, zero, suc, ◌+◌, ◌<◌, Bool, true, false, not, Option, Some, None, option_map, position, List, [], ◌∷◌, ◌++◌, length, slice_index_or, refl, sym, ap, ◌∙◌, arith}
+use Rattle.std.proofs.Common.{◌≡◌, inl, inr, ℕ, ◌+◌, ◌<◌, Bool, true, false, not, Option, Some, None, option_map, position, List, [], ◌∷◌, ◌++◌, length, slice_index_or, refl, sym, ap, ◌∙◌, arith, rules}
 use Rattle.std.specs.List.{position_or_len, AllPairs}
-use Rattle.std.proofs.lemmas.Bool.{cases_lt, lt-ltb, not-true, not_from_true, not_from_false, eqb-true, eq-eqb, and_parts, and_from}
+use Rattle.std.proofs.lemmas.Bool.{cases_lt, lt-ltb, not-true, not_from_true, not_from_false, eq-eqb, and_from}
 use Rattle.std.proofs.lemmas.List.{get_or_append_left, get_or_push, length_push}
 use Rattle.std.proofs.lemmas.List.Sums.{prefix_len_is, prefix_len_passes}
 use Rattle.std.proofs.lemmas.List.Quantifiers.{position-Some, all_pairs_push}
@@ -61,9 +61,7 @@ position-first p xs n d h here before =
     rw (e, lt-ltb n (length xs) h)
 
 pub same_state-true : (s t : State) → same_state s t ≡ true → s ≡ t
-same_state-true s t e =
-    let both = and_parts _ _ e in
-    λ i. record { leg = eqb-true s.leg t.leg both.0 i; router = eqb-true s.router t.router both.1 i }
+same_state-true s t e = search rules
 
 same_state-itself : (s : State) → same_state s s ≡ true
 same_state-itself s = and_from _ _ (eq-eqb s.leg s.leg refl) (eq-eqb s.router s.router refl)
@@ -74,14 +72,7 @@ same_state-itself s = and_from _ _ (eq-eqb s.leg s.leg refl) (eq-eqb s.router s.
 -- and a node is the record of a walk.
 pub label_from : (nodes : List Node) (s : State) (w : List Link) (d : Node) → labels_of nodes s ≡ Some w
     → (i : ℕ) × (i < length nodes) × (state_of (slice_index_or nodes i d) ≡ s) × (walk_at (walks nodes) i ≡ w)
-label_from nodes s w d e =
-    elim (index_of nodes s) as (λ o. index_of nodes s ≡ o → option_map (λ i. walk_at (walks nodes) i) o ≡ Some w
-    → (i : ℕ) × (i < length nodes) × (state_of (slice_index_or nodes i d) ≡ s) × (walk_at (walks nodes) i ≡ w)) [
-      | Some i ↦ λ at is.
-          let facts = position-Some (λ n. same_state (state_of n) s) nodes i d at in
-          (i, facts.0, same_state-true (state_of (slice_index_or nodes i d)) s facts.1, cc)
-      | None ↦ λ at is. absurd (cc)
-    ] refl e
+label_from nodes s w d e = search (rules, position-Some, same_state-true)
 
 -- If no two nodes have the same state, the index that is found for the state of the node at `i` is
 -- `i`. A state is a router in a leg, and a node is the record of a walk.
@@ -100,11 +91,7 @@ label_at nodes apart i d h = ap (option_map (λ i. walk_at (walks nodes) i)) (in
 -- If a state isn't settled, none of the settled nodes has this state. A state is a router in a leg,
 -- and a node is the record of a walk.
 pub open_index : (nodes : List Node) (s : State) → labels_of nodes s ≡ None → index_of nodes s ≡ None
-open_index nodes s e =
-    elim (index_of nodes s) as (λ o. option_map (λ i. walk_at (walks nodes) i) o ≡ None → o ≡ None) [
-      | Some i ↦ λ is. absurd (cc)
-      | None ↦ λ is. refl
-    ] e
+open_index nodes s e = search rules
 
 pub apart_push : (nodes : List Node) (n : Node) → AllPairs (λ m n. same_state (state_of m) (state_of n) ≡ false) nodes → labels_of nodes (state_of n) ≡ None
     → AllPairs (λ m n. same_state (state_of m) (state_of n) ≡ false) (nodes ++ (n ∷ []))
@@ -135,8 +122,7 @@ module _ (nodes : List Node) (n : Node) (are : AreNodes nodes) (next : IsNext no
       ]
 
   parent_within : (i : ℕ) (d : Node) → i < length nodes → (slice_index_or nodes i d).parent < length nodes
-  parent_within zero d h = rw (are.root d).parent are.some
-  parent_within (suc i) d h = omega (arith, are.back (suc i) d (omega arith) h)
+  parent_within i d h = search rules
 
   pub nodes_push : length nodes < 8192 → AreNodes (nodes ++ (n ∷ []))
   nodes_push room =
@@ -184,22 +170,7 @@ started p b first last = rw (first, last) refl
 -- Lemmas on the list whose only node (the record of a walk) is the root.
 module _ (n : Node) (root : IsRoot n) where
   only : (P : ℕ → Node → Type 0) → P 0 n → (i : ℕ) (d : Node) → i < 1 → P i (slice_index_or (n ∷ []) i d)
-  only P here zero d h = here
-  only P here (suc i) d h = absurd (omega arith)
+  only P here i d h = search rules
 
   pub nodes_root : n.leg ≡ 1 → n.rank ≡ 1 → AreNodes (n ∷ [])
-  nodes_root leg rank =
-      let none : walk_with [] n.by ≡ [] = rw root.by refl in
-      record {
-        some = omega arith;
-        most = omega arith;
-        root = λ d. root;
-        begun = none;
-        linked = only (λ i m. HasLast m) (λ some. absurd (omega arith));
-        back = λ i d low high. absurd (omega arith);
-        grown = only (λ i m. walk_at (walks (n ∷ [])) i ≡ walk_of (n ∷ []) m) (started n.parent n.by root.parent root.by);
-        ranked =
-            only (λ i m. IsRanked m (walk_at (walks (n ∷ [])) i) i)
-            (rw none (record { rank = rank; few = omega arith; small = omega arith }));
-        apart = λ i j d low high. absurd (omega arith);
-      }
+  nodes_root leg rank = search rules

@@ -1,5 +1,5 @@
 -- Lemmas on the lower bounds of the cost from the routers of one leg to the tail-end.
-use Rattle.std.proofs.Common.{◌≡◌, ◌≢◌, ◌⊎◌, inl, inr, ℕ, ◌+◌, ◌*◌, ◌/◌, ◌%◌, ◌^◌, ◌<◌, ◌≤◌, min, Bool, true, false, IsTrue, List, drop, length, replicate, set, slice_get, slice_index, slice_index_or, Some, refl, sym, ap, subst, ◌∙◌, arith}
+use Rattle.std.proofs.Common.{◌≡◌, ◌≢◌, ◌⊎◌, inl, inr, ℕ, ◌+◌, ◌*◌, ◌/◌, ◌%◌, ◌^◌, ◌<◌, ◌≤◌, min, Bool, true, false, IsTrue, List, drop, length, replicate, set, slice_get, slice_index, slice_index_or, Some, sym, ap, subst, ◌∙◌, arith, rules}
 use Rattle.std.proofs.lemmas.Bool.{cases_lt, false≢true}
 use Rattle.std.proofs.lemmas.List.{get_or_past, get_or-drop, get_or-replicate, length-replicate, get_or-set_other}
 use Rattle.std.proofs.lemmas.Option.{get_or_from_slice_get}
@@ -25,10 +25,7 @@ none_done d q leg ring none u w on l admissible enters from to = absurd (false�
 -- `IsRing` still holds after some bounds are lowered, if each router that is done keeps its bound.
 -- A router is done if the backward search has looked at all links that end at this router.
 pub fallen_ring : (d : Database) (q : Request) (leg : ℕ) (old new : Ring) → Falls old new → IsRing d q leg old → IsRing d q leg new
-fallen_ring d q leg old new falls ring u w on l admissible enters from end =
-    let kept = falls.kept w on in
-    let within = ring u w kept.0 l admissible enters from end in
-    (omega (arith, within.0, falls.lower u, kept.1), λ way. omega (arith, within.1 (omega (arith, way, kept.1)), falls.lower u))
+fallen_ring d q leg old new falls ring = search rules
 
 pub same_ring : (d : Database) (q : Request) (leg : ℕ) (old new : Ring) → new.near ≡ old.near → new.done ≡ old.done → IsRing d q leg old → IsRing d q leg new
 same_ring d q leg old new near marks ring u w on l admissible enters from end =
@@ -70,17 +67,7 @@ pub cut_at_edge : (near : List ℕ) (marks : List Bool) (edge u w metric : ℕ)
     → (slice_index_or marks w false ≡ true → IsWithin (bound_at near u) (bound_at near w) metric)
     → (slice_index_or marks w false ≡ false → edge ≤ bound_at near w)
     → IsWithin (min (bound_at near u) edge) (min (bound_at near w) edge) metric
-cut_at_edge near marks edge u w metric within least =
-    elim (slice_index_or marks w false) as (λ b. slice_index_or marks w false ≡ b → IsWithin (min (bound_at near u) edge) (min (bound_at near w) edge) metric) [
-      | true ↦ λ e. (
-        omega (arith, (within e).0),
-        λ way. elim (cases_lt (bound_at near w) NO_WAY) [
-          | inl near_way ↦ omega (arith, (within e).1 near_way)
-          | inr far ↦ omega (arith, way, far)
-        ],
-      )
-      | false ↦ λ e. (omega (arith, least e), λ way. omega (arith, way, least e))
-    ] refl
+cut_at_edge near marks edge u w metric within least = search rules
 
 -- If `edge` is at most the bound of each router that the backward search hasn't settled, the bounds
 -- that the search has found and this edge are the bounds of the leg, by `IsLegBound`.
@@ -88,32 +75,17 @@ pub leg_of_ring : (d : Database) (q : Request) (leg : ℕ) (ring : Ring) (edge :
     → ((w : ℕ) → w < length (router_list d) → is_done ring w ≡ false → edge ≤ bound_at ring.near.items w) → (ahead : List ℕ)
     → ((p : ℕ) → p < length (router_list d) → MayTurn d q (leg + 1) (slice_index (router_list d) p) → bound_at ring.near.items p ≤ bound_at ahead p)
     → IsLegBound d q leg ring.near.items edge ahead
-leg_of_ring d q leg ring edge links least ahead targets = record {
-  links = λ u w l admissible enters from to.
-      cut_at_edge ring.near.items ring.done.items edge u w l.metric (λ done. links u w done l admissible enters from to) (least w to.within);
-  targets = λ p h target. omega (arith, targets p h target);
-}
+leg_of_ring d q leg ring edge links least ahead targets = search rules
 
 -- If a route may go on to the next leg at a router, the router's role in this leg has the flag
 -- `target`.
 pub told_target : (d : Database) (q : Request) (roles : List Role) (leg p : ℕ) → AreListed d → AreRoles d q roles → leg ≤ length q.hops → p < length (router_list d)
     → MayTurn d q (leg + 1) (slice_index (router_list d) p) → IsTrue (slice_index_or roles (leg * 1024 + p) nothing).target
-told_target d q roles leg p listed are within h target =
-    let few : p < 1024 = omega (arith, h, listed.few) in
-    let at_leg : (leg * 1024 + p) / 1024 ≡ leg = omega (arith, few) in
-    let at_place : (leg * 1024 + p) % 1024 ≡ p = omega (arith, few) in
-    let index : IsStateIndex d q (leg * 1024 + p) = record { low = omega (arith, few, within); place = rw at_place h } in
-    (are.each (leg * 1024 + p) nothing index).target.1 (rw (at_leg, at_place) target)
+told_target d q roles leg p listed are within h target = search rules
 
 -- A list of bounds that are all 0 is a list of lower bounds, by `AreBounds`.
 pub zero_bounds : (d : Database) (q : Request) (bounds : List ℕ) → length bounds ≡ (length q.hops + 1) * 1024 → ((i : ℕ) → bound_at bounds i ≡ 0) → AreBounds d q bounds
-zero_bounds d q bounds many zeros = record {
-  many = many;
-  small = λ i. omega (arith, zeros i);
-  links = λ i j ix jx same l admissible enters from to. (omega (arith, zeros i), λ way. omega (arith, zeros i));
-  turns = λ i ix within target. omega (arith, zeros i);
-  last = λ i ix is_last target. zeros i;
-}
+zero_bounds d q bounds many zeros = search rules
 
 pub zeros_at : (count i : ℕ) → bound_at (replicate count 0) i ≡ 0
 zeros_at count i =
@@ -130,31 +102,17 @@ module _ (d : Database) (q : Request) (leg count : ℕ) (all : count ≡ length 
     (here : (p : ℕ) → p < count → bound_at new (leg * 1024 + p) ≡ min (bound_at near p) edge)
     (others : (i : ℕ) → (i < leg * 1024) ⊎ (leg * 1024 + count ≤ i) → bound_at new i ≡ bound_at old i) where
   in_leg : (i : ℕ) → i % 1024 < length (router_list d) → i / 1024 ≡ leg → bound_at new i ≡ min (bound_at near (i % 1024)) edge
-  in_leg i place same =
-      let whole : leg * 1024 + i % 1024 ≡ i = omega (arith, same) in
-      ap (bound_at new) (sym whole) ∙ here (i % 1024) (omega (arith, place, all))
+  in_leg i place same = search rules
 
   off_leg : (i : ℕ) → i / 1024 ≢ leg → bound_at new i ≡ bound_at old i
-  off_leg i ne =
-      elim (cases_lt i (leg * 1024)) [
-        | inl lt ↦ others i (inl lt)
-        | inr ge ↦
-            elim (cases_lt i (leg * 1024 + 1024)) [
-              | inl lt ↦ let same : i / 1024 ≡ leg = omega (arith, ge, lt) in absurd (ne same)
-              | inr past ↦ others i (inr (omega (arith, past, few)))
-            ]
-      ]
+  off_leg i ne = search rules
 
   behind_leg : (i : ℕ) → i / 1024 ≡ leg → bound_at (drop (leg * 1024 + 1024) old) (i % 1024) ≡ bound_at old (i + 1024)
-  behind_leg i same =
-      let whole : leg * 1024 + 1024 + i % 1024 ≡ i + 1024 = omega (arith, same) in
-      get_or-drop (leg * 1024 + 1024) old (i % 1024) 0 ∙ ap (bound_at old) whole
+  behind_leg i same = search (rules, get_or-drop)
 
   target_ahead : (i : ℕ) → IsStateIndex d q i → i / 1024 ≡ leg → MayTurn d q (i / 1024 + 1) (slice_index (router_list d) (i % 1024))
       → bound_at new i ≤ bound_at old (i + 1024)
-  target_ahead i ix same target =
-      let low = is.targets (i % 1024) ix.place (subst (λ k. MayTurn d q (k + 1) (slice_index (router_list d) (i % 1024))) same target) in
-      omega (arith, low, in_leg i ix.place same, behind_leg i same)
+  target_ahead i ix same target = search (rules, behind_leg, in_leg)
 
   pub one_leg_more : AreBounds d q new
   one_leg_more = record {

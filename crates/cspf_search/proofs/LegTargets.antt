@@ -1,5 +1,6 @@
 -- The targets of the legs (the routers where a leg may end), as a query gives them.
-use Rattle.std.proofs.Common.{◌≡◌, inl, inr, ℕ, ◌+◌, ◌/◌, ◌%◌, ◌<◌, ◌++◌, ◌∷◌, [], IsTrue, List, Contains, take, Vec, Global, length, slice_index_or, sym, ap, subst, ◌∙◌}
+use Rattle.std.proofs.Common.{◌≡◌, ℕ, ◌+◌, ◌/◌, ◌%◌, ◌<◌, IsTrue, List, Contains, take, Vec, Global, length, slice_index_or, arith}
+use Rattle.std.proofs.lemmas.Grind.{common_steps}
 use Rattle.std.proofs.lemmas.List.{take_more}
 use Rattle.std.proofs.lemmas.List.Elements.{Contains-push_cases}
 use Rattle.cspf_model.specs.declared.request.Request.{Request}
@@ -25,6 +26,4 @@ role_turns d q roles are i ix on = (are.each i nothing ix).target.0 on
 -- the first `k + 1` elements have this property.
 pub taken_more : (P : ℕ → Type 0) (places : List ℕ) (k place : ℕ) → k < length places → place ≡ slice_index_or places k 0 → ((p : ℕ) → Contains (take k places) p → P p) → P place
     → (p : ℕ) → Contains (take (k + 1) places) p → P p
-taken_more P places k place within read before here p has =
-    let more : take (k + 1) places ≡ take k places ++ place ∷ [] = take_more places k 0 within ∙ ap (λ x. take k places ++ x ∷ []) (sym read) in
-    elim (Contains-push_cases (take k places) place p (rw more at has)) [ inl front ↦ before p front | inr is ↦ subst P is here ]
+taken_more P places k place within read before here p has = grind (arith, common_steps, Contains-push_cases, take_more)

@@ -1,7 +1,7 @@
 -- A settled node (the record of a walk) leads to other nodes, by links and by the step to the next
 -- leg. These lemmas say how the first of these other nodes changes when a round looks at one more
 -- link or step.
-use Rattle.std.proofs.Common.{◌≡◌, inl, inr, ℕ, zero, suc, ◌+◌, ◌-◌, ◌*◌, ◌/◌, ◌%◌, ◌^◌, ◌<◌, ◌≤◌, true, false, is_some, Option, Some, None, List, [], ◌∷◌, length, slice_get, slice_index, slice_index_or, take, refl, sym, ap, subst, ◌∙◌, arith}
+use Rattle.std.proofs.Common.{◌≡◌, inl, inr, ℕ, zero, suc, ◌+◌, ◌-◌, ◌*◌, ◌/◌, ◌%◌, ◌^◌, ◌<◌, ◌≤◌, true, false, is_some, Option, Some, None, List, [], ◌∷◌, length, slice_get, slice_index, slice_index_or, take, refl, sym, ap, subst, ◌∙◌, arith, rules}
 use Rattle.std.specs.Option.{IsSomeAnd}
 use Rattle.std.specs.Ordering.{nat_cmp, ordering_then, is_gt}
 use Rattle.std.specs.declared.cmp.Ordering.{Ordering}
@@ -26,15 +26,14 @@ use Rattle.cspf_graph.specs.Lists.{IsIndexOf}
 use Rattle.cspf_search.specs.ForwardStars.{IsForwardStar}
 use Rattle.cspf_search.specs.RoundSteps.{IsLook, LeadsToRow}
 use Rattle.cspf_search.proofs.Backs.{by_next, by_first, turned_first}
-use Rattle.cspf_search.proofs.Expanded.{there, leg, no_row, no_link_crosses, turn_state, turn_only, turn_passes, turn_within, link_index, link_state, link_only, link_passes, row_kept, row_new, row_cases}
+use Rattle.cspf_search.proofs.Expanded.{there, leg, no_link_crosses, turn_state, turn_only, turn_passes, turn_within, link_index, link_state, link_only, link_passes, row_kept, row_new, row_cases}
 use Rattle.cspf_search.proofs.Ranks.{walk_short}
 use Rattle.cspf_search.proofs.Firsts.{first_both, first_same, left_first}
 use Rattle.cspf_search.proofs.Taken.{end_of_row}
 
 -- An optional index for which `is_some` is `false` is `None`.
 pub open_at : (o : Option ℕ) → is_some o ≡ false → o ≡ None
-open_at None e = refl
-open_at (Some i) e = absurd (cc)
+open_at o e = search rules
 
 -- A list of links has an element at each index below its length.
 pub some_at : (xs : List Link) (i : ℕ) → i < length xs → (x : Link) × (slice_get xs i ≡ Some x)
@@ -77,8 +76,7 @@ module _ (d : Database) (q : Request) (nodes : List Node) (are : AreNodes nodes)
   -- the next leg at the same router. A node is the record of a walk.
 
   only_turn : (w : List Link) (t : State) → CrossesFrom d q nodes (take 0 (links_from_index d (state % 1024))) at w t → Turns d q nodes at w t
-  only_turn w t (inl turn) = turn
-  only_turn w t (inr x) = absurd (no_row d q nodes at state is 0 w t x)
+  only_turn w t h1 = search rules
 
   -- If no walk continues the node by a link, each walk that continues the node does so by the step
   -- to the next leg at the same router. A node is the record of a walk.

@@ -1,7 +1,7 @@
 -- Lower bounds of the ranks of the walks that continue a node, and the nodes that a round skips
 -- because of these bounds. A node is the record of a walk, and a walk's rank packs its cost and its
 -- number of links into one number.
-use Rattle.std.proofs.Common.{◌≡◌, ◌⊎◌, inl, inr, ℕ, ◌+◌, ◌*◌, ◌<◌, ◌≤◌, false, Option, Some, None, List, [], ◌∷◌, ◌++◌, length, set, refl, sym, subst, ◌∙◌, arith, length-set}
+use Rattle.std.proofs.Common.{◌≡◌, ◌⊎◌, inl, inr, ℕ, ◌+◌, ◌*◌, ◌<◌, ◌≤◌, false, Option, Some, None, List, [], ◌∷◌, ◌++◌, length, set, sym, subst, ◌∙◌, arith, length-set, rules}
 use Rattle.std.specs.Ordering.{nat_cmp, ordering_then, is_gt}
 use Rattle.std.specs.declared.cmp.Ordering.{Ordering}
 use Rattle.std.proofs.lemmas.Bool.{cases_lt}
@@ -105,7 +105,4 @@ lows_push d q nodes n before apart lows are = record {
 }
 
 pub lows_root : (d : Database) (q : Request) (n : Node) → AreLows d q (n ∷ []) (0 ∷ [])
-lows_root d q n = record {
-  many = refl;
-  each = λ i h w t x. let first : i ≡ 0 = omega (arith, h) in rw first (omega arith, omega arith);
-}
+lows_root d q n = search rules

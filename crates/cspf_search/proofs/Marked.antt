@@ -1,7 +1,7 @@
 -- How the forward stars of the nodes and the marks of settled states change when one more node is
 -- appended. A forward star has the links from one router. A state is a router in a leg, and a node
 -- is the record of a walk.
-use Rattle.std.proofs.Common.{◌≡◌, inl, inr, ℕ, ◌+◌, ◌*◌, ◌<◌, ◌≤◌, Bool, true, false, is_some, Some, None, List, [], ◌∷◌, ◌++◌, length, set, replicate, slice_index_or, refl, sym, ap, ◌∙◌, arith, length-set}
+use Rattle.std.proofs.Common.{◌≡◌, inl, inr, ℕ, ◌+◌, ◌*◌, ◌<◌, ◌≤◌, Bool, true, false, is_some, Some, None, List, [], ◌∷◌, ◌++◌, length, set, replicate, slice_index_or, refl, sym, ap, ◌∙◌, arith, length-set, rules}
 use Rattle.std.proofs.lemmas.Bool.{cases_lt}
 use Rattle.std.proofs.lemmas.List.{get_or_append_left, get_or_push, length_push, get_or-set_same, get_or-set_other, get_or-replicate, length-replicate}
 use Rattle.cspf_model.specs.declared.request.Request.{Request}
@@ -31,17 +31,12 @@ pub no_stars : (d : Database) → AreForwardStars d [] []
 no_stars d = record { many = refl; each = λ i e h. absurd (omega arith) }
 
 pub no_marks : (d : Database) (q : Request) (count : ℕ) → count ≡ (length q.hops + 1) * 1024 → AreStateMarks d q [] (replicate count false)
-no_marks d q count many = record {
-  many = length-replicate count false ∙ many;
-  each = λ i e index. get_or-replicate count i false e (omega (arith, many, index.low));
-}
+no_marks d q count many = search (rules, get_or-replicate, length-replicate)
 
 -- The forward star of a node has the index of the node's state (a router in a leg). This index is
 -- the index of a state of the request.
 pub star_index : (d : Database) (q : Request) (n : Node) (star : ForwardStar) → IsInLeg q n → IsForwardStar d (state_of n) star → IsStateIndex d q star.state
-star_index d q n star leg is =
-    let same = ap (λ (s : State). s.leg) is.state in
-    record { low = omega (arith, same, leg.high); place = is.place }
+star_index d q n star leg is = search rules
 
 pub stars_push : (d : Database) (nodes : List Node) (stars : List ForwardStar) → AreForwardStars d nodes stars → (n : Node) (star : ForwardStar) → IsForwardStar d (state_of n) star
     → AreForwardStars d (nodes ++ (n ∷ [])) (stars ++ (star ∷ []))

@@ -1,6 +1,6 @@
 -- After a label is offered to a state, the labels of all states still meet `AreLabels`. A label
 -- holds the best walk found so far to a state, which is a router in a leg.
-use Rattle.std.proofs.Common.{◌≡◌, ◌≢◌, ◌⊎◌, inl, inr, ℕ, ◌+◌, ◌^◌, ◌<◌, ◌≤◌, List, [], ◌∷◌, None, length, set, refl, sym, ap, subst, ◌∙◌, arith, length-set}
+use Rattle.std.proofs.Common.{◌≡◌, ◌≢◌, ◌⊎◌, inl, inr, ℕ, ◌+◌, ◌^◌, ◌<◌, ◌≤◌, List, [], ◌∷◌, None, length, set, refl, sym, ap, subst, ◌∙◌, arith, length-set, rules}
 use Rattle.std.specs.BinaryHeap.{IsHeap}
 use Rattle.std.specs.List.{All, Contains}
 use Rattle.std.specs.Ordering.{is_gt}
@@ -25,8 +25,7 @@ use Rattle.cspf_graph.proofs.RouterIndexes.{same_or_not}
 use Rattle.cspf_search.proofs.Ranks.{before_by_rank, before_by_locals, locals_turned, rank_is, walk_short, rank_small, lift_small, beyond_lower, state_apart}
 
 lowered : {A : Type 0} (cap lower ahead : ℕ) (w : List Link) → lower ≤ cap → A ⊎ IsBeyond cap ahead w → A ⊎ IsBeyond lower ahead w
-lowered cap lower ahead w h (inl a) = inl a
-lowered cap lower ahead w h (inr b) = inr (beyond_lower cap lower ahead w h b)
+lowered cap lower ahead w h h2 = search rules
 
 no_later_itself : (w : List Link) → IsNoLater w w
 no_later_itself w = ap is_gt (tied_itself walks_total w)
@@ -38,15 +37,7 @@ no_later_itself w = ap is_gt (tied_itself walks_total w)
 reached_on : (d : Database) (nodes : List Node) (P R : List Link → State → Type 0) (cap lower ahead : ℕ) (t : State) (label : Label) → IsReached d nodes P cap ahead t label
     → ((w : List Link) (t : State) → P w t → R w t) → ((w : List Link) → R w t → IsNoLater (walk_of nodes (node_of d nodes label)) w ⊎ IsBeyond lower ahead w)
     → IsReached d nodes R lower ahead t label
-reached_on d nodes P R cap lower ahead t label r up first = record {
-  place = r.place;
-  parent = r.parent;
-  rank = r.rank;
-  state = r.state;
-  next = r.next;
-  passes = up _ _ r.passes;
-  first = first;
-}
+reached_on d nodes P R cap lower ahead t label r up first = search rules
 
 -- After the label of one state is replaced, the labels meet `AreLabels` if each of them meets
 -- `IsLabel`, and the heap has the keys that `AreLabels` requires. A state is a router in a leg, and
@@ -174,20 +165,7 @@ module _ (d : Database) (q : Request) (nodes : List Node) (are : AreNodes nodes)
 
   becomes : (old label : Label) (lower : ℕ) → IsBetter d nodes P cap (lift goal i) (state_at d i) old label x → Q x (state_at d i) → index_of nodes (state_at d i) ≡ None
       → ((w : List Link) → P w (state_at d i) → IsNoLater x w ⊎ IsBeyond lower (lift goal i) w) → IsLabel d nodes R lower (lift goal i) (state_at d i) label
-  becomes old label lower better passes left first =
-      is_reached left (record {
-        place = better.offer.place;
-        parent = better.offer.parent;
-        rank = better.rank;
-        state = better.state;
-        next = better.offer.next;
-        passes = from_right _ _ (subst (λ v. Q v (state_at d i)) (sym better.walk) passes);
-        first = λ w p.
-            elim (cases w (state_at d i) p) [
-              | inl was ↦ rw better.walk (first w was)
-              | inr new ↦ inl (rw (better.walk, (only w (state_at d i) new).1) (no_later_itself x))
-            ];
-      })
+  becomes old label lower better passes left first = search (rules, no_later_itself)
 
   gets : (old label : Label) (lower : ℕ) → lower ≤ cap → IsLabel d nodes P cap (lift goal i) (state_at d i) old → IsBetter d nodes P cap (lift goal i) (state_at d i) old label x → Q x (state_at d i)
       → IsLabel d nodes R lower (lift goal i) (state_at d i) label
@@ -291,30 +269,14 @@ module _ (d : Database) (q : Request) (nodes : List Node) (are : AreNodes nodes)
 -- links into one number.
 pub lost_by_rank : (d : Database) (nodes : List Node) → AreNodes nodes → (P : List Link → State → Type 0) (cap ahead : ℕ) (t : State) (label : Label) (n : Node)
     → IsNext nodes n → ahead < 2 ^ 46 → (label.rank < n.rank) ⊎ (cap < n.rank + ahead) → IsLost d nodes P cap ahead t label (walk_of nodes n)
-lost_by_rank d nodes are P cap ahead t label n next low (inl late) = inr (
-  λ e. let small = rank_small nodes are n next in absurd (omega (arith, e)),
-  λ r.
-      before_by_rank (walk_of nodes (node_of d nodes label)) (walk_of nodes n)
-      (omega (arith, late, r.rank, rank_is nodes are n next, rank_is nodes are (node_of d nodes label) r.next)) (walk_short nodes are n next),
-)
-lost_by_rank d nodes are P cap ahead t label n next low (inr late) = inl (record {
-  known = omega (arith, late, low, rank_small nodes are n next);
-  behind = omega (arith, late, rank_is nodes are n next);
-})
+lost_by_rank d nodes are P cap ahead t label n next low h4 = search rules
 
 -- If an offered label has the same rank as the present label of a state, the walks of both labels
 -- have the same rank too. A state is a router in a leg, and a label holds the best walk found so
 -- far to a state. A walk's rank packs its cost and its number of links into one number.
 pub tied_label : (d : Database) (nodes : List Node) → AreNodes nodes → (P : List Link → State → Type 0) (cap ahead : ℕ) (t : State) (old label : Label) → IsLabel d nodes P cap ahead t old
     → IsOffer d nodes label → label.rank ≡ (node_of d nodes label).rank → label.rank ≡ old.rank → AreTied d nodes old label
-tied_label d nodes are P cap ahead t old label (is_settled k none e) offer rank tie = absurd (omega (arith, rank, tie, none))
-tied_label d nodes are P cap ahead t old label (is_reached left r) offer rank tie = record {
-  other = record { place = r.place; parent = r.parent; next = r.next };
-  rank = sym r.rank ∙ sym tie ∙ rank;
-}
-tied_label d nodes are P cap ahead t old label (is_unreached left none first) offer rank tie =
-    let small = rank_small nodes are (node_of d nodes label) offer.next in
-    absurd (omega (arith, rank, tie, none, small))
+tied_label d nodes are P cap ahead t old label h2 offer rank tie = search rules
 
 label_same : (d : Database) (nodes : List Node) (P R : List Link → State → Type 0) → ((w : List Link) (t : State) → P w t → R w t)
     → ((w : List Link) (t : State) → R w t → P w t) → (cap ahead : ℕ) (t : State) (label : Label) → IsLabel d nodes P cap ahead t label → IsLabel d nodes R cap ahead t label
@@ -346,6 +308,4 @@ labels_same d q nodes P R up down goal labels keys before =
 -- number of links into one number.
 pub left_open : (d : Database) (nodes : List Node) (P : List Link → State → Type 0) (cap ahead : ℕ) (t : State) (label : Label) → IsLabel d nodes P cap ahead t label → 0 < label.rank
     → index_of nodes t ≡ None
-left_open d nodes P cap ahead t label (is_settled k none e) some = absurd (omega (arith, none))
-left_open d nodes P cap ahead t label (is_reached left r) some = left
-left_open d nodes P cap ahead t label (is_unreached left none first) some = left
+left_open d nodes P cap ahead t label h1 some = search rules

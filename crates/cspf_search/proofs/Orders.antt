@@ -1,9 +1,9 @@
 -- Lemmas on the orders by which walks are compared. Some of these orders compare walks together
 -- with their legs, or together with their states (routers in legs).
-use Rattle.std.proofs.Common.{◌≡◌, ℕ, suc, ◌+◌, ◌<◌, ◌≤◌, false, List, [], ◌∷◌, ◌++◌, length, refl, sym, ap, ◌∙◌, arith}
+use Rattle.std.proofs.Common.{◌≡◌, ℕ, suc, ◌+◌, ◌<◌, ◌≤◌, false, List, [], ◌∷◌, ◌++◌, length, sym, ap, ◌∙◌, arith, rules}
 use Rattle.std.specs.Ordering.{nat_cmp, ordering_then, is_gt}
 use Rattle.std.specs.declared.cmp.Ordering.{Ordering}
-use Rattle.std.specs.declared.cmp.Ordering.TheVariants.{Less, Equal, Greater}
+use Rattle.std.specs.declared.cmp.Ordering.TheVariants.{Less, Equal}
 use Rattle.std.specs.Cmp.{IsTotalOrder, nat_cmp_total}
 use Rattle.std.specs.Cmp.Lexicographic.{slice_cmp}
 use Rattle.std.proofs.lemmas.Cmp.{then_total, on_total, nat_list_cmp_total, tied_itself}
@@ -36,66 +36,33 @@ states_total = then_total ranks_total (on_total (λ (a : ℕ × List Link). loca
 -- Lemmas on comparing by one order first, and by a second order if the first one says equal.
 
 then-equal : (o : Ordering) → ordering_then o Equal ≡ o
-then-equal Less = refl
-then-equal Equal = refl
-then-equal Greater = refl
+then-equal o = search rules
 
 pub then_assoc : (o p q : Ordering) → ordering_then (ordering_then o p) q ≡ ordering_then o (ordering_then p q)
-then_assoc Less p q = refl
-then_assoc Equal p q = refl
-then_assoc Greater p q = refl
+then_assoc o p q = search rules
 
 -- If two comparisons `p` and `q` agree whenever the comparison `o` says equal, comparing by `o` and
 -- then `p` agrees with comparing by `o` and then `q`.
 then_same : (o p q : Ordering) → (o ≡ Equal → p ≡ q) → ordering_then o p ≡ ordering_then o q
-then_same Less p q h = refl
-then_same Equal p q h = h refl
-then_same Greater p q h = refl
+then_same o p q h = search rules
 
 front_no_later : (o p : Ordering) → is_gt (ordering_then o p) ≡ false → is_gt o ≡ false
-front_no_later Less p h = refl
-front_no_later Equal p h = refl
-front_no_later Greater p h = h
+front_no_later o p h = search rules
 
 -- Lemmas on two walks in the same leg. They are compared by cost, then by the number of links, then
 -- by the local addresses.
-
-less_first : (a b d : Ordering) → ordering_then a (ordering_then b Equal) ≡ Less → is_gt (ordering_then a (ordering_then b d)) ≡ false
-less_first Less b d h = refl
-less_first Equal Less d h = refl
-less_first Equal Equal d h = cc
-less_first Equal Greater d h = cc
-less_first Greater b d h = cc
-
-first_ranks : (a b d : Ordering) → is_gt (ordering_then a (ordering_then b d)) ≡ false → is_gt (ordering_then a (ordering_then b Equal)) ≡ false
-first_ranks Less b d h = refl
-first_ranks Equal Less d h = refl
-first_ranks Equal Equal d h = refl
-first_ranks Equal Greater d h = h
-first_ranks Greater b d h = h
-
-rank_then : (a b d : Ordering) → ordering_then (ordering_then a (ordering_then b Equal)) d ≡ ordering_then a (ordering_then b d)
-rank_then Less b d = refl
-rank_then Equal b d = ap (λ o. ordering_then o d) (then-equal b)
-rank_then Greater b d = refl
 
 nat_cmp-potential : (p a b : ℕ) → nat_cmp (p + a) (p + b) ≡ nat_cmp a b
 nat_cmp-potential p a b = grind (arith, nat_tests)
 
 pub walk_from_less : (potential : State → ℕ) (t : State) (w x : List Link) → potential_cmp potential (t, w) (t, x) ≡ Less → IsNoLater w x
-walk_from_less potential t w x h =
-    less_first (nat_cmp (cost_of w) (cost_of x)) (nat_cmp (length w) (length x)) (locals_cmp w x)
-    (rw (tied_itself nat_cmp_total t.leg, nat_cmp-potential (potential t) (cost_of w) (cost_of x)) at h)
+walk_from_less potential t w x h = search rules
 
 pub rank_from_walk : (potential : State → ℕ) (t : State) (w x : List Link) → IsNoLater w x → RanksNoLater potential t w t x
-rank_from_walk potential t w x h =
-    rw (tied_itself nat_cmp_total t.leg, nat_cmp-potential (potential t) (cost_of w) (cost_of x))
-    (first_ranks (nat_cmp (cost_of w) (cost_of x)) (nat_cmp (length w) (length x)) (locals_cmp w x) h)
+rank_from_walk potential t w x h = search rules
 
 pub walk_from_state : (k : ℕ) (w x : List Link) → is_gt (state_cmp (k, w) (k, x)) ≡ false → IsNoLater w x
-walk_from_state k w x h =
-    let e = rank_then (nat_cmp (cost_of w) (cost_of x)) (nat_cmp (length w) (length x)) (locals_cmp w x) in
-    rw (← e) (rw (tied_itself nat_cmp_total k) at h)
+walk_from_state k w x h = search rules
 
 pub rank_from_state : (s t : State) (w x : List Link) → is_gt (state_cmp (s.leg, w) (t.leg, x)) ≡ false → RanksNoLater (λ _. 0) s w t x
 rank_from_state s t w x h = rw (nat_cmp-potential 0 (cost_of w) (cost_of x)) (front_no_later (rank_cmp (s.leg, w) (t.leg, x)) (locals_cmp w x) h)
@@ -114,10 +81,9 @@ tied_same a b h = grind (arith, nat_tests)
 slice_cmp-last : (xs ys : List ℕ) (x y : ℕ) → length xs ≡ length ys
     → slice_cmp nat_cmp (xs ++ (x ∷ [])) (ys ++ (y ∷ [])) ≡ ordering_then (slice_cmp nat_cmp xs ys) (nat_cmp x y)
 slice_cmp-last [] [] x y e = then-equal (nat_cmp x y)
-slice_cmp-last [] (b ∷ ys) x y e = absurd (omega arith)
-slice_cmp-last (a ∷ xs) [] x y e = absurd (omega arith)
 slice_cmp-last (a ∷ xs) (b ∷ ys) x y e =
     ap (ordering_then (nat_cmp a b)) (slice_cmp-last xs ys x y (omega arith)) ∙ sym (then_assoc (nat_cmp a b) (slice_cmp nat_cmp xs ys) (nat_cmp x y))
+slice_cmp-last xs ys x y e = absurd (omega arith)
 
 -- If a link is appended to each of two walks of the same length, the local addresses of these two
 -- links are compared last.

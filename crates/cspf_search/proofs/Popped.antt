@@ -1,7 +1,7 @@
 -- The waiting state (a router in a leg) with the least key is the next one to settle. If no key in
 -- the heap counts any more, the search is finished: no link and no step to the next leg leads from
 -- a settled state to one that isn't settled, except into closed legs.
-use Rattle.std.proofs.Common.{◌≡◌, ◌≢◌, inl, inr, ℕ, suc, ◌+◌, ◌-◌, ◌*◌, ◌/◌, ◌%◌, ◌<◌, ◌≤◌, true, Some, None, List, [], ◌∷◌, length, set, replicate, slice_index, refl, sym, ap, subst, ◌∙◌, arith, length-set}
+use Rattle.std.proofs.Common.{◌≡◌, ◌≢◌, inl, inr, ℕ, suc, ◌+◌, ◌-◌, ◌*◌, ◌/◌, ◌%◌, ◌<◌, ◌≤◌, true, Some, None, List, [], ◌∷◌, length, set, replicate, slice_index, refl, sym, ap, subst, ◌∙◌, arith, length-set, rules}
 use Rattle.std.specs.List.{Contains}
 use Rattle.std.specs.BinaryHeap.{IsHeap}
 use Rattle.std.proofs.lemmas.Cmp.{upto}
@@ -39,17 +39,13 @@ use Rattle.cspf_search.proofs.Ranks.{before_by_rank, rank_before, rank_tied, ran
 -- links into one number.
 pub open_rank : (d : Database) (nodes : List Node) (P : List Link → State → Type 0) (cap ahead : ℕ) (t : State) (label : Label) → IsLabel d nodes P cap ahead t label
     → index_of nodes t ≡ None → 0 < label.rank
-open_rank d nodes P cap ahead t label (is_settled k none e) left = absurd (cc)
-open_rank d nodes P cap ahead t label (is_reached o r) left = omega (arith, r.rank)
-open_rank d nodes P cap ahead t label (is_unreached o none first) left = omega (arith, none)
+open_rank d nodes P cap ahead t label h1 left = search rules
 
 -- If a state isn't settled, and a walk to this state is known, the state's label meets `IsReached`:
 -- it holds the best walk so far. A state is a router in a leg.
 pub reached_of : (d : Database) (nodes : List Node) (P : List Link → State → Type 0) (cap ahead : ℕ) (t : State) (label : Label) → IsLabel d nodes P cap ahead t label
     → 0 < label.rank → label.rank < no_rank → IsReached d nodes P cap ahead t label
-reached_of d nodes P cap ahead t label (is_settled k none e) some most = absurd (omega (arith, none))
-reached_of d nodes P cap ahead t label (is_reached o r) some most = r
-reached_of d nodes P cap ahead t label (is_unreached o none first) some most = absurd (omega (arith, none))
+reached_of d nodes P cap ahead t label h1 some most = search rules
 
 -- The bound of the tail-end in the last leg is 0.
 pub goal_bound : (d : Database) (q : Request) (goal : Goal) → AreBounds d q goal.bounds.now → IsStateIndex d q goal.at → state_at d goal.at ≡ end_state q → bound_at goal.bounds.now goal.at ≡ 0
@@ -83,9 +79,7 @@ module _ (d : Database) (q : Request) (of : AreLinksOf d (links_of d)) (listed :
   -- The lift of the goal is 0, because the goal is the tail-end in the last leg, and its bound is
   -- 0. The lift of a state is how much its key in the heap exceeds the rank in its label.
   goal_lift : lift goal goal.at ≡ 0
-  goal_lift =
-      let none = goal_bound d q goal bounds there end in
-      omega (arith, none)
+  goal_lift = search (rules, goal_bound)
 
   goal_waits : cap < no_rank → Contains keys (key_at (cap + lift goal goal.at) goal.at)
   goal_waits known = before.waiting goal.at there floor.low capped known
@@ -210,11 +204,7 @@ module _ (d : Database) (q : Request) (listed : AreListed d) (place : ℕ) (at :
   start_index = record { low = omega (arith, at.within, listed.few); place = let e : place % 1024 ≡ place = omega (arith, at.within, listed.few) in rw e at.within }
 
   start_state : start_of q ≡ state_at d place
-  start_state =
-      let leg : 1 ≡ place / 1024 + 1 = omega (arith, at.within, listed.few) in
-      let same : place % 1024 ≡ place = omega (arith, at.within, listed.few) in
-      let router : q.from ≡ slice_index (router_list d) (place % 1024) = sym (ap (slice_index (router_list d)) same ∙ at.is) in
-      λ k. record { leg = leg k; router = router k }
+  start_state = search rules
 
   -- If the bound of the head-end in the first leg is `NO_WAY`, there is no route.
   pub shut_start : (goal : Goal) → AreBounds d q goal.bounds.now → IsStateIndex d q goal.at → state_at d goal.at ≡ end_state q → bound_at goal.bounds.now place ≡ NO_WAY
@@ -266,13 +256,7 @@ module _ (d : Database) (q : Request) (listed : AreListed d) (place : ℕ) (at :
 -- The index of the goal, the tail-end in the leg after the last hop, is the index of a state of the
 -- request. A state is a router in a leg.
 pub goal_index : (d : Database) (q : Request) → AreListed d → (to legs : ℕ) → legs ≡ length q.hops + 1 → IsIndexOf d q.to to → IsStateIndex d q ((legs - 1) * 1024 + to)
-goal_index d q listed to legs count end =
-    let place : ((legs - 1) * 1024 + to) % 1024 ≡ to = omega (arith, end.within, listed.few) in
-    record { low = omega (arith, end.within, listed.few); place = rw place end.within }
+goal_index d q listed to legs count end = search rules
 
 pub goal_state : (d : Database) (q : Request) → AreListed d → (to legs : ℕ) → legs ≡ length q.hops + 1 → IsIndexOf d q.to to → state_at d ((legs - 1) * 1024 + to) ≡ end_state q
-goal_state d q listed to legs count end =
-    let place : ((legs - 1) * 1024 + to) % 1024 ≡ to = omega (arith, end.within, listed.few) in
-    let leg : ((legs - 1) * 1024 + to) / 1024 + 1 ≡ length q.hops + 1 = omega (arith, end.within, listed.few) in
-    let router : slice_index (router_list d) (((legs - 1) * 1024 + to) % 1024) ≡ q.to = ap (slice_index (router_list d)) place ∙ end.is in
-    λ k. record { leg = leg k; router = router k }
+goal_state d q listed to legs count end = search rules

@@ -1,6 +1,6 @@
 -- How the labels change, and the walks that continue nodes, when one more node is appended. A node
 -- is the record of a walk, and a label holds the best walk found so far to a state.
-use Rattle.std.proofs.Common.{◌≡◌, ◌≢◌, inl, inr, ℕ, ◌+◌, ◌*◌, ◌^◌, ◌<◌, ◌≤◌, Some, None, List, [], ◌∷◌, ◌++◌, length, set, slice_get, slice_index_or, refl, sym, ap, subst, ◌∙◌, arith}
+use Rattle.std.proofs.Common.{◌≡◌, ◌≢◌, inl, inr, ℕ, ◌+◌, ◌<◌, Some, None, List, [], ◌∷◌, ◌++◌, length, set, slice_get, slice_index_or, refl, sym, ap, subst, ◌∙◌, arith, rules}
 use Rattle.std.proofs.lemmas.Bool.{cases_lt}
 use Rattle.std.proofs.lemmas.List.{get_or_append_left, get_or_push, length_push, get_or-set_other}
 use Rattle.std.proofs.lemmas.List.Quantifiers.{position-Some}
@@ -9,14 +9,13 @@ use Rattle.cspf_model.specs.declared.link.Link.{Link}
 use Rattle.cspf_model.specs.declared.request.Request.{Request}
 use Rattle.cspf_model.specs.Database.{Database}
 use Rattle.cspf_model.specs.Admissible.{MayLeave}
-use Rattle.cspf_model.specs.Walks.{cost_of}
 use Rattle.cspf_db.specs.Index.{links_of}
 use Rattle.cspf_search.specs.declared.arena.Node.{Node}
 use Rattle.cspf_search.specs.declared.goal.Goal.{Goal}
 use Rattle.cspf_search.specs.declared.labels.Label.{Label}
 use Rattle.cspf_search.specs.States.{State}
 use Rattle.cspf_search.specs.Settled.{IsNoLater}
-use Rattle.cspf_search.specs.Arena.{walk_of, walk_rank, state_of, same_state, index_of, IsNext}
+use Rattle.cspf_search.specs.Arena.{walk_of, state_of, same_state, index_of, IsNext}
 use Rattle.cspf_search.specs.Rounds.{CrossesFrom, CrossesBelow}
 use Rattle.cspf_search.specs.Frontier.{state_at, nowhere, node_of, IsLabel, is_settled, is_reached, is_unreached, HeapKey, key_at, label_at, lift, no_label, AreLabels, IsLeast}
 use Rattle.cspf_graph.specs.Lists.{AreListed}
@@ -46,11 +45,7 @@ module _ (nodes : List Node) (n : Node) (before : AreApart nodes) (apart : AreAp
       ap (index_of (nodes ++ (n ∷ []))) (sym same) ∙ index_at (nodes ++ (n ∷ [])) apart (length nodes) nowhere (omega (arith, length_push nodes n))
 
   pub open_old : (t : State) → index_of (nodes ++ (n ∷ [])) t ≡ None → index_of nodes t ≡ None
-  open_old t left =
-      elim (index_of nodes t) as (λ o. index_of nodes t ≡ o → o ≡ None) [
-        | Some i ↦ λ e. let new = index_old t i e in absurd (cc)
-        | None ↦ λ e. refl
-      ] refl
+  open_old t left = search (rules, index_old)
 
   pub open_new : (t : State) → t ≢ state_of n → index_of nodes t ≡ None → index_of (nodes ++ (n ∷ [])) t ≡ None
   open_new t ne left =
@@ -139,17 +134,7 @@ module _ (nodes : List Node) (n : Node) (before : AreApart nodes) (apart : AreAp
   node_old d label h = rw (get_or_append_left nodes (n ∷ []) nowhere label.parent h) refl
 
   next_old : (m : Node) → IsNext nodes m → IsNext (nodes ++ (n ∷ [])) m
-  next_old m next =
-      let same = walk_of-old nodes n m next.parent in
-      record {
-        parent = omega (arith, next.parent, length_push nodes n);
-        linked = next.linked;
-        ranked = record {
-          rank = next.ranked.rank ∙ ap walk_rank (sym same);
-          few = omega (arith, next.ranked.few, length_push nodes n, ap (λ (w : List Link). length w) same);
-          small = subst (λ w. cost_of w ≤ length w * 2 ^ 32) (sym same) next.ranked.small;
-        };
-      }
+  next_old m next = search (rules, length_push, walk_of-old)
 
   module _ (d : Database) (q : Request) where
     -- After a node is appended, the labels of all states other than this node's state still meet

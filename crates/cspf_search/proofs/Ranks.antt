@@ -1,11 +1,10 @@
 -- Lemmas on ranks as numbers, and on the indexes of states (routers in legs).
-use Rattle.std.proofs.Common.{◌≡◌, inl, inr, ℕ, suc, ◌+◌, ◌-◌, ◌*◌, ◌/◌, ◌%◌, ◌^◌, ◌<◌, ◌≤◌, true, false, nat_eq, Option, Some, None, position, List, length, slice_index, slice_index_or, refl, sym, ap, ◌∙◌, arith, subst}
+use Rattle.std.proofs.Common.{◌≡◌, inl, inr, ℕ, suc, ◌+◌, ◌-◌, ◌*◌, ◌/◌, ◌%◌, ◌^◌, ◌<◌, ◌≤◌, true, false, nat_eq, Option, Some, None, position, List, length, slice_index, slice_index_or, refl, sym, ap, ◌∙◌, arith, subst, rules}
+use Rattle.std.proofs.lemmas.Grind.{common_steps}
 use Rattle.std.specs.Ordering.{nat_cmp, ordering_then, ordering_reverse, is_gt}
 use Rattle.std.specs.declared.cmp.Ordering.{Ordering}
-use Rattle.std.specs.declared.cmp.Ordering.TheVariants.{Less, Equal, Greater}
-use Rattle.std.specs.Cmp.{nat_cmp_total}
-use Rattle.std.proofs.lemmas.Cmp.{tied_itself, nat_list_cmp_total}
-use Rattle.std.proofs.lemmas.Bool.{cases_lt, eq-eqb, eqb-true}
+use Rattle.std.proofs.lemmas.Cmp.{nat_list_cmp_total}
+use Rattle.std.proofs.lemmas.Bool.{eq-eqb, eqb-true}
 use Rattle.std.proofs.lemmas.Bool.Decides.{nat_tests}
 use Rattle.std.proofs.lemmas.List.{length_push}
 use Rattle.std.proofs.lemmas.List.Elements.{at_from_Contains}
@@ -31,25 +30,9 @@ use Rattle.cspf_graph.specs.Lists.{AreListed}
 -- Lemmas on the ranks of walks with fewer than 16,384 links. A rank is the cost times 16,384, plus
 -- the number of links, plus 1.
 
-rank_parts : (a b m n : ℕ) → a * 16384 + m + 1 ≡ b * 16384 + n + 1 → m < 16384 → n < 16384 → (a ≡ b) × (m ≡ n)
-rank_parts a b m n e low high = (omega arith, omega arith)
-
-less_cost : (a b : ℕ) (o : Ordering) → a < b → is_gt (ordering_then (nat_cmp a b) o) ≡ false
-less_cost a b o h = grind (arith, nat_tests)
-
-less_links : (a b m n : ℕ) (o : Ordering) → a ≡ b → m < n → is_gt (ordering_then (nat_cmp a b) (ordering_then (nat_cmp m n) o)) ≡ false
-less_links a b m n o e h = grind (arith, nat_tests)
-
 less_rank : (a b m n : ℕ) (o : Ordering) → a * 16384 + m + 1 < b * 16384 + n + 1 → n < 16384
     → is_gt (ordering_then (nat_cmp a b) (ordering_then (nat_cmp m n) o)) ≡ false
-less_rank a b m n o less high =
-    elim (cases_lt a b) [
-      | inl lt ↦ less_cost a b (ordering_then (nat_cmp m n) o) lt
-      | inr ge ↦ less_links a b m n o (omega arith) (omega arith)
-    ]
-
-tied_rank : (a b m n : ℕ) (o : Ordering) → a ≡ b → m ≡ n → is_gt o ≡ false → is_gt (ordering_then (nat_cmp a b) (ordering_then (nat_cmp m n) o)) ≡ false
-tied_rank a b m n o e f h = rw (e, f, tied_itself nat_cmp_total b, tied_itself nat_cmp_total n) h
+less_rank a b m n o less high = search rules
 
 no_less : (j k : ℕ) → j ≤ k → is_gt (nat_cmp j k) ≡ false
 no_less j k h = grind (arith, nat_tests)
@@ -60,14 +43,10 @@ pub before_by_rank : (v w : List Link) → walk_rank v < walk_rank w → length 
 before_by_rank v w less high = less_rank (cost_of v) (cost_of w) (length v) (length w) (locals_cmp v w) less high
 
 pub before_by_locals : (v w : List Link) → walk_rank v ≡ walk_rank w → length v < 16384 → length w < 16384 → is_gt (locals_cmp v w) ≡ false → IsNoLater v w
-before_by_locals v w tie low high first =
-    let parts = rank_parts (cost_of v) (cost_of w) (length v) (length w) tie low high in
-    tied_rank (cost_of v) (cost_of w) (length v) (length w) (locals_cmp v w) parts.0 parts.1 first
+before_by_locals v w tie low high first = search rules
 
 turned : (o p : Ordering) → p ≡ ordering_reverse o → is_gt o ≡ true → is_gt p ≡ false
-turned Less p e g = absurd (cc)
-turned Equal p e g = absurd (cc)
-turned Greater p e g = ap is_gt e
+turned o p e g = grind (arith, common_steps)
 
 pub locals_turned : (v w : List Link) → is_gt (locals_cmp v w) ≡ true → is_gt (locals_cmp w v) ≡ false
 locals_turned v w h = turned (locals_cmp v w) (locals_cmp w v) (nat_list_cmp_total.antisymm (locals_of w) (locals_of v)) h
@@ -78,9 +57,7 @@ module _ (potential : State → ℕ) (s t : State) (v w : List Link) (high : len
       less_rank (potential s + cost_of v) (potential t + cost_of w) (length v) (length w) (nat_cmp s.leg t.leg) (omega (arith, less)) high
 
   pub rank_tied : length v < 16384 → walk_rank v + potential s * 16384 ≡ walk_rank w + potential t * 16384 → s.leg ≤ t.leg → RanksNoLater potential s v t w
-  rank_tied low tie legs =
-      let parts = rank_parts (potential s + cost_of v) (potential t + cost_of w) (length v) (length w) (omega (arith, tie)) low high in
-      tied_rank (potential s + cost_of v) (potential t + cost_of w) (length v) (length w) (nat_cmp s.leg t.leg) parts.0 parts.1 (no_less s.leg t.leg legs)
+  rank_tied low tie legs = search rules
 
 -- Lemmas on the ranks of nodes. A node is the record of a walk, and a walk's rank packs its cost
 -- and its number of links into one number.
@@ -98,17 +75,13 @@ module _ (nodes : List Node) (are : AreNodes nodes) (n : Node) (next : IsNext no
 -- If two nodes have the same rank, their walks have the same number of links. A node is the record
 -- of a walk, and a walk's rank packs its cost and its number of links into one number.
 pub one_length : (nodes : List Node) → AreNodes nodes → (a b : Node) → IsNext nodes a → IsNext nodes b → a.rank ≡ b.rank → length (walk_of nodes a) ≡ length (walk_of nodes b)
-one_length nodes are a b x y tie =
-    (rank_parts (cost_of (walk_of nodes a)) (cost_of (walk_of nodes b)) (length (walk_of nodes a)) (length (walk_of nodes b)) (omega (arith, x.ranked.rank, y.ranked.rank, tie))
-    (walk_short nodes are a x) (walk_short nodes are b y)).1
+one_length nodes are a b x y tie = search rules
 
 -- The rank of a node is less than 2^60, so it doesn't overflow 64 bits when a link's weight is
 -- added. A node is the record of a walk, and a walk's rank packs its cost and its number of links
 -- into one number.
 pub rank_at : (nodes : List Node) → AreNodes nodes → (at : ℕ) → at < length nodes → (slice_index_or nodes at nowhere).rank < 2 ^ 60
-rank_at nodes are at within =
-    let ranked = are.ranked at nowhere within in
-    omega (arith, ranked.rank, ranked.small, ranked.few, are.most)
+rank_at nodes are at within = search rules
 
 -- A walk that continues the walk of a node by one link, or by the step to the next leg at the same
 -- router, has fewer than 16,384 links. A node is the record of a walk.
@@ -137,10 +110,7 @@ lift_small goal i small = omega (arith, small)
 module _ (d : Database) (q : Request) (listed : AreListed d) where
   -- Two indexes of the same state (a router in a leg) are equal.
   pub state_apart : (i j : ℕ) → IsStateIndex d q i → IsStateIndex d q j → state_at d i ≡ state_at d j → i ≡ j
-  state_apart i j ix jx e =
-      let place = same_index (router_list d) listed.rising (i % 1024) (j % 1024) ix.place jx.place (ap (λ (s : State). s.router) e) in
-      let leg = ap (λ (s : State). s.leg) e in
-      omega (arith, place, leg)
+  state_apart i j ix jx e = search (rules, same_index)
 
   -- Each router of the database has an index as a state in each leg of the request.
   pub index_for : (u : State) → IsRouterOf d u.router → 1 ≤ u.leg → u.leg ≤ length q.hops + 1 → (i : ℕ) × IsStateIndex d q i × (u ≡ state_at d i)

@@ -1,5 +1,5 @@
 -- What holds before each round of the search with a heap, and what holds of the search's result.
-use Rattle.std.proofs.Common.{◌≡◌, ◌<◌, ◌⊎◌, inl, inr, ℕ, zero, suc, ◌+◌, ◌-◌, ◌*◌, ◌/◌, ◌%◌, ◌≤◌, Some, None, option_map, List, [], ◌∷◌, ◌++◌, length, set, slice_get, slice_index, slice_index_or, refl, sym, ap, subst, ◌∙◌, arith}
+use Rattle.std.proofs.Common.{◌≡◌, ◌<◌, ◌⊎◌, inl, inr, ℕ, zero, suc, ◌+◌, ◌-◌, ◌*◌, ◌/◌, ◌%◌, ◌≤◌, Some, None, option_map, List, [], ◌∷◌, ◌++◌, length, set, slice_get, slice_index, slice_index_or, refl, sym, ap, subst, ◌∙◌, arith, rules}
 use Rattle.std.specs.List.{Contains}
 use Rattle.std.proofs.lemmas.Bool.{cases_lt}
 use Rattle.std.proofs.lemmas.List.{get_or_push, get_or_read, length_push}
@@ -70,12 +70,7 @@ pub record IsTaken (d : Database) (q : Request) (legs from to : ℕ) (goal : Goa
 pub taken : (d : Database) (q : Request) (legs from to : ℕ) (goal : Goal) (nodes : List Node) (labels : List Label) (keys : List HeapKey) (i : ℕ) (rest : List HeapKey) (node : Node)
     → IsAsked d q legs from to goal → IsUnderWay d q goal nodes labels keys → IsLeast d q goal labels keys i rest → (label : Label) → label ≡ slice_index_or labels i label
     → node ≡ node_of d nodes label → IsTaken d q legs from to goal nodes labels keys i rest node
-taken d q legs from to goal nodes labels keys i rest node asked before least label at is = record {
-  asked = asked;
-  before = before;
-  least = least;
-  is = is ∙ ap (node_of d nodes) (get_or_read labels i label (omega (arith, least.index.low, before.labelled.many)) at no_label);
-}
+taken d q legs from to goal nodes labels keys i rest node asked before least label at is = search (rules, get_or_read)
 
 module _ (d : Database) (q : Request) (legs from to : ℕ) (goal : Goal) (asked : IsAsked d q legs from to goal) where
   known : IsRouterOf d q.from
@@ -91,9 +86,7 @@ module _ (d : Database) (q : Request) (legs from to : ℕ) (goal : Goal) (asked 
   goal_end = ap (state_at d) asked.at ∙ goal_state d q asked.listed to legs asked.count asked.end
 
   goal_apart : goal.at ≡ from → ⊥
-  goal_apart e =
-      let same : to ≡ from = omega (arith, asked.at, asked.start.within, asked.listed.few) in
-      q.two_ends (sym asked.start.is ∙ ap (slice_index (router_list d)) (sym same) ∙ asked.end.is)
+  goal_apart e = search rules
 
   -- At the start of a search, the tail-end isn't settled in the last leg.
   pub first_left : index_of (root_of q ∷ []) (state_at d goal.at) ≡ None

@@ -1,11 +1,11 @@
 -- Lemmas on the indexes of the reverses of links.
-use Rattle.std.proofs.Common.{◌≡◌, ◌≢◌, inl, inr, ℕ, ◌<◌, Some, List, length, map, slice_get, slice_index, slice_index_or, refl, sym, ap, subst, ◌∙◌}
+use Rattle.std.proofs.Common.{◌≡◌, ◌≢◌, inl, inr, ℕ, ◌<◌, Some, List, length, map, slice_get, slice_index, slice_index_or, refl, sym, ap, subst, ◌∙◌, rules}
 use Rattle.std.specs.List.{All}
 use Rattle.std.proofs.lemmas.List.{length-map}
-use Rattle.std.proofs.lemmas.Option.{slice_get-get_or, slice_get_within, get_or_from_slice_get, same_Some}
+use Rattle.std.proofs.lemmas.Option.{slice_get-get_or, slice_get_within, get_or_from_slice_get}
 use Rattle.cspf_model.specs.declared.link.Link.{Link}
 use Rattle.cspf_columns.specs.declared.limits.TheConstants.{NO_LINK}
-use Rattle.cspf_model.specs.Database.{Database, AreLinksOf, HasReverse, IsLinkOf, IsReverse, key_of, link_at}
+use Rattle.cspf_model.specs.Database.{Database, AreLinksOf, HasReverse, IsLinkOf, IsReverse}
 use Rattle.cspf_db.specs.Index.{links_of, links_from_index, router_list, IsReverseAt}
 use Rattle.cspf_graph.specs.Lists.{AreListed, IsIndexOf}
 use Rattle.cspf_search.proofs.Expanded.{kept_from}
@@ -35,9 +35,7 @@ reversed l r is = record { from = sym is.to; local = sym is.remote; to = sym is.
 -- A link has at most one reverse in the database, because the links of a database differ in their
 -- keys.
 one_reverse : (d : Database) (r l m : Link) → IsReverse r l → IsReverse r m → IsLinkOf d l → IsLinkOf d m → m ≡ l
-one_reverse d r l m first second of_l of_m =
-    let key : key_of m ≡ key_of l = λ i. ((second.from ∙ sym first.from) i, (second.local ∙ sym first.local) i) in
-    same_Some m l (sym of_m ∙ ap (link_at d) key ∙ of_l)
+one_reverse d r l m first second h3 h4 = search rules
 
 module _ (d : Database) (links : AreLinksOf d (links_of d)) where
   -- A link has a reverse if the index that the table has for this reverse isn't `NO_LINK`.

@@ -1,22 +1,20 @@
 -- Each walk that the search settles is the least walk to its state (a router in a leg).
-use Rattle.std.proofs.Common.{◌≡◌, ◌⊎◌, inl, inr, ℕ, ◌<◌, true, false, Some, None, List, [], ◌∷◌, ◌++◌, length, refl, sym, ap, subst, ◌∙◌, arith}
-use Rattle.std.specs.Ordering.{nat_cmp, is_gt, ordering_reverse, ordering_then}
-use Rattle.std.specs.declared.cmp.Ordering.{Ordering}
-use Rattle.std.specs.declared.cmp.Ordering.TheVariants.{Less, Equal, Greater}
+use Rattle.std.proofs.Common.{◌≡◌, ◌⊎◌, inl, inr, ℕ, ◌<◌, false, Some, None, List, [], ◌∷◌, ◌++◌, length, refl, sym, ap, subst, ◌∙◌, arith, rules}
+use Rattle.std.proofs.lemmas.Grind.{common_steps}
+use Rattle.std.specs.Ordering.{is_gt, ordering_reverse}
+use Rattle.std.specs.declared.cmp.Ordering.TheVariants.{Less}
 use Rattle.std.proofs.lemmas.Bool.{cases_lt}
-use Rattle.std.proofs.lemmas.Bool.Decides.{nat_tests}
 use Rattle.std.proofs.lemmas.Cmp.{upto}
 use Rattle.cspf_model.specs.declared.link.Link.{Link}
 use Rattle.cspf_model.specs.declared.request.Request.{Request}
 use Rattle.cspf_model.specs.Database.{Database}
 use Rattle.cspf_model.specs.Admissible.{IsAdmissible, MayLeave}
-use Rattle.cspf_model.specs.Walks.{cost_of}
 use Rattle.cspf_model.specs.Routes.{IsRoute}
 use Rattle.cspf_model.specs.Best.{IsBestRoute}
 use Rattle.cspf_search.specs.declared.limits.TheConstants.{NO_WAY}
 use Rattle.cspf_search.specs.States.{State, LeadsOn, IsStep, by_link, by_turn, Reaches, starts, steps, start_of, end_state}
 use Rattle.cspf_graph.specs.Roles.{MayTurn}
-use Rattle.cspf_search.specs.Settled.{Labels, IsNoLater, potential_cmp, RanksNoLater, IsConsistent, AreSettled, Crosses, IsClosed, IsFirstCrossing, IsStuck, locals_cmp}
+use Rattle.cspf_search.specs.Settled.{Labels, IsNoLater, potential_cmp, RanksNoLater, IsConsistent, AreSettled, Crosses, IsClosed, IsFirstCrossing, IsStuck}
 use Rattle.cspf_search.proofs.Orders.{walks_total, potentials_total, walk_cmp-push, potential_cmp-push, potential_cmp-turn, walk_from_less, rank_from_walk}
 use Rattle.cspf_search.proofs.Cuts.{reached_walk, reached_leg, route_reaches, reaches_route}
 
@@ -33,37 +31,23 @@ no_later_trans u v w = upto walks_total u v w
 -- `c`, then `a` precedes `c`.
 before_less : (potential : State → ℕ) (a b c : State × List Link) → is_gt (potential_cmp potential a b) ≡ false → potential_cmp potential b c ≡ Less
     → potential_cmp potential a c ≡ Less
-before_less potential a b c h less =
-    elim (potential_cmp potential a b) as (λ o. potential_cmp potential a b ≡ o → is_gt o ≡ false → potential_cmp potential a c ≡ Less) [
-      | Less ↦ λ e _. (potentials_total potential).trans a b c e less
-      | Equal ↦ λ e _. (potentials_total potential).congr a b c e ∙ less
-      | Greater ↦ λ e g. cc
-    ] refl h
-
--- A walk with links comes after the walk without links.
-some_after : (cost count : ℕ) (o : Ordering) → 0 < count → is_gt (ordering_then (nat_cmp cost 0) (ordering_then (nat_cmp count 0) o)) ≡ true
-some_after cost count o some = grind (arith, nat_tests)
+before_less potential a b c h less = grind (arith, common_steps, potentials_total)
 
 -- A walk that doesn't come after the walk without links has no links.
 none_no_later : (w : List Link) → IsNoLater w [] → length w ≡ 0
-none_no_later [] h = refl
-none_no_later (l ∷ w) h = absurd (let after = some_after (cost_of (l ∷ w)) (length (l ∷ w)) (locals_cmp (l ∷ w) []) (omega arith) in cc)
+none_no_later w h = search rules
 
 -- If a walk may leave a router, so may each walk to this router that doesn't come after it in the
 -- order of walks.
 leaves_no_later : (d : Database) (router : ℕ) (v w : List Link) → MayLeave d router (length v) → IsNoLater w v → MayLeave d router (length w)
-leaves_no_later d router v w (inl transit) h = inl transit
-leaves_no_later d router [] w (inr none) h = inr (none_no_later w h)
-leaves_no_later d router (l ∷ v) w (inr none) h = absurd (omega (arith, none))
+leaves_no_later d router v w h1 h = grind (arith, common_steps, none_no_later)
 
 module _ (d : Database) (q : Request) where
   -- If a walk has reached the router where an admissible link begins, and may leave this router,
   -- the link meets `LeadsOn`.
   leads_on : (v : List Link) (l : Link) (k : ℕ) → IsAdmissible d q l → MayLeave d l.from (length v) → Reaches d q v (record { leg = k; router = l.from })
       → LeadsOn d q l
-  leads_on v l k a (inl transit) r = record { admissible = a; left = inl transit }
-  leads_on [] l k a (inr none) r = record { admissible = a; left = inr (sym (reached_walk d q [] (record { leg = k; router = l.from }) r).1) }
-  leads_on (m ∷ v) l k a (inr none) r = absurd (omega (arith, none))
+  leads_on v l k a h2 r = search (rules, reached_walk)
 
   -- If the potential is consistent, each step of a walk, by a link or to the next leg, gives a walk
   -- that comes after the first walk by cost plus potential.

@@ -2,7 +2,7 @@
 -- router. After a label is offered for this step, or the step is skipped, the labels meet
 -- `AreLabels` for this step too. A node is the record of a walk, and a label holds the best walk
 -- found so far to a state.
-use Rattle.std.proofs.Common.{◌≡◌, ◌⊎◌, inl, inr, ℕ, ◌+◌, ◌-◌, ◌*◌, ◌/◌, ◌%◌, ◌^◌, ◌<◌, ◌≤◌, ◌↔◌, IsTrue, nat_eq, Option, Some, None, List, [], ◌∷◌, ◌++◌, length, map, slice_get, slice_index, slice_index_or, refl, sym, ap, subst, ◌∙◌, arith}
+use Rattle.std.proofs.Common.{◌≡◌, ◌⊎◌, inl, inr, ℕ, ◌+◌, ◌-◌, ◌*◌, ◌/◌, ◌%◌, ◌^◌, ◌<◌, ◌≤◌, ◌↔◌, IsTrue, nat_eq, Option, Some, None, List, [], ◌∷◌, ◌++◌, length, map, slice_get, slice_index, slice_index_or, refl, sym, ap, subst, ◌∙◌, arith, rules}
 use Rattle.std.specs.List.{All}
 use Rattle.std.proofs.lemmas.List.{get_or-map, length-map}
 use Rattle.std.proofs.lemmas.Option.{slice_get_past}
@@ -89,11 +89,7 @@ module _ (source : Source) (of : IsSource source) (labels : List Label) (keys : 
     label_node = rw (parent, place) (ap (node_by at (slice_index_or nodes at nowhere)) here)
 
     label_offer : IsOffer d nodes label
-    label_offer = record {
-      place = rw place is.index.place;
-      parent = rw parent is.within;
-      next = subst (IsNext nodes) (sym label_node) next;
-    }
+    label_offer = search rules
 
     label_rank : label.rank ≡ (node_of d nodes label).rank
     label_rank = rank ∙ ap (λ (n : Node). n.rank) (sym label_node)
@@ -232,9 +228,7 @@ module _ (source : Source) (of : IsSource source) (labels : List Label) (keys : 
       link_offer = label_offer label (Some l) parent place there_is along link_rank
 
       pub link_tied : label.rank ≡ (label_at labels (state - state % 1024 + end)).rank → AreTied d nodes (label_at labels (state - state % 1024 + end)) label
-      link_tied tie =
-          label_tied label (Some l) parent place there_is along link_rank (CrossesUpTo d q nodes at (state % 1024) row) before (state - state % 1024 + end)
-          (link_index d q nodes at state is row l here end ends listed.few) (omega (arith, open_leg, before.whole)) tie
+      link_tied tie = search rules
 
       pub link_taken : IsUsable d q l → NodeMayLeave d nodes at state → MayEnter d q (state / 1024 + 1) l.to → label.rank ≤ (label_at labels (state - state % 1024 + end)).rank
           → (key : ℕ) (new : List Label) (new_keys : List HeapKey) → key ≡ label.rank + lift goal (state - state % 1024 + end)

@@ -1,7 +1,7 @@
 -- The walk that follows the first tight link from each router is the least route, if it leads to
 -- the tail-end. A link is tight if the tree's bound falls by exactly the link's metric from its
 -- start to its end, and the tree's number of links falls by one.
-use Rattle.std.proofs.Common.{◌≡◌, ◌≢◌, inl, inr, ℕ, ◌+◌, ◌^◌, ◌<◌, ◌≤◌, Some, List, [], ◌∷◌, ◌++◌, ◌⊎◌, length, map, slice_get, slice_index, slice_index_or, refl, sym, ap, subst, ◌∙◌, arith, append_assoc, append-nil}
+use Rattle.std.proofs.Common.{◌≡◌, ◌≢◌, inl, inr, ℕ, ◌+◌, ◌^◌, ◌<◌, ◌≤◌, Some, List, [], ◌∷◌, ◌++◌, ◌⊎◌, length, map, slice_get, slice_index, slice_index_or, refl, sym, ap, subst, ◌∙◌, arith, append_assoc, append-nil, rules}
 use Rattle.std.specs.List.{All}
 use Rattle.std.specs.Cmp.{nat_cmp_total}
 use Rattle.std.specs.Ordering.{nat_cmp, ordering_then}
@@ -139,12 +139,7 @@ module _ (d : Database) (q : Request) (tree : Tree) (listed : AreListed d) (is :
         (same, omega (arith, low.1 same, is.fewer place end l class way.over.0 from to falls, many))
 
     first_tight : IsTight d q tree place l
-    first_tight = record {
-      usable = way.links.0.usable;
-      over = way.over.0;
-      falls = λ end to. omega (arith, (cost_after end to).0, cost, cost_of-cons l links);
-      fewer = λ end to. omega (arith, (cost_after end to).1, many);
-    }
+    first_tight = search (rules, cost_after, cost_of-cons)
 
   -- A route is a way from the head-end to the tail-end.
   route_way : (route : List Link) → IsRoute d q route → IsWayOn d q q.from route
@@ -205,11 +200,7 @@ module _ (d : Database) (q : Request) (tree : Tree) (listed : AreListed d) (is :
           rw next.is_edge.end.is (steps so_far (by_link l (record { link = link_of; usable = next.tight.usable }) enters leaves_link))
 
       leaves_on : MayLeave d (router_at d edge.end) (length (walk ++ (l ∷ []))) ⊎ (router_at d edge.end ≡ q.to)
-      leaves_on =
-          elim next.tight.over [
-            | inl transit ↦ inl (inl (rw next.is_edge.end.is transit))
-            | inr e ↦ inr (next.is_edge.end.is ∙ e)
-          ]
+      leaves_on = search rules
 
       -- A route begins with the tight walk. The rest of the route costs the tree's bound for the
       -- walk's last router, and has the tree's number of links for it. Then this rest begins with
@@ -273,10 +264,7 @@ module _ (d : Database) (q : Request) (tree : Tree) (listed : AreListed d) (is :
     -- the tree's number of links falls by one.
     module _ (loose : length q.hops ≡ 0) (to : ℕ) (end : IsIndexOf d q.to to) (walk : List Link) (at : IsTightWalk d q tree from walk to) where
       is_route : IsRoute d q walk
-      is_route =
-          let leg : 1 ≡ length q.hops + 1 = omega (arith, loose) in
-          let there_now : Reaches d q walk (record { leg = 1; router = q.to }) = subst (λ (r : ℕ). Reaches d q walk (record { leg = 1; router = r })) end.is at.reaches in
-          reaches_route d q walk (subst (λ (k : ℕ). Reaches d q walk (record { leg = k; router = q.to })) leg there_now)
+      is_route = search (rules, reaches_route)
 
       cost_is : cost_of walk ≡ tree_bound tree from
       cost_is = omega (arith, at.cost, is.end to end)

@@ -1,7 +1,6 @@
 -- Lemmas on which requests share a tree, and on how a tree gives the bounds of the last leg.
-use Rattle.std.proofs.Common.{◌≡◌, ◌⊎◌, inl, inr, ℕ, suc, ◌+◌, ◌<◌, ◌≤◌, nat_lt, if◌then◌else◌, Bool, true, false, List, replicate, slice_index_or, length, set, sym, ap, subst, ◌∙◌, refl, arith}
-use Rattle.std.proofs.lemmas.Bool.{cases_lt, false≢true}
-use Rattle.std.proofs.lemmas.Bool.Decides.{nat_tests}
+use Rattle.std.proofs.Common.{◌≡◌, ◌⊎◌, inl, inr, ℕ, suc, ◌+◌, ◌<◌, ◌≤◌, Bool, true, false, List, replicate, slice_index_or, length, set, sym, ap, subst, ◌∙◌, arith, rules}
+use Rattle.std.proofs.lemmas.Bool.{cases_lt}
 use Rattle.std.proofs.lemmas.List.{get_or_past, get_or-replicate, get_or-set_other, length-replicate}
 use Rattle.cspf_model.specs.declared.link.Link.{Link}
 use Rattle.cspf_model.specs.declared.request.Request.{Request}
@@ -13,7 +12,7 @@ use Rattle.cspf_search.specs.declared.tree_ring.TreeRing.{TreeRing}
 use Rattle.cspf_search.specs.declared.tree.Tree.{Tree}
 use Rattle.cspf_search.specs.States.{LeadsOn}
 use Rattle.cspf_search.specs.Bounds.{IsLegBound, bound_at}
-use Rattle.cspf_search.specs.Trees.{IsInClass, IsTree, MayLeadOver, ShareTrees, TreesAreShared, tree_bound, tree_links}
+use Rattle.cspf_search.specs.Trees.{IsInClass, IsTree, MayLeadOver, TreesAreShared, tree_bound, tree_links}
 use Rattle.cspf_search.specs.TreeSteps.{AreLinksPassed, AreTreeBounds, IsRankWithin, IsTreeRing, TreeFalls, is_settled_there}
 use Rattle.cspf_search.proofs.Cuts.{last_target}
 use Rattle.cspf_search.proofs.LegBounds.{cut_at_edge}
@@ -38,26 +37,8 @@ leg_of_tree d q tree is leg last ahead = record {
       omega (arith, is.end p (record { within = within; is = there }));
 }
 
--- If two requests share trees, a link in the class of one request is also in the class of the
--- other. A link is in a request's class if it has a reverse and passes the request's affinities.
-same_class : (d : Database) (q r : Request) → ShareTrees q r → (l : Link) → IsInClass d r l → IsInClass d q l
-same_class d q r share l is = record {
-  link = is.link;
-  reverse = is.reverse;
-  affinity = record {
-    exclude_any = rw share.exclude_any at is.affinity.exclude_any;
-    include_any = rw share.include_any at is.affinity.include_any;
-    include_all = rw share.include_all at is.affinity.include_all;
-  };
-}
-
 pub shared_tree : TreesAreShared
-shared_tree d q r tree share is = record {
-  links = λ u w l in_r over from at. is.links u w l (same_class d q r share l in_r) (rw share.to at over) from at;
-  end = λ place there. is.end place (rw share.to at there);
-  fewer = λ u w l in_r over from at. is.fewer u w l (same_class d q r share l in_r) (rw share.to at over) from at;
-  end_links = λ place there. is.end_links place (rw share.to at there);
-}
+shared_tree = search rules
 
 -- In a new list of flags, the flag of each router is `false`.
 pub none_at : (count w : ℕ) → slice_index_or (replicate count false) w false ≡ false
@@ -67,23 +48,10 @@ none_at count w =
       | inr past ↦ get_or_past (replicate count false) w false (omega (arith, past, length-replicate count false))
     ]
 
--- If no router is done, `IsTreeRing` holds, because it is a statement about done routers only. A
--- router is done if the search has looked at all links that end at this router.
-pub none_done_yet : (d : Database) (q : Request) (ring : TreeRing) → ((w : ℕ) → is_settled_there ring w ≡ false) → IsTreeRing d q ring
-none_done_yet d q ring none u w on l in_q over from to = absurd (false≢true (sym (none w) ∙ on))
-
 -- `IsTreeRing` still holds after some costs or numbers of links are lowered, if each router that is
 -- done keeps both. A router is done if the search has looked at all links that end at this router.
 pub fallen_tree : (d : Database) (q : Request) (old new : TreeRing) → TreeFalls old new → IsTreeRing d q old → IsTreeRing d q new
-fallen_tree d q old new falls ring u w on l in_q over from end =
-    let kept = falls.kept w on in
-    let within = ring u w kept.0 l in_q over from end in
-    let low = falls.lower u in (
-      (omega (arith, within.0.0, low.0, kept.1), λ way. omega (arith, within.0.1 (omega (arith, way, kept.1)), low.0)),
-      λ just.
-          let same : bound_at new.near.items u ≡ bound_at old.near.items u = omega (arith, just, within.0.0, low.0, kept.1) in
-          omega (arith, low.1 same, within.1 (omega (arith, just, same, kept.1)), kept.2),
-    )
+fallen_tree d q old new falls ring = search rules
 
 pub same_tree : (d : Database) (q : Request) (old new : TreeRing) → new.near ≡ old.near → new.links ≡ old.links → new.done ≡ old.done → IsTreeRing d q old → IsTreeRing d q new
 same_tree d q old new near links marks ring u w on l in_q over from end =
@@ -121,13 +89,7 @@ one_more_done d q to base count old new ring falls passed same more u w on l in_
 -- search hasn't settled.
 links_told : (tree : Tree) (place : ℕ)
     → ((bound_at tree.near.items place < tree.edge) × (tree_links tree place ≡ bound_at tree.links.items place)) ⊎ ((tree.edge ≤ bound_at tree.near.items place) × (tree_links tree place ≡ 0))
-links_told tree place =
-    let near = bound_at tree.near.items place in
-    let links = bound_at tree.links.items place in
-    elim (nat_lt near tree.edge) as (λ b. nat_lt near tree.edge ≡ b → ((near < tree.edge) × ((if b then links else 0) ≡ links)) ⊎ ((tree.edge ≤ near) × ((if b then links else 0) ≡ 0))) [
-      | true ↦ λ e. inl (grind (arith, nat_tests), refl)
-      | false ↦ λ e. inr (grind (arith, nat_tests), refl)
-    ] refl
+links_told tree place = search rules
 
 -- The tree's number of links stays consistent over a link when costs above the edge are lowered to
 -- the edge. If the bound at the link's start is exactly the bound at its end plus its metric, the
@@ -138,17 +100,7 @@ links_within : (tree : Tree) (marks : List Bool) (u w metric : ℕ)
     → (slice_index_or marks w false ≡ true → IsRankWithin (bound_at tree.near.items u) (bound_at tree.links.items u) (bound_at tree.near.items w) (bound_at tree.links.items w + 1) metric)
     → (slice_index_or marks w false ≡ false → tree.edge ≤ bound_at tree.near.items w)
     → tree_bound tree u ≡ tree_bound tree w + metric → tree_links tree u ≤ tree_links tree w + 1
-links_within tree marks u w metric within least just =
-    elim (links_told tree u) [
-      | inr far ↦ omega (arith, far.1)
-      | inl near ↦ elim (links_told tree w) [
-        | inr far ↦ absurd (omega (arith, just, near.0, far.0))
-        | inl ahead ↦ elim (slice_index_or marks w false) as (λ b. slice_index_or marks w false ≡ b → tree_links tree u ≤ tree_links tree w + 1) [
-          | true ↦ λ e. omega (arith, near.1, ahead.1, (within e).1 (omega (arith, just, near.0, ahead.0)))
-          | false ↦ λ e. absurd (omega (arith, least e, ahead.0))
-        ] refl
-      ]
-    ]
+links_within tree marks u w metric within least just = search rules
 
 -- The costs and the numbers of links that a backward search has found are, together with an edge, a
 -- tree in the sense of `IsTree`. The tail-end must have the cost 0 and no links, and the edge must

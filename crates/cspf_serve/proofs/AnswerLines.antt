@@ -1,5 +1,5 @@
 -- The reply lines that are written for answers are right replies to the requests.
-use Rattle.std.proofs.Common.{◌≡◌, ℕ, ◌+◌, zero, suc, All, Option, Some, List, [], ◌∷◌, ◌++◌, ◌-◌, take, drop, length, slice_get, refl, sym, ap, ◌∙◌, subst, append_assoc, append-nil, arith}
+use Rattle.std.proofs.Common.{◌≡◌, ℕ, ◌+◌, suc, All, Option, Some, List, [], ◌∷◌, ◌++◌, ◌-◌, take, drop, length, slice_get, refl, sym, ap, ◌∙◌, subst, append_assoc, append-nil, arith, rules}
 use Rattle.std.proofs.KnownBytes.{Appends-trans}
 use Rattle.std.proofs.Math.Seq.{take-length}
 use Rattle.std.proofs.lemmas.List.{length-drop}
@@ -34,11 +34,7 @@ lines_more (b ∷ answers) a lines line before reply = (
 
 pub writes_answer : (answers : List Answer) (a : Answer) (old mid new : Option (List ℕ)) → Writes old mid (AreAnswerLines answers)
     → Writes mid new (IsReply a.id a.version (answer_of a.outcome)) → Writes old new (AreAnswerLines (answers ++ a ∷ []))
-writes_answer answers a old mid new before reply = (
-  before.0 ++ reply.0,
-  lines_more answers a before.0 reply.0 before.1 reply.1,
-  Appends-trans old mid new before.0 reply.0 before.2 reply.2,
-)
+writes_answer answers a old mid new before reply = search (rules, Appends-trans, lines_more)
 
 -- The lines of the first `i` answers are written, and then a prefix of the next answer's line. The
 -- whole output is a prefix of the lines of the first `count` answers, for some `count`.
@@ -58,8 +54,6 @@ reply_at batches q a line is reply = (answer_of a.outcome, is.best, subst (λ (n
 lines_after : (batches : List NumberedChanges) (count : ℕ) (qs : List Request) (answers : List Answer) (lines : List ℕ) → length answers ≡ length qs
     → ((index : ℕ) (q : Request) (a : Answer) → slice_get qs index ≡ Some q → slice_get answers index ≡ Some a → IsAnswerAfter batches q a)
     → AreAnswerLines (take count answers) lines → AreReplies (database_after batches) (length batches) (take count qs) lines
-lines_after batches zero qs answers lines same each is = is
-lines_after batches (suc count) [] [] lines same each is = is
 lines_after batches (suc count) [] (a ∷ answers) lines same each is = absurd (omega arith)
 lines_after batches (suc count) (q ∷ qs) [] lines same each is = absurd (omega arith)
 lines_after batches (suc count) (q ∷ qs) (a ∷ answers) lines same each is =
@@ -70,6 +64,7 @@ lines_after batches (suc count) (q ∷ qs) (a ∷ answers) lines same each is =
       is.3,
       lines_after batches count qs answers is.1 (omega arith) (λ i p b at there. each (suc i) p b at there) is.4,
     )
+lines_after batches count qs answers lines same each is = is
 
 pub replies_after : (batches : List NumberedChanges) (requests : List Request) (list : List Answer) (lines : List ℕ) → AreAnswersAfter batches requests list
     → AreAnswerLines list lines → AreReplies (database_after batches) (length batches) requests lines
@@ -82,28 +77,19 @@ replies_after batches requests list lines is written =
 -- all requests are answered from the index `first` on
 pub rest_answered : (batches : List NumberedChanges) (first : ℕ) (requests : List Request) (answers list : List Answer) → list ≡ answers
     → AreAnswersAfter batches (take (length requests - first) (drop first requests)) answers → AreAnswersAfter batches (drop first requests) list
-rest_answered batches first requests answers list same answered =
-    let rest = drop first requests in
-    let asked : take (length requests - first) rest ≡ rest = ap (λ (n : ℕ). take n rest) (sym (length-drop first requests)) ∙ take-length rest in
-    subst (λ (l : List Answer). AreAnswersAfter batches rest l) (sym same)
-    (subst (λ (qs : List Request). AreAnswersAfter batches qs answers) asked answered)
+rest_answered batches first requests answers list same answered = search (rules, length-drop, take-length)
 
 -- if a prefix of the answers' lines is written, it is a prefix of right replies to the first
 -- requests
 pub answers_begun : (batches : List NumberedChanges) (requests : List Request) (list : List Answer) (old new : Option (List ℕ)) → AreAnswersAfter batches requests list
     → HasBegun old new (λ lines. (count : ℕ) × AreAnswerLines (take count list) lines)
     → HasBegun old new (λ lines. (count : ℕ) × AreReplies (database_after batches) (length batches) (take count requests) lines)
-answers_begun batches requests list old new is begun =
-    begun_weaker old new (λ lines. (count : ℕ) × AreAnswerLines (take count list) lines)
-    (λ lines. (count : ℕ) × AreReplies (database_after batches) (length batches) (take count requests) lines)
-    (λ lines written. (written.0, lines_after batches written.0 requests list lines is.count is.each written.1)) begun
+answers_begun batches requests list old new is begun = search (rules, begun_weaker, lines_after)
 
 -- each request has a reply at a published version
 pub replies_within : (published : List NumberedChanges) (qs : List Request) (answers : List Answer) (lines : List ℕ) → length answers ≡ length qs
     → AreAnswersWithin published qs answers → AreAnswerLines answers lines → AreRepliesWithin published qs lines
 replies_within published [] [] lines count each is = is
-replies_within published [] (a ∷ answers) lines count each is = absurd (omega arith)
-replies_within published (q ∷ qs) [] lines count each is = absurd (omega arith)
 replies_within published (q ∷ qs) (a ∷ answers) lines count each is =
     let here : IsAnswerWithin published q a = each.each 0 q a refl refl in (
       is.0,
@@ -112,6 +98,7 @@ replies_within published (q ∷ qs) (a ∷ answers) lines count each is =
       is.3,
       replies_within published qs answers is.1 (omega arith) (record { each = λ i p b at there. each.each (suc i) p b at there }) is.4,
     )
+replies_within published qs answers lines count each is = absurd (omega arith)
 
 pub replies_written : (batches : List NumberedChanges) (requests : List Request) (list : List Answer) (old new : Option (List ℕ)) → AreAnswersAfter batches requests list
     → Writes old new (AreAnswerLines list) → Writes old new (AreReplies (database_after batches) (length batches) requests)

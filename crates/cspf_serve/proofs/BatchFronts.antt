@@ -1,6 +1,5 @@
 -- The lines that a run over a journal and requests wrote before it ended by an error.
-use Rattle.std.proofs.Common.{◌≡◌, ℕ, zero, Bool, Option, Some, None, IfSome, List, [], ◌++◌, take, length, inl, inr, refl, sym, append-nil, Result, Ok, Err, OnErr}
-use Rattle.std.proofs.KnownBytes.{Keeps-refl}
+use Rattle.std.proofs.Common.{◌≡◌, ℕ, zero, Bool, Option, Some, None, IfSome, List, [], ◌++◌, take, length, inl, inr, refl, sym, append-nil, Result, Err, OnErr, rules, Ok}
 use Rattle.std.specs.Io.KnownBytes.{Appends}
 use Rattle.cspf_model.specs.declared.request.Request.{Request}
 use Rattle.cspf_model.specs.Numbered.{NumberedChanges}
@@ -14,9 +13,9 @@ use Rattle.cspf_judge.specs.EarlyEnds.{HasBegun, IfRefused, IsRefusalBegun, Writ
 use Rattle.cspf_judge.specs.Inputs.{AreRequestsOf}
 use Rattle.cspf_judge.specs.LineTexts.{judge_line_text}
 use Rattle.cspf_serve.specs.declared.streams.error.RunError.{RunError}
-use Rattle.cspf_serve.specs.BatchRun.{AreAccepted, AreReplies, IsOneUnfit, IsBatchRunInPart, version_lines}
+use Rattle.cspf_serve.specs.BatchRun.{AreReplies, IsBatchRunInPart, version_lines}
 use Rattle.cspf_serve.specs.EarlyEnds.{AreStreamsRefused}
-use Rattle.cspf_serve.specs.PublishedBatches.{IsUnfitBehind, ArePublishedOrRefused, IsAcceptedInPart}
+use Rattle.cspf_serve.specs.PublishedBatches.{ArePublishedOrRefused, IsAcceptedInPart}
 use Rattle.cspf_serve.proofs.Begun.{begun_behind, begun_weaker}
 use Rattle.cspf_serve.proofs.BatchLines.{IsPublished, one_unfit, refused_alone}
 
@@ -68,30 +67,26 @@ IsBegunRun accept_torn kept asked old new =
 
 -- `IsBegunRun` holds of a run that wrote nothing
 pub nothing_begun : (accept_torn : Bool) (kept asked old : Option (List ℕ)) → IsBegunRun accept_torn kept asked old old
-nothing_begun accept_torn None asked old = tt
-nothing_begun accept_torn (Some journal) None old = tt
-nothing_begun accept_torn (Some journal) (Some requests) old = inl (Keeps-refl old)
+nothing_begun accept_torn kept asked old = search rules
 
 module _ (accept_torn : Bool) (published : List NumberedChanges) (unfit : Option JudgeLine) (qs : List Request) (old new : Option (List ℕ)) where
   begun_of : (kept asked : Option (List ℕ)) → IsPublished accept_torn kept published unfit → IfSome asked (λ bytes. AreRequestsOf (rows_of bytes) qs)
       → ((batches : List NumberedChanges) → ArePublishedOrRefused batches published unfit → HasBegun old new (IsAcceptedInPart batches qs))
       → IsBegunRun accept_torn kept asked old new
-  begun_of None asked read of_rows begun = tt
-  begun_of (Some journal) None read of_rows begun = tt
   begun_of (Some journal) (Some requests) read of_rows begun =
       begun_weaker old new (IsAcceptedInPart read.0 qs) (IsBatchRunInPart accept_torn (rows_of journal) (rows_of requests))
       (λ lines is. elim is [
         | inl accepted ↦ inr (read.0, read.1, (qs, of_rows, accepted))
         | inr one ↦ inl (inr (read.0, read.1, inr (qs, of_rows, inr (one, refl))))
       ]) (begun read.0 read.2)
+  begun_of kept asked read of_rows begun = tt
 
   -- if a run ends by an error while it answers requests, `IsBegunRun` holds of the run
   pub batch_begun : (kept asked : Option (List ℕ)) (r : Result ℕ RunError) → IsPublished accept_torn kept published unfit
       → IfSome asked (λ bytes. AreRequestsOf (rows_of bytes) qs)
       → OnErr r ((batches : List NumberedChanges) → ArePublishedOrRefused batches published unfit → HasBegun old new (IsAcceptedInPart batches qs))
       → OnErr r (IsBegunRun accept_torn kept asked old new)
-  batch_begun kept asked (Ok status) read of_rows begun = tt
-  batch_begun kept asked (Err e) read of_rows begun = begun_of kept asked read of_rows begun
+  batch_begun kept asked r read h2 begun = search (rules, begun_of)
 
 -- A run ends by an error, and it wrote at most a prefix of the line that refuses a stream. Then
 -- `IsBegunRun` holds of the run.

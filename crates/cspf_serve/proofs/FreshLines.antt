@@ -1,16 +1,14 @@
 -- Each reply to a client has at least the version that was published before the request's row was
 -- read. This is seen from one list of the journal's steps: batches recorded, batches counted as
 -- published, and clients' readings of that count.
-use Rattle.std.proofs.Common.{◌≡◌, ℕ, suc, ◌+◌, ◌^◌, ◌<◌, ◌≤◌, ◌⊎◌, Bool, List, [], ◌∷◌, ◌++◌, length, length-append, append_assoc, append-nil, codes, Option, Some, IfSome, Result, Ok, Err, MatchResult, inl, inr, refl, sym, ap, subst, ◌∙◌, arith, ⊎_elim}
-use Rattle.std.specs.Fmt.{decimal}
-use Rattle.std.specs.Option.{option_map}
+use Rattle.std.proofs.Common.{◌≡◌, ℕ, suc, ◌+◌, ◌^◌, ◌<◌, ◌≤◌, ◌⊎◌, Bool, List, [], ◌∷◌, ◌++◌, length, length-append, append_assoc, append-nil, codes, Option, Some, IfSome, Result, Ok, MatchResult, inl, inr, refl, sym, ap, subst, ◌∙◌, arith, ⊎_elim, rules}
+use Rattle.std.proofs.lemmas.Grind.{common_steps}
 use Rattle.cspf_model.specs.declared.request.Request.{Request}
 use Rattle.cspf_model.specs.Best.{Answer}
 use Rattle.cspf_model.specs.Numbered.{NumberedChanges}
 use Rattle.cspf_ero.specs.ReplyHead.{BeginsWithHead, HasOneHead}
 use Rattle.cspf_ero.specs.ReplyLine.{IsReply}
 use Rattle.cspf_ero.specs.declared.head.Head.{Head}
-use Rattle.cspf_rows.specs.Records.{rows_of}
 use Rattle.cspf_rows.specs.Rows.{row_of}
 use Rattle.cspf_rows.specs.declared.row.Row.{Row}
 use Rattle.cspf_rows.specs.declared.row.Row.TheVariants as row
@@ -24,13 +22,11 @@ use Rattle.cspf_publish.specs.KnownBatches.{KnownBatches}
 use Rattle.cspf_publish.specs.declared.errors.AskError.{AskError}
 use Rattle.cspf_publish.specs.Histories.{BeginsWith}
 use Rattle.cspf_stream.specs.RowAnswers.{AreAnswered, AreAllAnswered}
-use Rattle.cspf_stream.specs.StreamStops.{FailsOf, NeverFails, StopsBetween, StopsInRow, IsRowStopped, HasStopped, IsStreamStopped, stream_error_of}
+use Rattle.cspf_stream.specs.StreamStops.{FailsOf, StopsBetween, StopsInRow, IsRowStopped, HasStopped, IsStreamStopped, stream_error_of}
 use Rattle.cspf_stream.specs.declared.error.StreamError.{StreamError}
-use Rattle.cspf_stream.specs.declared.error.StreamError.TheVariants as stream_error
 use Rattle.cspf_stream.specs.declared.error.StreamStop.{StreamStop}
-use Rattle.cspf_stream.specs.declared.error.StreamStop.TheVariants as stop
 use Rattle.cspf_client.specs.ClientRows.{ReadsCount, IsRequestAnswered, IsClientRowAnswered, IsClientAnswered, IsClientUnanswered}
-use Rattle.cspf_client.specs.ClientRuns.{IsClientRun, IsClientStopped}
+use Rattle.cspf_client.specs.ClientRuns.{IsClientStopped}
 use Rattle.cspf_client.specs.SessionStates.{SessionState, AreFirstSteps, HasGoneForward}
 use Rattle.cspf_client.specs.ServingStates.{ServingState, unread_rows}
 use Rattle.cspf_client.specs.declared.client.Client.{Client}
@@ -51,12 +47,7 @@ Nothing place s fields t = Unit {0}
 
 -- the answer to a row doesn't change the client's number
 client_kept : (place : ℕ) (s t : SessionState) (r : Result Row RowError) (line : List ℕ) → IsClientRowAnswered place s r line t → t.client ≡ s.client
-client_kept place s t (Err why) line a = ap (λ (x : SessionState). x.client) a.after
-client_kept place s t (Ok (row.Put link)) line a = ap (λ (x : SessionState). x.client) a.after
-client_kept place s t (Ok (row.Remove from local)) line a = ap (λ (x : SessionState). x.client) a.after
-client_kept place s t (Ok (row.Node router transit)) line a = ap (λ (x : SessionState). x.client) a.after
-client_kept place s t (Ok (row.End number count)) line a = ap (λ (x : SessionState). x.client) a.after
-client_kept place s t (Ok (row.Ask q)) line a = a.reads.client
+client_kept place s t r line a = search rules
 
 clients_kept : (place : ℕ) (s t : SessionState) (rows : Rows) (lines : List ℕ) → AreAnswered IsClientAnswered place s rows lines t → t.client ≡ s.client
 unfolding AreAnswered
@@ -68,34 +59,17 @@ module _ (all : KnownSteps) (number : ℕ) (order : AreOrderedFrom 0 0 all.steps
   -- reading is one of the journal's steps. After the row, the client knows at least as many batches
   -- as the steps before the reading count as published.
   read_of : (place : ℕ) (s t : SessionState) → s.client ≡ number → AreFirstSteps all t.steps → ReadsCount place s t → IsReadBefore all.steps number place (length t.known.batches)
-  read_of place s t client first reads =
-      let up = reads.caught_up in
-      let before : List LogStep = s.steps.steps ++ up.read.0 in
-      let rest : List LogStep = first.begins.0 in
-      let is : all.steps ≡ before ++ Read s.client place reads.count ∷ rest =
-      sym first.begins.1 ∙ (ap (λ (w : List LogStep). w ++ rest) up.read.1 ∙ append_assoc before (Read s.client place reads.count ∷ []) rest) in
-      let found : reads.count ≡ count_of before = found_among before rest s.client place reads.count (subst (AreOrderedFrom 0 0) is order) in
-      record {
-        before = before;
-        count = reads.count;
-        after = rest;
-        reading = subst (λ (n : ℕ). all.steps ≡ before ++ Read n place reads.count ∷ rest) client is;
-        fresh = omega (arith, found, up.known, ap length reads.later.begins.1, length-append reads.mid.batches reads.later.begins.0);
-      }
+  read_of place s t client first reads = search (rules, append_assoc, found_among, length-append)
 
   line_of : (place : ℕ) (s t : SessionState) (r : Result Row RowError) (line : List ℕ) → s.client ≡ number → AreFirstSteps all t.steps → IsClientRowAnswered place s r line t
       → IsFreshLine all.steps number place r line
-  line_of place s t (Err why) line client first a = tt
-  line_of place s t (Ok (row.Put link)) line client first a = tt
-  line_of place s t (Ok (row.Remove from local)) line client first a = tt
-  line_of place s t (Ok (row.Node router transit)) line client first a = tt
-  line_of place s t (Ok (row.End number' count)) line client first a = tt
   line_of place s t (Ok (row.Ask q)) line client first a = record {
     version = length t.known.batches;
     answer = a.answer;
     reply = a.reply;
     read = read_of place s t client first a.reads;
   }
+  line_of place s t r line client first a = tt
 
   lines_of : (place : ℕ) (s t : SessionState) (rows : Rows) (lines : List ℕ) → s.client ≡ number → AreFirstSteps all t.steps → AreAnswered IsClientAnswered place s rows lines t
       → AreAnswered (IsAnsweredFresh all.steps number) place tt rows lines tt
@@ -113,67 +87,22 @@ module _ (all : KnownSteps) (number : ℕ) (order : AreOrderedFrom 0 0 all.steps
 
   all_lines : (rows : Option Rows) (s t : SessionState) (old new : Option (List ℕ)) → s.client ≡ number → AreFirstSteps all t.steps → AreAllAnswered IsClientAnswered rows s t old new
       → AreAllAnswered (IsAnsweredFresh all.steps number) rows tt tt old new
-  all_lines rows s t old new client first a = record {
-    done = a.done;
-    lines = a.lines;
-    whole = a.whole;
-    answered = lines_of 1 s t a.done a.lines client first a.answered;
-    written = a.written;
-  }
+  all_lines rows s t old new client first a = search (rules, lines_of)
 
   row_stopped : (fails : FailsOf SessionState) (why : StreamError) (place : ℕ) (fields : List (List ℕ)) (s t : SessionState) (old new : Option (List ℕ)) → s.client ≡ number → AreFirstSteps all t.steps
       → IsRowStopped IsClientAnswered fails why place fields s t old new → IsRowStopped (IsAnsweredFresh all.steps number) Nothing why place fields tt tt old new
-  row_stopped fails stream_error.Memory place fields s t old new client first a = (tt, a.1)
-  row_stopped fails stream_error.Read place fields s t old new client first a = a
-  row_stopped fails stream_error.Write place fields s t old new client first a = (a.0, line_of place s t (row_of fields) a.0 client first a.1, a.2)
-  row_stopped fails stream_error.Flush place fields s t old new client first a = (a.0, line_of place s t (row_of fields) a.0 client first a.1, a.2)
-  row_stopped fails stream_error.TooManyRows place fields s t old new client first a = a
+  row_stopped fails why place fields s t old new client first a = search (rules, line_of)
 
   module _ (rows left : Option Rows) (failed : Bool) (s t : SessionState) (old new : Option (List ℕ)) (client : s.client ≡ number) (first : AreFirstSteps all t.steps) where
     between : StopsBetween IsClientAnswered rows s t old new → StopsBetween (IsAnsweredFresh all.steps number) rows tt tt old new
-    between a = record {
-      done = a.done;
-      rest = a.rest;
-      lines = a.lines;
-      split = a.split;
-      answered = lines_of 1 s t a.done a.lines client first a.answered;
-      written = a.written;
-    }
+    between a = search (rules, lines_of)
 
     in_row : (fails : FailsOf SessionState) → FailsForward fails → (why : StreamError) → StopsInRow IsClientAnswered fails why rows left s t old new → StopsInRow (IsAnsweredFresh all.steps number) Nothing why rows left tt tt old new
-    in_row fails known why a =
-        let later : HasGoneForward a.before t = forward_row_stopped fails known why (suc (length a.done)) a.fields a.before t a.mid new a.stops in
-        record {
-          done = a.done;
-          fields = a.fields;
-          rest = a.rest;
-          lines = a.lines;
-          before = tt;
-          mid = a.mid;
-          split = a.split;
-          answered = lines_of 1 s a.before a.done a.lines client (AreFirstSteps-trans a.before.steps t.steps all later.steps first) a.answered;
-          written = a.written;
-          stops = row_stopped fails why (suc (length a.done)) a.fields a.before t a.mid new (clients_kept 1 s a.before a.done a.lines a.answered ∙ client) first a.stops;
-        }
+    in_row fails known why a = grind (arith, common_steps, AreFirstSteps-trans, clients_kept, forward_row_stopped, lines_of, row_stopped)
 
     stopped : (why : StreamStop AskError) → IsStreamStopped IsClientAnswered IsClientUnanswered why rows left failed s t old new
         → HasStopped (IsAnsweredFresh all.steps number) Nothing (stream_error_of why) rows left failed tt tt old new
-    stopped (stop.Answer fault) a = inr (in_row (IsClientUnanswered fault) (unanswered_forward fault) stream_error.Memory a)
-    stopped (stop.Stream stream_error.Memory) (inl a) = inl (a.0, between a.1)
-    stopped (stop.Stream stream_error.Memory) (inr a) = absurd a.stops.0
-    stopped (stop.Stream stream_error.Read) a = (a.0, between a.1)
-    stopped (stop.Stream stream_error.Write) a = in_row NeverFails never_forward stream_error.Write a
-    stopped (stop.Stream stream_error.Flush) a = in_row NeverFails never_forward stream_error.Flush a
-    stopped (stop.Stream stream_error.TooManyRows) a = record {
-      done = a.done;
-      fields = a.fields;
-      rest = a.rest;
-      lines = a.lines;
-      count = a.count;
-      split = a.split;
-      answered = lines_of 1 s t a.done a.lines client first a.answered;
-      written = a.written;
-    }
+    stopped why a = search (rules, between, in_row, lines_of, never_forward, unanswered_forward)
 
   -- All rows, or the rows before the stream stopped, are answered, and their lines are written. The
   -- lines are as `IsFreshLine` says.
@@ -186,18 +115,11 @@ module _ (all : KnownSteps) (number : ℕ) (order : AreOrderedFrom 0 0 all.steps
     run_lines : (old new : ServingState Q V) → old.state.client ≡ number → AreFirstSteps all new.state.steps → (end : Result (Unit {0}) ClientError)
         → MatchResult end (λ done. AreAllAnswered IsClientAnswered (unread_rows bytes old.requests) old.state new.state (contents old.replies) (contents new.replies)) (λ why. IsClientStopped why (unread_rows bytes old.requests) old.state new.state (contents old.replies) (contents new.replies))
         → Lines (unread_rows bytes old.requests) (contents old.replies) (contents new.replies)
-    run_lines old new client first (Ok done) run = inl (all_lines (unread_rows bytes old.requests) old.state new.state (contents old.replies) (contents new.replies) client first run)
-    run_lines old new client first (Err why) run =
-        inr (stream_error_of run.stop, run.left, run.failed, stopped (unread_rows bytes old.requests) run.left run.failed old.state new.state (contents old.replies) (contents new.replies) client first run.stop run.stopped)
+    run_lines old new client first end run = search (rules, all_lines, stopped)
 
     pub served_lines : (published : List NumberedChanges) (client : Client Q V) (served : ServedClient V) → IsServedClient bytes contents published all number client served
         → HasFreshLines bytes contents all.steps number client served
-    served_lines published client served is =
-        let first : AreFirstSteps all is.after.state.steps = subst (λ (k : KnownSteps). AreFirstSteps all k) is.steps is.first in
-        let lines = run_lines is.before is.after is.number_is first is.after.end is.run in
-        subst (λ (v : V). Lines (option_map rows_of (bytes client.requests)) (contents client.replies) (contents v)) (sym is.replies)
-        (subst (λ (v : V). Lines (option_map rows_of (bytes client.requests)) (contents v) (contents is.after.replies)) is.empty
-        (subst (λ (r : Option Q). Lines (unread_rows bytes r) (contents is.before.replies) (contents is.after.replies)) is.requests lines))
+    served_lines published client served is = search (rules, run_lines)
 
 pub fresh_runs : (W J Q V : Type 0) → ServedRepliesAreFresh W J Q V
 fresh_runs W J Q V updates said recorded bytes contents writer journal clients served run =
@@ -225,9 +147,7 @@ behind b (x ∷ y ∷ z ∷ []) after count is = absurd (cc is)
 behind b (x ∷ y ∷ z ∷ w ∷ more) after count is = absurd (cc is)
 
 head_of : (id version : ℕ) (answer : Answer) (line : List ℕ) → id < 2 ^ 64 → version < 2 ^ 32 → IsReply id version answer line → BeginsWithHead line (record { id = id; version = version })
-head_of id version answer line below few reply =
-    let front : List ℕ = codes "ask " ++ decimal id ++ codes " v" ++ decimal version ++ codes " " in
-    record { id = below; version = few; rest = reply.0 ++ codes "\n"; whole = reply.2 ∙ append_assoc front reply.0 (codes "\n") }
+head_of id version answer line below few reply = search (rules, append_assoc, codes)
 
 pub not_behind : HasOneHead → NoReplyIsBehind
 not_behind one b all fields q client served answer steps rows asks below empty is ended reply =

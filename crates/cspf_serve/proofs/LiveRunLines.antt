@@ -1,29 +1,21 @@
 -- The lines that a live run writes, and the text that it writes to its journal.
-use Rattle.std.proofs.Common.{◌≡◌, ℕ, ◌+◌, ◌<◌, ◌≤◌, ◌⊎◌, Vec, false, Option, Some, None, IfSome, Result, Ok, Err, IfOk, IfErr, List, [], ◌++◌, take, get_or, length, slice_get, inl, inr, refl, sym, ap, ◌∙◌, subst, append_assoc, arith, true}
+use Rattle.std.proofs.Common.{◌≡◌, ℕ, ◌+◌, ◌<◌, ◌≤◌, ◌⊎◌, Vec, false, Option, Some, None, IfSome, Result, Ok, Err, IfOk, IfErr, List, [], ◌++◌, take, get_or, length, slice_get, inl, inr, refl, sym, ap, ◌∙◌, subst, append_assoc, arith, rules}
 use Rattle.std.proofs.KnownBytes.{Appends-nil, Appends-trans}
 use Rattle.std.proofs.lemmas.List.{length-map, length-take-le}
-use Rattle.std.proofs.lemmas.Bool.{cases_lt}
 use Rattle.std.proofs.lemmas.Option.{slice_get_within, get_or_from_slice_get}
 use Rattle.std.specs.Io.KnownBytes.{Appends}
 use Rattle.std.specs.List.{flat_map}
 use Rattle.cspf_model.specs.declared.request.Request.{Request}
 use Rattle.cspf_model.specs.Numbered.{NumberedChanges, AreNumberedFrom}
-use Rattle.cspf_model.specs.Changes.{database_after, Fits}
-use Rattle.cspf_model.specs.Refusals.{IsRefusal}
 use Rattle.cspf_publish.specs.ApplyErrors.{IsApplyError}
 use Rattle.cspf_publish.specs.Histories.{IsHistory}
 use Rattle.cspf_publish.specs.PublisherStates.{PublisherState}
 use Rattle.cspf_publish.specs.declared.answer.Answer.{Answer}
 use Rattle.cspf_publish.specs.declared.errors.ApplyError.{ApplyError}
-use Rattle.cspf_publish.specs.declared.errors.ApplyError.TheVariants as error
 use Rattle.cspf_rows.specs.BatchText.{batch_text}
 use Rattle.cspf_rows.specs.Records.{rows_of}
-use Rattle.cspf_rows.specs.Rows.{row_of}
-use Rattle.cspf_rows.specs.declared.row.Row.{Row}
-use Rattle.cspf_rows.specs.declared.row.Row.TheVariants as row
-use Rattle.cspf_rows.specs.declared.row_error.RowError.{RowError}
 use Rattle.std.specs.Global.{Global}
-use Rattle.std.proofs.lemmas.Result.{IfOk-weaker, IfErr-weaker}
+use Rattle.std.proofs.lemmas.Result.{IfOk-weaker}
 use Rattle.cspf_publish.specs.AskerStates.{AskerState}
 use Rattle.cspf_work.specs.declared.live.Live.{Live}
 use Rattle.cspf_work.specs.declared.serve_error.ServeError.{ServeError}
@@ -35,14 +27,11 @@ use Rattle.cspf_judge.specs.Inputs.{AreBatchesOf, AreRequestsOf}
 use Rattle.cspf_judge.specs.EarlyEnds.{Writes, IfRefused, IsRefusalWritten}
 use Rattle.cspf_serve.specs.declared.streams.error.RunError.{RunError}
 use Rattle.cspf_judge.specs.declared.early_end.EarlyEnd.{EarlyEnd}
-use Rattle.cspf_judge.specs.declared.early_end.EarlyEnd.TheVariants as early_end
 use Rattle.cspf_serve.specs.LiveRun.{IsWhyNot, begun_text, IsEndOfLiveRun, AreAnsweredLive, AreRecordedAtError, IsRecordedAtError, AreInputsRefused, IsLiveRun}
 use Rattle.cspf_serve.specs.LiveLines.{IsFaultShown, AreLiveLines}
 use Rattle.cspf_serve.specs.LiveWords.{applied_line, unpublished_line}
 use Rattle.cspf_serve.specs.RunFaults.{IsStreamFault, IsRunFault, IsLiveFault}
-use Rattle.cspf_judge.specs.LineTexts.{judge_line_text}
 use Rattle.cspf_serve.proofs.AnswerLines.{replies_within}
-use Rattle.cspf_serve.proofs.BatchLines.{numbers_of}
 use Rattle.cspf_serve.proofs.PublishedLines.{number_at}
 
 -- the replies, the line that counts the applied batches, and the last line are written: these are
@@ -62,34 +51,17 @@ same_journal : {J : Type 0} (contents : J → Option (List ℕ)) (p after : Publ
 same_journal {J} contents p after same =
     subst (λ (x : PublisherState J). Appends (contents p.journal) (contents x.journal) []) (sym same) (Appends-nil (contents p.journal))
 
-fits_there : {J : Type 0} (published : List NumberedChanges) (p : PublisherState J) (b : NumberedChanges) → p.batches ≡ published
-    → Fits (database_after p.batches) b → Fits (database_after published) b
-fits_there published p b is fits = subst (λ (bs : List NumberedChanges). Fits (database_after bs) b) is fits
-
 -- if a batch with the next number isn't published, the reason is that it doesn't fit, refused
 -- memory, or a fault of the journal
 why_not : {J : Type 0} (contents : J → Option (List ℕ)) (published : List NumberedChanges) (p after : PublisherState J) (b : NumberedChanges) (e : ApplyError)
     → p.stopped ≡ false → p.batches ≡ published → b.number ≡ length p.batches + 1 → length p.batches < 1000000 → IsApplyError contents p after b e
     → IsWhyNot published b e × Appends (contents p.journal) (contents after.journal) (begun_text b e)
-why_not contents published p after b error.Stopped going is number room why = let both : true ≡ false = sym why.0 ∙ going in absurd cc
-why_not contents published p after b error.Exhausted going is number room why = let full = why.1 in absurd (omega arith)
-why_not contents published p after b (error.WrongNumber expected) going is number room why = absurd (why.1 number)
-why_not contents published p after b (error.Refused refusal) going is number room why =
-    (subst (λ (bs : List NumberedChanges). IsRefusal (database_after bs) b refusal) is why.2, same_journal contents p after why.3)
-why_not contents published p after b error.Memory going is number room why =
-    let next = why.0 in
-    (fits_there published p b is next.follows.fits, same_journal contents p after why.1)
-why_not contents published p after b (error.Journal written) going is number room why =
-    let next = why.0 in
-    ((fits_there published p b is next.follows.fits, why.2), why.3)
+why_not contents published p after b e going is number room why = search rules
 
 -- the journal has no fault until the first batch is refused
 still_going : {J : Type 0} (contents : J → Option (List ℕ)) (before between : PublisherState J) (batches : List NumberedChanges)
     → before.stopped ≡ false → AreApplied contents before between batches → between.stopped ≡ false
-still_going {J} contents before between batches fresh is = elim (cases_lt 0 (length batches)) [
-  | inl some ↦ is.going some
-  | inr none ↦ ap (λ (p : PublisherState J). p.stopped) (is.none (omega arith)) ∙ fresh
-]
+still_going contents before between batches fresh is = search rules
 
 -- Batches are applied until one is refused. Then the last line, the status, and the journal's text
 -- after the published batches are as `IsEndOfLiveRun` says.
@@ -197,8 +169,7 @@ held_in_part contents batches before after numbered few fresh going (inr part) =
 
 -- a true fact is also true if the run ends by an error
 pub at_error : {X : Type 0} (r : Result ℕ RunError) → X → IfErr r (λ e. X)
-at_error (Ok status) x = tt
-at_error (Err e) x = x
+at_error r x = search rules
 
 -- ---- the result of the workers, and the end of the run
 
@@ -231,10 +202,7 @@ module _ {J : Type 0} (contents : J → Option (List ℕ)) (batches : List Numbe
       → IfOk ran (λ live. IfErr ended IsStreamFault) → IfErr ran (λ e. ended ≡ Err (Serve e.0))
       → IfErr ran (λ e. IsFaultOfWorker e.0 ⊎ IsUnaccounted (length requests) (length (e.1).batches) e.0)
       → IfErr ended (IsRunFault (λ index version. (index < length requests) × (0 < version)))
-  run_failed (Ok live) failed fault why = IfErr-weaker ended _ _ (λ e stream. inl stream) failed
-  run_failed (Err e) failed fault (inl worker) = rw fault (inr (inl (e.0, refl, worker)))
-  run_failed (Err e) failed fault (inr stray) =
-      rw fault (inr (inr (stray.0, stray.1, ap Serve stray.2, (stray.3, omega (arith, stray.4)))))
+  run_failed ran failed fault why = search rules
 
   -- the texts of the applied batches are appended to the journal
   pub run_recorded : (ran : Result (Live J) (ServeError × PublisherState J × Vec AskerState Global))
@@ -254,23 +222,14 @@ IsHeldLive updates old new = IfSome updates (λ kept. (text : List ℕ) × IsRec
 
 -- `IsHeldLive` holds of an unchanged journal
 pub held_as_before : (updates old : Option (List ℕ)) → IsHeldLive updates old old
-held_as_before None old = tt
-held_as_before (Some kept) old = ([], inl refl, Appends-nil old)
-
-held_of : (updates : List (List (List ℕ))) (bs : List NumberedChanges) (text : List ℕ) → AreBatchesOf false updates bs → AreRecordedAtError bs text → IsRecordedAtError updates text
-held_of updates bs text batches (inl none) = inl none
-held_of updates bs text batches (inr some) = inr (bs, batches, some)
+held_as_before updates old = search rules
 
 -- Let `bs` be the batches of the updates. If the journal after an error is as `IsHeldAtError` says
 -- of `bs`, it is as `IsHeldLive` says of the updates.
 pub live_held : (updates : Option (List ℕ)) (bs : List NumberedChanges) (r : Result ℕ RunError) (old new : Option (List ℕ))
     → IfSome updates (λ bytes. AreBatchesOf false (rows_of bytes) bs) → (AreNumberedFrom 1 bs → IfErr r (λ e. IsHeldAtError bs old new))
     → IfErr r (λ e. IsHeldLive updates old new)
-live_held updates bs (Ok status) old new batches held = tt
-live_held None bs (Err e) old new batches held = tt
-live_held (Some kept) bs (Err e) old new batches held =
-    let is = held (numbers_of false (rows_of kept) bs batches) in
-    (is.0, held_of (rows_of kept) bs is.0 batches is.1, is.2)
+live_held updates bs r old new batches held = search rules
 
 -- ---- the whole run
 
@@ -288,12 +247,7 @@ pub live_ran : (updates requests : Option (List ℕ)) (bs : List NumberedChanges
     → (AreNumberedFrom 1 bs → IfOk r (λ status. (lines : List ℕ) × (text : List ℕ) × AreAnsweredLive bs qs lines text status
     × Appends old new lines × Appends begun held text))
     → IfOk r (λ status. IsWrittenLive updates requests status old new begun held)
-live_ran updates requests bs qs (Err e) old new begun held batches asked ran = tt
-live_ran None requests bs qs (Ok status) old new begun held batches asked ran = tt
-live_ran (Some kept) None bs qs (Ok status) old new begun held batches asked ran = tt
-live_ran (Some kept) (Some rows) bs qs (Ok status) old new begun held batches asked ran =
-    let is = ran (numbers_of false (rows_of kept) bs batches) in
-    (is.0, is.1, inr (bs, qs, batches, asked, is.2), is.3, is.4)
+live_ran updates requests bs qs r old new begun held batches asked ran = search rules
 
 -- If one of the streams is refused, and the run writes the line of this refusal and has the status
 -- 2, then the run is as `IsWrittenLive` says.
@@ -301,24 +255,10 @@ pub live_refused : (updates requests : Option (List ℕ)) (s : EarlyEnd) (r : Re
     → IfRefused s (λ line. IfSome updates (λ kept. IfSome requests (λ asked. AreInputsRefused (rows_of kept) (rows_of asked) line)))
     → IfOk r (λ status. status ≡ 2) → IfOk r (λ status. IsRefusalWritten s old new)
     → IfOk r (λ status. IsWrittenLive updates requests status old new held held)
-live_refused updates requests s (Err e) old new held refused two written = tt
-live_refused None requests s (Ok status) old new held refused two written = tt
-live_refused (Some kept) None s (Ok status) old new held refused two written = tt
-live_refused (Some kept) (Some asked) (early_end.Failed error) (Ok status) old new held refused two written = absurd written
-live_refused (Some kept) (Some asked) (early_end.Refused line) (Ok status) old new held refused two written =
-    (judge_line_text line, [], inl (refused, refl, two), written, Appends-nil held)
+live_refused updates requests s r old new held refused two written = search rules
 
 -- if the error of a live run names the index of a request, the stream of requests has a row at this
 -- index
 pub live_fault : (requests : Option (List ℕ)) (qs : List Request) (r : Result ℕ RunError) → IfSome requests (λ bytes. AreRequestsOf (rows_of bytes) qs)
     → IfErr r (IsRunFault (λ index version. (index < length qs) × (0 < version))) → IfErr r (IsLiveFault requests)
-live_fault requests qs (Ok status) asked fault = tt
-live_fault requests qs (Err e) asked (inl stream) = inr (inl stream)
-live_fault requests qs (Err e) asked (inr (inl worker)) = inr (inr (inl worker))
-live_fault None qs (Err e) asked (inr (inr stray)) = inr (inr (inr (stray.0, stray.1, stray.2, (tt, stray.3.1))))
-live_fault (Some bytes) qs (Err e) asked (inr (inr stray)) =
-    let below = stray.3.0 in
-    let same = ap length asked.asked in
-    let rows = length-map (rows_of bytes) row_of in
-    let asks = length-map {B = Result Row RowError} qs (λ (q : Request). Ok (row.Ask q)) in
-    inr (inr (inr (stray.0, stray.1, stray.2, (omega (arith, below, same, rows, asks), stray.3.1))))
+live_fault requests qs r asked fault = search (rules, length-map)

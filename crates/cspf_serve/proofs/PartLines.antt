@@ -39,11 +39,9 @@ part_written d version qs first end old mid new up before here =
 
 -- the first `m` elements of the first `end` elements are a prefix of the whole list
 taken_of_taken : {A : Type 0} (m end : ℕ) (xs : List A) → (n : ℕ) × (take n xs ≡ take m (take end xs))
-taken_of_taken zero end xs = (zero, refl)
-taken_of_taken (suc m) zero xs = (zero, refl)
-taken_of_taken (suc m) (suc end) [] = (zero, refl)
 taken_of_taken (suc m) (suc end) (x ∷ xs) =
     let rest = taken_of_taken m end xs in (suc rest.0, ap (λ l. x ∷ l) rest.1)
+taken_of_taken m end xs = (zero, refl)
 
 -- the requests before a part, followed by the first `count` requests of the part, are a prefix of
 -- all requests

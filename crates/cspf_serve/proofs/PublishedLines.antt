@@ -1,7 +1,7 @@
 -- The batches of a journal that are published, one after the other, and the lines of their
 -- versions.
-use Rattle.std.proofs.Common.{◌≡◌, ℕ, zero, suc, ◌+◌, ◌<◌, ◌≤◌, Bool, true, false, Option, Some, None, IfSome, List, [], ◌∷◌, ◌++◌, take, get_or, length, inl, inr, refl, sym, ap, ◌∙◌, subst, append_assoc, append-nil, add-one, arith, Result, Ok, Err, IfOk, IfErr}
-use Rattle.std.proofs.lemmas.Grind.{flat_map-append}
+use Rattle.std.proofs.Common.{◌≡◌, ℕ, zero, suc, ◌+◌, ◌<◌, ◌≤◌, Bool, true, false, Option, IfSome, List, [], ◌∷◌, ◌++◌, take, get_or, length, refl, sym, ◌∙◌, subst, append-nil, add-one, arith, Result, Ok, Err, IfOk, IfErr, rules}
+use Rattle.std.proofs.lemmas.Grind.{flat_map-append, common_steps}
 use Rattle.std.proofs.Math.Seq.{take-suc}
 use Rattle.std.specs.Option.{option_map}
 use Rattle.cspf_model.specs.declared.refusal.Refusal.{Refusal}
@@ -11,7 +11,6 @@ use Rattle.cspf_model.specs.Refusals.{IsRefusal}
 use Rattle.cspf_publish.specs.ApplyErrors.{IsApplyError}
 use Rattle.cspf_publish.specs.PublisherStates.{PublisherState}
 use Rattle.cspf_publish.specs.declared.errors.ApplyError.{ApplyError}
-use Rattle.cspf_publish.specs.declared.errors.ApplyError.TheVariants as error
 use Rattle.cspf_rows.specs.declared.journal.Rest.{Rest}
 use Rattle.cspf_rows.specs.declared.journal.Rest.TheVariants as rest
 use Rattle.cspf_rows.specs.declared.journal.reader.JournalReader.{JournalReader}
@@ -69,79 +68,43 @@ last_number first (x ∷ bs) b numbered = let is = last_number (first + 1) bs b 
 shown_unfit : {W : Type 0} (contents : W → Option (List ℕ)) (p after : PublisherState W) (b : NumberedChanges) (e : ApplyError) (line : List ℕ)
     → b.number ≡ length p.batches + 1 → length p.batches + 1 ≤ 1000000 → IsApplyError contents p after b e → IsOwnFaultLine e b.number line
     → (why : Refusal) × IsRefusal (database_after p.batches) b why × (line ≡ refused_batch_line b.number (refusal.Unfit why))
-shown_unfit contents p after b error.Stopped line number room is shown = absurd shown
-shown_unfit contents p after b error.Exhausted line number room is shown = let full = is.1 in absurd (omega arith)
-shown_unfit contents p after b (error.WrongNumber expected) line number room is shown = absurd (is.1 number)
-shown_unfit contents p after b (error.Refused why) line number room is shown = (why, is.2, shown)
-shown_unfit contents p after b error.Memory line number room is shown = absurd shown
-shown_unfit contents p after b (error.Journal written) line number room is shown = absurd shown
+shown_unfit contents p after b e line number room is shown = search rules
 
 -- if the batch after the published batches is refused by a line, it doesn't fit
 pub unfit_here : {W : Type 0} (contents : W → Option (List ℕ)) (p after : PublisherState W) (given : List NumberedChanges) (b : NumberedChanges) (e : ApplyError) (line : List ℕ)
     → AreNumberedFrom 1 (given ++ (b ∷ [])) → length given + 1 ≤ 1000000 → p.batches ≡ given → after.batches ≡ p.batches
     → IsApplyError contents p after b e → IsOwnFaultLine e b.number line → IsUnfitBehind (given ++ (b ∷ [])) after.batches line
-unfit_here contents p after given b e line numbered room published same is shown =
-    let count : length p.batches ≡ length given = ap length published in
-    let number : b.number ≡ length p.batches + 1 = last_number 1 given b numbered ∙ omega arith in
-    let unfit = shown_unfit contents p after b e line number (omega arith) is shown in
-    record {
-      batch = b;
-      after = [];
-      split = rw (same, published) refl;
-      why = unfit.0;
-      refused = subst (λ (l : List NumberedChanges). IsRefusal (database_after l) b unfit.0) (sym same) unfit.1;
-      is_line = unfit.2;
-    }
-
--- if a batch doesn't fit, no later batch is published either
-pub unfit_more : (given published : List NumberedChanges) (b : NumberedChanges) (line : List ℕ) → IsUnfitBehind given published line
-    → IsUnfitBehind (given ++ (b ∷ [])) published line
-unfit_more given published b line is = record {
-  batch = is.batch;
-  after = is.after ++ (b ∷ []);
-  split = ap (λ (l : List NumberedChanges). l ++ (b ∷ [])) is.split ∙ append_assoc published (is.batch ∷ is.after) (b ∷ []);
-  why = is.why;
-  refused = is.refused;
-  is_line = is.is_line;
-}
+unfit_here contents p after given b e line numbered room published same is shown = search (rules, last_number, shown_unfit)
 
 -- ---- the whole journal is read
 
 module _ (accept_torn : Bool) (given published : List NumberedChanges) (unfit : Option JudgeLine) (is : ArePublishedOrRefused given published unfit) where
   accepted : (rows : Records) (left : Rest) → (left ≡ rest.Torn → accept_torn ≡ true) → IsJournal rows given left → length rows ≤ 1000000 → AreBatchesOf accept_torn rows given
-  accepted rows rest.Clean torn journal few = record { few = few; journal = inl journal }
-  accepted rows rest.Torn torn journal few = record { few = few; journal = inr (journal, torn refl) }
+  accepted rows left torn journal few = grind (arith, common_steps)
 
   -- The journal that was read has the batches `given`. All of them are published, or only the
   -- batches before the first batch that doesn't fit.
   pub journal_read : (all : Option (List (List (List ℕ)))) (left : Rest) → (left ≡ rest.Torn → accept_torn ≡ true)
       → IfSome all (λ rows. IsJournal rows given left × (length rows ≤ 1000000))
       → IfSome all (λ rows. (batches : List NumberedChanges) × AreBatchesOf accept_torn rows batches × ArePublishedOrRefused batches published unfit)
-  journal_read None left torn journal = tt
-  journal_read (Some rows) left torn journal = (given, accepted rows left torn journal.0 journal.1, is)
+  journal_read all left torn journal = search rules
 
 -- if rows follow the last batch of a journal and `accept_torn` is false, the journal is refused
 pub journal_torn : (accept_torn : Bool) (given : List NumberedChanges) (count : ℕ) (all : Option (List (List (List ℕ)))) (left : Rest) (line : List ℕ)
     → length given ≡ count → IfSome all (λ rows. IsJournal rows given left × (length rows ≤ 1000000))
     → (left ≡ rest.Torn) × (accept_torn ≡ false) × (line ≡ torn_line count) → IfSome all (λ rows. IsJournalRefused accept_torn rows line)
-journal_torn accept_torn given count None left line counted journal is = tt
-journal_torn accept_torn given count (Some rows) left line counted journal is =
-    inr (journal.1, is.1, (given, rw is.0 at journal.0, rw counted is.2))
+journal_torn accept_torn given count all left line counted journal is = search rules
 
 -- if a journal has too many rows, this line refuses the journal; other faults of reading have no
 -- line
 pub journal_unread : (accept_torn : Bool) (all : Option (List (List (List ℕ)))) (why : ReadError) (line : List ℕ)
     → (why ≡ read_error.TooManyRows → IfSome all (λ rows. 1000000 < length rows)) → IsJournalLine why line → IfSome all (λ rows. IsJournalRefused accept_torn rows line)
-journal_unread accept_torn all read_error.Memory line many is = absurd is
-journal_unread accept_torn all read_error.Device line many is = absurd is
-journal_unread accept_torn None read_error.TooManyRows line many is = tt
-journal_unread accept_torn (Some rows) read_error.TooManyRows line many is = inl (many refl, is)
+journal_unread accept_torn all why line many is = search rules
 
 -- ---- the bytes of a journal
 
 of_bytes : (bytes : Option (List ℕ)) (Holds : Records → Type 0) → IfSome (option_map rows_of bytes) Holds → IfSome bytes (λ text. Holds (rows_of text))
-of_bytes None Holds is = tt
-of_bytes (Some text) Holds is = is
+of_bytes bytes Holds is = search rules
 
 module _ {R : Type 0} (accept_torn : Bool) (rem : R → Option (List ℕ)) (reader : JournalReader R) (bytes : Option (List ℕ)) where
   -- If the published batches are right for any records that the journal's reader may have read,
@@ -160,7 +123,6 @@ module _ {R : Type 0} (accept_torn : Bool) (rem : R → Option (List ℕ)) (read
       → IfErr r (λ end. IfRefused end (λ line. (all : Option (List (List (List ℕ)))) → HasGiven rem all reader []
       → IfSome all (λ rows. IsJournalRefused accept_torn rows line)))
       → IfErr r (λ end. IfRefused end (λ line. IfSome bytes (λ text. IsJournalRefused accept_torn (rows_of text) line)))
-  refused_of_bytes (Ok unfit) none is = tt
-  refused_of_bytes (Err (early_end.Failed e)) none is = tt
   refused_of_bytes (Err (early_end.Refused line)) none is =
       of_bytes bytes (λ rows. IsJournalRefused accept_torn rows (judge_line_text line)) (is (option_map rows_of bytes) none)
+  refused_of_bytes r none is = tt

@@ -1,11 +1,10 @@
 -- The rows of a journal, followed by the rows of the requests, are one stream that a single run
 -- answers.
-use Rattle.std.proofs.Common.{◌≡◌, ℕ, ◌+◌, ◌<◌, ◌≤◌, ◌⊎◌, true, false, Bool, List, [], ◌∷◌, ◌++◌, map, take, length, length-append, Result, Ok, inl, inr, refl, sym, ap, subst, ◌∙◌, append_assoc, append-nil, arith}
+use Rattle.std.proofs.Common.{◌≡◌, ℕ, ◌+◌, ◌<◌, ◌≤◌, ◌⊎◌, true, false, Bool, List, [], ◌∷◌, ◌++◌, map, take, length, length-append, Result, Ok, inl, inr, refl, sym, ap, subst, ◌∙◌, append_assoc, append-nil, arith, rules}
 use Rattle.std.proofs.lemmas.Bool.{le-ltb}
 use Rattle.std.proofs.lemmas.List.{map-append, length-map, take_all}
 use Rattle.cspf_rows.specs.Records.{Records}
 use Rattle.cspf_model.specs.declared.batch.Change.{Change}
-use Rattle.cspf_model.specs.declared.batch.Change.TheVariants as change
 use Rattle.cspf_model.specs.declared.request.Request.{Request}
 use Rattle.cspf_model.specs.Numbered.{NumberedChanges, AreNumberedFrom}
 use Rattle.cspf_model.specs.Changes.{database_after, after_changes, AreLawfulAfter, Fits}
@@ -62,41 +61,28 @@ none_after s = record { after = s; answered = (refl, refl); accepted_are = refl;
 row_after : (s t : RunState) (fields : List (List ℕ)) (rows : Records) (line lines : List ℕ) (accepted : List NumberedChanges) (changes : List Change)
     → IsRowAnswered (at_next_row s) (row_of fields) line t → IsAfter t rows lines accepted changes → IsAfter s (fields ∷ rows) (line ++ lines) accepted changes
 unfolding AreRowsAnswered
-row_after s t fields rows line lines accepted changes here rest = record {
-  after = rest.after;
-  answered = (line, t, lines, here, refl, rest.answered);
-  accepted_are = rest.accepted_are;
-  changes_are = rest.changes_are;
-}
+row_after s t fields rows line lines accepted changes here rest = search rules
 
 -- if the rows `xs` are answered, and then the rows `ys`, the rows of both lists are answered in
 -- this order
 rows_after : (s : RunState) (xs ys : Records) (l m : List ℕ) (a b : List NumberedChanges) (c d : List Change)
     → (first : IsAfter s xs l a c) → IsAfter first.after ys m b d → IsAfter s (xs ++ ys) (l ++ m) b d
-rows_after s xs ys l m a b c d first second = record {
-  after = second.after;
-  answered = AreAnswered-append s first.after second.after xs ys l m first.answered second.answered;
-  accepted_are = second.accepted_are;
-  changes_are = second.changes_are;
-}
+rows_after s xs ys l m a b c d first second = search (rules, AreAnswered-append)
 
 change_answered : (s : RunState) (c : Change) (read : ReadRow) → read ≡ Ok (change_row c) → IsRowAnswered s read [] (after_change_row s c)
-change_answered s (change.Put link) read is = rw is (refl, refl)
-change_answered s (change.Remove from local) read is = rw is (refl, refl)
-change_answered s (change.Node router transit) read is = rw is (refl, refl)
+change_answered s c read is = search rules
 
 -- The rows of changes have no lines. After these rows the changes are open: they wait for the `end`
 -- row of their batch.
 changes_after : (s : RunState) (cs : List Change) (xs : Records) → map row_of xs ≡ read_rows (map change_row cs) → IsAfter s xs [] s.accepted (s.changes ++ cs)
 changes_after s [] [] are = rw (append-nil s.changes) (none_after s)
-changes_after s [] (x ∷ xs) are = absurd (cc)
-changes_after s (c ∷ cs) [] are = absurd (cc)
 changes_after s (c ∷ cs) (x ∷ xs) are =
     let head : row_of x ≡ Ok (change_row c) = cc in
     let rest : map row_of xs ≡ read_rows (map change_row cs) = cc in
     let t = after_change_row (at_next_row s) c in
     row_after s t x xs [] [] s.accepted (s.changes ++ (c ∷ cs)) (change_answered (at_next_row s) c (row_of x) head)
     (rw (← append_assoc s.changes (c ∷ []) cs) (changes_after t cs xs rest))
+changes_after s cs xs are = absurd (cc)
 
 -- the records `xs` are split in two: the first part is read as the rows `ys`, and the second part
 -- as the rows `zs`
@@ -126,23 +112,17 @@ records_cut (x ∷ xs) (y ∷ ys) zs are =
 -- accepted
 end_after : (s : RunState) (number count : ℕ) (xs : Records) → IsAccepted (at_next_row s) number count → map row_of xs ≡ Ok (row.End number count) ∷ []
     → IsAfter s xs (version_line number) (s.accepted ++ (open_batch s number ∷ [])) []
-end_after s number count [] accepted are = absurd (cc)
-end_after s number count (x ∷ y ∷ xs) accepted are = absurd (cc)
 end_after s number count (x ∷ []) accepted are =
     let head : row_of x ≡ Ok (row.End number count) = cc in
     let t = after_batch (at_next_row s) number in
     let here : IsRowAnswered (at_next_row s) (row_of x) (version_line number) t = rw head (inl (accepted, refl, refl)) in
     rw (← append-nil (version_line number)) (row_after s t x [] (version_line number) [] (s.accepted ++ (open_batch s number ∷ [])) [] here (none_after t))
+end_after s number count xs accepted are = absurd (cc)
 
 -- a batch is accepted if it has the next number, and fits the database of the accepted batches
 accepted_next : (s t : RunState) (b : NumberedChanges) → t.accepted ≡ s.accepted → t.changes ≡ b.changes → length s.accepted < 1000000
     → b.number ≡ length s.accepted + 1 → Fits (database_after s.accepted) b → IsAccepted (at_next_row t) b.number (length b.changes)
-accepted_next s t b accepted changes room next fits = record {
-  room = rw accepted room;
-  next = rw accepted next;
-  counted = rw changes refl;
-  fits = rw (accepted, changes) fits;
-}
+accepted_next s t b accepted changes room next fits = search rules
 
 batch_after : (s : RunState) (b : NumberedChanges) (xs : Records) → s.changes ≡ [] → length s.accepted < 1000000 → b.number ≡ length s.accepted + 1
     → Fits (database_after s.accepted) b → map row_of xs ≡ read_rows (batch_rows b) → IsAfter s xs (version_line b.number) (s.accepted ++ (b ∷ [])) []
@@ -177,8 +157,6 @@ journal_after more s (b ∷ bs) xs none numbers lawful few are =
 requests_after : (s : RunState) (qs : List Request) (xs : Records) (lines : List ℕ) → AreRequests xs qs
     → AreReplies (database_after s.accepted) (length s.accepted) qs lines → IsAfter s xs lines s.accepted s.changes
 requests_after s [] [] lines are replies = rw replies (none_after s)
-requests_after s [] (x ∷ xs) lines are replies = absurd (cc)
-requests_after s (q ∷ qs) [] lines are replies = absurd (cc)
 requests_after s (q ∷ qs) (x ∷ xs) lines are replies =
     let head : row_of x ≡ Ok (row.Ask q) = cc in
     let rest : AreRequests xs qs = cc in
@@ -186,6 +164,7 @@ requests_after s (q ∷ qs) (x ∷ xs) lines are replies =
     let reply = replies.2 in
     let here : IsRowAnswered (at_next_row s) (row_of x) replies.0 t = rw head (reply.0, reply.1, reply.2, refl) in
     rw replies.3 (row_after s t x xs replies.0 replies.1 s.accepted s.changes here (requests_after t qs xs replies.1 rest replies.4))
+requests_after s qs xs lines are replies = absurd (cc)
 
 -- there are at most as many batches as rows, since each batch has at least one row
 few_batches : (bs : List NumberedChanges) → length bs ≤ length (journal_rows bs)
@@ -231,9 +210,7 @@ accepted_run more journal requests bs qs lines clean asked accepted few =
 -- the journal
 whole_batches : IsOneJournal → (accept_torn : Bool) (journal : Records) (clean_ones bs : List NumberedChanges) → IsJournal journal clean_ones rest.Clean
     → IsJournal journal bs rest.Clean ⊎ (IsJournal journal bs rest.Torn × (accept_torn ≡ true)) → IsJournal journal bs rest.Clean
-whole_batches one accept_torn journal clean_ones bs clean (inl found) = found
-whole_batches one accept_torn journal clean_ones bs clean (inr torn) =
-    absurd (let same : rest.Clean ≡ rest.Torn = (one journal clean_ones bs rest.Clean rest.Torn clean torn.0).1 in cc)
+whole_batches one accept_torn journal clean_ones bs clean h3 = search rules
 
 pub lines_are_a_script : IsOneJournal → OneMoreBatch → AreLinesOfAScript
 lines_are_a_script one more accept_torn journal requests lines clean few (inl refused) = absurd (omega (arith, refused.1))

@@ -1,6 +1,6 @@
 -- The clients of a run: before their threads run, after their rows are answered, and their results.
-use Rattle.std.proofs.Common.{◌≡◌, ◌+◌, ◌<◌, ◌⊎◌, ℕ, suc, false, Option, List, [], ◌∷◌, ◌++◌, All, length, Result, Ok, Err, inl, inr, refl, sym, ap, subst, ◌∙◌, arith}
-use Rattle.std.proofs.lemmas.Bool.{cases_lt}
+use Rattle.std.proofs.Common.{◌≡◌, ◌+◌, ◌<◌, ◌⊎◌, ℕ, suc, false, Option, List, [], ◌∷◌, ◌++◌, All, length, Result, inr, refl, sym, ap, subst, ◌∙◌, arith, rules}
+use Rattle.std.proofs.lemmas.Grind.{common_steps}
 use Rattle.std.specs.List.{AllZip}
 use Rattle.std.proofs.lemmas.List.Elements.{All-head, All-tail}
 use Rattle.logbook.specs.Pages.{Book}
@@ -8,16 +8,14 @@ use Rattle.cspf_model.specs.Numbered.{NumberedChanges}
 use Rattle.cspf_publish.specs.PublisherStates.{PublisherState}
 use Rattle.cspf_client.specs.declared.client.Client.{Client}
 use Rattle.cspf_client.specs.declared.client.ServedClient.{ServedClient}
-use Rattle.cspf_client.specs.declared.error.ClientError.TheVariants.{Ahead}
-use Rattle.cspf_publish.specs.Histories.{BeginsWith}
-use Rattle.cspf_publish.specs.JournalSteps.{KnownSteps, batches_of, count_of}
+use Rattle.cspf_publish.specs.JournalSteps.{KnownSteps, count_of}
 use Rattle.cspf_publish.specs.KnownBatches.{KnownBatches, AreFirstOf}
 use Rattle.cspf_client.specs.SessionStates.{AreFirstSteps}
 use Rattle.cspf_client.specs.ServingStates.{ServingState, HasMet}
 use Rattle.cspf_stream.specs.RowAnswers.{AreAllAnswered}
 use Rattle.cspf_stream.specs.declared.error.StreamError.{StreamError}
 use Rattle.cspf_stream.specs.Lines.{end_line}
-use Rattle.cspf_serve.specs.ServedRun.{AreStepsOfRun, AreServedFrom, IsServedClient, IsServedRun, IsServedStatus, IsUpdateAnsweredAt, IsLastLineSaid, IsUpdatesRun}
+use Rattle.cspf_serve.specs.ServedRun.{AreServedFrom, IsServedClient, IsServedRun, IsServedStatus, IsUpdateAnsweredAt, IsLastLineSaid, IsUpdatesRun}
 use Rattle.cspf_jobs.specs.Jobs.{AreDone}
 use Rattle.cspf_client.proofs.Prefixes.{IsPrefix-trans}
 use Rattle.cspf_rows.specs.Records.{rows_of}
@@ -29,7 +27,6 @@ use Rattle.cspf_serve.specs.declared.serving.served_run.ClientSeat.{ClientSeat}
 use Rattle.cspf_serve.specs.Updates.{UpdatesState, no_updates}
 use Rattle.cspf_stream.specs.OpenChanges.{AreOpen}
 use Rattle.cspf_serve.specs.UpdatesStates.{KeptUpdates, KeepsUpdates, IsFresh}
-use Rattle.std.proofs.KnownBytes.{Appends-nil}
 use Rattle.cspf_serve.proofs.Pairs.{numbered_second, numbered_through, pairs_with}
 
 abbrev Rows : Type 0
@@ -40,9 +37,8 @@ module _ {Q V : Type 0} (bytes : Q → Option (List ℕ)) (contents : V → Opti
   -- thread needs
   pub ready_of : (seats : List ClientSeat) (clients : List (Client Q V)) → length seats ≡ length clients → AllZip (λ (s : ClientSeat) (c : Client Q V). Unit {0}) seats clients
   ready_of [] [] long = tt
-  ready_of [] (c ∷ clients) long = absurd (omega (arith, long))
-  ready_of (s ∷ seats) [] long = absurd (omega (arith, long))
   ready_of (s ∷ seats) (c ∷ clients) long = (tt, ready_of seats clients (omega (arith, long)))
+  ready_of seats clients long = absurd (omega (arith, long))
 
   -- Each client was answered from its seat, which has all that the client's thread needs. The seats
   -- have askers of one publisher, and are numbered from `n` on. Then each client was answered by an
@@ -51,15 +47,12 @@ module _ {Q V : Type 0} (bytes : Q → Option (List ℕ)) (contents : V → Opti
       → AreDone (λ (s : ClientSeat) (client : Client Q V) (c : ServingState Q V). IsAnswered bytes contents s.asker.source s.number client c) seats clients ran
       → AreNumberedPairs (IsAnswered bytes contents source) n clients ran
   answered_of n [] [] [] each numbers done = tt
-  answered_of n [] [] (r ∷ ran) each numbers done = absurd done
-  answered_of n [] (c ∷ clients) ran each numbers done = absurd done
-  answered_of n (s ∷ seats) [] ran each numbers done = absurd done
-  answered_of n (s ∷ seats) (c ∷ clients) [] each numbers done = absurd done
   answered_of n (s ∷ seats) (c ∷ clients) (r ∷ ran) each numbers done = (
     subst (λ (m : ℕ). IsAnswered bytes contents source m c r) numbers.0
         (subst (λ book. IsAnswered bytes contents book s.number c r) (All-head (IsSeat source) s seats each) done.0),
     answered_of (suc n) seats clients ran (All-tail (IsSeat source) s seats each) numbers.1 done.1,
   )
+  answered_of n seats clients ran each numbers done = absurd done
 
   -- after the clients have run, the batches that they know, and the steps that they have seen, are
   -- still from the publisher's journal (the source is its identity)
@@ -100,55 +93,19 @@ module _ {Q V : Type 0} (bytes : Q → Option (List ℕ)) (contents : V → Opti
       → (t : UpdatesState) × KeepsUpdates recorded first left t × IsUpdatesRun ended (option_map rows_of updates) t (said writer) (said written)
       → AreNumberedPairs (IsAnswered bytes contents source) 1 clients ran → IsClosedRun recorded ended written left ran served
       → IsServedRun updates said recorded bytes contents writer first.journal clients served
-  served_run said recorded updates writer written first left clients ran ended served run answered closed =
-      let t = run.0 in
-      let published = run.1.published in
-      record {
-        state = t;
-        updates_run = rw (closed.ended_is, closed.said_is) run.2;
-        journal_grown = rw closed.journal_is published.journal;
-        steps_of_run = record {
-          journal = closed.journal;
-          recorded = subst (λ (bs : List NumberedChanges). BeginsWith (batches_of served.steps.steps) bs) published.batches closed.counted.recorded;
-          counted = omega (arith, closed.counted.counted, ap length published.batches);
-          later = IsPrefix-trans t.steps left.sink.steps.steps served.steps.steps published.steps closed.later;
-        };
-        clients_served =
-            served_of t.run.accepted served.steps clients ran served.clients.items answered
-            (subst (λ (bs : List NumberedChanges). AllZip (IsServedEnd bs) ran served.clients.items) published.batches closed.closed) closed.seen;
-        status_is = closed.status first t run.1;
-      }
+  served_run said recorded updates writer written first left clients ran ended served run answered closed = grind (arith, common_steps, IsPrefix-trans, served_of)
 
 -- all rows of the updates are answered, and then the last line is written, or writing it fails
 pub updates_run : (said : Result (Unit {0}) StreamError) (all : Option Rows) (t : UpdatesState) (old mid new : Option (List ℕ))
     → AreAllAnswered IsUpdateAnsweredAt all no_updates t old mid → IsLastLineSaid said (end_line t.run.changes) mid new → IsUpdatesRun said all t old new
-updates_run (Ok done) all t old mid new answered last = record { mid = mid; answered = answered; last = last }
-updates_run (Err error) all t old mid new answered last = inr (record { mid = mid; answered = answered; last = last })
-
-no_change : {A : Type 0} (xs : List A) → length xs ≡ 0 → xs ≡ []
-no_change [] none = refl
-no_change (x ∷ xs) none = absurd (omega (arith, none))
+updates_run said all t old mid new answered last = search rules
 
 module _ {J V : Type 0} (contents : J → Option (List ℕ)) (first : PublisherState J) (k : KeptUpdates J) (t : UpdatesState) (kept : KeepsUpdates contents first k t) (clients : List (ServedClient V)) where
   pub status_accepted : ¬ ((0 < k.refused) ⊎ (0 < k.changes.count)) → All (λ (c : ServedClient V). c.refused ≡ 0) clients → IsServedStatus t clients 0
-  status_accepted not each = inl (
-    record {
-      refused = elim (cases_lt 0 k.refused) [
-        | inl less ↦ absurd (not (inl less))
-        | inr none ↦ omega (arith, none, kept.refused)
-      ];
-      none_open = no_change t.run.changes (elim (cases_lt 0 k.changes.count) [
-        | inl less ↦ absurd (not (inr less))
-        | inr none ↦ omega (arith, none, kept.changes.count)
-      ]);
-      each = each;
-    },
-    refl,
-  )
+  status_accepted not each = search rules
 
   pub status_refused : (0 < k.refused) ⊎ (0 < k.changes.count) → IsServedStatus t clients 2
-  status_refused (inl less) = inr ((λ all. omega (arith, less, kept.refused, all.refused)), refl)
-  status_refused (inr less) = inr ((λ all. omega (arith, less, kept.changes.count, ap length all.none_open)), refl)
+  status_refused h1 = search rules
 
   pub status_of_clients : ¬ All (λ (c : ServedClient V). c.refused ≡ 0) clients → IsServedStatus t clients 2
   status_of_clients not = inr ((λ all. not all.each), refl)
@@ -160,24 +117,7 @@ pub closed_of : {Q V : Type 0} (published : List NumberedChanges) (told knew : K
     → met ≡ record old { state = record old.state { known = met.state.known }; end = met.end }
     → AreFirstOf met.state.known old.state.known → HasMet told old met
     → served ≡ record { replies = met.replies; end = met.end; refused = met.state.refused; steps = met.state.steps; known = knew } → IsServedEnd published old served
-closed_of {Q} {V} published told knew old met served batches was others known has left =
-    let now : served.known ≡ old.state.known = ap (λ (x : ServedClient V). x.known) left ∙ was in
-    record {
-      replies = ap (λ (x : ServedClient V). x.replies) left ∙ ap (λ (x : ServingState Q V). x.replies) others;
-      refused = ap (λ (x : ServedClient V). x.refused) left ∙ ap (λ (x : ServingState Q V). x.state.refused) others;
-      steps = ap (λ (x : ServedClient V). x.steps) left ∙ ap (λ (x : ServingState Q V). x.state.steps) others;
-      known = now;
-      end = subst (λ (k : KnownBatches). ((served.end ≡ old.end) × BeginsWith published k.batches) ⊎ ((served.end ≡ Err Ahead) × (length published < length k.batches))) (sym now) (elim has [
-        | inl is ↦ inl (
-          ap (λ (x : ServedClient V). x.end) left ∙ is.1,
-          subst (λ (bs : List NumberedChanges). BeginsWith bs old.state.known.batches) (ap (λ (k : KnownBatches). k.batches) is.0 ∙ batches) known.begins,
-        )
-        | inr is ↦ inr (
-          ap (λ (x : ServedClient V). x.end) left ∙ is.1,
-          subst (λ (bs : List NumberedChanges). length bs < length old.state.known.batches) batches is.0.1,
-        )
-      ]);
-    }
+closed_of published told knew old met served batches was others known has left = search rules
 
 -- if the seats of clients are numbered from `n` on, and a seat with the next number is added at the
 -- end, all seats are numbered from `n` on
@@ -188,14 +128,4 @@ seats_more n (s ∷ seats) seat all is = (all.0, seats_more (suc n) seats seat a
 -- a publisher that has no batches yet is in the state before the first row of the updates
 pub begins : {J : Type 0} (contents : J → Option (List ℕ)) (p : PublisherState J) (k : KeptUpdates J) → k.sink.publisher ≡ p → p.batches ≡ [] → p.stopped ≡ false
     → AreOpen k.changes [] → IsFresh k → KeepsUpdates contents p k no_updates
-begins {J} contents p k same none going open_none fresh = record {
-  published = record {
-    source = ap (λ (x : PublisherState J). x.source) same;
-    batches = ap (λ (x : PublisherState J). x.batches) same ∙ none;
-    stopped = ap (λ (x : PublisherState J). x.stopped) same ∙ going;
-    journal = rw same (Appends-nil (contents p.journal));
-    steps = (k.sink.steps.steps, refl);
-  };
-  changes = open_none;
-  refused = fresh.clean;
-}
+begins contents p k same none going h4 fresh = search rules

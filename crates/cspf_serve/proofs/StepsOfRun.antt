@@ -1,10 +1,9 @@
 -- The steps of a journal that the publisher of a run saw, and the steps that its clients saw, are
 -- in one list of steps.
-use Rattle.std.proofs.Common.{◌≡◌, ◌+◌, ◌<◌, ◌≤◌, ℕ, List, All, length, take, get_or, sym, subst, ap, ◌∙◌, arith}
+use Rattle.std.proofs.Common.{◌≡◌, ◌+◌, ◌<◌, ◌≤◌, ℕ, List, All, length, take, get_or, sym, subst, rules}
 use Rattle.std.proofs.lemmas.List.Elements.{All-more, All-weaker}
 use mathlib.Core.List.{IsPrefix}
 use Rattle.logbook.specs.Pages.{Book}
-use Rattle.cspf_model.specs.Numbered.{NumberedChanges}
 use Rattle.cspf_publish.specs.Histories.{BeginsWith}
 use Rattle.cspf_publish.specs.JournalSteps.{KnownSteps, batches_of, count_of}
 use Rattle.cspf_publish.specs.PublisherStates.{PublisherState}
@@ -17,37 +16,22 @@ use Rattle.cspf_serve.specs.UpdatesStates.{AreAllCounted}
 -- Some steps count all batches of a publisher as published. They also count all batches of another
 -- publisher with the same batches and the same journal (the source is its identity).
 pub counted_again : {J : Type 0} (p q : PublisherState J) (steps : KnownSteps) → AreAllCounted p steps → q.batches ≡ p.batches → q.source ≡ p.source → AreAllCounted q steps
-counted_again p q steps are same source = record {
-  source = are.source ∙ sym source;
-  recorded = subst (λ (bs : List NumberedChanges). BeginsWith (batches_of steps.steps) bs) (sym same) are.recorded;
-  counted = omega (arith, are.counted, ap length same);
-}
+counted_again p q steps are same source = search rules
 
 -- if some steps of a journal count all batches of the publisher as published, later steps of this
 -- journal count them, too
 pub counted_by : {J : Type 0} (p : PublisherState J) (its new : KnownSteps) → new.source ≡ p.source → count_of its.steps ≡ length p.batches → BeginsWith (batches_of its.steps) p.batches
     → BeginsWith (batches_of new.steps) (batches_of its.steps) → count_of its.steps ≤ count_of new.steps → AreAllCounted p new
-counted_by p its new source count recorded begins later = record {
-  source = source;
-  recorded = BeginsWith-trans p.batches (batches_of its.steps) (batches_of new.steps) recorded begins;
-  counted = omega (arith, count, later);
-}
+counted_by p its new source count recorded begins later = search (rules, BeginsWith-trans)
 
 -- if the steps `old` count all batches of the publisher as published, later steps of the same
 -- journal count them, too
 pub counted_later : {J : Type 0} (p : PublisherState J) (old new : KnownSteps) → AreAllCounted p old → new.source ≡ old.source → BeginsWith (batches_of new.steps) (batches_of old.steps)
     → count_of old.steps ≤ count_of new.steps → AreAllCounted p new
-counted_later p old new are source begins later = record {
-  source = source ∙ are.source;
-  recorded = BeginsWith-trans p.batches (batches_of old.steps) (batches_of new.steps) are.recorded begins;
-  counted = omega (arith, are.counted, later);
-}
+counted_later p old new are source begins later = search (rules, BeginsWith-trans)
 
 pub first_later : (first old new : KnownSteps) → AreFirstSteps old first → new.source ≡ old.source → IsPrefix old.steps new.steps → AreFirstSteps new first
-first_later first old new are source later = record {
-  source = are.source ∙ sym source;
-  begins = IsPrefix-trans first.steps old.steps new.steps are.begins later;
-}
+first_later first old new are source later = search (rules, IsPrefix-trans)
 
 -- the steps that a client has seen are steps of the publisher's journal
 pub seen_source : {Q V : Type 0} (clients : List (ServingState Q V)) (i : ℕ) (c : ServingState Q V) (source : Book) → i < length clients → c ≡ get_or clients i c

@@ -1,8 +1,7 @@
 -- The state of a run's updates changes with each row.
-use Rattle.std.proofs.Common.{◌≡◌, ◌≢◌, ℕ, ◌+◌, false, true, Option, List, [], ◌∷◌, ◌++◌, take, length, Result, Ok, Err, inl, inr, refl, sym, ap, subst, ◌∙◌, arith, append-nil}
+use Rattle.std.proofs.Common.{◌≡◌, ◌≢◌, ℕ, ◌+◌, false, true, Option, List, [], ◌∷◌, ◌++◌, take, length, Result, Ok, Err, inl, inr, refl, sym, ap, subst, ◌∙◌, arith, append-nil, rules}
 use Rattle.std.proofs.KnownBytes.{Appends-trans}
 use Rattle.std.proofs.lemmas.Bool.{false≢true}
-use mathlib.Core.List.{IsPrefix}
 use Rattle.cspf_client.proofs.Prefixes.{IsPrefix-trans}
 use Rattle.cspf_model.specs.Laws.{RefusedIsUnfit}
 use Rattle.cspf_model.specs.Numbered.{NumberedChanges}
@@ -20,7 +19,7 @@ use Rattle.cspf_rows.specs.declared.row.Row.TheVariants as row
 use Rattle.cspf_rows.specs.declared.row_error.RowError.{RowError}
 use Rattle.cspf_stream.specs.EndRows.{IsRightEnd, IsStoppedOrWrong}
 use Rattle.cspf_stream.specs.Lines.{refused_batch_line}
-use Rattle.cspf_stream.specs.OpenChanges.{AreKeptChanges, AreOpen}
+use Rattle.cspf_stream.specs.OpenChanges.{AreKeptChanges}
 use Rattle.cspf_stream.specs.RowsTaken.{RowsState, KeepsRows, RowsLead, IsEndAccepted, IsEndRefused, IsBatchDropped, IsRowTaken, IsRowLost}
 use Rattle.cspf_stream.specs.declared.batch_refusal.BatchRefusal.{BatchRefusal}
 use Rattle.cspf_stream.specs.declared.batch_refusal.BatchRefusal.TheVariants as refusal
@@ -29,7 +28,7 @@ use Rattle.cspf_stream.proofs.BatchRefusals.{IsNotAccepted, wrong_end, unfit_end
 use Rattle.cspf_stream.proofs.KeptChanges.{kept_all, refusal_whole}
 use Rattle.cspf_solve.specs.Script.{RunState, open_batch, after_change_row, after_refused_row, after_refused_batch, after_reply, IsAccepted}
 use Rattle.cspf_serve.specs.LiveWords.{refusal_of}
-use Rattle.cspf_serve.specs.Updates.{UpdatesState, AreNowCounted, IsEndUpdate, IsUpdateAnswered, IsUpdateLost, at_next_update}
+use Rattle.cspf_serve.specs.Updates.{UpdatesState, IsEndUpdate, IsUpdateAnswered, IsUpdateLost, at_next_update}
 use Rattle.cspf_serve.specs.UpdatesStates.{CountedState, KeptUpdates, IsPublished, ArePublished, KeepsUpdates, IsUpdateTaken, IsUpdateFailed, publisher_spec, after_published}
 
 -- ---- the changes of a batch are a prefix of the open changes
@@ -44,14 +43,12 @@ module _ {J : Type 0} (contents : J → Option (List ℕ)) (p q : PublisherState
   published_whole is = subst (λ cs. IsPublished contents p q (record { number = b.number; changes = cs })) (all_open is.next) is
 
   pub apply_error_whole : (why : ApplyError) → IsApplyError contents p q b why → IsApplyError contents p q (record b { changes = all }) why
-  apply_error_whole error.Stopped is = is
-  apply_error_whole error.Exhausted is = is
-  apply_error_whole (error.WrongNumber expected) is = is
   apply_error_whole (error.Refused why) is = (is.0, is.1, refusal_whole (database_after p.batches) b.number b.changes all why front is.2, is.3)
   apply_error_whole error.Memory is =
       subst (λ cs. IsApplyError contents p q (record { number = b.number; changes = cs }) error.Memory) (all_open is.0) is
   apply_error_whole (error.Journal written) is =
       subst (λ cs. IsApplyError contents p q (record { number = b.number; changes = cs }) (error.Journal written)) (all_open is.0) is
+  apply_error_whole why is = is
 
 -- ---- the answer to a row
 
@@ -65,13 +62,7 @@ pub record IsOfUpdates {J : Type 0} (contents : J → Option (List ℕ)) (first 
 -- if two states have the same batches, steps and text, both describe the same publisher
 still_published : {J : Type 0} (contents : J → Option (List ℕ)) (first : PublisherState J) (c : CountedState J) (s t : UpdatesState) → ArePublished contents first c s
     → t.run.accepted ≡ s.run.accepted → t.stopped ≡ s.stopped → t.text ≡ s.text → t.steps ≡ s.steps → ArePublished contents first c t
-still_published contents first c s t are accepted stopped text steps = record {
-  source = are.source;
-  batches = are.batches ∙ sym accepted;
-  stopped = are.stopped ∙ sym stopped;
-  journal = rw text are.journal;
-  steps = rw steps are.steps;
-}
+still_published contents first c s t are accepted stopped text steps = search rules
 
 module _ {J : Type 0} (contents : J → Option (List ℕ)) (first : PublisherState J) (unfit : RefusedIsUnfit) (r : RowsState (CountedState J)) (s : UpdatesState) (of : IsOfUpdates contents first r s) where
   -- after a row, the code keeps a state that agrees with `after`, and `Says` holds of `after`
@@ -83,12 +74,7 @@ module _ {J : Type 0} (contents : J → Option (List ℕ)) (first : PublisherSta
 
   module _ (number count : ℕ) (line : List ℕ) (t : RowsState (CountedState J)) where
     right_accepted : IsRightEnd r.sink.publisher.stopped (length r.sink.publisher.batches) (length r.sink.publisher.batches + 1) number count (length r.changes) → IsNextBatch r.sink.publisher (record { number = number; changes = r.changes }) → IsAccepted s.run number count
-    right_accepted right next = record {
-      room = omega (arith, version, right.room);
-      next = omega (arith, version, right.next);
-      counted = right.counted ∙ ap length of.changes;
-      fits = rw (of.published.batches, of.changes) at next.follows.fits;
-    }
+    right_accepted right next = search rules
 
     accepted : IsEndAccepted (publisher_spec contents) r number count line t → Answered (IsEndUpdate s.stopped s number count line) t
     accepted a =
@@ -203,8 +189,7 @@ module _ {J : Type 0} (contents : J → Option (List ℕ)) (first : PublisherSta
         )
 
     dropped : (p : CountedState J) (why : BatchRefusal) → IsBatchDropped (publisher_spec contents) r.sink number count r.changes why p → IsEnded p (refused_batch_line number why)
-    dropped p why (inl is) = wrong p why is.1 is.0
-    dropped p why (inr (right, is)) = rw is.1 (unpublished p is.0 right is.2 is.3 is.4 is.5)
+    dropped p why h1 = search (rules, unpublished, wrong)
 
     refused : IsEndRefused (publisher_spec contents) r number count line t
         → Answered (λ after. IsEndUpdate s.stopped s number count line after × (after.run.accepted ≡ s.run.accepted)) t
@@ -222,11 +207,7 @@ module _ {J : Type 0} (contents : J → Option (List ℕ)) (first : PublisherSta
 
   -- the row of a change adds the change to the open changes, which wait for their `end` row
   changed : (c : Change) → IsOfUpdates contents first (record r { changes = r.changes ++ c ∷ [] }) (record s { run = after_change_row s.run c })
-  changed c = record {
-    published = still_published contents first r.sink s (record s { run = after_change_row s.run c }) of.published refl refl refl refl;
-    changes = ap (λ cs. cs ++ c ∷ []) of.changes;
-    refused = of.refused;
-  }
+  changed c = search rules
 
   row_taken : (t : RowsState (CountedState J)) (row : Result Row RowError) (line : List ℕ) → IsRowTaken (publisher_spec contents) s.run.rows r row line t → Answered (IsUpdateAnswered s row line) t
   row_taken t (Err why) line a = (
@@ -260,13 +241,9 @@ module _ {J : Type 0} (contents : J → Option (List ℕ)) (first : PublisherSta
   same_lost t row is = (s, rw is of, inl refl)
 
   row_lost : (t : RowsState (CountedState J)) (row : Result Row RowError) → IsRowLost (publisher_spec contents) r row t → Answered (IsUpdateLost s row) t
-  row_lost t (Err why) a = same_lost t (Err why) a
-  row_lost t (Ok (row.Put link)) a = same_lost t (Ok (row.Put link)) a
-  row_lost t (Ok (row.Remove from local)) a = same_lost t (Ok (row.Remove from local)) a
-  row_lost t (Ok (row.Node router transit)) a = same_lost t (Ok (row.Node router transit)) a
   row_lost t (Ok (row.End number count)) (inl a) = same_lost t (Ok (row.End number count)) a
   row_lost t (Ok (row.End number count)) (inr a) = let is = refused number count a.0 t a.1 in (is.0, is.1, inr (a.0, is.2.0, is.2.1))
-  row_lost t (Ok (row.Ask q)) a = same_lost t (Ok (row.Ask q)) a
+  row_lost t other a = same_lost t other a
 
 -- ---- the state that the code keeps
 
@@ -277,18 +254,10 @@ kept_of k = record { sink = k.sink; changes = k.changes; answers = k.answers; re
 module _ {J : Type 0} (contents : J → Option (List ℕ)) (unfit : RefusedIsUnfit) (k k' : Rows (CountedState J)) (place : ℕ) (fields : List (List ℕ)) where
   begun : (first : PublisherState J) (s : UpdatesState) → KeepsUpdates contents first (kept_of k) s
       → IsOfUpdates contents first (record { sink = k.sink; changes = s.run.changes; answers = k.answers; refused = k.refused }) (at_next_update s)
-  begun first s kept = record {
-    published = still_published contents first k.sink s (at_next_update s) kept.published refl refl refl refl;
-    changes = refl;
-    refused = kept.refused;
-  }
+  begun first s kept = search rules
 
   kept_again : (first : PublisherState J) (t : RowsState (CountedState J)) (s : UpdatesState) → KeepsRows k' t → IsOfUpdates contents first t s → KeepsUpdates contents first (kept_of k') s
-  kept_again first t s kept of = record {
-    published = rw kept.sink of.published;
-    changes = subst (λ cs. AreOpen k'.changes cs) of.changes kept.changes;
-    refused = kept.refused ∙ of.refused;
-  }
+  kept_again first t s kept of = search rules
 
   pub update_taken : (line : List ℕ) → RowsLead k k' (λ r t. IsRowTaken (publisher_spec contents) place r (row_of fields) line t) → IsUpdateTaken contents place (kept_of k) fields line (kept_of k')
   update_taken line lead = λ first s kept here.

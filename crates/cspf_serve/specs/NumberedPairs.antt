@@ -1,5 +1,5 @@
 -- A relation of two lists, element by element.
-use Rattle.std.specs.Prelude.{◌≡◌, ℕ, suc, ⊤, List, [], ◌∷◌}
+use Rattle.std.specs.Prelude.{ℕ, suc, ⊤, List, [], ◌∷◌}
 
 -- Both lists have the same length, and the relation `R` holds of the two elements at each position.
 -- `R` also depends on the number of the position, counted from `n`.

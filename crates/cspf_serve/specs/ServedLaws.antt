@@ -1,5 +1,5 @@
 -- Laws of all runs over updates and clients: how old a reply may be.
-use Rattle.std.specs.Prelude.{◌≡◌, ℕ, ◌^◌, ◌<◌, ◌≤◌, ◌⊎◌, Bool, Option, Some, List, [], ◌∷◌, ◌++◌, Result, Ok, Err}
+use Rattle.std.specs.Prelude.{◌≡◌, ℕ, ◌^◌, ◌<◌, ◌≤◌, ◌⊎◌, Bool, Option, Some, List, [], ◌∷◌, ◌++◌, Result, Ok}
 use Rattle.std.specs.Option.{option_map}
 use Rattle.cspf_journal.specs.declared.log_step.LogStep.{LogStep}
 use Rattle.cspf_journal.specs.declared.log_step.LogStep.TheVariants.{Recorded, Published, Read}
@@ -44,12 +44,8 @@ pub record IsFreshReply (steps : List LogStep) (client place : ℕ) (q : Request
 -- were published before the row was read. Other lines have no version, so nothing is stated about
 -- them.
 abbrev pub IsFreshLine : List LogStep → ℕ → ℕ → Result Row RowError → List ℕ → Type 0
-IsFreshLine steps client place (Err why) line = Unit {0}
-IsFreshLine steps client place (Ok (row.Put link)) line = Unit {0}
-IsFreshLine steps client place (Ok (row.Remove from local)) line = Unit {0}
-IsFreshLine steps client place (Ok (row.Node router transit)) line = Unit {0}
-IsFreshLine steps client place (Ok (row.End number count)) line = Unit {0}
 IsFreshLine steps client place (Ok (row.Ask q)) line = IsFreshReply steps client place q line
+IsFreshLine steps client place other line = Unit {0}
 
 -- The line that answers the row with the number `place` is as `IsFreshLine` says: the version of a
 -- reply is at least the version that was published before the row was read. Nothing is stated about

@@ -1,7 +1,7 @@
 -- Defines the lines for a stream of updates that is read while clients ask. A run over one stream
 -- of the same rows has the same lines, except after a fault of the journal or of memory. The number
 -- of rows has no limit.
-use Rattle.std.specs.Prelude.{◌≡◌, ℕ, ◌<◌, ◌≤◌, ◌⊎◌, Bool, true, false, List, [], ◌++◌, take, length, Result, Ok, Err}
+use Rattle.std.specs.Prelude.{◌≡◌, ℕ, ◌<◌, ◌≤◌, ◌⊎◌, Bool, true, false, List, [], ◌++◌, take, length, Result, Ok}
 use mathlib.Core.List.{IsPrefix}
 use Rattle.cspf_journal.specs.declared.log_step.LogStep.{LogStep}
 use Rattle.cspf_model.specs.Numbered.{NumberedChanges}
@@ -95,12 +95,8 @@ at_next_update s = record s { run = at_next_row s.run }
 
 -- the row is answered by this line, and `t` is the state after it; `s.run.rows` is the row's number
 abbrev pub IsUpdateAnswered : UpdatesState → Result Row RowError → List ℕ → UpdatesState → Type 0
-IsUpdateAnswered s (Err why) line t = IsOtherUpdate s (Err why) line t
-IsUpdateAnswered s (Ok (row.Put link)) line t = IsOtherUpdate s (Ok (row.Put link)) line t
-IsUpdateAnswered s (Ok (row.Remove from local)) line t = IsOtherUpdate s (Ok (row.Remove from local)) line t
-IsUpdateAnswered s (Ok (row.Node router transit)) line t = IsOtherUpdate s (Ok (row.Node router transit)) line t
 IsUpdateAnswered s (Ok (row.End number count)) line t = IsEndUpdate s.stopped s number count line t
-IsUpdateAnswered s (Ok (row.Ask q)) line t = IsOtherUpdate s (Ok (row.Ask q)) line t
+IsUpdateAnswered s other line t = IsOtherUpdate s other line t
 
 -- Memory is refused at a row, so the line of this row is missing. No batch is published without its
 -- line. The state is as before, or it changes as the missing line would have said: open changes

@@ -27,13 +27,11 @@ end_once one s number count l m t u (inr a) (inr b) =
 pub answered_once : OneBestAnswer → HasOneReplyLine → OneRefusal → (s : RunState) (r : Result Row RowError) (l m : List ℕ) (t u : RunState)
     → IsRowAnswered s r l t → IsRowAnswered s r m u → SameReply l t m u
 answered_once best reply one s (Err error) l m t u a b = (a.0 ∙ sym b.0, a.1 ∙ sym b.1)
-answered_once best reply one s (Ok (row.Put link)) l m t u a b = (a.0 ∙ sym b.0, a.1 ∙ sym b.1)
-answered_once best reply one s (Ok (row.Remove from local)) l m t u a b = (a.0 ∙ sym b.0, a.1 ∙ sym b.1)
-answered_once best reply one s (Ok (row.Node router transit)) l m t u a b = (a.0 ∙ sym b.0, a.1 ∙ sym b.1)
 answered_once best reply one s (Ok (row.End number count)) l m t u a b = end_once one s number count l m t u a b
 answered_once best reply one s (Ok (row.Ask q)) l m t u a b =
     let same : a.0 ≡ b.0 = best _ q a.0 b.0 a.1 b.1 in
     (reply q.id _ b.0 l m (rw same at a.2) b.2, a.3 ∙ sym b.3)
+answered_once best reply one s (Ok change) l m t u a b = (a.0 ∙ sym b.0, a.1 ∙ sym b.1)
 
 pub all_once : OneBestAnswer → HasOneReplyLine → OneRefusal → (s : RunState) (rows : List (List (List ℕ))) (l m : List ℕ) (t u : RunState)
     → AreRowsAnswered s rows l t → AreRowsAnswered s rows m u → SameReply l t m u

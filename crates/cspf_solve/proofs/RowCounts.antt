@@ -2,7 +2,6 @@
 -- changes, of answers and of refusals.
 use Rattle.std.proofs.Common.{ℕ, List, [], ◌∷◌, length-append, Result, Ok, Err, inl, inr, refl, arith}
 use Rattle.cspf_model.specs.declared.batch.Change.{Change}
-use Rattle.cspf_model.specs.declared.batch.Change.TheVariants as change
 use Rattle.cspf_rows.specs.declared.row.Row.{Row}
 use Rattle.cspf_rows.specs.declared.row.Row.TheVariants as row
 use Rattle.cspf_rows.specs.declared.row_error.RowError.{RowError}
@@ -31,9 +30,7 @@ within_reply s = record { rows = refl; changes = omega arith; answers = omega ar
 
 pub within_row : (s t : RunState) (r : Result Row RowError) (line : List ℕ) → IsRowAnswered (at_next_row s) r line t → AreWithin s t 1
 within_row s t (Err error) line a = rw a.1 (within_refused s)
-within_row s t (Ok (row.Put link)) line a = rw a.1 (within_change s (change.Put link))
-within_row s t (Ok (row.Remove from local)) line a = rw a.1 (within_change s (change.Remove from local))
-within_row s t (Ok (row.Node router transit)) line a = rw a.1 (within_change s (change.Node router transit))
 within_row s t (Ok (row.End number count)) line (inl a) = rw a.2 (within_batch s number)
 within_row s t (Ok (row.End number count)) line (inr a) = rw a.4 (within_refused_batch s)
 within_row s t (Ok (row.Ask q)) line a = rw a.3 (within_reply s)
+within_row s t (Ok change) line a = rw a.1 (within_change s _)

@@ -163,10 +163,8 @@ module _ (k : Solver) (fresh : KeepsRun k start) where
 
   pub read_failed : (why : RunStop AllocError) (all : Option (List (List (List ℕ)))) (failed : Bool) (k' : Solver) (old new : Option (List ℕ))
       → IsRunStopped SolverAnswers SolverFails IsSolverLast 1000000 why all failed k k' old new → solve_error_of why ≡ solve_error.Read → failed ≡ true
-  read_failed run_stop.Memory all failed k' old new a is = absurd (cc is)
   read_failed run_stop.Read all failed k' old new a is = a.0
-  read_failed (run_stop.Answer fault) all failed k' old new a is = absurd (cc is)
-  read_failed (run_stop.Write written) all failed k' old new a is = absurd (cc is)
+  read_failed other all failed k' old new a is = absurd (cc is)
 
 -- if a run stops before it reads its first row, its output is empty, which is the output for no
 -- rows

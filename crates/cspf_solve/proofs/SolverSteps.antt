@@ -3,17 +3,18 @@ use Rattle.std.proofs.Common.{◌≡◌, ℕ, ◌+◌, false, List, [], ◌∷�
 use Rattle.cspf_model.specs.Changes.{database_after}
 use Rattle.cspf_model.specs.Laws.{OneMoreBatch, RefusedIsUnfit}
 use Rattle.cspf_model.specs.declared.batch.Change.{Change}
-use Rattle.cspf_model.specs.declared.batch.Change.TheVariants as change
 use Rattle.cspf_rows.specs.declared.row.Row.{Row}
-use Rattle.cspf_rows.specs.declared.row.Row.TheVariants as row
 use Rattle.cspf_rows.specs.declared.row_error.RowError.{RowError}
+use Rattle.cspf_rows.specs.declared.step.Step.{Step}
+use Rattle.cspf_rows.specs.declared.step.Step.TheVariants as step
+use Rattle.cspf_rows.specs.Steps.{step_of}
 use Rattle.cspf_stream.specs.OpenChanges.{AreOpen}
-use Rattle.cspf_stream.specs.RowsTaken.{RowsState, RowsLead, IsEndAccepted, IsEndRefused, IsBatchDropped, IsRowTaken}
+use Rattle.cspf_stream.specs.RowsTaken.{RowsState, RowsLead, IsEndAccepted, IsEndRefused, IsBatchDropped, IsStepTaken, IsRowTaken}
 use Rattle.cspf_stream.specs.declared.batch_refusal.BatchRefusal.{BatchRefusal}
 use Rattle.cspf_stream.proofs.BatchRefusals.{IsNotAccepted, wrong_end, unfit_end}
 use Rattle.cspf_solve.specs.declared.solver.Solver.{Solver}
 use Rattle.cspf_solve.specs.declared.table_sink.TableSink.{TableSink}
-use Rattle.cspf_solve.specs.Script.{RunState, at_next_row, after_refused_row, after_change_row, after_reply, after_batch, after_refused_batch, open_batch, IsEndAnswered, IsRowAnswered}
+use Rattle.cspf_solve.specs.Script.{RunState, at_next_row, after_refused_row, after_change_row, after_reply, after_batch, after_refused_batch, open_batch, IsEndAnswered, IsStepAnswered, IsRowAnswered}
 use Rattle.cspf_solve.specs.SolverStates.{KeepsRun}
 use Rattle.cspf_solve.specs.TableSinks.{table_spec}
 
@@ -96,16 +97,18 @@ row_refused r s of = record { table = of.table; version = of.version; changes = 
 replied : (r : RowsState TableSink) (s : RunState) → IsOfRun r s → IsOfRun (record r { answers = r.answers + 1 }) (after_reply s)
 replied r s of = record { table = of.table; version = of.version; changes = of.changes; answers = ap (λ n. n + 1) of.answers; refused = of.refused }
 
+step_taken : OneMoreBatch → RefusedIsUnfit → (r t : RowsState TableSink) (s : RunState) (st : Step) (line : List ℕ) → IsOfRun r s → IsStepTaken table_spec r st line t
+    → Answered s (IsStepAnswered s st line) t
+step_taken more unfit r t s (step.Change c) line of a = (after_change_row s c, rw a.1 (changed r s c of), (a.0, refl), refl)
+step_taken more unfit r t s (step.End number count) line of (inl a) = accepted more unfit r t s of number count line a
+step_taken more unfit r t s (step.End number count) line of (inr a) = refused more unfit r t s of number count line a
+step_taken more unfit r t s (step.Ask q) line of a =
+    (after_reply s, rw a.1 (replied r s of), (a.0.0, rw of.table at a.0.1, rw of.version at a.0.2, refl), refl)
+
 row_taken : OneMoreBatch → RefusedIsUnfit → (r t : RowsState TableSink) (s : RunState) (row : Result Row RowError) (line : List ℕ) → IsOfRun r s → IsRowTaken table_spec s.rows r row line t
     → Answered s (IsRowAnswered s row line) t
 row_taken more unfit r t s (Err error) line of a = (after_refused_row s, rw a.1 (row_refused r s of), (a.0, refl), refl)
-row_taken more unfit r t s (Ok (row.Put link)) line of a = (after_change_row s (change.Put link), rw a.1 (changed r s (change.Put link) of), (a.0, refl), refl)
-row_taken more unfit r t s (Ok (row.Remove from local)) line of a = (after_change_row s (change.Remove from local), rw a.1 (changed r s (change.Remove from local) of), (a.0, refl), refl)
-row_taken more unfit r t s (Ok (row.Node router transit)) line of a = (after_change_row s (change.Node router transit), rw a.1 (changed r s (change.Node router transit) of), (a.0, refl), refl)
-row_taken more unfit r t s (Ok (row.End number count)) line of (inl a) = accepted more unfit r t s of number count line a
-row_taken more unfit r t s (Ok (row.End number count)) line of (inr a) = refused more unfit r t s of number count line a
-row_taken more unfit r t s (Ok (row.Ask q)) line of a =
-    (after_reply s, rw a.1 (replied r s of), (a.0.0, rw of.table at a.0.1, rw of.version at a.0.2, refl), refl)
+row_taken more unfit r t s (Ok row) line of a = step_taken more unfit r t s (step_of row) line of a
 
 -- if the solver's rows answer a row as `IsRowTaken` of `cspf_stream` states, the solver answers
 -- this row as `IsRowAnswered` states for a run

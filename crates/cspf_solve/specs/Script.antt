@@ -1,7 +1,6 @@
 -- The lines and the summary of a run, as a function of the bytes of its rows.
 use Rattle.std.specs.Prelude.{◌≡◌, ℕ, ◌+◌, ◌⊎◌, nat_lt, if◌then◌else◌, Bool, true, false, List, [], ◌∷◌, ◌++◌, take, length, Result, Ok, Err}
 use Rattle.cspf_model.specs.declared.batch.Change.{Change}
-use Rattle.cspf_model.specs.declared.batch.Change.TheVariants as change
 use Rattle.cspf_model.specs.Numbered.{NumberedChanges}
 use Rattle.cspf_model.specs.Database.{Database}
 use Rattle.cspf_model.specs.Changes.{database_after}
@@ -9,10 +8,12 @@ use Rattle.cspf_model.specs.Best.{Answer, IsBestAnswer}
 use Rattle.cspf_ero.specs.ReplyLine.{IsReply}
 use Rattle.cspf_rows.specs.declared.limits.TheConstants.{MOST_ROWS}
 use Rattle.cspf_rows.specs.declared.row.Row.{Row}
-use Rattle.cspf_rows.specs.declared.row.Row.TheVariants as row
 use Rattle.cspf_rows.specs.declared.row_error.RowError.{RowError}
 use Rattle.cspf_rows.specs.Records.{rows_of}
+use Rattle.cspf_rows.specs.declared.step.Step.{Step}
+use Rattle.cspf_rows.specs.declared.step.Step.TheVariants as step
 use Rattle.cspf_rows.specs.Rows.{row_of}
+use Rattle.cspf_rows.specs.Steps.{step_of}
 use Rattle.cspf_stream.specs.declared.batch_refusal.BatchRefusal.{BatchRefusal}
 use Rattle.cspf_stream.specs.EndRows.{IsBatchAccepted, IsBatchRefusal}
 use Rattle.cspf_solve.specs.declared.summary.Summary.{Summary}
@@ -89,15 +90,17 @@ IsEndAnswered s number count line after =
     × IsBatchRefusal (current_version s) (current_version s + 1) s.changes (current_database s) number count why
     × (line ≡ refused_batch_line number why) × (after ≡ after_refused_batch s))
 
+-- a row that asks for this step is answered with this line, and leads to the state `after`
+abbrev pub IsStepAnswered : RunState → Step → List ℕ → RunState → Type 0
+IsStepAnswered s (step.Change c) line after = (line ≡ []) × (after ≡ after_change_row s c)
+IsStepAnswered s (step.End number count) line after = IsEndAnswered s number count line after
+IsStepAnswered s (step.Ask q) line after =
+    (answer : Answer) × IsBestAnswer (current_database s) q answer × IsReply q.id (current_version s) answer line × (after ≡ after_reply s)
+
 -- row `s.rows`, counted from 1, is answered with this line, and leads to the state `after`
 abbrev pub IsRowAnswered : RunState → Result Row RowError → List ℕ → RunState → Type 0
 IsRowAnswered s (Err error) line after = (line ≡ refused_row_line s.rows error) × (after ≡ after_refused_row s)
-IsRowAnswered s (Ok (row.Put link)) line after = (line ≡ []) × (after ≡ after_change_row s (change.Put link))
-IsRowAnswered s (Ok (row.Remove from local)) line after = (line ≡ []) × (after ≡ after_change_row s (change.Remove from local))
-IsRowAnswered s (Ok (row.Node router transit)) line after = (line ≡ []) × (after ≡ after_change_row s (change.Node router transit))
-IsRowAnswered s (Ok (row.End number count)) line after = IsEndAnswered s number count line after
-IsRowAnswered s (Ok (row.Ask q)) line after =
-    (answer : Answer) × IsBestAnswer (current_database s) q answer × IsReply q.id (current_version s) answer line × (after ≡ after_reply s)
+IsRowAnswered s (Ok row) line after = IsStepAnswered s (step_of row) line after
 
 -- rows of a stream are answered one after the other, from the state `s` to the state `after`
 unfoldable pub AreRowsAnswered : RunState → List (List (List ℕ)) → List ℕ → RunState → Type 0

@@ -4,7 +4,7 @@ ghost use Rattle.std.specs.Prelude.{◌≡◌};
 
 use cspf_ero::reply_line;
 use cspf_model::{Batch, Request};
-use cspf_stream::{BatchRefusal, Sink, StreamLine};
+use cspf_stream::{BatchAnswer, BatchRefusal, Sink, StreamLine};
 use cspf_trees::TreeTable;
 use std::alloc::{AllocError, Global};
 
@@ -32,12 +32,7 @@ impl Sink<()> for TableSink {
         false
     }
 
-    fn accept(
-        &mut self,
-        _context: &(),
-        alloc: Global,
-        batch: &Batch,
-    ) -> Result<Result<Vec<u8>, BatchRefusal>, AllocError> {
+    fn accept(&mut self, _context: &(), alloc: Global, batch: &Batch) -> BatchAnswer {
         let version = batch.number;
         let line = StreamLine::Version { version }.bytes(alloc)?;
         match self.table.try_absorb(batch) {

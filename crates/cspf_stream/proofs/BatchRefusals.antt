@@ -21,9 +21,7 @@ module _ (version next : ℕ) (changes : List Change) (d : Database) (number cou
   wrong_end stopped refusal.Exhausted going (still, wrong) = (λ a. omega (arith, a.room, wrong), wrong)
   wrong_end stopped (refusal.WrongNumber expected) going (still, wrong) = (λ a. wrong.1 a.next, wrong)
   wrong_end stopped (refusal.WrongCount counted) going (still, wrong) = (λ a. wrong.2 a.counted, wrong)
-  wrong_end stopped (refusal.Unfit why) going (still, wrong) = absurd wrong
-  wrong_end stopped refusal.Memory going (still, wrong) = absurd wrong
-  wrong_end stopped (refusal.Journal written) going (still, wrong) = absurd wrong
+  wrong_end stopped other going (still, wrong) = absurd wrong
 
   -- if an `end` row is right, and its batch doesn't fit the database for the reason `why`, the batch
   -- is refused for this reason
@@ -40,18 +38,12 @@ module _ (version next : ℕ) (changes : List Change) (d : Database) (number cou
   refusal_once one why refusal.Memory a b = absurd b
   refusal_once one why (refusal.Journal written) a b = absurd b
   refusal_once one refusal.Exhausted refusal.Exhausted a b = refl
-  refusal_once one refusal.Exhausted (refusal.WrongNumber e) a b = absurd (omega (arith, a, b.0))
-  refusal_once one refusal.Exhausted (refusal.WrongCount k) a b = absurd (omega (arith, a, b.0))
-  refusal_once one refusal.Exhausted (refusal.Unfit w) a b = absurd (omega (arith, a, b.0))
-  refusal_once one (refusal.WrongNumber e) refusal.Exhausted a b = absurd (omega (arith, a.0, b))
+  refusal_once one refusal.Exhausted other a b = absurd (omega (arith, a, b.0))
+  refusal_once one why refusal.Exhausted a b = absurd (omega (arith, a.0, b))
   refusal_once one (refusal.WrongNumber e) (refusal.WrongNumber f) a b = ap refusal.WrongNumber (a.2 ∙ sym b.2)
-  refusal_once one (refusal.WrongNumber e) (refusal.WrongCount k) a b = absurd (a.1 b.1)
-  refusal_once one (refusal.WrongNumber e) (refusal.Unfit w) a b = absurd (a.1 b.1)
-  refusal_once one (refusal.WrongCount k) refusal.Exhausted a b = absurd (omega (arith, a.0, b))
-  refusal_once one (refusal.WrongCount k) (refusal.WrongNumber e) a b = absurd (b.1 a.1)
+  refusal_once one (refusal.WrongNumber e) other a b = absurd (a.1 b.1)
+  refusal_once one why (refusal.WrongNumber e) a b = absurd (b.1 a.1)
   refusal_once one (refusal.WrongCount k) (refusal.WrongCount l) a b = ap refusal.WrongCount (a.3 ∙ sym b.3)
   refusal_once one (refusal.WrongCount k) (refusal.Unfit w) a b = absurd (a.2 b.2)
-  refusal_once one (refusal.Unfit w) refusal.Exhausted a b = absurd (omega (arith, a.0, b))
-  refusal_once one (refusal.Unfit w) (refusal.WrongNumber e) a b = absurd (b.1 a.1)
   refusal_once one (refusal.Unfit w) (refusal.WrongCount k) a b = absurd (b.2 a.2)
   refusal_once one (refusal.Unfit w) (refusal.Unfit v) a b = ap refusal.Unfit (one d (record { number = number; changes = changes }) w v a.3 b.3)

@@ -8,7 +8,7 @@ use Rattle.cspf_rows.specs.declared.record_error.RecordError.{RecordError}
 use Rattle.cspf_rows.specs.declared.record_error.RecordError.TheVariants as fault
 use Rattle.cspf_stream.specs.RowAnswers.{AnswersOf, AreAnswered, AreAllAnswered}
 use Rattle.cspf_stream.specs.FirstRows.{AreFirstRowsAnswered, StopsAfterRows, StopsInRowAfter, IsRowStoppedAfter, IsRowStop, IsLineStoppedAfter, HasStoppedAfter, IsStoppedAfter}
-use Rattle.cspf_stream.specs.StreamStops.{FailsOf, NeverFails, IsRowStopped, IsLineStopped, HasStopped, IsStreamStopped, StopsInRow, stream_error_of}
+use Rattle.cspf_stream.specs.StreamStops.{FailsOf, NeverFails, IsRowStopped, IsLineStopped, HasStopped, IsStreamStopped, StopsAtRow, StopsInRow, stream_error_of}
 use Rattle.cspf_stream.specs.declared.limits.TheConstants.{MOST_STREAM_ROWS}
 use Rattle.cspf_stream.specs.declared.error.StreamError.{StreamError}
 use Rattle.cspf_stream.specs.declared.error.StreamError.TheVariants as stream_error
@@ -89,7 +89,7 @@ first_of None next done fields split = tt
 first_of (Some all) next done fields split = split.0
 
 module _ {S : Type 0} (answers : AnswersOf S) where
-  none_answered : (place : ℕ) (s : S) → AreAnswered answers place s [] [] s
+  pub none_answered : (place : ℕ) (s : S) → AreAnswered answers place s [] [] s
   unfolding AreAnswered
   none_answered place s = (refl, refl)
 
@@ -197,9 +197,8 @@ module _ {S : Type 0} (answers : AnswersOf S) where
           → IsRowStoppedAfter answers fails flush bytes after error (read + 1) fields t u mid new → HasStoppedAfter answers fails limit flush after error all next failed s u old new
       stops_in_row u new failed stream_error.Memory after few takes stops = inr (stops_at_row u new stream_error.Memory after few takes stops)
       stops_in_row u new failed stream_error.Read after few takes stops = absurd stops
-      stops_in_row u new failed stream_error.Write after few takes stops = stops_at_row u new stream_error.Write after few takes stops
-      stops_in_row u new failed stream_error.Flush after few takes stops = stops_at_row u new stream_error.Flush after few takes stops
       stops_in_row u new failed stream_error.TooManyRows after few takes stops = absurd stops
+      stops_in_row u new failed error after few takes stops = stops_at_row u new error after few takes stops
 
       -- If `limit` rows are answered, and one more row is read, the stream stops with
       -- `TooManyRows`.
@@ -227,37 +226,45 @@ module _ {S : Type 0} (answers : AnswersOf S) where
 
 -- ---- a stream that is limited only by the count of its rows
 
+abbrev StopsOf : Type 0 → Type 1
+StopsOf S = List (List (List ℕ)) → List ℕ → List (List ℕ) → S → Option (List ℕ) → Type 0
+
+-- A stream that stops in one way also stops in each way that follows from it.
+StopsAtRow-weaker : {S : Type 0} {One Other : StopsOf S} (answers : AnswersOf S) (all left : Option (List (List (List ℕ)))) (s : S) (old : Option (List ℕ)) → StopsAtRow answers One all left s old
+    → ((done : Rows) (lines : List ℕ) (fields : List (List ℕ)) (before : S) (mid : Option (List ℕ)) → One done lines fields before mid → Other done lines fields before mid)
+    → StopsAtRow answers Other all left s old
+StopsAtRow-weaker answers all left s old a follows = record {
+  done = a.done;
+  fields = a.fields;
+  rest = a.rest;
+  lines = a.lines;
+  before = a.before;
+  mid = a.mid;
+  split = a.split;
+  answered = a.answered;
+  written = a.written;
+  stops = follows a.done a.lines a.fields a.before a.mid a.stops;
+}
+
 module _ {S : Type 0} (answers : AnswersOf S) (fails : FailsOf S) (bytes : ℕ) (all left : Option (List (List (List ℕ)))) (failed : Bool) (s t : S) (old new : Option (List ℕ)) where
   row_stopped : (flush : Bool) (before after : ℕ) (why : StreamError) (place : ℕ) (fields : List (List ℕ)) (b : S) (mid : Option (List ℕ))
       → IsRowStoppedAfter answers fails flush before after why place fields b t mid new → IsRowStopped answers fails why place fields b t mid new
   row_stopped flush before after stream_error.Memory place fields b mid a = (a.0, a.1)
-  row_stopped flush before after stream_error.Read place fields b mid a = absurd a
   row_stopped flush before after stream_error.Write place fields b mid a = (a.0, a.2, (a.1, a.3, a.4))
   row_stopped flush before after stream_error.Flush place fields b mid a = (a.0, a.1, a.3)
-  row_stopped flush before after stream_error.TooManyRows place fields b mid a = absurd a
+  row_stopped flush before after other place fields b mid a = absurd a
 
   in_row : (flush : Bool) (limit : ℕ) (why : StreamError) → StopsInRowAfter answers fails limit flush bytes why all left s t old new → StopsInRow answers fails why all left s t old new
-  in_row flush limit why a = record {
-    done = a.done;
-    fields = a.fields;
-    rest = a.rest;
-    lines = a.lines;
-    before = a.before;
-    mid = a.mid;
-    split = a.split;
-    answered = a.answered;
-    written = a.written;
-    stops = row_stopped flush (length a.lines) bytes why (suc (length a.done)) a.fields a.before a.mid a.stops.1;
-  }
+  in_row flush limit why a =
+      StopsAtRow-weaker answers all left s old a (λ done lines fields before mid stops. row_stopped flush (length lines) bytes why (suc (length done)) fields before mid stops.1)
 
   stopped : (flush : Bool) (why : StreamError) → HasStoppedAfter answers fails MOST_STREAM_ROWS flush bytes why all left failed s t old new
       → HasStopped answers fails why all left failed s t old new
   stopped flush stream_error.Memory (inl a) = inl (a.0, a.1.between)
   stopped flush stream_error.Memory (inr a) = inr (in_row flush MOST_STREAM_ROWS stream_error.Memory a)
   stopped flush stream_error.Read a = (a.0, a.1.between)
-  stopped flush stream_error.Write a = in_row flush MOST_STREAM_ROWS stream_error.Write a
-  stopped flush stream_error.Flush a = in_row flush MOST_STREAM_ROWS stream_error.Flush a
   stopped flush stream_error.TooManyRows a = a.more
+  stopped flush why a = in_row flush MOST_STREAM_ROWS why a
 
   pub all_answered : {T E : Type 0} (r : Result T E) (limit : ℕ) → OnOk r (AreFirstRowsAnswered answers limit bytes all s t old new) → OnOk r (AreAllAnswered answers all s t old new)
   all_answered (Ok x) limit a = a.whole
@@ -273,21 +280,6 @@ all_stopped answers faults bytes all left failed s t old new (Err (stop.Answer f
 -- ---- a stream whose answers can only fail because memory is refused
 
 module _ {S : Type 0} (answers : AnswersOf S) (fails : FailsOf S) (all left : Option (List (List (List ℕ)))) (failed : Bool) (s t : S) (old new : Option (List ℕ)) where
-  line_in_row : (why : StreamError) (is : (place : ℕ) (fields : List (List ℕ)) (b : S) (mid : Option (List ℕ)) → IsRowStopped answers NeverFails why place fields b t mid new → IsRowStopped answers fails why place fields b t mid new)
-      → StopsInRow answers NeverFails why all left s t old new → StopsInRow answers fails why all left s t old new
-  line_in_row why is a = record {
-    done = a.done;
-    fields = a.fields;
-    rest = a.rest;
-    lines = a.lines;
-    before = a.before;
-    mid = a.mid;
-    split = a.split;
-    answered = a.answered;
-    written = a.written;
-    stops = is (suc (length a.done)) a.fields a.before a.mid a.stops;
-  }
-
   -- If the state after a fault doesn't depend on the fault, each fault stops the stream as refused
   -- memory does.
   pub stopped_of : {F : Type 0} (why : StreamStop F) → IsStreamStopped answers (λ fault. fails) why all left failed s t old new → HasStopped answers fails (stream_error_of why) all left failed s t old new
@@ -295,18 +287,15 @@ module _ {S : Type 0} (answers : AnswersOf S) (fails : FailsOf S) (all left : Op
   stopped_of (stop.Stream stream_error.Memory) (inl a) = inl a
   stopped_of (stop.Stream stream_error.Memory) (inr a) = absurd a.stops.0
   stopped_of (stop.Stream stream_error.Read) a = a
-  stopped_of (stop.Stream stream_error.Write) a = line_in_row stream_error.Write (λ place fields b mid x. x) a
-  stopped_of (stop.Stream stream_error.Flush) a = line_in_row stream_error.Flush (λ place fields b mid x. x) a
   stopped_of (stop.Stream stream_error.TooManyRows) a = a
+  stopped_of (stop.Stream why) a = StopsAtRow-weaker answers all left s old a (λ done lines fields before mid stops. stops)
 
 -- ---- a line
 
 line_cut : (size : ℕ) (flush : Bool) (why : StreamError) (line : List ℕ) (old new : Option (List ℕ)) → IsLineStoppedAfter flush size why line old new → IsLineStopped why line old new
-line_cut size flush stream_error.Memory line old new a = absurd a
-line_cut size flush stream_error.Read line old new a = absurd a
 line_cut size flush stream_error.Write line old new a = (size, a.0, a.1)
 line_cut size flush stream_error.Flush line old new a = a.2
-line_cut size flush stream_error.TooManyRows line old new a = absurd a
+line_cut size flush other line old new a = absurd a
 
 pub line_stopped : {T : Type 0} (r : Result T StreamError) (size : ℕ) (flush : Bool) (line : List ℕ) (old new : Option (List ℕ)) → IfErr r (λ why. IsLineStoppedAfter flush size why line old new)
     → IfErr r (λ why. IsLineStopped why line old new)

@@ -1,7 +1,6 @@
 -- Only the first 4,097 open changes are kept. These changes fit a database as a batch exactly if
 -- all open changes fit this database as a batch.
 use Rattle.std.proofs.Common.{◌≡◌, ℕ, zero, suc, ◌<◌, ◌≤◌, List, [], ◌∷◌, ◌++◌, take, length, refl, ap, ◌∙◌, sym, subst, arith}
-use Rattle.std.proofs.lemmas.List.{take_all}
 use Rattle.cspf_model.specs.declared.batch.Change.{Change}
 use Rattle.cspf_model.specs.declared.refusal.Refusal.{Refusal}
 use Rattle.cspf_model.specs.declared.refusal.Refusal.TheVariants as unfit
@@ -56,12 +55,6 @@ length-take-most : {A : Type 0} (n : ℕ) (xs : List A) → length (take n xs) �
 length-take-most zero xs = omega arith
 length-take-most (suc n) [] = omega arith
 length-take-most (suc n) (x ∷ xs) = omega (arith, length-take-most n xs)
-
--- If all open changes fit a database as a batch, the first 4,097 of them fit it as a batch.
-pub fits_kept : (d : Database) (number : ℕ) (kept all : List Change) → kept ≡ take 4097 all
-    → Fits d (record { number = number; changes = all }) → Fits d (record { number = number; changes = kept })
-fits_kept d number kept all front fits =
-    subst (λ cs. Fits d (batch_of number cs)) (sym (front ∙ take_all 4097 all (omega (arith, fits.short)))) fits
 
 longer : (kept all : List Change) → kept ≡ take 4097 all → 4096 < length kept → 4096 < length all
 longer kept all front long = omega (arith, length-take-most 4097 all, ap length front)

@@ -2,6 +2,5 @@
 pub mod BatchRefusals
 pub mod Going
 pub mod KeptChanges
-pub mod RowsOfSteps
 pub mod RowSteps
 pub mod Running

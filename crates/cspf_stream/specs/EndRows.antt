@@ -22,14 +22,11 @@ pub record IsBatchAccepted (version expected : ℕ) (changes : List Change) (d :
 -- reason that applies is given. For all other reasons the batch is refused, though its `end` row is
 -- right.
 abbrev pub IsWrongEnd : ℕ → ℕ → ℕ → ℕ → ℕ → BatchRefusal → Type 0
-IsWrongEnd version next number count changes refusal.Stopped = ⊥
 IsWrongEnd version next number count changes refusal.Exhausted = MOST_VERSIONS ≤ version
 IsWrongEnd version next number count changes (refusal.WrongNumber expected) = (version < MOST_VERSIONS) × (number ≢ next) × (expected ≡ next)
 IsWrongEnd version next number count changes (refusal.WrongCount counted) =
     (version < MOST_VERSIONS) × (number ≡ next) × (count ≢ changes) × (counted ≡ changes)
-IsWrongEnd version next number count changes (refusal.Unfit why) = ⊥
-IsWrongEnd version next number count changes refusal.Memory = ⊥
-IsWrongEnd version next number count changes (refusal.Journal written) = ⊥
+IsWrongEnd version next number count changes other = ⊥
 
 -- Why the batch of an `end` row with this number and count is refused: the `end` row is wrong, or
 -- its batch doesn't fit the database. The first reason that applies is given. `Stopped`, `Journal`

@@ -19,23 +19,20 @@ pub record AreFirstRowsAnswered {S : Type 0} (answers : AnswersOf S) (limit byte
 -- How the writing of a row's line stops after `size` bytes of this line. If `flush` isn't set, no
 -- flush can fail.
 abbrev pub IsLineStoppedAfter : Bool → ℕ → StreamError → List ℕ → Option (List ℕ) → Option (List ℕ) → Type 0
-IsLineStoppedAfter flush size error.Memory line old new = ⊥
-IsLineStoppedAfter flush size error.Read line old new = ⊥
 IsLineStoppedAfter flush size error.Write line old new = (size < length line) × Appends old new (take size line)
 IsLineStoppedAfter flush size error.Flush line old new = (flush ≡ true) × (size ≡ length line) × Appends old new line
-IsLineStoppedAfter flush size error.TooManyRows line old new = ⊥
+IsLineStoppedAfter flush size other line old new = ⊥
 
 -- How the answer to row `place` stops. `before` bytes were written before this row. When its answer
 -- stopped, `after` bytes were written in all.
 abbrev pub IsRowStoppedAfter : {S : Type 0} → AnswersOf S → FailsOf S → Bool → ℕ → ℕ → StreamError → ℕ → List (List ℕ) → S → S → Option (List ℕ) → Option (List ℕ) → Type 0
 IsRowStoppedAfter answers fails flush before after error.Memory place fields s t old new =
     fails place s fields t × known.Keeps old new × (after ≡ before)
-IsRowStoppedAfter answers fails flush before after error.Read place fields s t old new = ⊥
 IsRowStoppedAfter answers fails flush before after error.Write place fields s t old new =
     (line : List ℕ) × (size : ℕ) × answers place s fields line t × (size < length line) × Appends old new (take size line) × (after ≡ before + size)
 IsRowStoppedAfter answers fails flush before after error.Flush place fields s t old new =
     (line : List ℕ) × answers place s fields line t × (flush ≡ true) × Appends old new line × (after ≡ before + length line)
-IsRowStoppedAfter answers fails flush before after error.TooManyRows place fields s t old new = ⊥
+IsRowStoppedAfter answers fails flush before after other place fields s t old new = ⊥
 
 -- The stream stops between two rows. At most `limit` rows are answered, and their lines have
 -- `bytes` bytes.

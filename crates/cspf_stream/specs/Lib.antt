@@ -11,5 +11,4 @@ pub mod RowCounts
 pub mod RowsTaken
 pub mod Runs
 pub mod Sinks
-pub mod Steps
 pub mod StreamStops

@@ -8,11 +8,11 @@ use Rattle.cspf_stream.specs.Lines.{refused_batch_line}
 use Rattle.cspf_stream.specs.OpenChanges.{AreOpen}
 use Rattle.cspf_stream.specs.RefusedRows.{refused_row_line}
 use Rattle.cspf_stream.specs.Sinks.{SinkSpec}
-use Rattle.cspf_stream.specs.Steps.{step_of}
+use Rattle.cspf_rows.specs.Steps.{step_of}
 use Rattle.cspf_stream.specs.declared.batch_refusal.BatchRefusal.{BatchRefusal}
 use Rattle.cspf_stream.specs.declared.rows.Rows.{Rows}
-use Rattle.cspf_stream.specs.declared.step.Step.{Step}
-use Rattle.cspf_stream.specs.declared.step.Step.TheVariants as step
+use Rattle.cspf_rows.specs.declared.step.Step.{Step}
+use Rattle.cspf_rows.specs.declared.step.Step.TheVariants as step
 
 -- The state between two rows of a stream: the sink, the open changes, and two counts. `answers`
 -- counts answered requests, and `refused` counts refused rows and batches.

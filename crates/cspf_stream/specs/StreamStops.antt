@@ -18,22 +18,19 @@ FailsOf S = ℕ → S → List (List ℕ) → S → Type 0
 -- how the writing of a row's line stops: a part of the line is written, or the line is written and
 -- the flush fails
 abbrev pub IsLineStopped : StreamError → List ℕ → Option (List ℕ) → Option (List ℕ) → Type 0
-IsLineStopped error.Memory line old new = ⊥
-IsLineStopped error.Read line old new = ⊥
 IsLineStopped error.Write line old new = (size : ℕ) × (size < length line) × Appends old new (take size line)
 IsLineStopped error.Flush line old new = Appends old new line
-IsLineStopped error.TooManyRows line old new = ⊥
+IsLineStopped other line old new = ⊥
 
 -- How the answer to row `place` stops. If memory is refused, nothing is written. If a write fails,
 -- a part of the line is written, but not all of it. If a flush fails, the whole line is written.
 abbrev pub IsRowStopped : {S : Type 0} → AnswersOf S → FailsOf S → StreamError → ℕ → List (List ℕ) → S → S → Option (List ℕ) → Option (List ℕ) → Type 0
 IsRowStopped answers fails error.Memory place fields s t old new = fails place s fields t × known.Keeps old new
-IsRowStopped answers fails error.Read place fields s t old new = ⊥
 IsRowStopped answers fails error.Write place fields s t old new =
     (line : List ℕ) × answers place s fields line t × IsLineStopped error.Write line old new
 IsRowStopped answers fails error.Flush place fields s t old new =
     (line : List ℕ) × answers place s fields line t × IsLineStopped error.Flush line old new
-IsRowStopped answers fails error.TooManyRows place fields s t old new = ⊥
+IsRowStopped answers fails other place fields s t old new = ⊥
 
 -- The stream stops between two rows: a prefix of the rows is answered, and their lines are written.
 pub record StopsBetween {S : Type 0} (answers : AnswersOf S) (all : Option (List (List (List ℕ)))) (s t : S) (old new : Option (List ℕ)) : Type 0 where

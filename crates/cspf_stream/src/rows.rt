@@ -6,7 +6,7 @@ ghost use Rattle.std.specs.Prelude.{◌≡◌, ◌+◌, ◌<◌, ◌≤◌, ◌�
 ghost use Rattle.cspf_model.specs.declared.batch.Change.{Change as Changed};
 ghost use Rattle.cspf_stream.specs.OpenChanges.{AreOpen};
 
-use crate::{BatchRefusal, OpenChanges, Sink, Step, StreamLine, refused_row};
+use crate::{BatchAnswer, BatchRefusal, OpenChanges, Sink, Step, StreamLine, refused_row};
 use cspf_model::MOST_VERSIONS;
 use cspf_rows::{Row, RowError};
 use std::alloc::{AllocError, Global};
@@ -147,13 +147,7 @@ impl<S> Rows<S> {
     /// Gives the open changes to the sink as the batch with this number, if the `end` row with this
     /// number and count is right. Returns the lines of an accepted batch, or the reason for a
     /// refusal. The changes stay open.
-    fn give<C>(
-        &mut self,
-        context: &C,
-        alloc: Global,
-        number: u32,
-        count: u32,
-    ) -> Result<Result<Vec<u8>, BatchRefusal>, AllocError>
+    fn give<C>(&mut self, context: &C, alloc: Global, number: u32, count: u32) -> BatchAnswer
     where
         S: Sink<C>,
         ensures accepted { IfOk result (λ found. IfOk found (λ lines. (all : List Changed)

@@ -7,6 +7,9 @@ use crate::BatchRefusal;
 use cspf_model::{Batch, MOST_VERSIONS, Request};
 use std::alloc::{AllocError, Global};
 
+/// The answer of a sink to a batch: the lines of an accepted batch, or the reason for a refusal.
+pub type BatchAnswer = Result<Result<Vec<u8>, BatchRefusal>, AllocError>;
+
 /// Accepts or refuses the batches of a stream of rows, and answers the requests of the stream.
 /// `context` is a value that the sink needs to accept a batch, such as the handle of a runtime. No
 /// answer depends on this value.
@@ -30,12 +33,7 @@ pub trait Sink<C> {
     /// Accepts or refuses a batch. The batch has only the first `KEPT_CHANGES` of the open changes:
     /// at most one change more than a batch may have. Returns the lines of an accepted batch, which
     /// are made before the sink changes, or the reason for a refusal.
-    fn accept(
-        &mut self,
-        context: &C,
-        alloc: Global,
-        batch: &Batch,
-    ) -> Result<Result<Vec<u8>, BatchRefusal>, AllocError>
+    fn accept(&mut self, context: &C, alloc: Global, batch: &Batch) -> BatchAnswer
         requires room { spec.version self.old < MOST_VERSIONS }
         requires next { batch.now.number ≡ spec.next self.old }
         ensures accepted { IfOk result (λ found. IfOk found (λ lines. (all : List Changed)

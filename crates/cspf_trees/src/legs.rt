@@ -148,7 +148,7 @@ fn go_on(
 /// if a hop isn't loose, or if the prefix of a hop doesn't have exactly one owner. It is also
 /// `None` if the head-end or the tail-end is unknown, if the walk would pass a router without
 /// transit between two legs, or if the walk would have more than `MOST_ROUTE_LINKS` links.
-pub(crate) fn best_by_legs(
+fn best_by_legs(
     trees: &mut Trees,
     alloc: Global,
     table: &Table,
@@ -175,4 +175,28 @@ pub(crate) fn best_by_legs(
         }
     }
     Ok(Some(Outcome::Route(walk.route(alloc)?)))
+}
+
+impl Trees {
+    /// The best answer to a request in the table's database, which must be the database of the
+    /// trees. The answer is that of `best` of `cspf_search`. If all hops are loose, and the prefix
+    /// of each hop has only one owner, each leg is answered with the tree of its class. A class is
+    /// all requests with one tail-end and the same affinities.
+    pub fn best(
+        &mut self,
+        alloc: Global,
+        table: &Table,
+        request: &Request,
+    ) -> Result<Outcome, AllocError>
+        requires { AreTreesOf table.now self.old }
+        ensures trees { AreTreesOf table.now self.new }
+        ensures most { self.new.most ≡ self.old.most }
+        ensures best { IfOk result (λ outcome.
+            IsBestAnswer table.now request.now (answer_of outcome)) }
+    {
+        if let Some(outcome) = best_by_legs(self, alloc, table, request)? {
+            return Ok(outcome);
+        }
+        self.best_by_row(alloc, table, request)
+    }
 }

@@ -5,7 +5,6 @@ ghost use Rattle.cspf_trees.specs.TreeRows.{tree_count};
 
 use crate::class::{class_of, first_row};
 use crate::laws::trees_outlast_bandwidth;
-use crate::legs::best_by_legs;
 use crate::limits::{ASKS_FOR_A_TREE, MOST_ASKS, MOST_TREES};
 use crate::owners::Owners;
 use crate::tree_row::{TreeRow, ask, empty_rows, find, trees_of};
@@ -209,27 +208,5 @@ impl Trees {
         ensures sole { IfOk result (λ found. IfSome found (IsSoleOwner table.now prefix)) }
     {
         self.owners.sole_owner(alloc, table, prefix)
-    }
-
-    /// The best answer to a request in the table's database, which must be the database of the
-    /// trees. The answer is that of `best` of `cspf_search`. If all hops are loose, and the prefix
-    /// of each hop has only one owner, each leg is answered with the tree of its class. A class is
-    /// all requests with one tail-end and the same affinities.
-    pub fn best(
-        &mut self,
-        alloc: Global,
-        table: &Table,
-        request: &Request,
-    ) -> Result<Outcome, AllocError>
-        requires { AreTreesOf table.now self.old }
-        ensures trees { AreTreesOf table.now self.new }
-        ensures most { self.new.most ≡ self.old.most }
-        ensures best { IfOk result (λ outcome.
-            IsBestAnswer table.now request.now (answer_of outcome)) }
-    {
-        if let Some(outcome) = best_by_legs(self, alloc, table, request)? {
-            return Ok(outcome);
-        }
-        self.best_by_row(alloc, table, request)
     }
 }

@@ -1,6 +1,6 @@
 -- The replies of a worker are still right after its asker (which computes its answers) learns of
 -- more batches.
-use Rattle.std.proofs.Common.{◌≡◌, ℕ, ◌-◌, ◌<◌, ◌≤◌, List, [], ◌∷◌, ◌++◌, length, take, Some, get_or, All, sym, ap, ◌∙◌, subst, arith, length-append, append_assoc, slice_get}
+use Rattle.std.proofs.Common.{◌≡◌, ℕ, ◌-◌, ◌<◌, ◌≤◌, List, [], ◌∷◌, ◌++◌, length, take, Some, get_or, All, sym, ap, ◌∙◌, subst, arith, length-append, append_assoc, slice_get, rules}
 use Rattle.std.proofs.lemmas.List.{take-append-le}
 use Rattle.std.proofs.lemmas.List.Elements.{All-push}
 use Rattle.std.proofs.lemmas.List.Sorted.{IsNonDecreasingBy-push}
@@ -21,10 +21,7 @@ pub begins_through : (xs ys zs : List NumberedChanges) → BeginsWith ys xs → 
 begins_through xs ys zs p q = (p.0 ++ q.0, q.1 ∙ (ap (λ w. w ++ q.0) p.1 ∙ append_assoc xs p.0 q.0))
 
 pub knows_through : (a b c : AskerState) → KnowsNoLess a b → KnowsNoLess b c → KnowsNoLess a c
-knows_through a b c p q = record {
-  source = q.source ∙ p.source;
-  later = begins_through a.batches b.batches c.batches p.later q.later;
-}
+knows_through a b c p q = search (rules, begins_through)
 
 pub length_begins : (all first : List NumberedChanges) → BeginsWith all first → length first ≤ length all
 length_begins all first p = omega (arith, ap length p.1, length-append first p.0)

@@ -1,6 +1,7 @@
 -- Workers draw the indexes of requests from a counter. If each worker draws until it gets a number
 -- that isn't the index of a request, each request is answered exactly once.
-use Rattle.std.proofs.Common.{◌≡◌, ℕ, zero, suc, ◌+◌, ◌<◌, ◌≤◌, cond, eqb, List, [], ◌∷◌, ◌++◌, length, map, All, IsNone, Vec, get_or, inl, inr, refl, sym, ap, ◌∙◌, subst, arith, length-append}
+use Rattle.std.proofs.Common.{◌≡◌, ℕ, zero, suc, ◌+◌, ◌<◌, ◌≤◌, cond, eqb, List, [], ◌∷◌, ◌++◌, length, map, All, IsNone, Vec, get_or, inl, inr, refl, sym, ap, ◌∙◌, subst, arith, length-append, rules}
+use Rattle.std.proofs.lemmas.Grind.{common_steps}
 use Rattle.std.specs.Global.{Global}
 use Rattle.std.specs.List.Sorted.{IsStrictlyIncreasing}
 use Rattle.std.proofs.lemmas.Bool.{cases_lt}
@@ -9,8 +10,8 @@ use Rattle.std.proofs.lemmas.List.{get_or_append_left}
 use Rattle.std.proofs.lemmas.List.Elements.{All-nil, All-cons, All-head, All-tail, All-map}
 use Rattle.std.proofs.lemmas.List.Sums.{sum_by-cons}
 use Rattle.cspf_model.specs.declared.request.Request.{Request}
-use Rattle.cspf_draw.specs.DrawnNumbers.{CounterId, DrawnNumbers}
-use Rattle.cspf_draw.specs.EachOnce.{HoldsEachOnce, once_below, times}
+use Rattle.cspf_jobs.specs.DrawnNumbers.{CounterId, DrawnNumbers}
+use Rattle.cspf_jobs.specs.EachOnce.{HoldsEachOnce, once_below, times}
 use Rattle.cspf_publish.specs.AskerStates.{AskerState}
 use Rattle.cspf_work.specs.declared.serve_error.ServeError.{ServeError}
 use Rattle.cspf_work.specs.declared.worker.Reply.{Reply}
@@ -32,10 +33,7 @@ at_least xs rising (suc k) less =
 
 -- a strictly increasing list of `bound + 1` numbers has a number that isn't below `bound`
 pub too_many : (xs : List ℕ) (bound : ℕ) → IsStrictlyIncreasing xs → All (λ x. x < bound) xs → length xs ≡ bound + 1 → ⊥
-too_many xs bound rising below long =
-    let least = at_least xs rising bound (omega arith) in
-    let less = below bound 0 (omega arith) in
-    omega arith
+too_many xs bound rising below long = search (rules, at_least)
 
 -- if the index of each reply is below `bound`, each element of the list of these indexes is below
 -- `bound`
@@ -44,11 +42,7 @@ below_indexes bound done inside = All-map (λ x. x < bound) (λ (r : Reply). r.i
 
 -- a prefix of a strictly increasing list is strictly increasing
 rising_front : (xs ys : List ℕ) → IsStrictlyIncreasing (xs ++ ys) → IsStrictlyIncreasing xs
-rising_front xs ys rising k less =
-    let step = rising k (let long = length-append xs ys in omega arith) in
-    let here = get_or_append_left xs ys 0 k (omega arith) in
-    let next = get_or_append_left xs ys 0 (k + 1) less in
-    omega arith
+rising_front xs ys rising = search (rules, get_or_append_left, length-append)
 
 -- if all elements of a list are below `bound`, no number from `bound` on is in the list
 times-above : (xs : List ℕ) (bound x : ℕ) → All (λ y. y < bound) xs → bound ≤ x → times x xs ≡ 0
@@ -69,19 +63,12 @@ pub record IsDrawnOut (bound : ℕ) (w : Worker) : Type 0 where
 -- request
 pub drawn_out : (id : CounterId) (requests : List Request) (before : List AskerState) (workers : List Worker) → AreRun id requests before workers
     → All (λ (w : Worker). IsNone w.fault) workers → All (IsDrawnOut (length requests)) workers
-drawn_out id requests before workers run none i d less = record {
-  inside = run_inside id requests before workers run i d less;
-  drawn = run_drawn id requests before workers run none i d less;
-}
+drawn_out id requests before workers run none = search (rules, run_drawn, run_inside)
 
 -- the number of times that a worker answered a request is the number of times that it drew the
 -- request's index
 times-drawn : (bound : ℕ) (w : Worker) → IsDrawnOut bound w → (x : ℕ) → x < bound → times x w.drawer.drawn ≡ times x (indexes w.done.items)
-times-drawn bound w is x less =
-    let last = is.drawn.0 in
-    let past = is.drawn.1 in
-    let more = ap (times x) is.drawn.2 ∙ times-push x (indexes w.done.items) last in
-    grind (arith, nat_tests)
+times-drawn bound w is x less = grind (arith, common_steps, times-push)
 
 times-all_drawn : (bound : ℕ) (workers : List Worker) → All (IsDrawnOut bound) workers → (x : ℕ) → x < bound → times x (all_drawn workers) ≡ times_in x (map (λ (w : Worker). w.done) workers)
 times-all_drawn bound [] all x less = refl

@@ -5,15 +5,15 @@ use Rattle.std.specs.Option.{option_map}
 use Rattle.std.proofs.lemmas.Bool.{cases_Bool, cases_lt, eqb-true, eqb-false, ne_eqb, false≢true}
 use Rattle.std.proofs.lemmas.Bool.Decides.{nat_tests}
 use Rattle.std.proofs.lemmas.List.Elements.{All-push, All-nil, All-cons, All-head, All-tail}
-use Rattle.std.proofs.lemmas.Grind.{flat_map-append}
+use Rattle.std.proofs.lemmas.Grind.{flat_map-append, common_steps}
 use Rattle.std.proofs.lemmas.List.{map-append}
 use Rattle.std.proofs.lemmas.List.Sums.{sum_by-append, sum_by-cons, sum_by_push}
-use Rattle.std.proofs.lemmas.Option.{slice_get_within, slice_get-map, slice_get-get_or, slice_get_read}
+use Rattle.std.proofs.lemmas.Option.{slice_get_within, slice_get-map, slice_get_read}
 use Rattle.cspf_publish.specs.declared.answer.Answer.{Answer}
 use Rattle.cspf_work.specs.declared.serve_error.ServeError.{ServeError}
 use Rattle.cspf_work.specs.declared.serve_error.ServeError.TheVariants.{Memory, Missing, Twice}
 use Rattle.cspf_work.specs.declared.worker.Reply.{Reply}
-use Rattle.cspf_draw.specs.EachOnce.{times, once_below}
+use Rattle.cspf_jobs.specs.EachOnce.{times, once_below}
 use Rattle.cspf_work.specs.Working.{indexes}
 use Rattle.cspf_work.specs.Collected.{AreFilled, IsPlaced, IsTwice, IsCollectError, times_in}
 
@@ -23,15 +23,12 @@ slice_get-set_same (x ∷ xs) zero v less = refl
 slice_get-set_same (x ∷ xs) (suc i) v less = slice_get-set_same xs i v (omega arith)
 
 slice_get-set_other : {X : Type 0} (xs : List X) (i j : ℕ) (v : X) → i ≢ j → slice_get (slice_set xs i v) j ≡ slice_get xs j
-slice_get-set_other [] i j v apart = refl
 slice_get-set_other (x ∷ xs) zero zero v apart = absurd (apart refl)
-slice_get-set_other (x ∷ xs) zero (suc j) v apart = refl
-slice_get-set_other (x ∷ xs) (suc i) zero v apart = refl
 slice_get-set_other (x ∷ xs) (suc i) (suc j) v apart = slice_get-set_other xs i j v (λ e. apart (ap suc e))
+slice_get-set_other xs i j v apart = refl
 
 pub indexes-append : (xs ys : List Reply) → indexes (xs ++ ys) ≡ indexes xs ++ indexes ys
-indexes-append [] ys = refl
-indexes-append (x ∷ xs) ys = ap (λ l. x.index ∷ l) (indexes-append xs ys)
+indexes-append xs ys = grind (arith, common_steps)
 
 pub times-append : (x : ℕ) (xs ys : List ℕ) → times x (xs ++ ys) ≡ times x xs + times x ys
 times-append x xs ys = sum_by-append (λ y. cond (eqb y x) 1 0) xs ys
@@ -44,79 +41,19 @@ times-push x xs y = sum_by_push (λ z. cond (eqb z x) 1 0) xs y
 times-indexes-push : (x : ℕ) (done : List Reply) (r : Reply) → times x (indexes (done ++ r ∷ [])) ≡ times x (indexes done) + cond (eqb r.index x) 1 0
 times-indexes-push x done r = ap (times x) (indexes-append done (r ∷ [])) ∙ times-push x (indexes done) r.index
 
--- if all slots are empty, the slots have the answers of an empty list of replies
-pub filled_none : (slots : List (Option Answer)) → All (λ slot. slot ≡ None) slots → AreFilled slots []
-filled_none slots none = record {
-  placed = λ k d less. absurd (omega arith);
-  some = λ x a at. absurd (
-      let less = slice_get_within slots x (Some a) at in
-      let e = slice_get-get_or slots x None less in
-      let n = none x None less in
-      cc (at, e, n));
-  none = λ x at. refl;
-  past = λ x at. refl;
-}
-
 -- if the slot of a reply is empty and the reply's answer is stored in it, the slots have the
 -- answers of the earlier replies and of this reply
 pub filled_more : (slots : List (Option Answer)) (done : List Reply) (r : Reply)
     → slice_get slots r.index ≡ Some None → AreFilled slots done → AreFilled (slice_set slots r.index (Some r.answer)) (done ++ r ∷ [])
-filled_more slots done r free is =
-    let after : List (Option Answer) = slice_set slots r.index (Some r.answer) in
-    let less = slice_get_within slots r.index None free in
-    let here : slice_get after r.index ≡ Some (Some r.answer) = slice_get-set_same slots r.index (Some r.answer) less in
-    let other : (x : ℕ) → r.index ≢ x → slice_get after x ≡ slice_get slots x = λ x apart. slice_get-set_other slots r.index x (Some r.answer) apart in
-    let same : (x : ℕ) → r.index ≢ x → times x (indexes (done ++ r ∷ [])) ≡ times x (indexes done) + 0 =
-    λ x apart. times-indexes-push x done r ∙ ap (λ b. times x (indexes done) + cond b 1 0) (ne_eqb r.index x apart) in
-    record {
-      placed = All-push (λ (q : Reply). slice_get after q.index ≡ Some (Some q.answer)) done r
-          (λ k d inside.
-          let q = get_or done k d in
-          let was = is.placed k d inside in
-          other q.index (λ e. absurd (cc (e, was, free))) ∙ was)
-          here;
-      some = λ x a at. elim (cases_Bool (eqb r.index x)) [
-        | inl same_index ↦
-            let e = eqb-true r.index x same_index in
-            let zero_there = is.none r.index free in
-            times-indexes-push x done r ∙ (let z : times x (indexes done) ≡ 0 = subst (λ n. times n (indexes done) ≡ 0) e zero_there in ap (λ b. times x (indexes done) + cond b 1 0) same_index ∙ omega arith)
-        | inr other_index ↦
-            let apart = eqb-false r.index x other_index in
-            same x apart ∙ (let one = is.some x a (sym (other x apart) ∙ at) in omega arith)
-      ];
-      none = λ x at. elim (cases_Bool (eqb r.index x)) [
-        | inl same_index ↦ absurd (let e = eqb-true r.index x same_index in cc (e, at, here))
-        | inr other_index ↦
-            let apart = eqb-false r.index x other_index in
-            same x apart ∙ (let z = is.none x (sym (other x apart) ∙ at) in omega arith)
-      ];
-      past = λ x at. elim (cases_Bool (eqb r.index x)) [
-        | inl same_index ↦ absurd (let e = eqb-true r.index x same_index in cc (e, at, here))
-        | inr other_index ↦
-            let apart = eqb-false r.index x other_index in
-            same x apart ∙ (let z = is.past x (sym (other x apart) ∙ at) in omega arith)
-      ];
-    }
+filled_more slots done r free is = grind (arith, common_steps, All-push, cases_Bool, eqb-false, eqb-true, ne_eqb, slice_get-set_other, slice_get-set_same, slice_get_within)
 
 -- if the slot of a reply already has an answer, two replies have this reply's index
 pub filled_twice : (slots : List (Option Answer)) (done : List Reply) (r : Reply) (a : Answer)
     → slice_get slots r.index ≡ Some (Some a) → AreFilled slots done → IsTwice (done ++ r ∷ []) (Twice r.index)
-filled_twice slots done r a at is = (
-  r.index,
-  refl,
-  let one = is.some r.index a at in
-      let two = times-indexes-push r.index done r in
-      grind (arith, nat_tests),
-)
+filled_twice slots done r a at is = grind (arith, common_steps, times-indexes-push)
 
 pub twice_more : (done more : List Reply) (e : ServeError) → IsTwice done e → IsTwice (done ++ more) e
-twice_more done more e t = (
-  t.0,
-  t.1,
-  let s = ap (times t.0) (indexes-append done more) ∙ times-append t.0 (indexes done) (indexes more) in
-      let u = t.2 in
-      omega arith,
-)
+twice_more done more e t = grind (arith, common_steps, indexes-append, times-append)
 
 -- if a test finds an answer in the slot of a reply, two replies have this reply's index
 pub put_twice : (slots : List (Option Answer)) (done : List Reply) (r : Reply) (o : Option Answer)
@@ -137,21 +74,16 @@ slice_get-seam [] y ys = refl
 slice_get-seam (x ∷ xs) y ys = slice_get-seam xs y ys
 
 from_some : (o : Option Answer) (a : Answer) → option_map (λ (b : Answer). Some b) o ≡ Some (Some a) → o ≡ Some a
-from_some (Some b) a e = cc e
-from_some None a e = absurd (cc e)
+from_some o a e = search rules
 
 -- if each slot has an answer, the list of these answers has each reply's answer at the reply's
 -- index
 pub filled_placed : (slots : List (Option Answer)) (list : List Answer) (done : List Reply)
     → map (λ a. Some a) list ≡ slots → AreFilled slots done → All (IsPlaced list) done
-filled_placed slots list done same is k d inside =
-    let r = get_or done k d in
-    from_some (slice_get list r.index) r.answer
-    (sym (slice_get-map (λ (b : Answer). Some b) list r.index) ∙ ap (λ (l : List (Option Answer)). slice_get l r.index) same ∙ is.placed k d inside)
+filled_placed slots list done same is = search (rules, from_some, slice_get-map)
 
 none_inside : (o : Option Answer) → o ≡ None → IsSome o → ⊥
-none_inside None e s = search rules
-none_inside (Some a) e s = cc e
+none_inside o e s = search rules
 
 slice_get-inside : (list : List Answer) (x : ℕ) → x < length list → IsSome (slice_get list x)
 slice_get-inside [] x less = absurd (omega arith)
@@ -208,8 +140,6 @@ pub times_in-indexes : (x : ℕ) (drawn : List (Vec ℕ Global)) (lists : List (
     → map (λ (v : Vec ℕ Global). v.items) drawn ≡ map (λ (l : Vec Reply Global). indexes l.items) lists
     → sum_by (λ (v : Vec ℕ Global). times x v.items) drawn ≡ times_in x lists
 times_in-indexes x [] [] same = refl
-times_in-indexes x [] (l ∷ ls) same = absurd (cc same)
-times_in-indexes x (v ∷ vs) [] same = absurd (cc same)
 times_in-indexes x (v ∷ vs) (l ∷ ls) same =
     let head : v.items ≡ indexes l.items = cc same in
     let tail : map (λ (v : Vec ℕ Global). v.items) vs ≡ map (λ (l : Vec Reply Global). indexes l.items) ls = cc same in
@@ -217,6 +147,7 @@ times_in-indexes x (v ∷ vs) (l ∷ ls) same =
     ∙ ap (λ n. n + sum_by (λ (w : Vec ℕ Global). times x w.items) vs) (ap (times x) head)
     ∙ ap (λ n. times x (indexes l.items) + n) (times_in-indexes x vs ls tail)
     ∙ sym (sum_by-cons (λ (w : Vec Reply Global). times x (indexes w.items)) l ls)
+times_in-indexes x drawn lists same = absurd (cc same)
 
 pub replies-push : (lists : List (Vec Reply Global)) (l : Vec Reply Global) → replies (lists ++ l ∷ []) ≡ replies lists ++ l.items
 replies-push lists l = flat_map-append (λ (v : Vec Reply Global). v.items) lists (l ∷ []) ∙ ap (λ rest. replies lists ++ rest) (append-nil l.items)
@@ -225,24 +156,13 @@ replies-push lists l = flat_map-append (λ (v : Vec Reply Global). v.items) list
 -- replies have the same index, this is an error of collecting the answers.
 pub twice_collected : (count : ℕ) (first rest lists : List (Vec Reply Global)) (l : Vec Reply Global) (e : ServeError)
     → (first ++ l ∷ []) ++ rest ≡ lists → (e ≡ Memory) ⊎ IsTwice (replies first ++ l.items) e → IsCollectError count lists e
-twice_collected count first rest lists l e whole (inl memory) = inl memory
-twice_collected count first rest lists l e whole (inr twice) =
-    let index = twice.0 in
-    let more = twice.2 in
-    let some : times_in index (first ++ l ∷ []) ≡ times index (indexes (replies first ++ l.items)) =
-    sym (times-replies index (first ++ l ∷ [])) ∙ ap (λ done. times index (indexes done)) (replies-push first l) in
-    let all : times_in index lists ≡ times_in index (first ++ l ∷ []) + times_in index rest =
-    ap (times_in index) (sym whole) ∙ sum_by-append (λ (v : Vec Reply Global). times index (indexes v.items)) (first ++ l ∷ []) rest in
-    inr (inr (index, twice.1, omega arith))
+twice_collected count first rest lists l e whole h2 = search (rules, replies-push, sum_by-append, times-replies)
 
 -- The replies of all lists are stored in the slots of their requests. If memory is refused after
 -- that, or a slot is empty, this is an error of collecting the answers.
 pub missing_collected : (count : ℕ) (slots : List (Option Answer)) (lists : List (Vec Reply Global)) (e : ServeError)
     → length slots ≡ count → AreFilled slots (replies lists) → (e ≡ Memory) ⊎ ((index : ℕ) × (e ≡ Missing index) × (slice_get slots index ≡ Some None)) → IsCollectError count lists e
-missing_collected count slots lists e long is (inl memory) = inl memory
-missing_collected count slots lists e long is (inr missing) =
-    let less = slice_get_within slots missing.0 None missing.2 in
-    inr (inl (missing.0, missing.1, omega arith, sym (times-replies missing.0 lists) ∙ is.none missing.0 missing.2))
+missing_collected count slots lists e long is h3 = search (rules, slice_get_within, times-replies)
 
 -- if `all` is `before` followed by `left`, and `left` is `x` followed by `after`, then `all` is
 -- `before`, `x` and `after`, in this order
@@ -251,8 +171,7 @@ left_step before x left after all whole next = append_assoc before (x ∷ []) af
 
 -- if `all` is `before` followed by `left`, and `left` is empty, `all` is `before`
 pub left_none : {X : Type 0} (before left all : List X) → before ++ left ≡ all → length left ≡ 0 → before ≡ all
-left_none before [] all whole none = sym (append-nil before) ∙ whole
-left_none before (x ∷ left) all whole none = absurd (omega arith)
+left_none before left all whole none = grind (arith, common_steps, append-nil)
 
 -- a fact about all elements holds of `x`, the first element of `left`, where `left` follows the
 -- elements `before`
@@ -271,7 +190,4 @@ map_push f xs ys x pushed = ap (map f) pushed ∙ map-append f xs (x ∷ [])
 -- also have this index
 pub twice_whole : (done before : List Reply) (r : Reply) (after all : List Reply) (e : ServeError)
     → (before ++ r ∷ []) ++ after ≡ all → IsTwice ((done ++ before) ++ r ∷ []) e → IsTwice (done ++ all) e
-twice_whole done before r after all e whole twice =
-    let same : ((done ++ before) ++ r ∷ []) ++ after ≡ done ++ all =
-    ap (λ l. l ++ after) (append_assoc done before (r ∷ [])) ∙ append_assoc done (before ++ r ∷ []) after ∙ ap (λ l. done ++ l) whole in
-    subst (λ (l : List Reply). IsTwice l e) same (twice_more ((done ++ before) ++ r ∷ []) after e twice)
+twice_whole done before r after all e whole twice = grind (arith, common_steps, append_assoc, twice_more)

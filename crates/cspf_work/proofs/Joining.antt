@@ -1,5 +1,6 @@
 -- The answers of all workers are collected into one list.
-use Rattle.std.proofs.Common.{◌≡◌, ℕ, zero, suc, ◌<◌, ◌≤◌, List, [], ◌∷◌, length, map, Option, Some, None, get_or, All, Vec, refl, sym, ap, ◌∙◌, subst, arith, slice_get}
+use Rattle.std.proofs.Common.{◌≡◌, ℕ, ◌<◌, ◌≤◌, List, [], ◌∷◌, length, map, Option, Some, None, get_or, All, Vec, refl, sym, ap, ◌∙◌, subst, arith, slice_get}
+use Rattle.std.proofs.lemmas.Grind.{common_steps}
 use Rattle.std.specs.Global.{Global}
 use Rattle.std.specs.Option.{option_map}
 use Rattle.std.specs.List.Sorted.{IsNonDecreasingBy}
@@ -8,7 +9,7 @@ use Rattle.std.proofs.lemmas.List.Elements.{All-map}
 use Rattle.std.proofs.lemmas.List.Sorted.{IsNonDecreasingBy-from_default, IsNonDecreasingBy-short}
 use Rattle.std.proofs.lemmas.Option.{slice_get_within, slice_get-map, get_or_from_slice_get}
 use Rattle.cspf_model.specs.declared.request.Request.{Request}
-use Rattle.cspf_draw.specs.DrawnNumbers.{CounterId}
+use Rattle.cspf_jobs.specs.DrawnNumbers.{CounterId}
 use Rattle.cspf_publish.specs.declared.answer.Answer.{Answer}
 use Rattle.cspf_publish.specs.AskerStates.{AskerState}
 use Rattle.cspf_work.specs.declared.worker.Reply.{Reply}
@@ -28,9 +29,7 @@ served_at requests list before w r is at = record {
 }
 
 get_or-map : {A B : Type 0} (f : A → B) (xs : List A) (i : ℕ) (d : A) → get_or (map f xs) i (f d) ≡ f (get_or xs i d)
-get_or-map f [] i d = refl
-get_or-map f (x ∷ xs) zero d = refl
-get_or-map f (x ∷ xs) (suc i) d = get_or-map f xs i d
+get_or-map f xs i d = grind (arith, common_steps)
 
 rising : (list : List Answer) (done : List Reply) → All (IsPlaced list) done → IsNonDecreasingBy (λ (r : Reply). r.answer.version) done → IsNonDecreasingBy (version_at list) (indexes done)
 rising list [] placed is = IsNonDecreasingBy-short (version_at list) [] (omega arith)

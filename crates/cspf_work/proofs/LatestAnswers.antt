@@ -1,5 +1,5 @@
 -- All requests are answered at the last published version.
-use Rattle.std.proofs.Common.{◌≡◌, ℕ, ◌≤◌, All, List, take, length, get_or, ap, ◌∙◌, subst, arith, Vec, inl, inr}
+use Rattle.std.proofs.Common.{◌≡◌, ℕ, ◌≤◌, All, List, take, length, get_or, ap, ◌∙◌, subst, arith, Vec, rules}
 use Rattle.std.proofs.lemmas.Bool.{cases_lt}
 use Rattle.std.proofs.Math.Seq.{take-length}
 use Rattle.std.proofs.lemmas.Option.{slice_get_within, slice_get-get_or, get_or_from_slice_get}
@@ -64,11 +64,4 @@ latest_answers published requests told after list drawn version is begins same a
 pub later_version : (published : List NumberedChanges) (requests : List Request) (told after : List AskerState) (list : List Answer) (drawn : List (Vec ℕ Global)) (version : ℕ) (e : ServeError)
     → version ≡ length published → All (λ (k : AskerState). BeginsWith k.batches published) told → AreSameAskers told after
     → AreAnsweredByWorkers requests told after list drawn → IsFirstStray list (λ v. (version ≤ v) × (v ≤ version)) e → IsUnaccounted (length requests) (length published) e
-later_version published requests told after list drawn version e is begins same answered stray =
-    let within = slice_get_within list stray.index stray.answer stray.there in
-    let count = answered.count in
-    let least = no_earlier requests told after list drawn published same.count begins answered stray.index stray.answer stray.there in
-    elim (cases_lt (length published) stray.answer.version) [
-      | inl above ↦ (stray.index, stray.answer.version, stray.names, omega arith, above)
-      | inr below ↦ absurd (stray.stray (omega arith, omega arith))
-    ]
+later_version published requests told after list drawn version e is begins same answered stray = search (rules, cases_lt, no_earlier, slice_get_within)

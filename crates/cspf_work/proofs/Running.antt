@@ -1,11 +1,11 @@
 -- The work of all workers, described for each worker.
-use Rattle.std.proofs.Common.{◌≡◌, ℕ, zero, suc, ◌<◌, List, [], ◌∷◌, ◌++◌, All, IfSome, IsNone, take, length, map, Option, Some, None, get_or, refl, sym, ap, ◌∙◌, subst, arith, slice_get}
+use Rattle.std.proofs.Common.{◌≡◌, ℕ, zero, suc, ◌<◌, List, [], ◌∷◌, ◌++◌, All, IfSome, IsNone, take, length, map, Option, Some, None, get_or, refl, sym, ap, ◌∙◌, subst, arith, slice_get, rules}
 use Rattle.std.specs.Option.{option_map}
 use Rattle.std.proofs.lemmas.List.{length-map}
 use Rattle.std.proofs.lemmas.List.Elements.{All-map}
 use Rattle.std.proofs.lemmas.Option.{slice_get_within, slice_get-map, slice_get-get_or, get_or_from_slice_get}
 use Rattle.cspf_model.specs.declared.request.Request.{Request}
-use Rattle.cspf_draw.specs.DrawnNumbers.{CounterId, DrawnNumbers}
+use Rattle.cspf_jobs.specs.DrawnNumbers.{CounterId, DrawnNumbers}
 use Rattle.cspf_publish.specs.AskerStates.{AskerState}
 use Rattle.cspf_work.specs.declared.worker.Worker.{Worker}
 use Rattle.std.proofs.Math.Seq.{take-append_seam}
@@ -90,10 +90,7 @@ written_back new rest n long = ap (λ m. take m (new ++ rest)) long ∙ take-app
 pub run_written_back : (counter : CounterId) (requests : List Request) (before : List AskerState) (workers lent new rest : List Worker) (n : ℕ)
     → lent ≡ workers → n ≡ length workers → AreReady counter requests before workers
     → (AreReady counter requests before lent → AreRun counter requests before new) → AreRun counter requests before (take n (new ++ rest))
-run_written_back counter requests before workers lent new rest n same long ready run =
-    let of_all : AreRun counter requests before new = run (subst (λ (all : List Worker). AreReady counter requests before all) (sym same) ready) in
-    let count : n ≡ length new = (let each = of_all.count in let all = ap length ready.askers in let map_long = length-map workers (λ (w : Worker). w.asker) in omega arith) in
-    subst (λ (all : List Worker). AreRun counter requests before all) (sym (written_back new rest n count)) of_all
+run_written_back counter requests before workers lent new rest n same long ready run = search (rules, length-map, written_back)
 
 -- these are the results of some workers that were ready at the start and drew from the counter `id`
 pub results_of : (own id : CounterId) (requests : List Request) (before : List AskerState) (idle : List Worker) (numbers : List ℕ) (results : Results)

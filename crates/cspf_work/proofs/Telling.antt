@@ -1,6 +1,6 @@
 -- Workers answer requests while a publisher applies batches. Afterwards each asker (which computes
 -- a worker's answers) learns of the published batches. The answers are still right then.
-use Rattle.std.proofs.Common.{◌≡◌, ℕ, zero, suc, ◌+◌, ◌<◌, ◌≤◌, cond, eqb, List, [], ◌∷◌, length, length-append, Option, Some, get_or, All, Vec, inl, inr, refl, sym, ap, ◌∙◌, subst, arith, slice_get, slice_set, sum_by, unwrap_or, option_map}
+use Rattle.std.proofs.Common.{◌≡◌, ℕ, zero, suc, ◌+◌, ◌<◌, ◌≤◌, cond, eqb, List, [], ◌∷◌, length, length-append, Option, Some, get_or, All, Vec, inl, inr, refl, sym, ap, ◌∙◌, subst, arith, slice_get, slice_set, sum_by, unwrap_or, option_map, rules}
 use Rattle.std.specs.Global.{Global}
 use Rattle.std.proofs.lemmas.Bool.{cases_Bool, cases_lt, eqb-true, eqb-false}
 use Rattle.std.proofs.lemmas.Bool.Decides.{nat_tests}
@@ -15,7 +15,7 @@ use Rattle.cspf_publish.specs.declared.answer.Answer.{Answer}
 use Rattle.cspf_publish.specs.Answers.{IsAnswerAfter}
 use Rattle.cspf_publish.specs.Histories.{BeginsWith}
 use Rattle.cspf_publish.specs.AskerStates.{AskerState}
-use Rattle.cspf_draw.specs.EachOnce.{once_below, times}
+use Rattle.cspf_jobs.specs.EachOnce.{once_below, times}
 use Rattle.cspf_work.specs.Served.{IsAnswerWithin, IsServed, IsServedAt, version_at, AreAnsweredByWorkers, AreAnswersWithin, AreSameAskers, KnowsNoLess}
 use Rattle.cspf_work.proofs.Asked.{within_later, take_begins, knows_through}
 use Rattle.cspf_work.proofs.Running.{at_place}
@@ -29,10 +29,7 @@ served_at_later requests list before mid after i more is = record {
 
 pub served_later : (requests : List Request) (list : List Answer) (before mid after : List NumberedChanges) (indexes : List ℕ)
     → BeginsWith after mid → IsServed requests list before mid indexes → IsServed requests list before after indexes
-served_later requests list before mid after indexes more is = record {
-  answers = All-weaker (IsServedAt requests list before mid) (IsServedAt requests list before after) (λ i. served_at_later requests list before mid after i more) indexes is.answers;
-  versions = is.versions;
-}
+served_later requests list before mid after indexes more is = search (rules, All-weaker, served_at_later)
 
 -- if the askers (which compute the workers' answers) learn of more batches after the answers, the
 -- answers are still right
@@ -50,20 +47,11 @@ answered_later requests before mid after list drawn count same is = record {
 
 served_at_before : (requests : List Request) (list : List Answer) (before mid after : List NumberedChanges) (i : ℕ)
     → BeginsWith mid before → IsServedAt requests list mid after i → IsServedAt requests list before after i
-served_at_before requests list before mid after i more is = record {
-  later =
-      let long = ap length more.1 ∙ length-append before more.0 in
-      let later = is.later in
-      omega arith;
-  answer = is.answer;
-}
+served_at_before requests list before mid after i more is = search (rules, length-append)
 
 served_before : (requests : List Request) (list : List Answer) (before mid after : List NumberedChanges) (indexes : List ℕ)
     → BeginsWith mid before → IsServed requests list mid after indexes → IsServed requests list before after indexes
-served_before requests list before mid after indexes more is = record {
-  answers = All-weaker (IsServedAt requests list mid after) (IsServedAt requests list before after) (λ i. served_at_before requests list before mid after i more) indexes is.answers;
-  versions = is.versions;
-}
+served_before requests list before mid after indexes more is = search (rules, All-weaker, served_at_before)
 
 -- The answers are right for askers (which compute the workers' answers) that knew `mid` at the
 -- start. Then they are also right for an earlier state `before` of these askers, in which each

@@ -5,7 +5,7 @@ use Rattle.cspf_publish.specs.declared.answer.Answer.{Answer}
 use Rattle.cspf_work.specs.declared.serve_error.ServeError.{ServeError}
 use Rattle.cspf_work.specs.declared.serve_error.ServeError.TheVariants.{Memory, Missing, Twice}
 use Rattle.cspf_work.specs.declared.worker.Reply.{Reply}
-use Rattle.cspf_draw.specs.EachOnce.{times}
+use Rattle.cspf_jobs.specs.EachOnce.{times}
 use Rattle.cspf_work.specs.Working.{indexes}
 
 -- The list `slots` has one slot for each request. The answer of each reply is in the slot at the

@@ -4,7 +4,7 @@ use Rattle.core.specs.Option.{option_or}
 use Rattle.std.specs.List.Sorted.{IsNonDecreasingBy, IsStrictlyIncreasing}
 use Rattle.cspf_model.specs.Numbered.{NumberedChanges}
 use Rattle.cspf_model.specs.declared.request.Request.{Request}
-use Rattle.cspf_draw.specs.DrawnNumbers.{CounterId, DrawnNumbers}
+use Rattle.cspf_jobs.specs.DrawnNumbers.{CounterId, DrawnNumbers}
 use Rattle.cspf_publish.specs.AskerStates.{AskerState}
 use Rattle.cspf_work.specs.declared.crew.Room.{Room}
 use Rattle.cspf_work.specs.declared.worker.Reply.{Reply}

@@ -6,7 +6,7 @@ use crate::crew::employ;
 use crate::finishing::{Collected, finish};
 use crate::pool::run_workers;
 use crate::{Answers, Gate, MOST_REQUESTS, ServeError};
-use cspf_draw::Counter;
+use cspf_jobs::Counter;
 use cspf_model::Request;
 use cspf_publish::{Asker, MOST_ASKERS};
 use std::alloc::Global;

@@ -2,7 +2,7 @@
 
 ghost use Rattle.std.specs.Prelude.{◌⊎◌, ◌<◌, ◌≤◌, ◌≡◌, List, length, All, IfOk, IfErr, vec_len};
 ghost use Rattle.std.specs.List.Sorted.{IsStrictlyIncreasing};
-ghost use Rattle.cspf_draw.specs.DrawnNumbers.{CounterId};
+ghost use Rattle.cspf_jobs.specs.DrawnNumbers.{CounterId};
 ghost use Rattle.cspf_publish.specs.Histories.{BeginsWith};
 ghost use Rattle.cspf_publish.specs.AskerStates.{AskerState};
 ghost use Rattle.cspf_work.specs.Served.{AreAnsweredByWorkers, AreAnswersWithin, AreSameAskers, IsFaultOfWorker, IsUnaccounted};
@@ -17,7 +17,7 @@ use crate::pool::run_all;
 use crate::strays::first_stray;
 use crate::worker::{Results, Worker};
 use crate::{Gate, Live, MOST_REQUESTS, ServeError};
-use cspf_draw::{Counter, LastSeat};
+use cspf_jobs::{Counter, LastSeat};
 use cspf_model::{Batch, Request};
 use cspf_publish::{ApplyError, Asker, MOST_ASKERS, Publisher};
 use std::alloc::Global;

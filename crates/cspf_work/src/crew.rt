@@ -3,13 +3,13 @@
 //! the workers' results.
 ghost use Rattle.std.specs.Prelude.{◌≡◌, ◌+◌, ◌<◌, ◌≤◌, [], List, length, map, All, IfOk, IfErr, IfSome, IsNone, vec_len, vec_capacity};
 ghost use Rattle.cspf_model.specs.declared.request.Request.{Request as OneRequest};
-ghost use Rattle.cspf_draw.specs.declared.limits.TheConstants.{MOST_DRAWERS};
+ghost use Rattle.cspf_jobs.specs.declared.limits.TheConstants.{MOST_DRAWERS};
 ghost use Rattle.cspf_publish.specs.AskerStates.{AskerState};
 ghost use Rattle.cspf_work.specs.Served.{IsFaultOfWorker};
 ghost use Rattle.cspf_work.specs.Working.{IsIdle, IsRoomFor, AreReady, AreRun, AreResults, first_fault};
 
 use crate::worker::{Reply, Results, Worker};
-use cspf_draw::{Counter, Drawer, FirstSeat, LastSeat};
+use cspf_jobs::{Counter, Drawer, FirstSeat, LastSeat};
 use cspf_publish::Asker;
 use std::alloc::{AllocError, Global};
 

@@ -11,7 +11,7 @@ ghost use Rattle.cspf_work.specs.Working.{AreResults};
 use crate::ServeError;
 use crate::collecting::collect;
 use crate::worker::Results;
-use cspf_draw::{Counter, LastSeat};
+use cspf_jobs::{Counter, LastSeat};
 use cspf_model::Request;
 use cspf_publish::{Answer, Asker};
 use std::alloc::Global;

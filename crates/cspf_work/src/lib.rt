@@ -1,7 +1,7 @@
 //! Workers answer many requests at once. Meanwhile a publisher may apply batches. Each worker has a
 //! thread and an asker (the object that computes its answers).
 //!
-//! The workers draw the indexes of their requests from one counter, which `cspf_draw` defines. A
+//! The workers draw the indexes of their requests from one counter, which `cspf_jobs` defines. A
 //! draw reads the counter and adds 1 to it in one step.
 //!
 //! `specs/Served.antt` defines which answers are right, and which worker answered which request.
@@ -30,7 +30,7 @@ pub use answering::answer_all;
 pub use answering_latest::answer_latest;
 pub use answering_live::run_live;
 pub use answers::Answers;
-pub use cspf_draw::Drawer;
+pub use cspf_jobs::Drawer;
 pub use gate::{Gate, NoGate};
 pub use limits::MOST_REQUESTS;
 pub use live::Live;

@@ -1,7 +1,7 @@
 //! Runs all workers at once, each in a thread, if threads can be made.
 
 ghost use Rattle.std.specs.Prelude.{◌≡◌, List, length};
-ghost use Rattle.cspf_draw.specs.DrawnNumbers.{CounterId};
+ghost use Rattle.cspf_jobs.specs.DrawnNumbers.{CounterId};
 ghost use Rattle.cspf_publish.specs.AskerStates.{AskerState};
 ghost use Rattle.cspf_work.specs.declared.worker.Worker.{Worker as OneWorker};
 ghost use Rattle.cspf_work.specs.Working.{IsIdle, IsWorkerRun, AreReady, AreRun, AreLeft, CanBegin};
@@ -10,7 +10,7 @@ use crate::Gate;
 use crate::crew::{Crew, dismiss};
 use crate::worker::{Results, Worker};
 use crate::worker_loop::serve;
-use cspf_draw::LastSeat;
+use cspf_jobs::LastSeat;
 use cspf_model::Request;
 use std::alloc::Global;
 use std::thread;

@@ -1,5 +1,5 @@
 use crate::ServeError;
-use cspf_draw::Drawer;
+use cspf_jobs::Drawer;
 use cspf_publish::{Answer, Asker};
 
 /// An answer, and the index of its request.

@@ -3,7 +3,7 @@
 
 ghost use Rattle.std.specs.Prelude.{◌≡◌, ◌+◌, ◌<◌, ◌≤◌, length, IfOk, vec_len};
 
-use cspf_draw::{Counter, Drawer, FirstSeat, MOST_DRAWERS};
+use cspf_jobs::{Counter, Drawer, FirstSeat, MOST_DRAWERS};
 use std::alloc::{AllocError, Global};
 use std::process::Abort;
 use std::sync::atomic::{AtomicU64, Ordering};

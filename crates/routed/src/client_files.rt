@@ -3,9 +3,9 @@
 ghost use Rattle.std.specs.Prelude.{◌≡◌, ◌<◌, ◌≤◌, length, IfOk, vec_len};
 
 use crate::bounded::{Bounded, Cause};
-use crate::ends::{say, say_at, say_of, stop};
 use crate::noted::Fault;
 use crate::options::{CLIENT, Call, EXPLAIN, JOURNAL};
+use crate::standard_error::{say, say_at, say_of, stop};
 use crate::statuses::REFUSED;
 use crate::stopped::Stopped;
 use cspf_serve::{Client, EndOfRequests, MOST_ASKERS, Replies};

@@ -4,8 +4,8 @@ ghost use Rattle.std.specs.Prelude.{◌≡◌, ◌<◌, ◌≤◌, ◌↔◌, �
 ghost use Rattle.std.specs.Str.Lines.{lines};
 
 use crate::devices::opened;
-use crate::ends::say_at;
 use crate::options::{CLIENTS_FROM, Call};
+use crate::standard_error::say_at;
 use crate::statuses::REFUSED;
 use crate::stopped::Stopped;
 use std::alloc::{AllocError, Global};

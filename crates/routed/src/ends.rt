@@ -1,32 +1,10 @@
-//! How a run ends: its status, and its lines on standard error.
+//! How a run ends: its status, and with `--explain` a line that says why.
 
 use crate::options::{Call, CommandOption, EXPLAIN};
 use crate::refused_rows::explain_rows;
-use crate::statuses::{STOPPED, UNFIT};
+use crate::standard_error::{say, say_at, say_of, stop};
+use crate::statuses::UNFIT;
 use crate::stopped::{Ran, Stopped};
-use std::fmt;
-
-/// Writes a line on standard error.
-pub(crate) fn say<W: fmt::Display>(rt: &HostRuntime, what: &W) {
-    let _ = eprintln!(rt; "routed: {what}");
-}
-
-/// Writes a line on standard error about the device or file with this name.
-pub(crate) fn say_of<W: fmt::Display>(rt: &HostRuntime, name: &str, what: &W) {
-    let _ = eprintln!(rt; "routed: {name}: {what}");
-}
-
-/// Writes a line on standard error about a file. `word` is the file's option or the use of the
-/// file, and `path` is its path.
-pub(crate) fn say_at<W: fmt::Display>(rt: &HostRuntime, word: &str, path: &str, what: &W) {
-    let _ = eprintln!(rt; "routed: {word} {path}: {what}");
-}
-
-/// Writes that the run stops, and returns the status.
-pub(crate) fn stop(rt: &HostRuntime) -> u8 {
-    let _ = eprintln!(rt; "routed: stopped");
-    STOPPED
-}
 
 /// Returns the status of a run. With `--explain` it first writes why the run stopped, or which row
 /// of the run's files is refused. `options` are the command's options.

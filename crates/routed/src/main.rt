@@ -25,12 +25,13 @@ mod serve;
 mod snapshot;
 mod solve;
 mod stack;
+mod standard_error;
 mod statuses;
 mod stopped;
 
 use clap::error::ErrorKind;
 use command_line::{obey, parse};
-use ends::stop;
+use standard_error::stop;
 use statuses::REFUSED;
 use std::process::ExitCode;
 use std::sync::Wait;

@@ -1,7 +1,7 @@
 //! Finds the refused row of a file, for `--explain`. For this the file is read a second time.
 
-use crate::ends::say_at;
 use crate::options::{ACCEPT_TORN, Call, CommandOption, REQUESTS};
+use crate::standard_error::say_at;
 use cspf_rows::{MOST_ROWS, Row, RowError, open_records};
 use csv::{ByteRecord, Reader};
 use std::alloc::Global;

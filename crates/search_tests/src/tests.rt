@@ -31,6 +31,21 @@ const FOUR: u32 = 0x0404_0404;
 // The groups are 0x6.
 type Row = (u32, u32, u32, u32, u32, u64);
 
+// Four routers in a square. ONE reaches FOUR over TWO at a cost of 2, and over THREE at a cost of
+// 4. The link between TWO and THREE has no unreserved bandwidth.
+const SQUARE: &[Row] = &[
+    (ONE, 0x0a00_0c01, TWO, 0x0a00_0c02, 1, 1000),
+    (TWO, 0x0a00_1802, FOUR, 0x0a00_1804, 1, 1000),
+    (ONE, 0x0a00_0d01, THREE, 0x0a00_0d03, 2, 1000),
+    (THREE, 0x0a00_2203, FOUR, 0x0a00_2204, 2, 1000),
+    (TWO, 0x0a00_1702, THREE, 0x0a00_1703, 1, 0),
+];
+
+// The routes over TWO and over THREE.
+const BY_TWO: &[u32] = &[0x0a00_0c02, 0x0a00_1804];
+
+const BY_THREE: &[u32] = &[0x0a00_0d03, 0x0a00_2204];
+
 fn link(row: &Row) -> Result<Link, Fail> {
     let (from, local, to, remote, metric, free) = *row;
     let (from, local) = (Addr::new(from), Addr::new(local));
@@ -124,17 +139,9 @@ fn request(
 
 // The request, but without hops.
 fn without_hops(request: &Request) -> Request {
-    Request {
-        id: request.id,
-        from: request.from,
-        to: request.to,
-        setup: request.setup,
-        bandwidth: request.bandwidth,
-        exclude_any: request.exclude_any,
-        include_any: request.include_any,
-        include_all: request.include_all,
-        hops: Hops::none(),
-    }
+    let mut direct = *request;
+    direct.hops = Hops::none();
+    direct
 }
 
 // The next pseudo-random number.

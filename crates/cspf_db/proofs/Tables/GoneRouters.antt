@@ -1,5 +1,6 @@
 -- Lemmas on routers that have no links after the changes, and on routers that the changes bring.
-use Rattle.std.proofs.Common.{◌≡◌, ℕ, zero, suc, ◌+◌, ◌<◌, ◌⊎◌, inl, inr, Contains, take, ◌++◌, Bool, true, false, ◌&&◌, ◌||◌, cond, List, [], ◌∷◌, filter, length, nat_eq, slice_index, slice_index_or, refl, sym, ap, ◌∙◌, arith}
+use Rattle.std.proofs.Common.{◌≡◌, ℕ, suc, ◌+◌, ◌<◌, ◌⊎◌, inl, inr, Contains, take, ◌++◌, Bool, true, false, ◌&&◌, ◌||◌, cond, List, [], ◌∷◌, filter, length, nat_eq, slice_index, slice_index_or, refl, sym, ap, ◌∙◌, arith, rules}
+use Rattle.std.proofs.lemmas.Grind.{common_steps}
 use Rattle.std.specs.List.{list_any}
 use Rattle.std.specs.Cmp.{nat_cmp_total}
 use Rattle.std.specs.FinSet as set
@@ -35,24 +36,18 @@ any_both p q (l ∷ rows) =
     elim (q l) as (λ b. list_any p (cond b (l ∷ filter q rows) (filter q rows)) ≡ ((b && p l) || list_any (λ m. q m && p m) rows)) [ true ↦ ap (λ b. p l || b) (any_both p q rows) | false ↦ any_both p q rows ]
 
 neither : (a b : Bool) → (a || b) ≡ false → (a ≡ false) × (b ≡ false)
-neither true b off = absurd (cc)
-neither false b off = (refl, off)
+neither a b off = search rules
 
 -- If no row (a link) passes a test, the test is false for the row at each index.
 none_at : (p : Link → Bool) (rows : List Link) → list_any p rows ≡ false → (k : ℕ) (d : Link) → k < length rows → p (slice_index_or rows k d) ≡ false
-none_at p [] off k d h = absurd (omega (arith, h))
-none_at p (l ∷ rows) off zero d h = (neither (p l) (list_any p rows) off).0
-none_at p (l ∷ rows) off (suc k) d h = none_at p rows (neither (p l) (list_any p rows) off).1 k d (omega (arith, h))
+none_at p rows off k d h = grind (arith, common_steps, neither)
 
 none_from : (p : Link → Bool) (rows : List Link) → ((k : ℕ) (d : Link) → k < length rows → p (slice_index_or rows k d) ≡ false) → list_any p rows ≡ false
 none_from p [] none = refl
 none_from p (l ∷ rows) none = ap (λ b. b || list_any p rows) (none 0 l (omega arith)) ∙ none_from p rows (λ k d h. none (suc k) d (omega (arith, h)))
 
 all_three : (u f t : Bool) → (f && u) ≡ false → (t && u) ≡ false → (u && (f || t)) ≡ false
-all_three true true t from to = absurd (cc)
-all_three true false true from to = absurd (cc)
-all_three true false false from to = refl
-all_three false f t from to = refl
+all_three u f t from to = search rules
 
 -- If the changes affect each row (a link) that begins or ends at the router with the index `place`,
 -- no untouched row begins or ends at this router.

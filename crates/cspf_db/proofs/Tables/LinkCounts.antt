@@ -1,7 +1,7 @@
 -- Lemmas on the number of links after changes. This number follows from the number of changes that
 -- add a link and the number of changes that remove a link.
 use mathlib.Core.Bool.{true≢false}
-use Rattle.std.proofs.Common.{◌≡◌, ℕ, ◌+◌, ◌-◌, ◌<◌, get_or, take, Bool, true, false, cond, not, is_some, IsSome, List, [], ◌∷◌, length, map, refl, sym, ap, subst, ◌∙◌, arith}
+use Rattle.std.proofs.Common.{◌≡◌, ℕ, ◌+◌, ◌-◌, ◌<◌, get_or, take, Bool, true, false, cond, not, is_some, List, [], ◌∷◌, length, map, refl, sym, ap, subst, ◌∙◌, arith, rules}
 use Rattle.std.specs.Ordering.{eq_by_cmp}
 use Rattle.std.specs.List.{IsDistinct, AllByRecursion, AllWithin, count_by}
 use Rattle.std.specs.FinMap as finite
@@ -29,16 +29,12 @@ same_there d c k apart =
 
 -- If the changes `c` and `b` have different keys, `c` doesn't affect whether `b` adds a link.
 adds_same : (d : Database) (c b : Change) → eq_by_cmp change_key_cmp (key_changed c) (key_changed b) ≡ false → adds_link (relinked d c) b ≡ adds_link d b
-adds_same d c (Put l) apart = ap (λ o. not (is_some o)) (same_there d c (key_of l) apart)
-adds_same d c (Remove from local) apart = refl
-adds_same d c (Node router transit) apart = refl
+adds_same d c b apart = search (rules, is_some, same_there)
 
 -- If the changes `c` and `b` have different keys, `c` doesn't affect whether the database has the
 -- link that `b` removes.
 present_same : (d : Database) (c b : Change) → eq_by_cmp change_key_cmp (key_changed c) (key_changed b) ≡ false → IsPresent d b → IsPresent (relinked d c) b
-present_same d c (Put l) apart present = tt
-present_same d c (Node router transit) apart present = tt
-present_same d c (Remove from local) apart present = subst IsSome (sym (same_there d c (from, local) apart)) present
+present_same d c b apart present = search (rules, same_there)
 
 -- A change `c` doesn't affect how many changes of `cs` add a link, if no change of `cs` has the key
 -- of `c`.
@@ -100,10 +96,7 @@ sum_after rows cs by_key once present =
 
 pub difference_after : (rows : List Link) (cs : List Change) → AreByKey rows → AreOnceEach cs → AllByRecursion (IsPresent (database_of rows)) cs
     → link_count (all_relinked (database_of rows) cs) ≡ length rows + count_by (adds_link (database_of rows)) cs - count_by removes_link cs
-difference_after rows cs by_key once present = less _ _ _ (sum_after rows cs by_key once present)
-  where
-    less : (n r s : ℕ) → n + r ≡ s → n ≡ s - r
-    less n r s e = omega arith
+difference_after rows cs h1 once present = search (rules, sum_after)
 
 -- If `P` holds of the first `at` items and of the next item, `P` holds of the first `at + 1` items.
 pub within_more : {A : Type 0} (P : A → Type 0) (xs : List A) (at : ℕ) (x : A) → at < length xs → x ≡ get_or xs at x → P x → AllWithin P xs 0 at → AllWithin P xs 0 (at + 1)
@@ -112,8 +105,4 @@ within_more P xs at x h is here before = AllWithin-more P xs 0 at before (λ d. 
 -- Suppose that `m` of the first `at` items pass the test `p`. Let `n` be 1 if the next item passes
 -- `p`, and 0 otherwise. Then `m + n` of the first `at + 1` items pass `p`.
 pub count_more : {A : Type 0} (p : A → Bool) (xs : List A) (at : ℕ) (x : A) (m n : ℕ) → at < length xs → x ≡ get_or xs at x → m ≡ count_by p (take at xs) → n ≡ cond (p x) 1 0 → m + n ≡ count_by p (take (at + 1) xs)
-count_more p xs at x m n h is before here =
-    elim (p x) as (λ b. p x ≡ b → n ≡ cond b 1 0 → m + n ≡ count_by p (take (at + 1) xs)) [
-      | true ↦ λ e one. omega (arith, before, one, count_by_more_yes p xs at x h (ap p (sym is) ∙ e))
-      | false ↦ λ e none. omega (arith, before, none, count_by_more_no p xs at x h (ap p (sym is) ∙ e))
-    ] refl here
+count_more p xs at x m n h is before here = search (rules, count_by_more_no, count_by_more_yes)

@@ -1,7 +1,7 @@
 -- Lemmas on how changes affect the marks, and on the number of marks after the changes. A mark says
 -- that a router has no transit.
 use mathlib.Core.Bool.{true≢false}
-use Rattle.std.proofs.Common.{◌≡◌, ℕ, zero, suc, ◌+◌, ◌-◌, ◌<◌, ◌≤◌, ◌&&◌, ◌||◌, Bool, true, false, not, cond, List, [], ◌∷◌, length, map, get_or, refl, sym, ap, subst, ◌∙◌, arith, Result, Ok, Err, IfOk, IfErr, is_ok, Vec}
+use Rattle.std.proofs.Common.{◌≡◌, ℕ, zero, suc, ◌+◌, ◌-◌, ◌<◌, ◌≤◌, ◌&&◌, ◌||◌, Bool, true, false, not, cond, List, [], ◌∷◌, length, map, get_or, refl, sym, ap, subst, ◌∙◌, arith, Result, Ok, Err, IfOk, IfErr, is_ok, Vec, rules}
 use Rattle.std.specs.Ordering.{nat_cmp, eq_by_cmp}
 use Rattle.std.specs.declared.cmp.Ordering.TheVariants.{Less, Greater}
 use Rattle.std.specs.Cmp.{nat_cmp_total, eq_by_cmp_equiv, Equal-is}
@@ -15,7 +15,7 @@ use Rattle.std.specs.Vec.{vec_capacity}
 use Rattle.std.specs.declared.alloc.Global.{Global}
 use Rattle.cspf_model.specs.declared.link.Link.{Link}
 use Rattle.cspf_model.specs.declared.batch.Change.{Change}
-use Rattle.cspf_model.specs.declared.batch.Change.TheVariants.{Put, Remove, Node}
+use Rattle.cspf_model.specs.declared.batch.Change.TheVariants.{Node}
 use Rattle.cspf_model.specs.Database.{mark_count}
 use Rattle.cspf_columns.specs.Index.{with_nothing}
 use Rattle.cspf_model.specs.Changes.{change_key_cmp, key_changed, mark_key, marks_after, after_changes}
@@ -166,23 +166,15 @@ tells_mark marks router (Err at) b e within found gap = e ∙ sym (unmarked_gap 
 -- A change that isn't a change of a router's transit doesn't affect whether this router is marked.
 -- A mark says that a router has no transit.
 marked_there : (marks : set.FinSet nat_cmp) (c : Change) (q : ℕ) → eq_by_cmp change_key_cmp (key_changed c) (mark_key q) ≡ false → set.contains (marked marks c) q ≡ set.contains marks q
-marked_there marks (Put l) q apart = refl
-marked_there marks (Remove from local) q apart = refl
-marked_there marks (Node router transit) q apart =
-    after_mark marks router q transit
-    ∙ ap (λ b. cond b (not transit) (set.contains marks q)) (tied_alone (nat_cmp q router) ∙ change_keys_apart (mark_key router) (mark_key q) apart)
+marked_there marks c q apart = search (rules, after_mark, change_keys_apart, tied_alone)
 
 -- If the changes `c` and `b` have different keys, `c` doesn't affect whether `b` adds or removes a
 -- mark. A mark says that a router has no transit.
 adds_same : (marks : set.FinSet nat_cmp) (c b : Change) → eq_by_cmp change_key_cmp (key_changed c) (key_changed b) ≡ false → adds_mark (marked marks c) b ≡ adds_mark marks b
-adds_same marks c (Put l) apart = refl
-adds_same marks c (Remove from local) apart = refl
-adds_same marks c (Node router transit) apart = ap (λ b. not transit && not b) (marked_there marks c router apart)
+adds_same marks c b apart = search (rules, marked_there)
 
 removes_same : (marks : set.FinSet nat_cmp) (c b : Change) → eq_by_cmp change_key_cmp (key_changed c) (key_changed b) ≡ false → removes_mark (marked marks c) b ≡ removes_mark marks b
-removes_same marks c (Put l) apart = refl
-removes_same marks c (Remove from local) apart = refl
-removes_same marks c (Node router transit) apart = ap (λ b. transit && b) (marked_there marks c router apart)
+removes_same marks c b apart = search (rules, marked_there)
 
 -- Suppose that the tests `p` and `q` agree on all changes except changes with the key of `c`. If no
 -- change in `cs` has this key, the number of changes in `cs` that pass is the same for both tests.
@@ -197,8 +189,6 @@ count_same p q c (b ∷ cs) alike apart =
 -- One change increases the number of marks by 1 if it adds a mark, and decreases the number by 1 if
 -- it removes a mark. A mark says that a router has no transit.
 one_mark : (marks : set.FinSet nat_cmp) (c : Change) → set.len (marked marks c) + cond (removes_mark marks c) 1 0 ≡ set.len marks + cond (adds_mark marks c) 1 0
-one_mark marks (Put l) = refl
-one_mark marks (Remove from local) = refl
 one_mark marks (Node router false) =
     ap (λ n. n + 0) (set.len-insert nat_cmp_total marks router) ∙ one_more (set.contains marks router) (set.len marks)
   where
@@ -214,6 +204,7 @@ one_mark marks (Node router true) =
     one_less : (b : Bool) (n : ℕ) → (b ≡ true → n ≡ 0 → ⊥) → cond b (n - 1) n + cond b 1 0 ≡ n + 0
     one_less true n some = let h = some refl in omega (arith, h)
     one_less false n some = refl
+one_mark marks c = refl
 
 -- If the equation of `marks_count` holds for one change and for the later changes, it holds for all
 -- of these changes together.
@@ -238,18 +229,11 @@ marks_count marks (c ∷ cs) once =
 -- added marks, minus the number of removed marks. A mark says that a router has no transit.
 pub marks_difference : (marks : List ℕ) (cs : List Change) → AreRising marks → AreOnceEach cs
     → set.len (all_marked (marks_in marks) cs) ≡ length marks + count_by (adds_mark (marks_in marks)) cs - count_by (removes_mark (marks_in marks)) cs
-marks_difference marks cs rising once = less _ _ _ _ _ (marks_count (marks_in marks) cs once) (len-marks_in marks rising)
-  where
-    less : (after removed before added long : ℕ) → after + removed ≡ before + added → before ≡ long → after ≡ long + added - removed
-    less after removed before added long e same = omega (arith, e, same)
+marks_difference marks cs rising once = search (rules, len-marks_in, marks_count, marks_in)
 
 -- Suppose that `new` lists the marks after a batch in increasing order, and has the capacity that
 -- `AreMarks` requires. If there are at most 1,024 marks, `AreMarks` holds of `new`. A mark says
 -- that a router has no transit.
 pub still_marks : (rows : List Link) (marks : List ℕ) (new : Vec ℕ Global) (cs : List Change) → mark_count (after_changes (marked_database rows marks) cs) ≤ 1024
     → marks_in new.items ≡ all_marked (marks_in marks) cs → AreRising new.items → 5120 ≤ vec_capacity new → AreMarks new
-still_marks rows marks new cs few set_to rising room = record {
-  rising = rising;
-  most = omega (arith, few, marks_counted rows marks cs, ap set.len set_to, len-marks_in new.items rising);
-  room = room;
-}
+still_marks rows marks new cs few h2 rising room = search (rules, len-marks_in, marks_counted)

@@ -4,7 +4,7 @@ use Rattle.std.proofs.Common.{◌≡◌, ℕ, ◌+◌, ◌<◌, ◌↔◌, inl, 
 use Rattle.std.specs.List.Sorted.{IsStrictlyIncreasing}
 use Rattle.std.proofs.lemmas.Bool.{cases_lt}
 use Rattle.std.proofs.lemmas.List.{length-append, get_or_at, get_or_append_left}
-use Rattle.std.proofs.lemmas.List.Elements.{All-nil, All-append, Contains-append_left, Contains-append_right, Contains-append_cases, All-contains}
+use Rattle.std.proofs.lemmas.List.Elements.{All-append, Contains-append_left, Contains-append_right, Contains-append_cases, All-contains}
 use Rattle.cspf_addr.specs.PrefixParts.{PrefixParts}
 use Rattle.cspf_model.specs.Database.{Database}
 use Rattle.cspf_columns.specs.Index.{router_list}
@@ -20,9 +20,6 @@ pub record AreOwnersBelow (d : Database) (prefix : PrefixParts) (n : ℕ) (place
 -- A list whose only item is `n` contains no other item.
 only_itself : (n k : ℕ) → Contains (n ∷ []) k → n ≡ k
 only_itself n k (i, h, is) = let first : 0 ≡ i = omega (arith, h) in ap (λ j. slice_index_or (n ∷ []) j k) first ∙ is
-
-pub none_yet : (d : Database) (prefix : PrefixParts) → AreOwnersBelow d prefix 0 []
-none_yet d prefix = record { within = All-nil _; each = λ at h. absurd (omega (arith, h)); rising = λ k h. absurd (omega (arith, h)) }
 
 -- Suppose that `places` has the indexes of the owners of the prefix among the first `n` routers. If
 -- the next router is an owner, `places` with `n` appended has the indexes of the owners among the

@@ -4,7 +4,6 @@ use Rattle.std.proofs.Common.{◌≡◌, ℕ, true, List, All, refl, sym, subst,
 use Rattle.std.specs.List.{count_by}
 use Rattle.cspf_model.specs.declared.link.Link.{Link}
 use Rattle.cspf_model.specs.declared.batch.Change.{Change}
-use Rattle.cspf_model.specs.declared.batch.Change.TheVariants.{Put, Remove, Node}
 use Rattle.cspf_model.specs.Numbered.{NumberedChanges}
 use Rattle.cspf_model.specs.Changes.{Fits}
 use Rattle.cspf_model.specs.Lemmas.CountedEnds.{HasListedEnds}
@@ -21,9 +20,7 @@ module _ (rows : List Link) (marks : List ℕ) where
   -- Whether a change adds a link doesn't depend on the marks of the database. A mark says that a
   -- router has no transit.
   adds_marked : (c : Change) → adds_link (database_of rows) c ≡ adds_link (marked_database rows marks) c
-  adds_marked (Put l) = refl
-  adds_marked (Remove from local) = refl
-  adds_marked (Node router transit) = refl
+  adds_marked c = refl
 
   -- The number of links that the changes add doesn't depend on the marks of the database. A mark
   -- says that a router has no transit.

@@ -1,7 +1,7 @@
 -- Lemmas on which row (a link) each change affects. If no two changes affect the same row, they
 -- have different keys.
 use mathlib.Core.Bool.{true≢false}
-use Rattle.std.proofs.Common.{◌≡◌, ◌≢◌, ℕ, ◌+◌, ◌<◌, ◌||◌, Bool, true, false, not, Option, Some, None, IfSome, IfNone, List, All, [], ◌∷◌, take, length, get_or, slice_index_or, Result, Ok, Err, IfOk, IsOkAnd, IsSomeAnd, inl, inr, refl, sym, ap, subst, ◌∙◌, arith}
+use Rattle.std.proofs.Common.{◌≡◌, ◌≢◌, ℕ, ◌+◌, ◌<◌, ◌||◌, Bool, true, false, not, Option, Some, None, IfSome, IfNone, List, All, [], ◌∷◌, take, length, get_or, slice_index_or, Result, IfOk, IsOkAnd, IsSomeAnd, inl, inr, sym, ap, subst, ◌∙◌, arith, rules}
 use Rattle.std.specs.Ordering.{eq_by_cmp}
 use Rattle.std.specs.List.{HoldsAt, list_any}
 use Rattle.std.proofs.lemmas.Bool.{cases_lt}
@@ -18,7 +18,7 @@ use Rattle.cspf_model.specs.Database.{Key, key_of}
 use Rattle.cspf_model.specs.Lemmas.LinkRows.{AreByKey}
 use Rattle.cspf_model.specs.Lemmas.RepeatedKeys.{is_changed, IsNewAt}
 use Rattle.cspf_model.specs.Refusals.{AreOnceEach}
-use Rattle.cspf_model.proofs.Databases.Keys.{keys_apart_from, link_keys_same}
+use Rattle.cspf_model.proofs.Databases.Keys.{keys_apart_from}
 
 -- `row` is the index of the row (a link) with the key `k`, if there is such a row
 pub record IsRowWith (rows : List Link) (k : Key) (row : Option ℕ) : Type 0 where
@@ -28,17 +28,14 @@ pub record IsRowWith (rows : List Link) (k : Key) (row : Option ℕ) : Type 0 wh
 
 -- If a change has the key of a link, the change affects the row (a link) with this key.
 pub row_of_key : (rows : List Link) (change : Change) (k : Key) (row : Option ℕ) → link_key k ≡ key_changed change → IsRowWith rows k row → IsRowOf rows change row
-row_of_key rows change k None is found = record { bound = tt; some = tt; none = λ i d h e. found.none i d h (link_keys_same (key_of (get_or rows i d)) k (e ∙ sym is)) }
-row_of_key rows change k (Some at) is found = record { bound = found.bound; some = λ d. ap link_key (found.some d) ∙ is; none = tt }
+row_of_key rows change k row is found = search rules
 
 pub row_with_key : (rows : List Link) (change : Change) (k : Key) (row : Option ℕ) → link_key k ≡ key_changed change → IsRowOf rows change row → IsRowWith rows k row
-row_with_key rows change k None is found = record { bound = tt; some = tt; none = λ i d h e. found.none i d h (ap link_key e ∙ is) }
-row_with_key rows change k (Some at) is found = record { bound = found.bound; some = λ d. link_keys_same (key_of (get_or rows at d)) k (found.some d ∙ sym is); none = tt }
+row_with_key rows change k row is found = search rules
 
 -- If the negation of a test is true, the test itself is false.
 off : (b : Bool) → not b ≡ true → b ≡ false
-off true e = absurd (cc)
-off false e = refl
+off b e = search rules
 
 -- Suppose that `AreOnSeenRows` holds for the index `at`. If the change at this index affects a row
 -- (a link) whose flag in `seen` is false, no earlier change has the same key.
@@ -73,5 +70,4 @@ seen_more rows by_key changes at change h is (Some row) found old new one before
 -- If the tally says that no two changes affect the same row (a link), no two changes have the same
 -- key. A tally is a summary of what changes do to the links and the routers.
 pub told_apart : (c : Columns) (changes : List Change) (r : Result Tally ℕ) → IfOk r (IsTallyOf c changes) → IsOkAnd r (λ t. t.apart ≡ true) → AreOnceEach changes
-told_apart c changes (Ok t) is on = is.apart on
-told_apart c changes (Err at) is on = absurd on
+told_apart c changes r is on = search rules

@@ -1,10 +1,9 @@
 -- Lemmas on the column that says, for each router, whether the router has transit.
-use Rattle.std.proofs.Common.{◌≡◌, inl, inr, ℕ, ◌+◌, ◌<◌, ◌≤◌, ◌↔◌, Bool, true, false, not, IsTrue, List, Contains, length, get_or, slice_index, nat_eq, refl, sym, ap, subst, ◌∙◌, arith}
+use Rattle.std.proofs.Common.{◌≡◌, ℕ, ◌+◌, ◌<◌, ◌≤◌, ◌↔◌, Bool, true, false, not, IsTrue, List, Contains, length, get_or, slice_index, nat_eq, refl, sym, ◌∙◌, rules}
 use Rattle.std.specs.Ordering.{nat_cmp}
 use Rattle.std.specs.Cmp.{nat_cmp_total, Equal-is}
 use Rattle.std.specs.FinSet as set
 use Rattle.std.proofs.lemmas.Bool.{cases_lt, false≢true}
-use Rattle.std.proofs.lemmas.Bool.Decides.{nat_tests}
 use Rattle.std.proofs.lemmas.List.{get_or_default, get_or_read}
 use Rattle.std.proofs.lemmas.Map.Views.{Contains-from_any}
 use Rattle.cspf_model.specs.declared.link.Link.{Link}
@@ -21,15 +20,7 @@ module _ (marks : List ℕ) (router at : ℕ) (rising : AreRising marks) (below 
   -- (if there is one) is above the router. Then the list of marks doesn't have the router. A mark
   -- is the Router ID of a router without transit.
   none_there : (at < length marks → router < slice_index marks at) → Contains marks router → ⊥
-  none_there above (k, h, is) =
-      let here : slice_index marks k ≡ router = get_or_default marks k 0 router h ∙ is in
-      elim (cases_lt k at) [
-        | inl lt ↦ absurd (omega (arith, here, below k lt))
-        | inr from ↦ elim (cases_lt at k) [
-          | inl gt ↦ absurd (omega (arith, here, above (omega (arith, from, h)), lower marks rising at k gt h))
-          | inr upto ↦ let same : k ≡ at = omega (arith, from, upto) in absurd (omega (arith, here, ap (slice_index marks) same, above (omega (arith, from, h))))
-        ]
-      ]
+  none_there above h2 = search (rules, cases_lt, get_or_default, lower)
 
   -- Suppose that the marks before the index `at` are below the router, and that the mark at `at`
   -- (if there is one) is above the router. Then the set of marks doesn't have the router. A mark is
@@ -44,36 +35,16 @@ module _ (marks : List ℕ) (router at : ℕ) (rising : AreRising marks) (below 
   -- A mark is the Router ID of a router without transit. The first mark that is at least `router`
   -- equals `router` exactly if this router is marked.
   pub other_mark : (n : ℕ) → at < length marks → router ≤ slice_index marks at → n ≡ get_or marks at n → not (nat_eq n router) ≡ not (set.contains (marks_in marks) router)
-  other_mark n h behind read =
-      let is : n ≡ slice_index marks at = get_or_read marks at n h read 0 in
-      ap not (elim (nat_eq n router) as (λ b. nat_eq n router ≡ b → b ≡ set.contains (marks_in marks) router) [
-        | true ↦ λ e. let same : n ≡ router = grind (arith, nat_tests) in sym (marked_at marks at router h (get_or_default marks at router 0 h ∙ sym is ∙ same))
-        | false ↦ λ e. let off : router < n = grind (arith, nat_tests) in sym (unmarked_between (λ _. omega (arith, is, off)))
-      ] refl)
+  other_mark n h behind read = search (rules, get_or_default, get_or_read, marked_at, marks_in, unmarked_between)
 
 -- If the first `end` marks are below a router of a list in increasing order, they are below each
 -- later router of the list. A mark is the Router ID of a router without transit.
 pub still_below : (marks routers : List ℕ) (first end index router : ℕ) → AreRising routers → index < length routers → router ≡ get_or routers index router
     → ((k j : ℕ) → k < first → index ≤ j → j < length routers → slice_index marks k < slice_index routers j) → ((k : ℕ) → first ≤ k → k < end → slice_index marks k < router)
     → (k j : ℕ) → k < end → index + 1 ≤ j → j < length routers → slice_index marks k < slice_index routers j
-still_below marks routers first end index router rising within read low more k j h from bound =
-    elim (cases_lt k first) [
-      | inl lt ↦ low k j lt (omega (arith, from)) bound
-      | inr past ↦ omega (arith, more k past h, get_or_read routers index router within read 0, lower routers rising index j (omega (arith, from)) bound)
-    ]
+still_below marks routers first end index router rising within read low more k j h from bound = search (rules, cases_lt, get_or_read, lower)
 
 -- At a router's index, the column says whether this router has transit.
 pub transit_at : (d : Database) (rows : List Link) (marks routers : List ℕ) (transits : List Bool) (at : ℕ) (b : Bool) → marked_database rows marks ≡ d → routers ≡ router_list (marked_database rows marks)
     → AreTransitsOf routers marks transits → at < length (router_list d) → b ≡ get_or transits at b → IsTrue b ↔ HasTransit d (slice_index (router_list d) at)
-transit_at d rows marks routers transits at b e listed are h read =
-    let all : routers ≡ router_list d = listed ∙ ap router_list e in
-    let within : at < length routers = subst (λ rs. at < length rs) (sym all) h in
-    tells (set.contains d.marks (slice_index (router_list d) at)) b
-    (get_or_read transits at b (omega (arith, within, are.many)) read false
-    ∙ are.each at within
-    ∙ ap (λ (n : Database). not (set.contains n.marks (slice_index routers at))) e
-    ∙ ap (λ rs. not (set.contains d.marks (slice_index rs at))) all)
-  where
-    tells : (marked b : Bool) → b ≡ not marked → IsTrue b ↔ (¬ IsTrue marked)
-    tells true b is = (λ on. absurd (false≢true (sym is ∙ on)), λ off. absurd (off refl))
-    tells false b is = (λ _ on. false≢true on, λ _. is)
+transit_at d rows marks routers transits at b e listed are h read = search (rules, false≢true, get_or_read)

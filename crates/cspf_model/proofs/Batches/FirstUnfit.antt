@@ -1,5 +1,5 @@
 -- Which batch of a list is the first that doesn't fit the database that the preceding batches make.
-use Rattle.std.proofs.Common.{◌≡◌, ℕ, ◌+◌, ◌<◌, List, ◌∷◌, ◌++◌, length, take, drop, get_or, sym, ap, ◌∙◌}
+use Rattle.std.proofs.Common.{◌≡◌, ℕ, ◌+◌, ◌<◌, List, ◌∷◌, ◌++◌, length, take, drop, get_or, rules}
 use Rattle.std.proofs.lemmas.List.{take-append-drop, drop_more}
 use Rattle.cspf_model.specs.Numbered.{NumberedChanges}
 use Rattle.cspf_model.specs.Changes.{AreLawful, database_after}
@@ -10,9 +10,7 @@ use Rattle.cspf_model.specs.Refusals.{IsRefusal, IsFirstUnfit}
 -- and the batches after `i`.
 pub parted : (batches : List NumberedChanges) (i : ℕ) (b : NumberedChanges) → i < length batches
     → b ≡ get_or batches i b → batches ≡ take i batches ++ (b ∷ drop (i + 1) batches)
-parted batches i b within is_next =
-    sym (take-append-drop i batches)
-    ∙ ap (λ rest. take i batches ++ rest) (drop_more batches i b within ∙ ap (λ next. next ∷ drop (i + 1) batches) (sym is_next))
+parted batches i b within h2 = search (rules, drop_more, take-append-drop)
 
 -- Suppose that each batch before the index `i` fits the database that its predecessors make. If the
 -- batch at `i` doesn't fit the database that all these batches make, it is the first batch that

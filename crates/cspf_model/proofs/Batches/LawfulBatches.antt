@@ -1,6 +1,6 @@
 -- Which lists of batches are lawful: each batch has to fit the database that the preceding batches
 -- make.
-use Rattle.std.proofs.Common.{◌↔◌, List, [], ◌∷◌, ◌++◌, sym, subst}
+use Rattle.std.proofs.Common.{◌↔◌, List, [], ◌∷◌, ◌++◌, sym, subst, rules}
 use Rattle.cspf_model.specs.Numbered.{NumberedChanges}
 use Rattle.cspf_model.specs.Database.{Database}
 use Rattle.cspf_model.specs.Changes.{changes_of, no_links, after_changes, AreLawfulAfter}
@@ -24,9 +24,7 @@ AreLawfulAfter-append d (b ∷ bs) cs =
 -- If a batch is appended to a list, the longer list is lawful exactly if the list is lawful and the
 -- batch fits the database that the list makes.
 pub one_more : LawfulByOneMore
-one_more bs b =
-    let parts = AreLawfulAfter-append no_links bs (b ∷ []) in
-    ((λ all. let both = parts.0 all in (both.0, both.1.0)), λ both. parts.1 (both.0, (both.1, tt)))
+one_more = search (rules, AreLawfulAfter-append)
 
 -- Each prefix of a lawful list of batches is lawful.
 pub first_batches : FirstBatchesAreLawful

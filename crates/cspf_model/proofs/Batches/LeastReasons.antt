@@ -2,7 +2,7 @@
 -- database.
 use Rattle.cspf_model.specs.Laws.{OneRefusal}
 use mathlib.Core.Bool.{true≢false}
-use Rattle.std.proofs.Common.{◌≡◌, ℕ, zero, suc, ◌+◌, ◌<◌, ◌≤◌, inl, inr, ◌||◌, true, Option, Some, None, option_map, List, [], ◌∷◌, length, map, take, refl, sym, ap, subst, ◌∙◌, add-one, arith, length-take-le, is_some, IfNone}
+use Rattle.std.proofs.Common.{◌≡◌, ℕ, zero, suc, ◌+◌, ◌<◌, ◌≤◌, ◌||◌, true, Option, Some, None, option_map, List, [], ◌∷◌, length, map, take, refl, sym, ap, subst, ◌∙◌, add-one, arith, length-take-le, IfNone, rules}
 use Rattle.std.specs.Ordering.{eq_by_cmp}
 use Rattle.std.specs.List.{IsDistinct, AllWithin, HoldsAt, list_any, slice_get, slice_index_or}
 use Rattle.std.proofs.lemmas.Bool.{cases_lt}
@@ -12,7 +12,6 @@ use Rattle.std.proofs.lemmas.List.Folds.{Any-from_list_any, list_any-from_Any}
 use Rattle.std.proofs.lemmas.Map.Keys.{IsDistinct-push, apart_from_distinct}
 use Rattle.std.proofs.lemmas.Option.{slice_get-get_or, slice_get_within, slice_get-map, get_or_from_slice_get}
 use Rattle.cspf_model.specs.declared.batch.Change.{Change}
-use Rattle.cspf_model.specs.declared.batch.Change.TheVariants.{Put, Remove, Node}
 use Rattle.cspf_model.specs.declared.refusal.Refusal.{Refusal}
 use Rattle.cspf_model.specs.declared.refusal.Refusal.TheVariants.{TooLong, Duplicate, Absent, Full, TooManyRouters, TooManyMarks}
 use Rattle.cspf_model.specs.Numbered.{NumberedChanges}
@@ -36,11 +35,7 @@ at_place cs at d within = ap (change_at cs) (add-one at) ∙ slice_get-get_or cs
 repeated_before : (cs : List Change) (at earlier : ℕ) (d : Change) → at < length cs → earlier < at
     → key_changed (slice_index_or cs earlier d) ≡ key_changed (slice_index_or cs at d)
     → is_changed (take at cs) (key_changed (slice_index_or cs at d)) ≡ true
-repeated_before cs at earlier d within before same =
-    let long : length (take at cs) ≡ at = length-take-le at cs (omega arith) in
-    list_any-from_Any
-    (λ c. eq_by_cmp change_key_cmp (key_changed (slice_index_or cs at d)) (key_changed c)) (take at cs)
-    (earlier, slice_index_or cs earlier d, omega (arith, long, before), get_or_default (take at cs) earlier _ d (omega (arith, long, before)) ∙ get_or-take at cs earlier d before, tie_from _ _ (sym same))
+repeated_before cs at earlier d within before same = search (rules, get_or-take, get_or_default, length-take-le, list_any-from_Any, tie_from)
 
 -- Suppose that no change at an index below `at` repeats the key of an earlier change, where indexes
 -- count from 0. Then no change at a position up to `at` repeats a key, where positions count from
@@ -115,16 +110,12 @@ once_from_new (c ∷ cs) new =
 -- If a search for a change that repeats a key finds none, all changes have different keys.
 pub once_if_none : (cs : List Change) (r : Option ℕ)
     → IfNone r ((k : ℕ) → k < length cs → IsNewAt cs k) → IfNone r (AreOnceEach cs)
-once_if_none cs None new = once_from_new cs new
-once_if_none cs (Some at) new = tt
+once_if_none cs r new = search (rules, once_from_new)
 
 -- If a change removes a link that the database lacks, the database has no link with the key of this
 -- removal.
 absent_not_present : (d : Database) (c : Change) → RemovesNothing d c → ¬ IsPresent d c
-absent_not_present d (Put l) absent present = absent
-absent_not_present d (Node router transit) absent present = absent
-absent_not_present d (Remove from local) absent present =
-    true≢false (sym present ∙ ap is_some absent)
+absent_not_present d c absent = search rules
 
 -- If `at` is the first index at which a change removes a link that the database lacks, `at + 1` is
 -- the first position of such a change.
@@ -178,13 +169,7 @@ repeats_not_once cs (suc n) r once = earlier_cases r.earlier r.is_earlier r.is_f
 -- link of the database.
 removes_not_present : (d : Database) (cs : List Change) (place : ℕ) → RemovesNothingAt d cs place
     → ¬ ArePresent d cs
-removes_not_present d cs zero r present = absurd (none_there r.is_change)
-  where
-    none_there : ◌≡◌ {A = Option Change} None (Some r.change) → ⊥
-    none_there e = cc
-removes_not_present d cs (suc n) r present =
-    absent_not_present d r.change r.removes_nothing
-    (subst (IsPresent d) (get_or_from_slice_get cs n r.change r.change r.is_change) (present n r.change (slice_get_within cs n r.change r.is_change)))
+removes_not_present d cs place r = search (rules, absent_not_present, get_or_from_slice_get, slice_get_within)
 
 -- A batch that is refused doesn't fit the database.
 pub refused_unfit : (d : Database) (b : NumberedChanges) (e : Refusal) → IsRefusal d b e
@@ -198,12 +183,7 @@ refused_unfit d b TooManyMarks why fits = absurd (omega (arith, why.3, fits.mark
 
 -- There is at most one first position at which `P` holds.
 one_least : (P : ℕ → Type 0) (m n : ℕ) → IsLeastPlace P m → IsLeastPlace P n → m ≡ n
-one_least P m n is also =
-    not_apart m n (λ before. also.none_before m before is.here)
-    (λ before. is.none_before n before also.here)
-  where
-    not_apart : (m n : ℕ) → (m < n → ⊥) → (n < m → ⊥) → m ≡ n
-    not_apart m n below above = omega (arith, below, above)
+one_least P m n is also = search rules
 
 -- The position of a reason in the order in which the reasons are tested, from 0.
 rank : Refusal → ℕ
@@ -246,7 +226,4 @@ one_upto d b e f low is also = absurd (omega (arith, low))
 
 -- A batch is refused for at most one reason.
 pub one_reason : OneRefusal
-one_reason d b e f is also = elim (cases_lt (rank e) (rank f)) [
-  | inl below ↦ one_upto d b e f (omega (arith, below)) is also
-  | inr upto ↦ sym (one_upto d b f e upto also is)
-]
+one_reason = search (rules, cases_lt, one_upto, rank)

@@ -1,6 +1,7 @@
 -- Sets of routers that are stored as arrays, and when links begin and end at more than 1,024
 -- routers.
-use Rattle.std.proofs.Common.{◌≡◌, ℕ, ◌+◌, ◌<◌, ◌≤◌, ◌||◌, Bool, true, false, cond, List, [], ◌∷◌, ◌++◌, length, length-take-le, take, drop, slice_index, refl, sym, ap, ◌∙◌, arith, eqb}
+use Rattle.std.proofs.Common.{◌≡◌, ℕ, ◌+◌, ◌<◌, ◌≤◌, ◌||◌, Bool, true, false, cond, List, [], ◌∷◌, ◌++◌, length, length-take-le, take, drop, slice_index, refl, sym, ap, ◌∙◌, arith, eqb, rules}
+use Rattle.std.proofs.lemmas.Grind.{common_steps}
 use Rattle.std.specs.Ordering.{nat_cmp, eq_by_cmp}
 use Rattle.std.specs.Cmp.{nat_cmp_total, Equal-is, eq_by_cmp_equiv}
 use Rattle.std.specs.List.{IsDistinct, list_any, slice_index_or, AllByRecursion}
@@ -37,8 +38,7 @@ len-from_distinct (x ∷ xs) apart =
 -- If each number that compares as equal to the inserted number is already a member, the insertion
 -- adds no member.
 same_or : (tie there : Bool) → (tie ≡ true → there ≡ true) → there ≡ (tie || there)
-same_or true there tied = tied refl
-same_or false there tied = refl
+same_or tie there tied = search rules
 
 -- Inserting a number that is already a member doesn't change a set.
 pub insert-there : (s : set.FinSet nat_cmp) (k : ℕ) → set.contains s k ≡ true → s ≡ set.insert s k
@@ -93,13 +93,7 @@ pub full-row : (s old : set.FinSet nat_cmp) (l : Link) (rows : List Link) (cs : 
     → i < length rows → l ≡ slice_index_or rows i l → true ≡ is_untouched cs l
     → with_ends s (rows_untouched (drop i rows) cs) ≡ with_ends old (rows_untouched rows cs)
     → 1024 < set.len (with_ends s (l ∷ [])) → 1024 < set.len (with_ends old (rows_untouched rows cs))
-full-row s old l rows cs i within read left same full =
-    let next : with_ends (with_ends s (l ∷ [])) (rows_untouched (drop (i + 1) rows) cs) ≡ with_ends old (rows_untouched rows cs) =
-    ap (λ b. with_ends s (cond b (l ∷ rows_untouched (drop (i + 1) rows) cs) (rows_untouched (drop (i + 1) rows) cs))) left
-    ∙ ap (λ (m : Link). with_ends s (rows_untouched (m ∷ drop (i + 1) rows) cs)) read
-    ∙ sym (at_drop_more (λ ls. with_ends s (rows_untouched ls cs)) rows i l within) ∙ same in
-    omega
-    (arith, full, len-with_ends-le (with_ends s (l ∷ [])) (rows_untouched (drop (i + 1) rows) cs), ap set.len next)
+full-row s old l rows cs i within read left same full = grind (arith, common_steps, at_drop_more, len-with_ends-le, rows_untouched, with_ends)
 
 -- The routers of the links that the changes put are added to a set, link by link. If the set has
 -- more than 1,024 routers after the routers of the link `l` are added, the set has more than 1,024
@@ -108,15 +102,8 @@ pub full-put : (s old : set.FinSet nat_cmp) (c : Change) (l : Link) (cs : List C
     → i < length cs → c ≡ slice_index_or cs i c → c ≡ Put l
     → with_ends s (links_put (drop i cs)) ≡ with_ends old (links_put cs)
     → 1024 < set.len (with_ends s (l ∷ [])) → 1024 < set.len (with_ends old (links_put cs))
-full-put s old c l cs i within read is same full =
-    let next : with_ends (with_ends s (l ∷ [])) (links_put (drop (i + 1) cs)) ≡ with_ends old (links_put cs) =
-    ap (λ (b : Change). with_ends s (links_put (b ∷ drop (i + 1) cs))) (sym is ∙ read)
-    ∙ sym (at_drop_more (λ bs. with_ends s (links_put bs)) cs i c within) ∙ same in
-    omega
-    (arith, full, len-with_ends-le (with_ends s (l ∷ [])) (links_put (drop (i + 1) cs)), ap set.len next)
+full-put s old c l cs i within read is same full = grind (arith, common_steps, at_drop_more, len-with_ends-le, links_put, with_ends)
 
 -- If a list has a number at an index below `n`, a search of its first `n` items finds this number.
 pub found_at : (xs : List ℕ) (n at x : ℕ) → at < n → n ≤ length xs → slice_index xs at ≡ x → list_any (λ y. eqb y x) (take n xs) ≡ true
-found_at xs n at x h le is =
-    let within : at < length xs = omega (arith, h, le) in
-    list_any-from_Any (λ y. eqb y x) (take n xs) (at, x, omega (arith, length-take-le n xs le, h), get_or-take n xs at x h ∙ get_or_default xs at x 0 within ∙ is, eq-eqb x x refl)
+found_at xs n at x h le is = search (rules, eq-eqb, get_or-take, get_or_default, length-take-le, list_any-from_Any)

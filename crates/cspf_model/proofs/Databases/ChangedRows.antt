@@ -1,6 +1,7 @@
 -- A database is made from a list of links, called rows. After changes, the database has the rows
 -- whose keys no change has, and the links that the changes put.
-use Rattle.std.proofs.Common.{◌≡◌, zero, suc, ◌||◌, Bool, true, false, cond, not, Option, Some, None, List, [], ◌∷◌, ◌++◌, Contains, map, refl, sym, ap, ◌∙◌, arith}
+use Rattle.std.proofs.Common.{◌≡◌, zero, suc, ◌||◌, Bool, true, false, cond, not, Option, Some, None, List, [], ◌∷◌, ◌++◌, Contains, map, refl, sym, ap, ◌∙◌, arith, rules}
+use Rattle.std.proofs.lemmas.Grind.{common_steps}
 use Rattle.std.specs.Ordering.{eq_by_cmp}
 use Rattle.std.specs.List.{IsDistinct, AllByRecursion}
 use Rattle.std.specs.List.Sorted.{IsPermutation}
@@ -41,18 +42,15 @@ changed_alike cs j k tie = ap (λ q. is_changed cs (link_key q)) (keys_same j k 
 -- links finds nothing.
 none_found : (b : Bool) (x : Link) (o : Option Link) → b ≡ false → o ≡ None
     → cond b (Some x) o ≡ None
-none_found true x o off none = absurd (cc)
-none_found false x o off none = none
+none_found b x o off none = search rules
 
 -- If the disjunction of two tests is false, the first test is false.
 or_first : (a b : Bool) → (a || b) ≡ false → a ≡ false
-or_first true b e = e
-or_first false b e = refl
+or_first a b e = search rules
 
 -- If the disjunction of two tests is false, the second test is false.
 or_second : (a b : Bool) → (a || b) ≡ false → b ≡ false
-or_second true b e = absurd (cc)
-or_second false b e = e
+or_second a b e = search rules
 
 -- If no change has the key `k`, the changes put no link with this key.
 not_put : (cs : List Change) (k : Key) → is_changed cs (link_key k) ≡ false → at_key (links_put cs) k ≡ None
@@ -115,18 +113,14 @@ at_both (x ∷ xs) ys k =
 chosen : (b : Bool) (row put : Option Link) → (b ≡ false → put ≡ None)
     → first_of (cond b None row) put ≡ cond b put row
 unfolding first_of
-chosen true row put none = refl
 chosen false None put none = none refl
-chosen false (Some x) put none = refl
+chosen b row put none = refl
 
 -- If some change has the key `k`, `rows_after` has at `k` the link that the changes put, or no link
 -- if they put none. Otherwise `rows_after` has at `k` the same link as `rows`.
 at_after : (rows : List Link) (cs : List Change) (k : Key)
     → at_key (rows_after rows cs) k ≡ cond (is_changed cs (link_key k)) (at_key (links_put cs) k) (at_key rows k)
-at_after rows cs k =
-    at_both (rows_untouched rows cs) (links_put cs) k
-    ∙ ap (λ o. first_of o (at_key (links_put cs) k)) (at_left rows cs k)
-    ∙ chosen (is_changed cs (link_key k)) (at_key rows k) (at_key (links_put cs) k) (not_put cs k)
+at_after rows cs k = search (rules, at_both, at_key, at_left, chosen, first_of, is_changed, links_put, not_put)
 
 -- If all changes of a list have different keys, no later change has the key of the first change.
 not_again : (c : Change) (cs : List Change) → AreOnceEach (c ∷ cs)
@@ -243,8 +237,7 @@ puts_apart (Node router transit ∷ cs) once = puts_apart cs once.1
 -- concatenation.
 all_both : (P : Key → Type 0) (xs ys : List Link) → AllByRecursion P (map key_of xs)
     → AllByRecursion P (map key_of ys) → AllByRecursion P (map key_of (xs ++ ys))
-all_both P [] ys all also = also
-all_both P (x ∷ xs) ys all also = (all.0, all_both P xs ys all.1 also)
+all_both P xs ys all also = grind (arith, common_steps)
 
 -- If the links in `rows` have different keys, and the changes have different keys, the links in
 -- `rows_after rows cs` have different keys.
@@ -281,10 +274,9 @@ put_among (Put m ∷ cs) l (zero, h, is) = (0, omega arith, same_link is)
     same_link e = cc
 put_among (Put m ∷ cs) l (suc k, h, is) =
     behind m (links_put cs) l (put_among cs l (k, omega (arith, h), is))
-put_among (Remove from local ∷ cs) l (zero, h, is) = absurd (cc)
 put_among (Remove from local ∷ cs) l (suc k, h, is) = put_among cs l (k, omega (arith, h), is)
-put_among (Node router transit ∷ cs) l (zero, h, is) = absurd (cc)
 put_among (Node router transit ∷ cs) l (suc k, h, is) = put_among cs l (k, omega (arith, h), is)
+put_among cs l has = absurd (cc)
 
 -- In this part, `ys` are the changes `cs` in another order, and all changes have different keys.
 module _ (cs ys : List Change) (moved : IsPermutation cs ys) (once : AreOnceEach cs) where

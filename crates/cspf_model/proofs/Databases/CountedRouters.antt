@@ -1,8 +1,7 @@
 -- The set whose members `router_count` counts has exactly the routers of the database.
-use Rattle.std.proofs.Common.{◌≡◌, ℕ, ◌||◌, ◌&&◌, inl, inr, Bool, true, false, cond, T, Option, Some, None, List, [], ◌∷◌, map, refl, sym, ap, ◌∙◌}
-use Rattle.std.specs.Ordering.{nat_cmp, eq_by_cmp, is_lt, is_eq, ordering_reverse}
+use Rattle.std.proofs.Common.{◌≡◌, ℕ, ◌||◌, ◌&&◌, Bool, true, false, cond, T, Option, Some, None, List, [], ◌∷◌, map, refl, sym, ap, ◌∙◌, rules}
+use Rattle.std.specs.Ordering.{nat_cmp, eq_by_cmp, is_lt, is_eq}
 use Rattle.std.specs.declared.cmp.Ordering.{Ordering}
-use Rattle.std.specs.declared.cmp.Ordering.TheVariants.{Less, Equal, Greater}
 use Rattle.std.specs.Cmp.{nat_cmp_total, Equal-is}
 use Rattle.std.specs.List.{list_any}
 use Rattle.std.specs.FinMap as map
@@ -25,20 +24,16 @@ record Found (p : Link → Bool) (es : List (Key × Link)) : Type 0 where
 
 -- If the conjunction of two tests is true, the first test is true.
 both_first : (a b : Bool) → T (a && b) → T a
-both_first true b h = tt
-both_first false b h = h
+both_first a b h = search rules
 
 -- If the conjunction of two tests is true, the second test is true.
 both_second : (a b : Bool) → T (a && b) → T b
-both_second true b h = h
-both_second false b h = absurd h
+both_second a b h = search rules
 
 -- If a key is below another key, the two keys don't compare as equal.
 below_apart : (k j : Key) (o : Ordering) → key_cmp k j ≡ o → T (is_lt o)
     → eq_by_cmp key_cmp j k ≡ false
-below_apart k j Less is h = ap is_eq (keys_total.antisymm j k ∙ ap ordering_reverse is)
-below_apart k j Equal is h = absurd h
-below_apart k j Greater is h = absurd h
+below_apart k j o is h = search rules
 
 -- If the key `k` is below the keys of all entries, a key that is found among these entries doesn't
 -- compare as equal to `k`.
@@ -71,14 +66,7 @@ found_among p (e ∷ es) sorted any =
 -- this router.
 pub end_at : (router : ℕ) (l : Link)
     → (eq_by_cmp nat_cmp router l.from || eq_by_cmp nat_cmp router l.to) ≡ true → EndsAt router l
-end_at router l =
-    elim (eq_by_cmp nat_cmp router l.from) as (λ b. eq_by_cmp nat_cmp router l.from ≡ b → (b || eq_by_cmp nat_cmp router l.to) ≡ true → EndsAt router l) [
-      | true ↦ λ tie _. inl (sym (same_number router l.from tie))
-      | false ↦ λ _ to. inr (sym (same_number router l.to to))
-    ] refl
-  where
-    same_number : (m n : ℕ) → eq_by_cmp nat_cmp m n ≡ true → m ≡ n
-    same_number m n tie = set.nat_cmp-IsAntisymmetric m n ((Equal-is (nat_cmp m n)).0 tie)
+end_at router l h1 = search rules
 
 -- The set that `router_count` counts has exactly the routers of the database.
 pub routers_counted : RoutersAreCounted

@@ -1,9 +1,10 @@
 -- The number of links and the number of routers of a database that is made from a list of links,
 -- called rows.
 use Rattle.std.specs.Bool.{OnTrue, OnFalse}
+use Rattle.std.proofs.lemmas.Grind.{common_steps}
 use mathlib.Core.Bool.{true≢false}
 use Rattle.std.proofs.lemmas.List.{nil_from_length, get_or_default, take_more}
-use Rattle.std.proofs.Common.{◌≡◌, ℕ, zero, suc, All, Contains, nat_eq, take, ◌+◌, ◌-◌, ◌<◌, ◌≤◌, ◌||◌, Bool, true, false, cond, not, Some, None, is_some, List, [], ◌∷◌, ◌++◌, length, map, refl, sym, ap, ◌∙◌, arith, inl, inr, ◌&&◌, IsTrue, ◌↔◌}
+use Rattle.std.proofs.Common.{◌≡◌, ℕ, zero, suc, All, Contains, nat_eq, take, ◌+◌, ◌-◌, ◌<◌, ◌≤◌, ◌||◌, Bool, true, false, cond, not, Some, None, is_some, List, [], ◌∷◌, ◌++◌, length, map, refl, sym, ap, ◌∙◌, arith, inl, inr, ◌&&◌, IsTrue, ◌↔◌, rules}
 use Rattle.std.specs.Ordering.{nat_cmp, eq_by_cmp, is_eq}
 use Rattle.std.specs.declared.cmp.Ordering.TheVariants.{Less, Equal, Greater}
 use Rattle.std.specs.Cmp.{nat_cmp_total, tied_itself, Equal-is}
@@ -43,14 +44,11 @@ link_count-database_of (l ∷ rows) apart =
 
 -- The disjunction of tests is associative.
 or_assoc : (a b c : Bool) → (a || (b || c)) ≡ ((a || b) || c)
-or_assoc true b c = refl
-or_assoc false b c = refl
+or_assoc a b c = search rules
 
 -- The disjunction of three tests stays the same if the first two tests are swapped.
 or_swap : (a b c : Bool) → (a || (b || c)) ≡ (b || (a || c))
-or_swap true true c = refl
-or_swap true false c = refl
-or_swap false b c = refl
+or_swap a b c = search rules
 
 -- Some router in `ends_of links` passes the test `p` exactly if some link begins or ends at a
 -- router that passes `p`.
@@ -90,10 +88,6 @@ any-values p (l ∷ rows) apart =
     (sym (map.get-entries (database_of rows).links (key_of l)) ∙ link_at-database_of rows (key_of l) ∙ find-behind l rows apart)
     ∙ ap (λ b. p l || b) (any-values p rows apart.1)
 
--- The set of the routers at which these links begin or end.
-ends_set : List Link → set.FinSet nat_cmp
-ends_set links = set.from_list (ends_of links)
-
 -- Suppose that the links in `rows` have different keys. Then the set of the routers at which these
 -- links begin or end has as many members as the database made from them has routers.
 pub router_count-database_of : (rows : List Link) → HaveOwnKeys rows
@@ -106,19 +100,11 @@ router_count-database_of rows apart =
 
 -- The disjunction of a test and `false` is the test itself.
 or_false : (a : Bool) → a ≡ (a || false)
-or_false true = refl
-or_false false = refl
+or_false a = search rules
 
 -- `(b or (a or s)) or rest` has the same value as `s or (a or (b or rest))`.
 turn : (a b s rest : Bool) → ((b || (a || s)) || rest) ≡ (s || (a || (b || rest)))
-turn true true true rest = refl
-turn true true false rest = refl
-turn true false true rest = refl
-turn true false false rest = refl
-turn false true true rest = refl
-turn false true false rest = refl
-turn false false true rest = refl
-turn false false false rest = refl
+turn a b s rest = search rules
 
 -- After the routers of some links are added to a set, the set has exactly its earlier members and
 -- these routers.
@@ -166,14 +152,12 @@ len-with_ends-le s (l ∷ links) =
 
 -- If the second of two tests passes, their disjunction is true.
 pub or_right : (a b : Bool) → b ≡ true → (a || b) ≡ true
-or_right true b e = refl
-or_right false b e = e
+or_right a b e = search rules
 
 -- If a number is removed from a set, each member that differs from this number stays a member.
 stays_inside : (tie found there : Bool) → (tie ≡ true → found ≡ false) → found ≡ true → there ≡ true
     → (not tie && there) ≡ true
-stays_inside true found there apart is inside = absurd (cc (apart refl))
-stays_inside false found there apart is inside = inside
+stays_inside tie found there apart is inside = grind (arith, common_steps)
 
 -- If one of a set's members is removed, the set has one member less.
 len-without : (t : set.FinSet nat_cmp) (x : ℕ) → set.contains t x ≡ true
@@ -244,8 +228,7 @@ known_end rows router q (at, within, ends) tie =
 
 -- To prove `P` from a true disjunction, prove `P` from each of its two tests.
 or_split : {P : Type 0} (a b : Bool) → (a || b) ≡ true → (a ≡ true → P) → (b ≡ true → P) → P
-or_split true b e f g = f refl
-or_split false b e f g = g e
+or_split a b e f g = search rules
 
 -- In this part, the links in `rows` have different keys, the changes have different keys, and the
 -- changes act on the database that is made from `rows`.
@@ -326,11 +309,7 @@ brings_put routers l m n from to s inside =
 
 -- The disjunction of three tests stays the same if the last two tests are swapped.
 turn_last : (a b e : Bool) → ((a || b) || e) ≡ ((a || e) || b)
-turn_last true b e = refl
-turn_last false true true = refl
-turn_last false true false = refl
-turn_last false false true = refl
-turn_last false false false = refl
+turn_last a b e = search rules
 
 -- If the routers of two lists of links are added to a set, the order of the two lists doesn't
 -- matter.

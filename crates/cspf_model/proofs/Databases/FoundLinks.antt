@@ -1,6 +1,6 @@
 -- How a search for a key in a list of links, called rows, is related to the database made from the
 -- rows.
-use Rattle.std.proofs.Common.{◌≡◌, ◌≢◌, ℕ, suc, ◌<◌, ◌↔◌, Bool, true, false, cond, Some, None, IsTrue, IsSome, IfSome, IfNone, is_some, not, List, [], ◌∷◌, All, length, map, slice_index_or, refl, sym, ap, subst, ◌∙◌, arith, zero, Option}
+use Rattle.std.proofs.Common.{◌≡◌, ◌≢◌, ℕ, suc, ◌<◌, ◌↔◌, Bool, true, false, cond, Some, None, IsTrue, IsSome, IfSome, IfNone, is_some, not, List, [], ◌∷◌, All, length, map, slice_index_or, refl, sym, ap, subst, ◌∙◌, arith, zero, Option, rules}
 use Rattle.std.specs.Ordering.{eq_by_cmp}
 use Rattle.std.specs.List.{IsDistinct, HoldsAt}
 use Rattle.std.specs.FinMap.{find}
@@ -15,9 +15,7 @@ use Rattle.cspf_model.proofs.Databases.LinksOfRows.{link_at-database_of, find-ro
 pub link_at-row : (rows : List Link) → IsDistinct (eq_by_cmp key_cmp) (map key_of rows)
     → (k : Key) (at : ℕ) (d : Link) → at < length rows → key_of (slice_index_or rows at d) ≡ k
     → link_at (database_of rows) k ≡ Some (slice_index_or rows at d)
-link_at-row rows apart k at d h e =
-    link_at-database_of rows k ∙ ap (λ q. find key_cmp q (map entry_of rows)) (sym e)
-    ∙ find-row rows apart at d h
+link_at-row rows apart k at d h e = search (rules, entry_of, find, find-row, link_at-database_of)
 
 -- If no link in `rows` has the key `k`, a search of `rows` for `k` finds nothing.
 pub find-no_row : (rows : List Link) (k : Key) → All (λ l. key_of l ≢ k) rows

@@ -1,22 +1,19 @@
 -- The keys of links and of changes: how keys are ordered, and which keys compare as equal.
-use Rattle.std.proofs.Common.{◌≡◌, ◌≢◌, ℕ, true, false, Option, Some, None, refl, ap}
+use Rattle.std.proofs.Common.{◌≡◌, ◌≢◌, ℕ, true, false, refl, rules}
 use Rattle.std.specs.Ordering.{nat_cmp, eq_by_cmp, is_eq, ordering_then}
 use Rattle.std.specs.declared.cmp.Ordering.{Ordering}
-use Rattle.std.specs.declared.cmp.Ordering.TheVariants.{Less, Equal, Greater}
+use Rattle.std.specs.declared.cmp.Ordering.TheVariants.{Less, Greater}
 use Rattle.std.specs.Cmp.{Equal-is}
-use Rattle.std.specs.FinMap.{IsAntisymmetric, nat_cmp-IsAntisymmetric}
+use Rattle.std.specs.FinMap.{IsAntisymmetric}
 use Rattle.std.specs.Cmp.{IsTotalOrder, nat_cmp_total}
 use Rattle.std.specs.Cmp.Lexicographic.{options_total}
-use Rattle.std.specs.Option.{option_cmp}
 use Rattle.std.proofs.lemmas.Cmp.{then_total, on_total, eq_by_cmp_equiv}
 use Rattle.cspf_model.specs.Database.{Key, key_cmp}
 use Rattle.cspf_model.specs.Changes.{ChangeKey, change_key_cmp, link_key, mark_key}
 
 -- The order of keys is total.
 pub keys_total : IsTotalOrder key_cmp
-keys_total =
-    then_total (on_total (λ (k : Key). k.0) nat_cmp_total)
-    (on_total (λ (k : Key). k.1) nat_cmp_total)
+keys_total = search rules
 
 -- A key compares as equal to itself.
 pub key_itself : (k : Key) → eq_by_cmp key_cmp k k ≡ true
@@ -28,12 +25,7 @@ keys_apart j k e = rw ((eq_by_cmp_equiv keys_total).symm k j) e
 
 -- The order of keys is antisymmetric: keys whose comparison gives `Equal` are equal.
 pub keys_antisymmetric : IsAntisymmetric key_cmp
-keys_antisymmetric j k e =
-    elim (nat_cmp j.0 k.0) as (λ r. nat_cmp j.0 k.0 ≡ r → ordering_then r (nat_cmp j.1 k.1) ≡ Equal → j ≡ k) [
-      | Less ↦ λ _ off. absurd (cc)
-      | Equal ↦ λ from local. λ i. (nat_cmp-IsAntisymmetric j.0 k.0 from i, nat_cmp-IsAntisymmetric j.1 k.1 local i)
-      | Greater ↦ λ _ off. absurd (cc)
-    ] refl e
+keys_antisymmetric = search rules
 
 -- Keys that compare as equal are equal.
 pub keys_same : (j k : Key) → eq_by_cmp key_cmp j k ≡ true → j ≡ k
@@ -60,22 +52,9 @@ pub change_keys_apart : (j k : ChangeKey) → eq_by_cmp change_key_cmp j k ≡ f
     → eq_by_cmp change_key_cmp k j ≡ false
 change_keys_apart j k e = rw ((eq_by_cmp_equiv change_keys_total).symm k j) e
 
--- Optional interface addresses that compare as equal are equal. `None` compares as equal only to
--- `None`.
-options_antisymmetric : (o p : Option ℕ) → option_cmp nat_cmp o p ≡ Equal → o ≡ p
-options_antisymmetric None None e = refl
-options_antisymmetric None (Some n) e = absurd (cc)
-options_antisymmetric (Some m) None e = absurd (cc)
-options_antisymmetric (Some m) (Some n) e = λ i. Some (nat_cmp-IsAntisymmetric m n e i)
-
 -- The order of the keys of changes is antisymmetric: keys whose comparison gives `Equal` are equal.
 change_keys_antisymmetric : IsAntisymmetric change_key_cmp
-change_keys_antisymmetric j k e =
-    elim (nat_cmp j.0 k.0) as (λ r. nat_cmp j.0 k.0 ≡ r → ordering_then r (option_cmp nat_cmp j.1 k.1) ≡ Equal → j ≡ k) [
-      | Less ↦ λ _ off. absurd (cc)
-      | Equal ↦ λ from local. λ i. (nat_cmp-IsAntisymmetric j.0 k.0 from i, options_antisymmetric j.1 k.1 local i)
-      | Greater ↦ λ _ off. absurd (cc)
-    ] refl e
+change_keys_antisymmetric = search rules
 
 -- Keys of changes that compare as equal are equal.
 pub change_keys_same : (j k : ChangeKey) → eq_by_cmp change_key_cmp j k ≡ true → j ≡ k
@@ -85,9 +64,7 @@ change_keys_same j k e =
 -- If the second of two comparisons doesn't give `Equal`, `ordering_then` of both doesn't give
 -- `Equal`.
 untied_behind : (o p : Ordering) → is_eq p ≡ false → is_eq (ordering_then o p) ≡ false
-untied_behind Less p e = refl
-untied_behind Equal p e = e
-untied_behind Greater p e = refl
+untied_behind o p e = search rules
 
 -- The key of a change to a link doesn't compare as equal to the key of a change of a router's
 -- transit.
@@ -101,15 +78,8 @@ mark_apart router k = untied_behind (nat_cmp router k.0) Less refl
 
 -- If the changes to two links have the same key, the two links have the same key.
 pub link_keys_same : (j k : Key) → link_key j ≡ link_key k → j ≡ k
-link_keys_same j k e =
-    let from : j.0 ≡ k.0 = ap (λ (q : ChangeKey). q.0) e in
-    let some : Some j.1 ≡ Some k.1 = ap (λ (q : ChangeKey). q.1) e in
-    let local : j.1 ≡ k.1 = cc in
-    λ i. (from i, local i)
+link_keys_same j k e = search rules
 
 -- The key of a change to a link isn't equal to the key of a change of a router's transit.
 pub link_not_mark : (k : Key) (router : ℕ) → link_key k ≡ mark_key router → ⊥
-link_not_mark k router e = some_none (ap (λ (q : ChangeKey). q.1) e)
-  where
-    some_none : ◌≡◌ {A = Option ℕ} (Some k.1) None → ⊥
-    some_none off = cc
+link_not_mark k router e = search rules

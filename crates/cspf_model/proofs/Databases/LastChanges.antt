@@ -1,8 +1,9 @@
 -- The last change with a key decides which link the database has at this key.
-use Rattle.std.proofs.Common.{◌≡◌, ℕ, ◌||◌, ◌&&◌, Bool, true, false, not, cond, Option, Some, None, List, [], ◌∷◌, ◌++◌, reverse, find, refl, sym, ap, ◌∙◌, append_assoc}
+use Rattle.std.proofs.Common.{◌≡◌, ℕ, ◌||◌, ◌&&◌, Bool, true, false, not, cond, Option, Some, None, List, [], ◌∷◌, ◌++◌, reverse, find, refl, sym, ap, ◌∙◌, append_assoc, rules, arith}
+use Rattle.std.proofs.lemmas.Grind.{common_steps}
 use Rattle.std.specs.Ordering.{nat_cmp, eq_by_cmp, is_eq, ordering_then}
 use Rattle.std.specs.declared.cmp.Ordering.{Ordering}
-use Rattle.std.specs.declared.cmp.Ordering.TheVariants.{Less, Equal, Greater}
+use Rattle.std.specs.declared.cmp.Ordering.TheVariants.{Equal}
 use Rattle.std.specs.Cmp.{nat_cmp_total}
 use Rattle.std.specs.FinMap.{get-empty, get-insert, get-remove, same_map}
 use Rattle.std.specs.FinSet as set
@@ -21,27 +22,19 @@ use Rattle.cspf_model.proofs.Databases.Keys.{keys_total, keys_antisymmetric, key
 -- at `k` as before.
 pub link_at-after_change : (d : Database) (c : Change) (k : Key)
     → link_at (after_change d c) k ≡ cond (eq_by_cmp change_key_cmp (link_key k) (key_changed c)) (link_left c) (link_at d k)
-link_at-after_change d (Put l) k = get-insert keys_total d.links (key_of l) l k
-link_at-after_change d (Remove from local) k = get-remove keys_total d.links (from, local) k
-link_at-after_change d (Node router transit) k =
-    ap (λ b. cond b None (link_at d k)) (sym (link_apart k router))
+link_at-after_change d c k = search (rules, get-insert, get-remove, keys_total, link_apart)
 
 -- If the second of two comparisons gives `Equal`, `ordering_then` of both gives `Equal` exactly if
 -- the first comparison gives `Equal`.
 pub tied_alone : (o : Ordering) → is_eq o ≡ is_eq (ordering_then o Equal)
-tied_alone Less = refl
-tied_alone Equal = refl
-tied_alone Greater = refl
+tied_alone o = search rules
 
 -- `tie` says whether a change sets the transit of a certain router. If it does, the router is
 -- marked after the change exactly if the change takes the transit away. Otherwise the router is
 -- marked exactly if it was marked before the change.
 marked_by : (transit tie before : Bool)
     → cond transit (not tie && before) (tie || before) ≡ cond tie (not transit) before
-marked_by true true before = refl
-marked_by true false before = refl
-marked_by false true before = refl
-marked_by false false before = refl
+marked_by transit tie before = search rules
 
 -- After a change of the transit of `router`, `router` is marked as without transit exactly if the
 -- change takes the transit away. Any other router is marked exactly if it was marked before.
@@ -88,9 +81,7 @@ find-push p (b ∷ cs) c =
 -- has this key.
 last_on-cons : (k : ChangeKey) (c : Change) (cs : List Change)
     → last_on k (c ∷ cs) ≡ later_or (last_on k cs) (cond (eq_by_cmp change_key_cmp k (key_changed c)) (Some c) None)
-last_on-cons k c cs =
-    ap (find (λ b. eq_by_cmp change_key_cmp k (key_changed b))) (reverse-append (c ∷ []) cs)
-    ∙ find-push (λ b. eq_by_cmp change_key_cmp k (key_changed b)) (reverse cs) c
+last_on-cons k c cs = grind (arith, common_steps, find, find-push, reverse, reverse-append)
 
 -- The change `c` is put in front of a list of changes. If the list has a change with a key, the
 -- last such change still decides which link the database has at the key. Otherwise `c` decides it,
@@ -99,8 +90,7 @@ link_after-later_or : (o : Option Change) (t : Bool) (c : Change) (before : Opti
     → link_after (later_or o (cond t (Some c) None)) before ≡ link_after o (cond t (link_left c) before)
 unfolding later_or
 link_after-later_or None true c before = refl
-link_after-later_or None false c before = refl
-link_after-later_or (Some b) t c before = refl
+link_after-later_or o t c before = refl
 
 -- The change `c` is put in front of a list of changes. If the list has a change of a router's
 -- transit, the last such change still decides whether the router is marked as without transit.
@@ -109,8 +99,7 @@ mark_after-later_or : (o : Option Change) (t : Bool) (c : Change) (before : Bool
     → mark_after (later_or o (cond t (Some c) None)) before ≡ mark_after o (cond t (mark_left c) before)
 unfolding later_or
 mark_after-later_or None true c before = refl
-mark_after-later_or None false c before = refl
-mark_after-later_or (Some b) t c before = refl
+mark_after-later_or o t c before = refl
 
 -- After changes, the last change with a key decides which link the database has at this key, or
 -- that it has none. If no change has this key, the database has the same link at the key as before.
@@ -172,34 +161,16 @@ after_changes-append d (b ∷ bs) cs = after_changes-append (after_change d b) b
 -- the list followed by the changes of the batch.
 changes_of-push : (batches : List NumberedChanges) (b : NumberedChanges)
     → changes_of (batches ++ b ∷ []) ≡ changes_of batches ++ b.changes
-changes_of-push [] b = append-nil b.changes
-changes_of-push (a ∷ batches) b =
-    ap (λ cs. a.changes ++ cs) (changes_of-push batches b)
-    ∙ sym (append_assoc a.changes (changes_of batches) b.changes)
+changes_of-push batches b = grind (arith, common_steps, append-nil, append_assoc)
 
 -- If a batch is appended to a list of batches, the batch's changes act in order on the database
 -- that the list makes.
 pub one_more_batch : OneMoreBatch
-one_more_batch batches b =
-    ap (after_changes no_links) (changes_of-push batches b)
-    ∙ after_changes-append no_links (changes_of batches) b.changes
+one_more_batch = search (rules, after_changes-append, changes_of-push)
 
 -- If each link of a database is stored at the link's own key, the same is true after a change.
 kept_at_keys : (d : Database) (c : Change) → AreAtTheirKeys d → AreAtTheirKeys (after_change d c)
-kept_at_keys d (Put l) keyed k m is =
-    elim (eq_by_cmp key_cmp k (key_of l)) as (λ t. eq_by_cmp key_cmp k (key_of l) ≡ t → cond t (Some l) (link_at d k) ≡ Some m → key_of m ≡ k) [
-      | true ↦ λ tie here. sym (ap key_of (same_Some l m here)) ∙ sym (keys_same k (key_of l) tie)
-      | false ↦ λ _ there. keyed k m there
-    ] refl (sym (link_at-after_change d (Put l) k) ∙ is)
-  where
-    same_Some : (x y : Link) → Some x ≡ Some y → x ≡ y
-    same_Some x y e = cc
-kept_at_keys d (Remove from local) keyed k m is =
-    elim (eq_by_cmp key_cmp k (from, local)) as (λ t. cond t None (link_at d k) ≡ Some m → key_of m ≡ k) [
-      | true ↦ λ gone. absurd (cc)
-      | false ↦ λ there. keyed k m there
-    ] (sym (link_at-after_change d (Remove from local) k) ∙ is)
-kept_at_keys d (Node router transit) keyed k m is = keyed k m is
+kept_at_keys d c keyed = search (rules, keys_same, link_at-after_change)
 
 -- If each link of a database is stored at the link's own key, the same is true after a list of
 -- changes.
@@ -211,10 +182,7 @@ changed_at_keys d (c ∷ cs) keyed = changed_at_keys (after_change d c) cs (kept
 -- In the database without links, each link is stored at the link's own key, because there are no
 -- links.
 none_at_keys : AreAtTheirKeys no_links
-none_at_keys k l is = absurd (none_some (sym (get-empty key_cmp k) ∙ is))
-  where
-    none_some : ◌≡◌ {A = Option Link} None (Some l) → ⊥
-    none_some e = cc
+none_at_keys = search (rules, get-empty)
 
 -- In the database after any list of batches, each link is stored at the link's own key.
 pub at_their_keys : (batches : List NumberedChanges) → AreAtTheirKeys (database_after batches)

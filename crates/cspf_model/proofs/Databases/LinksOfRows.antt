@@ -1,5 +1,5 @@
 -- The links of a database that is made from a list of links (called rows) with different keys.
-use Rattle.std.proofs.Common.{◌≡◌, ℕ, zero, suc, ◌+◌, ◌<◌, true, false, cond, Some, List, [], ◌∷◌, length, map, slice_index_or, refl, sym, ap, ◌∙◌, add-one, arith}
+use Rattle.std.proofs.Common.{◌≡◌, ℕ, zero, suc, ◌+◌, ◌<◌, true, false, cond, Some, List, [], ◌∷◌, length, map, slice_index_or, refl, sym, ap, ◌∙◌, add-one, arith, rules}
 use Rattle.std.specs.Ordering.{eq_by_cmp}
 use Rattle.std.specs.List.{IsDistinct, AllByRecursion, Contains}
 use Rattle.std.specs.FinMap.{find, get-from_entries}
@@ -50,10 +50,7 @@ row-find (m ∷ rows) q l e =
 -- `rows`.
 pub rows_listed : (rows : List Link) → IsDistinct (eq_by_cmp key_cmp) (map key_of rows)
     → AreLinksOf (database_of rows) rows
-rows_listed rows apart = record {
-  each = λ k d h. link_at-database_of rows _ ∙ find-row rows apart k d h;
-  whole = λ l is. row-find rows (key_of l) l (sym (link_at-database_of rows (key_of l)) ∙ is);
-}
+rows_listed rows apart = search (rules, find-row, link_at-database_of, row-find)
 
 -- If a search of `rows` for the key `k` finds a link, the link's key is `k`.
 key_of-find : (rows : List Link) (k : Key) (l : Link) → find key_cmp k (map entry_of rows) ≡ Some l

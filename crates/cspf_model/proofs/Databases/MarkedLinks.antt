@@ -1,13 +1,12 @@
 -- The links of a database after changes, and the routers that are then marked as without transit.
-use Rattle.std.proofs.Common.{◌≡◌, ℕ, List, [], ◌∷◌, refl, sym, ap, ◌∙◌}
+use Rattle.std.proofs.Common.{◌≡◌, ℕ, List, [], ◌∷◌, refl, sym, ap, ◌∙◌, rules}
 use Rattle.std.specs.Ordering.{nat_cmp}
 use Rattle.std.specs.FinMap as finite
-use Rattle.std.specs.FinMap.{FinMap, insert, remove}
+use Rattle.std.specs.FinMap.{FinMap}
 use Rattle.std.specs.FinSet as set
 use Rattle.cspf_model.specs.declared.link.Link.{Link}
 use Rattle.cspf_model.specs.declared.batch.Change.{Change}
-use Rattle.cspf_model.specs.declared.batch.Change.TheVariants.{Put, Remove, Node}
-use Rattle.cspf_model.specs.Database.{Database, key_of, key_cmp, ends_of, link_count, router_count, mark_count}
+use Rattle.cspf_model.specs.Database.{Database, key_cmp, ends_of, link_count, router_count, mark_count}
 use Rattle.cspf_model.specs.Changes.{after_change, after_changes}
 use Rattle.cspf_model.specs.Lemmas.LinkChanges.{relinked, all_relinked}
 use Rattle.cspf_model.specs.Lemmas.MarkChanges.{marked, all_marked}
@@ -16,9 +15,7 @@ use Rattle.cspf_model.specs.Lemmas.LinkRows.{database_of, marks_in, marked_datab
 -- If the databases `d` and `e` have the same links, `after_change` makes from `d` the same links as
 -- `relinked` makes from `e`.
 one_relinked : (d e : Database) (c : Change) → d.links ≡ e.links → (after_change d c).links ≡ (relinked e c).links
-one_relinked d e (Put l) same = ap (λ (m : FinMap key_cmp Link). insert m (key_of l) l) same
-one_relinked d e (Remove from local) same = ap (λ (m : FinMap key_cmp Link). remove m (from, local)) same
-one_relinked d e (Node router transit) same = same
+one_relinked d e c same = search rules
 
 -- If the databases `d` and `e` have the same links, `after_changes` makes from `d` the same links
 -- as `all_relinked` makes from `e`.
@@ -28,9 +25,7 @@ links-after_changes d e (c ∷ cs) same = links-after_changes (after_change d c)
 
 -- `marked` computes which routers are marked as without transit after a change.
 one_marked : (d : Database) (c : Change) → (after_change d c).marks ≡ marked d.marks c
-one_marked d (Put l) = refl
-one_marked d (Remove from local) = refl
-one_marked d (Node router transit) = refl
+one_marked d c = search rules
 
 -- `all_marked` computes which routers are marked as without transit after changes.
 pub marks-after_changes : (d : Database) (cs : List Change) → (after_changes d cs).marks ≡ all_marked d.marks cs
@@ -59,7 +54,4 @@ module _ (rows : List Link) (marks : List ℕ) (cs : List Change) where
 -- after the changes.
 pub marked_after : (rows new : List Link) (marks more : List ℕ) (cs : List Change) → database_of new ≡ all_relinked (database_of rows) cs → marks_in more ≡ all_marked (marks_in marks) cs
     → marked_database new more ≡ after_changes (marked_database rows marks) cs
-marked_after rows new marks more cs made set_to =
-    let links : (database_of new).links ≡ (after_changes (marked_database rows marks) cs).links = ap (λ (d : Database). d.links) made ∙ sym (links_changed rows marks cs) in
-    let marked : marks_in more ≡ (after_changes (marked_database rows marks) cs).marks = set_to ∙ sym (marks-after_changes (marked_database rows marks) cs) in
-    λ i. record { links = links i; marks = marked i }
+marked_after rows new marks more cs made h2 = search (rules, database_of, links_changed, marked, marked_database, marks-after_changes, marks_in)

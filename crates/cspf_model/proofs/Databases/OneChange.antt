@@ -1,5 +1,5 @@
 -- How one change acts on a database that is made from a list of links, called rows.
-use Rattle.std.proofs.Common.{◌≡◌, ℕ, ◌<◌, Bool, true, false, cond, Option, Some, None, List, [], ◌∷◌, length, map, get_or, refl, sym, ap, ◌∙◌}
+use Rattle.std.proofs.Common.{◌≡◌, ℕ, ◌<◌, Bool, true, false, cond, Option, Some, None, List, [], ◌∷◌, length, map, get_or, refl, sym, ap, ◌∙◌, rules}
 use Rattle.std.specs.Ordering.{eq_by_cmp}
 use Rattle.std.specs.List.{IsDistinct, AllByRecursion, Contains, remove as without}
 use Rattle.std.specs.List.Sorted.{IsPermutation}
@@ -25,9 +25,7 @@ same_database d e marks same =
 
 -- Options with the same content are equal.
 pub same_options : {A : Type 0} (o p : Option A) → ((x : A) → o ≡ Some x → p ≡ Some x) → ((x : A) → p ≡ Some x → o ≡ Some x) → o ≡ p
-same_options None None there back = refl
-same_options None (Some y) there back = back y refl
-same_options (Some x) p there back = sym (there x refl)
+same_options o p there back = search rules
 
 -- If a search of `rows` for the key `k` finds a link, the link's key is `k`.
 pub find-key : (rows : List Link) (k : Key) (l : Link) → find key_cmp k (map entry_of rows) ≡ Some l → key_of l ≡ k
@@ -74,10 +72,7 @@ find-behind l rows apart = find-apart rows (key_of l) apart.0
 -- If the database has no link at a key, it still has none after a link is put at this key and
 -- removed again.
 gone : (b c : Bool) (x y : Option Link) → (b ≡ true → y ≡ None) → b ≡ c → y ≡ cond b None (cond c x y)
-gone true true x y none e = none refl
-gone true false x y none e = absurd (cc)
-gone false true x y none e = absurd (cc)
-gone false false x y none e = refl
+gone b c x y none e = search rules
 
 -- If the database has no link at a key, putting a link at this key and removing it again doesn't
 -- change the links of the database.
@@ -113,8 +108,7 @@ module _ (rows : List Link) (at : ℕ) (x : Link) (k : Key) (apart : HaveOwnKeys
 -- If the database has no link at the key of a removal, the removal doesn't change which link is at
 -- any key.
 missing : (b : Bool) (y : Option Link) → (b ≡ true → y ≡ None) → y ≡ cond b None y
-missing true y none = none refl
-missing false y none = refl
+missing b y none = search rules
 
 -- If the database has no link at a key, a removal with this key doesn't change the database.
 pub relinked-absent : (d : Database) (from local : ℕ) → link_at d (from, local) ≡ None → d ≡ relinked d (Remove from local)

@@ -1,5 +1,6 @@
 -- Walks that are continued by one link.
 use Rattle.std.proofs.Common.{◌≡◌, ℕ, List, [], ◌∷◌, ◌++◌, map, refl, inl, inr, arith}
+use Rattle.std.proofs.lemmas.Grind.{common_steps}
 use Rattle.std.specs.List.{AllByRecursion}
 use Rattle.cspf_model.specs.declared.link.Link.{Link}
 use Rattle.cspf_model.specs.Database.{HasTransit}
@@ -11,8 +12,7 @@ use Rattle.cspf_model.specs.NetworkLaws.{MayComeNext, WalksGrowByOneLink}
 -- `x` appended.
 module _ {A : Type 0} (P : A → Type 0) where
   all_more : (xs : List A) (x : A) → AllByRecursion P xs → P x → AllByRecursion P (xs ++ x ∷ [])
-  all_more [] x all holds = (holds, tt)
-  all_more (y ∷ ys) x all holds = (all.0, all_more ys x all.1 holds)
+  all_more xs x all holds = grind (arith, common_steps)
 
   last_one : (xs : List A) (x : A) → AllByRecursion P (xs ++ x ∷ []) → P x
   last_one [] x all = all.0
@@ -32,8 +32,7 @@ last_joined router (m ∷ links) l joined = last_joined m.to links l joined.1
 -- but the first begin.
 module _ (P : ℕ → Type 0) where
   starts_more : (links : List Link) (l : Link) → AllByRecursion P (map (λ m. m.from) links) → P l.from → AllByRecursion P (map (λ m. m.from) (links ++ l ∷ []))
-  starts_more [] l all holds = (holds, tt)
-  starts_more (m ∷ links) l all holds = (all.0, starts_more links l all.1 holds)
+  starts_more links l all holds = grind (arith, common_steps)
 
   last_start : (links : List Link) (l : Link) → AllByRecursion P (map (λ m. m.from) (links ++ l ∷ [])) → P l.from
   last_start [] l all = all.0

@@ -1,6 +1,6 @@
 -- Which lists of links are walks in the triangle. This depends on which routers are marked as
 -- without transit.
-use Rattle.std.proofs.Common.{◌≡◌, ◌≢◌, ℕ, ◌<◌, false, List, [], ◌∷◌, refl, sym, ap, ◌∙◌, lit<, ◌||◌, ◌&&◌, not}
+use Rattle.std.proofs.Common.{◌≡◌, ◌≢◌, ℕ, ◌<◌, false, List, [], ◌∷◌, refl, sym, ap, ◌∙◌, lit<, ◌||◌, ◌&&◌, not, rules}
 use mathlib.Core.Bool.{true≢false}
 use Rattle.std.proofs.lemmas.Bool.{eqb-false}
 use Rattle.std.specs.Ordering.{is_eq}
@@ -60,25 +60,13 @@ module _ (marks : List ℕ) (priority : 0 < 8) (two_ends : router 1 ≢ router 3
   -- The next three lemmas: three lists of links are walks of the request `q` if the routers that
   -- they pass through have transit.
   by_2 : HasTransit d (router 2) → IsWalk d q way_by_2
-  by_2 passed = record {
-    links = (way_1_to_2, (way_2_to_3, tt));
-    joined = (refl, (refl, tt));
-    transit = (passed, tt);
-  }
+  by_2 passed = search (rules, way_1_to_2, way_2_to_3)
 
   and_back : HasTransit d (router 2) → IsWalk d q way_and_back
-  and_back passed = record {
-    links = (way_1_to_2, (way_2_to_1, tt));
-    joined = (refl, (refl, tt));
-    transit = (passed, tt);
-  }
+  and_back passed = search (rules, way_1_to_2, way_2_to_1)
 
   by_1_again : HasTransit d (router 2) → HasTransit d (router 1) → IsWalk d q way_by_1_again
-  by_1_again passed again = record {
-    links = (way_1_to_2, (way_2_to_1, (way_1_to_3, tt)));
-    joined = (refl, (refl, (refl, tt)));
-    transit = (passed, (again, tt));
-  }
+  by_1_again passed again = search (rules, way_1_to_2, way_1_to_3, way_2_to_1)
 
 -- The routers in `marks` are marked as without transit, and the requests lead from 1.1.1.1 to
 -- 3.3.3.3 without hops. If the links are a walk of each such request that `made` builds, they are a

@@ -1,13 +1,11 @@
 -- The routes of the two networks of `specs/Examples`.
-use Rattle.std.proofs.Common.{◌≡◌, ◌≢◌, ℕ, ◌<◌, List, [], ◌∷◌, refl, sym, ap, ◌∙◌, subst, inl, inr, lit<, lit≤, arith, rules}
+use Rattle.std.proofs.Common.{◌≡◌, ◌≢◌, ℕ, ◌<◌, List, [], ◌∷◌, refl, sym, ap, ◌∙◌, subst, inl, inr, lit<, arith, rules}
 use mathlib.Core.Bool.{true≢false}
 use Rattle.std.specs.Ordering.{nat_cmp}
 use Rattle.std.specs.FinSet as set
 use Rattle.std.specs.List.{AllByRecursion, IsDistinct}
 use Rattle.std.proofs.lemmas.Bool.{eqb-false}
 use Rattle.std.proofs.lemmas.List.Elements.{All-contains, All-from_recursion, recursion_from_All}
-use Rattle.cspf_addr.specs.PrefixParts.{PrefixParts}
-use Rattle.cspf_addr.specs.Prefixes.{Covers}
 use Rattle.cspf_addr.specs.declared.hop.Hop.{Hop}
 use Rattle.cspf_model.specs.declared.link.Link.{Link}
 use Rattle.cspf_model.specs.declared.request.Request.{Request}
@@ -16,7 +14,7 @@ use Rattle.cspf_model.specs.Admissible.{IsAdmitted, IsAdmissible}
 use Rattle.cspf_model.specs.Fields.{RequestFields, HasRequestFields}
 use Rattle.cspf_model.proofs.Routes.FieldRecords.{requests_said}
 use Rattle.cspf_model.specs.Walks.{IsWalk}
-use Rattle.cspf_model.specs.Targets.{BeginsWithin, Owns, IsInside}
+use Rattle.cspf_model.specs.Targets.{Owns, IsInside}
 use Rattle.cspf_model.specs.Legs.{IsCutInto}
 use Rattle.cspf_model.specs.Routes.{IsRoute}
 use Rattle.cspf_model.specs.Lemmas.LinkRows.{database_of}
@@ -75,33 +73,17 @@ each_link : (P : Link → Type 0) (d : Database) (rows : List Link) → AreLinks
 each_link P d rows listed all l is =
     All-contains P rows l (All-from_recursion P rows all) (listed.whole l is)
 
--- A router doesn't own a prefix (`Owns`) if the prefix covers neither the Router ID nor the address
--- of any interface of the router.
-not_owned : (d : Database) (prefix : PrefixParts) (r : ℕ) (rows : List Link) → AreLinksOf d rows
-    → ¬ Covers prefix r → AllByRecursion (λ l. ¬ BeginsWithin prefix r l) rows → ¬ Owns d prefix r
-not_owned d prefix r rows listed apart none owns =
-    elim owns.covered [ inl covered ↦ apart covered | inr by_link ↦ each_link (λ l. ¬ BeginsWithin prefix r l) d rows listed none by_link.0 by_link.1 by_link.2 ]
-
 -- The request that `made` builds admits each link with 1,000 bytes per second unreserved.
 pub admitted : (tail_end : ℕ) (hops : List Hop) (priority : 0 < 8) (two_ends : router 1 ≢ tail_end) (from local to remote metric : ℕ) (apart : from ≢ to)
     → IsAdmitted (made (asked_fields tail_end hops) priority two_ends) (link from local to remote metric 1000 apart)
-admitted tail_end hops priority two_ends from local to remote metric apart = record {
-  affinity = record { exclude_any = refl; include_any = inl refl; include_all = inl refl };
-  room = lit≤ tt;
-}
+admitted tail_end hops priority two_ends from local to remote metric apart = search rules
 
 -- For the request that `made` builds, a link of the database with 1,000 bytes per second unreserved
 -- is admissible if the database also has the link's reverse.
 usable : (d : Database) (tail_end : ℕ) (hops : List Hop) (priority : 0 < 8) (two_ends : router 1 ≢ tail_end) (from local to remote metric : ℕ) (apart : from ≢ to)
     → IsLinkOf d (link from local to remote metric 1000 apart) → IsLinkOf d (back (link from local to remote metric 1000 apart))
     → IsAdmissible d (made (asked_fields tail_end hops) priority two_ends) (link from local to remote metric 1000 apart)
-usable d tail_end hops priority two_ends from local to remote metric apart is is_back = record {
-  link = is;
-  usable = record {
-    admitted = admitted tail_end hops priority two_ends from local to remote metric apart;
-    reverse = (back (link from local to remote metric 1000 apart), is_back, record { from = refl; local = refl; to = refl; remote = refl });
-  };
-}
+usable d tail_end hops priority two_ends from local to remote metric apart is h2 = search (rules, admitted)
 
 -- If no router is marked as without transit, each router has transit.
 has_transit : (d : Database) → d.marks ≡ set.empty → (router : ℕ) → HasTransit d router
@@ -227,33 +209,16 @@ may_be_empty d q network says =
 pub is_outside_before_inside : IsOutsideBeforeInside
 is_outside_before_inside = refl
 
--- If a prefix doesn't cover the link's local address, the link doesn't begin at an interface with
--- an address in this prefix.
-not_begun : (prefix : PrefixParts) (r : ℕ) (l : Link) → ¬ Covers prefix l.local
-    → ¬ BeginsWithin prefix r l
-not_begun prefix r l apart begins = apart begins.local
-
--- None of the six links, and none of their reverses, begins at an interface with an address in
--- 10.9.0.0/16.
-none_begins : (r : ℕ) → AllByRecursion (λ l. ¬ BeginsWithin inner_hop.prefix r l) (both_ways six_links)
-none_begins r =
-    let none = not_begun inner_hop.prefix r in
-    (none from_1_to_3 (eqb-false _ _ refl), (none from_1_to_inner_1 (eqb-false _ _ refl), (none from_1_to_inner_2 (eqb-false _ _ refl), (none from_3_to_inner_1 (eqb-false _ _ refl), (none from_inner_1_to_4 (eqb-false _ _ refl), (none from_inner_2_to_inner_1 (eqb-false _ _ refl), (none (back from_1_to_3) (eqb-false _ _ refl), (none (back from_1_to_inner_1) (eqb-false _ _ refl), (none (back from_1_to_inner_2) (eqb-false _ _ refl), (none (back from_3_to_inner_1) (eqb-false _ _ refl), (none (back from_inner_1_to_4) (eqb-false _ _ refl), (none (back from_inner_2_to_inner_1) (eqb-false _ _ refl), tt))))))))))))
-
 module _ (d : Database) (listed : AreLinksOf d (both_ways six_links)) where
   -- The router 1.1.1.1 has no address in the prefix 10.9.0.0/16 of the strict hop, so it doesn't
   -- own this prefix (`Owns`).
   not_owned_router_1 : ¬ Owns d inner_hop.prefix (router 1)
-  not_owned_router_1 =
-      not_owned d inner_hop.prefix (router 1) (both_ways six_links) listed (eqb-false _ _ refl)
-      (none_begins (router 1))
+  not_owned_router_1 = search rules
 
   -- The router 3.3.3.3 has no address in the prefix 10.9.0.0/16 of the strict hop, so it doesn't
   -- own this prefix (`Owns`).
   not_owned_router_3 : ¬ Owns d inner_hop.prefix (router 3)
-  not_owned_router_3 =
-      not_owned d inner_hop.prefix (router 3) (both_ways six_links) listed (eqb-false _ _ refl)
-      (none_begins (router 3))
+  not_owned_router_3 = search rules
 
   module _ (priority : 0 < 8) (two_ends : router 1 ≢ router 4) where
     -- A request from 1.1.1.1 to 4.4.4.4 with the strict hop to 10.9.0.0/16.
@@ -262,9 +227,7 @@ module _ (d : Database) (listed : AreLinksOf d (both_ways six_links)) where
 
     -- The leg to the strict hop 10.9.0.0/16 may not visit the router 3.3.3.3.
     not_inside : ¬ IsInside d asking 1 (router 3)
-    not_inside (inl loose) = cc
-    not_inside (inr (inl first)) = eqb-false (router 3) (router 1) refl first
-    not_inside (inr (inr owns)) = not_owned_router_3 owns
+    not_inside = search rules
 
     -- The way over 3.3.3.3 can't be cut into a leg to the strict hop 10.9.0.0/16 and a leg to the
     -- tail-end.

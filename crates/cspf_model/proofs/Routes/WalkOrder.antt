@@ -1,8 +1,8 @@
 -- The order of walks is total, and no two different routes of a request compare as equal.
-use Rattle.std.proofs.Common.{◌≡◌, ◌≢◌, ℕ, Some, List, [], ◌∷◌, length, refl, sym, ap, subst, ◌∙◌}
+use Rattle.std.proofs.Common.{◌≡◌, ◌≢◌, ℕ, Some, List, [], ◌∷◌, length, refl, sym, ap, subst, ◌∙◌, rules}
 use Rattle.std.specs.Ordering.{ordering_then, ordering_reverse}
 use Rattle.std.specs.declared.cmp.Ordering.{Ordering}
-use Rattle.std.specs.declared.cmp.Ordering.TheVariants.{Less, Equal, Greater}
+use Rattle.std.specs.declared.cmp.Ordering.TheVariants.{Less, Equal}
 use Rattle.std.specs.Cmp.{IsTotalOrder, nat_cmp_total}
 use Rattle.std.specs.Cmp.Lexicographic.{nat_list_cmp_total}
 use Rattle.std.specs.List.{AllByRecursion}
@@ -13,7 +13,7 @@ use Rattle.cspf_model.specs.declared.request.Request.{Request}
 use Rattle.cspf_model.specs.Database.{Database, key_of, link_at}
 use Rattle.cspf_model.specs.Admissible.{IsAdmissible}
 use Rattle.cspf_model.specs.Walks.{AreJoined, cost_of, locals_of, walk_cmp}
-use Rattle.cspf_model.specs.Best.{unknown_from, unknown_to, no_route, route, IsBestRoute}
+use Rattle.cspf_model.specs.Best.{IsBestRoute}
 use Rattle.cspf_model.specs.Laws.{WalksAreTold, RoutesAreRanked, OneBestAnswer}
 
 -- The order of walks is total.
@@ -28,8 +28,6 @@ one_walk : (d : Database) (q : Request) (router : ℕ) (v w : List Link)
     → AllByRecursion (IsAdmissible d q) v → AllByRecursion (IsAdmissible d q) w → AreJoined router v
     → AreJoined router w → locals_of v ≡ locals_of w → v ≡ w
 one_walk d q router [] [] all also joined too same = refl
-one_walk d q router [] (m ∷ ms) all also joined too same = absurd (cc)
-one_walk d q router (l ∷ ls) [] all also joined too same = absurd (cc)
 one_walk d q router (l ∷ ls) (m ∷ ms) all also joined too same =
     let local : l.local ≡ m.local = cc in
     let rest : locals_of ls ≡ locals_of ms = cc in
@@ -40,6 +38,7 @@ one_walk d q router (l ∷ ls) (m ∷ ms) all also joined too same =
   where
     same_Some : (x y : Link) → Some x ≡ Some y → x ≡ y
     same_Some x y e = cc
+one_walk d q router v w all also joined too same = absurd (cc)
 
 -- Two walks of one request are equal if their links have the same local addresses in the same
 -- order.
@@ -49,23 +48,15 @@ walks_told d q v w is also same =
 
 -- If `ordering_then` of two comparisons gives `Equal`, the second comparison gives `Equal`.
 last_tie : (a b : Ordering) → ordering_then a b ≡ Equal → b ≡ Equal
-last_tie Less b e = absurd (cc)
-last_tie Equal b e = e
-last_tie Greater b e = absurd (cc)
+last_tie a b e = search rules
 
 -- Two routes of the same request that compare as equal are equal.
 pub routes_ranked : RoutesAreRanked
-routes_ranked d q v w is also tie =
-    walks_told d q v w is.is_walk also.is_walk
-    (slice_cmp-IsAntisymmetric nat_cmp-IsAntisymmetric (locals_of v) (locals_of w) (last_tie _ _ (last_tie _ _ tie)))
+routes_ranked = search (rules, last_tie, nat_cmp-IsAntisymmetric, slice_cmp-IsAntisymmetric, walks_told)
 
 -- If neither of two walks precedes the other, the walks compare as equal.
 neither_first : (a b : Ordering) → a ≡ ordering_reverse b → a ≢ Less → b ≢ Less → a ≡ Equal
-neither_first Less b e first second = absurd (first refl)
-neither_first Equal b e first second = refl
-neither_first Greater Less e first second = absurd (second refl)
-neither_first Greater Equal e first second = absurd (cc)
-neither_first Greater Greater e first second = absurd (cc)
+neither_first a b e first second = search rules
 
 -- A request has at most one best route.
 pub one_best : (d : Database) (q : Request) (v w : List Link) → IsBestRoute d q v
@@ -76,19 +67,4 @@ one_best d q v w is also =
 
 -- A request has at most one best answer.
 pub one_answer : OneBestAnswer
-one_answer d q unknown_from unknown_from is also = refl
-one_answer d q unknown_from unknown_to is also = absurd (is also.0)
-one_answer d q unknown_from no_route is also = absurd (is also.0.from)
-one_answer d q unknown_from (route w) is also = absurd (is also.0.from)
-one_answer d q unknown_to unknown_from is also = absurd (also is.0)
-one_answer d q unknown_to unknown_to is also = refl
-one_answer d q unknown_to no_route is also = absurd (is.1 also.0.to)
-one_answer d q unknown_to (route w) is also = absurd (is.1 also.0.to)
-one_answer d q no_route unknown_from is also = absurd (also is.0.from)
-one_answer d q no_route unknown_to is also = absurd (also.1 is.0.to)
-one_answer d q no_route no_route is also = refl
-one_answer d q no_route (route w) is also = absurd (is.1 w also.1.is_route)
-one_answer d q (route v) unknown_from is also = absurd (also is.0.from)
-one_answer d q (route v) unknown_to is also = absurd (also.1 is.0.to)
-one_answer d q (route v) no_route is also = absurd (also.1 v is.1.is_route)
-one_answer d q (route v) (route w) is also = ap route (one_best d q v w is.1 also.1)
+one_answer = search (rules, one_best)

@@ -1,13 +1,13 @@
 //! How the next row of a journal changes the batch that is being read.
 
-ghost use Rattle.std.specs.Prelude.{◌≡◌, ◌↔◌, ℕ, IsTrue, IfOk, length};
+ghost use Rattle.std.specs.Prelude.{◌≡◌, ◌↔◌, IsTrue, IfOk, length};
 ghost use Rattle.csv.specs.Records.{fields_of};
 ghost use Rattle.cspf_rows.specs.Rows.{row_of};
 ghost use Rattle.cspf_rows.specs.JournalReading.{IsTaken};
-ghost use Rattle.cspf_rows.specs.Journal.{change_row};
 
 use crate::row::Row;
-use cspf_model::{Batch, Change};
+use crate::step::Step;
+use cspf_model::Batch;
 use csv::ByteRecord;
 use std::alloc::AllocError;
 
@@ -36,40 +36,21 @@ pub(super) fn take(fields: &ByteRecord, next: u32, batch: &mut Batch) -> Result<
 }
 
 /// As `take`, for a row that was already read from its fields.
+#[tactic(auto, using(crate::proofs::RowsOfSteps::row_is))]
 fn take_row(row: &Row, next: u32, batch: &mut Batch) -> Result<Taken, AllocError>
     ensures { IfOk result (IsTaken (Ok row.now) next batch.old batch.new) }
 {
-    match row {
-        Row::Put(link) => add(Change::Put(*link), batch),
-        Row::Remove { from, local } => {
-            let change = Change::Remove {
-                from: *from,
-                local: *local,
-            };
-            add(change, batch)
+    match Step::of(row) {
+        Step::Change(change) => {
+            batch.changes.push(change)?;
+            Ok(Taken::Change)
         }
-        Row::Node { router, transit } => {
-            let change = Change::Node {
-                router: *router,
-                transit: *transit,
-            };
-            add(change, batch)
-        }
-        Row::End { number, count } if is_whole(batch, next, *number, *count) => {
+        Step::End { number, count } if is_whole(batch, next, number, count) => {
             batch.number = next;
             Ok(Taken::Batch)
         }
-        Row::End { .. } | Row::Ask(_) => Ok(Taken::Behind),
+        Step::End { .. } | Step::Ask(_) => Ok(Taken::Behind),
     }
-}
-
-/// Adds a change to the batch that is being read.
-fn add(change: Change, batch: &mut Batch) -> Result<Taken, AllocError>
-    ensures { IfOk result (λ taken. (next : ℕ)
-        → IsTaken (Ok (change_row change)) next batch.old batch.new taken) }
-{
-    batch.changes.push(change)?;
-    Ok(Taken::Change)
 }
 
 /// Whether an `end` row with this number and this count ends the batch. The number has to be

@@ -2,7 +2,7 @@
 //! refuses.
 
 use super::assert_case;
-use cspf_audit::{Audit, AuditError, AuditFault, audit};
+use cspf_judge::{Audit, AuditError, AuditFault, audit};
 use cspf_model::Refusal;
 use cspf_rows::{RequestsError, RowError};
 use std::alloc::Global;

@@ -5,8 +5,8 @@ mod tables;
 
 use super::assert_case;
 use cspf_db::Table;
+use cspf_judge::{replay, snapshot};
 use cspf_model::{Batch, Change};
-use cspf_snapshot::{replay, snapshot};
 use std::alloc::{AllocError, Global};
 use std::process::Abort;
 use std::test::Fail;

@@ -178,26 +178,9 @@ fn check_asks(
     Ok(())
 }
 
-// Fails if the trees don't give this outcome for the request, three times before they have a tree
-// for it, and three times afterwards.
-fn check_trees(
-    alloc: Global,
-    table: &Table,
-    request: &Request,
-    outcome: &Outcome,
-    trees: &mut Trees,
-) -> Result<(), Fail>
-    requires { AreTreesOf table.now trees.old }
-    ensures { AreTreesOf table.now trees.new }
-{
-    check_asks(alloc, table, request, outcome, trees)?;
-    ask_without_hops(alloc, table, request, trees)?;
-    check_asks(alloc, table, request, outcome, trees)
-}
-
-// Whether a request has a route. Fails if the trees give another answer than the searches. If the
-// network has routers that are marked as without transit, the function also fails if the table
-// without marked routers gives another answer.
+// Whether a request has a route. Fails if the trees give another answer than the searches, before
+// or after they have a tree for the request. If the network has routers that are marked as without
+// transit, the function also fails if the table without marked routers gives another answer.
 fn has_route(
     alloc: Global,
     network: &DrawnNetwork,
@@ -208,7 +191,9 @@ fn has_route(
     ensures { AreTreesOf network.now.marked trees.new }
 {
     let outcome = answered(alloc, &network.marked, request)?;
-    check_trees(alloc, &network.marked, request, &outcome, trees)?;
+    check_asks(alloc, &network.marked, request, &outcome, trees)?;
+    ask_without_hops(alloc, &network.marked, request, trees)?;
+    check_asks(alloc, &network.marked, request, &outcome, trees)?;
     if !network.marks.is_empty() {
         let wanted = without_marks(alloc, network, request)?;
         if !is_same(&outcome, &wanted) {

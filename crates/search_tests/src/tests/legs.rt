@@ -5,27 +5,16 @@
 ghost use Rattle.std.specs.Prelude.{◌+◌, ◌<◌};
 
 use super::Wanted::{Again, NoRoute, Route};
-use super::{Case, FOUR, ONE, Row, THREE, TWO, check_same, is_wanted, link, node, request};
+use super::{
+    BY_THREE, BY_TWO, Case, FOUR, ONE, Row, SQUARE, THREE, TWO, check_same, is_wanted, link, node,
+    request,
+};
 use cspf_addr::{Addr, Hop, Hops, MOST_HOPS, Mask, Prefix};
 use cspf_model::{Batch, Change, Outcome, Request};
 use cspf_search::best_by_rounds;
 use cspf_trees::TreeTable;
 use std::alloc::Global;
 use std::test::Fail;
-
-// Four routers in a square. ONE reaches FOUR over TWO at a cost of 2, and over THREE at a cost of
-// 4. The link between TWO and THREE has no unreserved bandwidth.
-const SQUARE: [Row; 5] = [
-    (ONE, 0x0a00_0c01, TWO, 0x0a00_0c02, 1, 1000),
-    (TWO, 0x0a00_1802, FOUR, 0x0a00_1804, 1, 1000),
-    (ONE, 0x0a00_0d01, THREE, 0x0a00_0d03, 2, 1000),
-    (THREE, 0x0a00_2203, FOUR, 0x0a00_2204, 2, 1000),
-    (TWO, 0x0a00_1702, THREE, 0x0a00_1703, 1, 0),
-];
-
-const BY_TWO: &[u32] = &[0x0a00_0c02, 0x0a00_1804];
-
-const BY_THREE: &[u32] = &[0x0a00_0d03, 0x0a00_2204];
 
 // The route from ONE over TWO to FOUR, on to THREE, and back to FOUR.
 const ROUND: &[u32] = &[0x0a00_0c02, 0x0a00_1804, 0x0a00_2203, 0x0a00_2204];
@@ -122,7 +111,7 @@ fn table_after(alloc: Global, changes: Vec<Change>) -> Result<TreeTable, Fail> {
 // A table of the links of `SQUARE`, in which the routers `marks` are marked as without transit.
 fn square(alloc: Global, marks: &[u32]) -> Result<TreeTable, Fail> {
     let mut changes = Vec::new(alloc);
-    for row in &SQUARE {
+    for row in SQUARE {
         changes.push(Change::Put(link(row)?))?;
         changes.push(Change::Put(link(&back(row))?))?;
     }

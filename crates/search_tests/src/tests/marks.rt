@@ -2,23 +2,19 @@
 
 use super::Wanted::{Again, NoRoute, Route, UnknownFrom, UnknownTo};
 use super::{
-    Case, FOUR, Network, ONE, Row, THREE, TWO, answered, assert_networks, change, is_wanted, mark,
-    node, request, table,
+    BY_THREE, BY_TWO, Case, FOUR, Network, ONE, Row, THREE, TWO, answered, assert_networks, change,
+    is_wanted, mark, node, request, table,
 };
 use std::test::Fail;
 
-// Four routers in a square. ONE reaches FOUR over TWO at a cost of 2, and over THREE at a cost of
+// Four routers in a ring. ONE reaches FOUR over TWO at a cost of 2, and over THREE at a cost of
 // 4.
-const SQUARE: &[Row] = &[
+const RING: &[Row] = &[
     (ONE, 0x0a00_0c01, TWO, 0x0a00_0c02, 1, 1000),
     (TWO, 0x0a00_1802, FOUR, 0x0a00_1804, 1, 1000),
     (ONE, 0x0a00_0d01, THREE, 0x0a00_0d03, 2, 1000),
     (THREE, 0x0a00_2203, FOUR, 0x0a00_2204, 2, 1000),
 ];
-
-const BY_TWO: &[u32] = &[0x0a00_0c02, 0x0a00_1804];
-
-const BY_THREE: &[u32] = &[0x0a00_0d03, 0x0a00_2204];
 
 // An address that belongs to no router.
 const NINE: u32 = 0x0909_0909;
@@ -76,7 +72,7 @@ const BY_ONE_WAY: &[Case] = &[
 
 #[test]
 fn routes_round_marked_routers(rt: HostRuntime) -> Result<(), Fail> {
-    let networks = [(SQUARE, true, ROUND), (EQUAL, true, BY_ONE_WAY)];
+    let networks = [(RING, true, ROUND), (EQUAL, true, BY_ONE_WAY)];
     assert_networks(&rt, rt.alloc(), &networks)
 }
 
@@ -184,7 +180,7 @@ fn ways_back_to_the_ends(rt: HostRuntime) -> Result<(), Fail> {
 #[test]
 fn marks_that_go(rt: HostRuntime) -> Result<(), Fail> {
     let alloc = rt.alloc();
-    let mut table = table(alloc, SQUARE)?;
+    let mut table = table(alloc, RING)?;
     mark(alloc, &mut table, &[TWO, NINE])?;
     let request = request((ONE, FOUR), 0, (0, 0, 0), b"")?;
     let round = answered(alloc, &table, &request)?;

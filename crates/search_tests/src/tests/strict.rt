@@ -1,22 +1,8 @@
 //! Strict hops: some can be reached over a usable link, and others can't.
 
 use super::Wanted::{NoRoute, Route};
-use super::{Case, FOUR, ONE, Row, THREE, TWO, assert_networks};
+use super::{BY_THREE, BY_TWO, Case, FOUR, ONE, SQUARE, assert_networks};
 use std::test::Fail;
-
-// ONE reaches FOUR over TWO at a cost of 2, and over THREE at a cost of 4. The link from TWO to
-// THREE and its reverse have no unreserved bandwidth.
-const ROWS: &[Row] = &[
-    (ONE, 0x0a00_0c01, TWO, 0x0a00_0c02, 1, 1000),
-    (TWO, 0x0a00_1802, FOUR, 0x0a00_1804, 1, 1000),
-    (ONE, 0x0a00_0d01, THREE, 0x0a00_0d03, 2, 1000),
-    (THREE, 0x0a00_2203, FOUR, 0x0a00_2204, 2, 1000),
-    (TWO, 0x0a00_1702, THREE, 0x0a00_1703, 1, 0),
-];
-
-const BY_TWO: &[u32] = &[0x0a00_0c02, 0x0a00_1804];
-
-const BY_THREE: &[u32] = &[0x0a00_0d03, 0x0a00_2204];
 
 const CASES: &[Case] = &[
     (&[], (ONE, FOUR), b"2.2.2.2/32s", Route(2, BY_TWO)),
@@ -65,5 +51,5 @@ const CASES: &[Case] = &[
 
 #[test]
 fn strict_hops(rt: HostRuntime) -> Result<(), Fail> {
-    assert_networks(&rt, rt.alloc(), &[(ROWS, true, CASES)])
+    assert_networks(&rt, rt.alloc(), &[(SQUARE, true, CASES)])
 }

@@ -1,19 +1,19 @@
-use Rattle.std.proofs.Common.{sym, ◌∙◌}
+use Rattle.std.proofs.Common.{sym, subst, ◌∙◌}
 use Rattle.std.proofs.lemmas.Bool.{false≢true}
+use Rattle.cspf_book.specs.RouterBits.{IsAmong}
+use Rattle.cspf_book.proofs.UntouchedRoutes.{not_false, untouched_admits}
 use Rattle.cspf_book.proofs.lost.is_lost.Goals as goal
-
-pub returns-then-not-still_admits : goal.returns-then-not-still_admits
-returns-then-not-still_admits c =
-    let now = rw c.requires at c.admits.ensures in (
-      λ yes. record {
-        admitted = now.0 yes;
-        broken = λ later. false≢true (sym c.if-not-still_admits.true ∙ (c.still_admits.ensures (now.0 yes)).1 later);
-      },
-      λ lost. now.1 lost.admitted,
-    )
+use Rattle.cspf_book.proofs.lost.is_lost.Goals.{then-may_affect, else-may_affect}
 
 pub returns-else-not-still_admits : goal.returns-else-not-still_admits
 returns-else-not-still_admits c = (
-  λ found. absurd (false≢true (rw c.if-not-still_admits.false at found)),
-  λ lost. absurd (lost.broken ((c.still_admits.ensures lost.admitted).0 c.if-not-still_admits.false)),
+  λ found. absurd (false≢true (sym c.if-not-still_admits.false ∙ found)),
+  λ lost. absurd (elim c.if-may_affect.branch [
+    | then-may_affect w ↦
+        lost.broken ((w.still_admits.ensures lost.admitted).0 (not_false w.still_admits.result (sym w.value-is ∙ c.if-not-still_admits.false)))
+    | else-may_affect w ↦
+        lost.broken
+        (untouched_admits c.args.base.now c.args.changes.now c.args.touched.now c.requires.touched c.args.placement.now c.within_limits.ensures.keyed c.requires.groups
+        (λ router is. c.may_affect.ensures w.if-may_affect.false router (subst (λ bits. IsAmong bits router) (sym c.requires.bits) is)) lost.admitted)
+  ]),
 )

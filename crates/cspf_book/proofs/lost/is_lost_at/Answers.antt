@@ -1,4 +1,4 @@
-use Rattle.std.proofs.Common.{sym, subst, ◌∙◌}
+use Rattle.std.proofs.Common.{inl, sym, subst, ◌∙◌}
 use Rattle.std.proofs.lemmas.Bool.{false≢true}
 use Rattle.cspf_book.specs.RouterBits.{IsAmong}
 use Rattle.cspf_book.proofs.UntouchedRoutes.{untouched_admits}
@@ -9,7 +9,6 @@ returns-else-may_affect c = (
   λ yes. absurd (false≢true (sym c.if-may_affect.false ∙ yes)),
   λ lost.
       absurd (lost.broken
-      (untouched_admits c.args.base.now c.args.changes.now c.args.placement.now
-      (λ router is. c.may_affect.ensures c.if-may_affect.false router (subst (λ bits. IsAmong bits router) (sym c.requires.bits) is))
-      lost.admitted)),
+      (untouched_admits c.args.base.now c.args.changes.now c.args.touched.now c.requires.touched c.args.placement.now c.within_limits.ensures.keyed (inl c.requires.groups)
+      (λ router is. c.may_affect.ensures c.if-may_affect.false router (subst (λ bits. IsAmong bits router) (sym c.requires.bits) is)) lost.admitted)),
 )

@@ -2,36 +2,37 @@ use Rattle.std.proofs.Common.{sym, subst, ◌∙◌}
 use Rattle.std.proofs.lemmas.Bool.{false≢true}
 use Rattle.cspf_model.specs.Changes.{after_changes}
 use Rattle.cspf_book.specs.Following.{MayGoOn}
-use Rattle.cspf_book.proofs.UntouchedRoutes.{up_to_start, up_to_found, up_to_passed, up_to_broken, up_to_end}
+use Rattle.cspf_book.proofs.UntouchedRoutes.{up_to_start, up_to_more, up_to_broken, up_to_end, untouched_goes_on}
 use Rattle.cspf_book.proofs.lost.still_admits.Goals as goal
-use Rattle.cspf_book.proofs.lost.still_admits.Goals.{else-far-via-then-far+else-not-may_go_on, else-far-via-else-far}
+use Rattle.cspf_book.proofs.lost.still_admits.Goals.{else-may_touch-via-then-may_touch+else-not-may_go_on, else-may_touch-via-else-may_touch}
 
 pub loop-i-init : goal.loop-i-init
-loop-i-init c = up_to_start c.args.base.now c.args.changes.now c.args.placement.now c.has_router-near.result c.has_router-near.ensures
+loop-i-init c = up_to_start c.args.base.now (after_changes c.args.base.now c.args.changes.now) c.args.placement.now
 
 pub returns-then-not-may_go_on : goal.returns-then-not-may_go_on
 returns-then-not-may_go_on c =
     let d = c.args.base.now in
-    let cs = c.args.changes.now in
-    up_to_broken d cs c.args.placement.now c.links-link-items.result.now c.loop-i.i c.loop-i.router c.loop-i.near c.has_router-far.result c.link-item.result
+    let e = after_changes d c.args.changes.now in
+    up_to_broken d e c.args.placement.now c.links-link-items.result.now c.loop-i.i c.loop-i.router c.link-item.result
     c.links-link-items.ensures.value c.loop-i-test.true c.link-item.is c.loop-i.invariant
-    (λ go. false≢true (sym c.if-not-may_go_on.true ∙ c.may_go_on.ensures.1 (subst (λ q. MayGoOn (after_changes d cs) q c.loop-i.i c.loop-i.router c.link-item.result) (sym c.without_bandwidth-request.ensures) go)))
+    (λ go. false≢true (sym c.if-not-may_go_on.true ∙ c.may_go_on.ensures.1 (subst (λ q. MayGoOn e q c.loop-i.i c.loop-i.router c.link-item.result) (sym c.without_bandwidth-request.ensures) go)))
 
 pub loop-i-preserved : goal.loop-i-preserved
 loop-i-preserved c =
     let d = c.args.base.now in
-    let cs = c.args.changes.now in
-    elim c.else-far.branch [
-      | else-far-via-then-far+else-not-may_go_on w ↦
-          up_to_found d cs c.args.placement.now c.links-link-items.result.now c.loop-i.i c.loop-i.router c.loop-i.near c.has_router-far.result c.link-item.result
-          c.links-link-items.ensures.value c.loop-i-test.true c.link-item.is c.loop-i.invariant c.has_router-far.ensures
-          (subst (λ q. MayGoOn (after_changes d cs) q c.loop-i.i c.loop-i.router c.link-item.result) c.without_bandwidth-request.ensures (w.may_go_on.ensures.0 w.if-not-may_go_on.false))
-      | else-far-via-else-far w ↦
-          up_to_passed d cs c.args.placement.now c.links-link-items.result.now c.loop-i.i c.loop-i.router c.loop-i.near c.has_router-far.result c.link-item.result
-          c.links-link-items.ensures.value c.loop-i-test.true c.link-item.is c.loop-i.invariant c.has_router-far.ensures w.if-far.false.0 w.if-far.false.1
-    ]
+    let e = after_changes d c.args.changes.now in
+    let p = c.args.placement.now in
+    up_to_more d e p c.links-link-items.result.now c.loop-i.i c.loop-i.router c.link-item.result c.links-link-items.ensures.value c.loop-i-test.true c.link-item.is c.loop-i.invariant
+    (λ here. elim c.else-may_touch.branch [
+      | else-may_touch-via-then-may_touch+else-not-may_go_on w ↦
+          subst (λ q. MayGoOn e q c.loop-i.i c.loop-i.router c.link-item.result) c.without_bandwidth-request.ensures (w.may_go_on.ensures.0 w.if-not-may_go_on.false)
+      | else-may_touch-via-else-may_touch w ↦
+          untouched_goes_on d c.args.changes.now c.args.touched.now c.requires.touched p.request c.within_limits.ensures.keyed c.requires.groups c.loop-i.i c.loop-i.router c.link-item.result
+          (c.may_touch.ensures w.if-may_touch.false) here
+    ])
 
 pub returns : goal.returns
 returns c =
-    up_to_end c.args.base.now c.args.changes.now c.args.placement.now c.links-link-items.result.now c.loop-i.i c.loop-i.router c.loop-i.near
+    let d = c.args.base.now in
+    up_to_end d (after_changes d c.args.changes.now) c.args.placement.now c.links-link-items.result.now c.loop-i.i c.loop-i.router
     c.links-link-items.ensures.value c.loop-i-test.false c.loop-i.invariant

@@ -16,7 +16,7 @@ returns-clause-words c =
       again,
       c.again.ensures,
       rw (c.yes_or_no-again.ensures, c.cost-cost.ensures.value, c.links.ensures.value) at written
-          ∙ front_pieces (decimal c.args.id) (decimal c.args.version) (decimal (cost_of links)) (decimal (length links)) (yes_or_no again),
+          ∙ front_pieces c.args.word.now (decimal c.args.id) (decimal c.args.version) (decimal (cost_of links)) (decimal (length links)) (yes_or_no again),
     ))
     c.format.ensures.ok
 
@@ -27,7 +27,7 @@ returns-clause-most c =
     IfOk-weaker c.format.result _ _
     (λ text written.
     rw (rw (c.yes_or_no-again.ensures, c.cost-cost.ensures.value, c.links.ensures.value) at written)
-    (front_most (decimal c.args.id) (decimal c.args.version) (decimal (cost_of links)) (decimal (length links)) (yes_or_no again)
+    (front_most c.args.word.now (decimal c.args.id) (decimal c.args.version) (decimal (cost_of links)) (decimal (length links)) (yes_or_no again)
     (id_digits c.args.id c.ranges.id.fits) (version_digits c.args.version c.ranges.version.fits) (cost_digits (cost_of links) (rw c.cost-cost.ensures.value at c.cost-cost.ensures.small))
     (hops_digits (length links) c.links.ensures.most) (again_letters again)))
     c.format.ensures.ok

@@ -17,10 +17,10 @@ returns-clause-line c =
       record { again = again; twice = twice; words = refl },
       c.in_ok-push.ensures.items
           ∙ rw (c.in_ok-write_digits.ensures, c.into_bytes-line.ensures.value, front, c.as_slice.ensures.value, c.in_ok-object.ensures.object)
-          (line_pieces (codes "ask " ++ decimal c.args.id ++ codes " v" ++ decimal c.args.version ++ codes " ") words (encode_lower (object_of links)) (codes "\n")),
+          (line_pieces (c.args.word.now ++ codes " " ++ decimal c.args.id ++ codes " v" ++ decimal c.args.version ++ codes " ") words (encode_lower (object_of links)) (codes "\n")),
     )
 
 pub returns-clause-most : goal.returns-clause-most
 returns-clause-most c =
     rw (c.in_ok-push.ensures.items, c.in_ok-write_digits.ensures, c.into_bytes-line.ensures.value, c.as_slice.ensures.value)
-    (line_most _ _ c.in_ok-object.object.items c.in_ok-front.ensures.most c.in_ok-object.ensures.most (length-encode_with lower_digits c.in_ok-object.object.items))
+    (line_most c.args.word.now _ _ c.in_ok-object.object.items c.in_ok-front.ensures.most c.in_ok-object.ensures.most (length-encode_with lower_digits c.in_ok-object.object.items))

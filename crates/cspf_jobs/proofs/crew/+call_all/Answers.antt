@@ -1,5 +1,5 @@
 use Rattle.std.proofs.Common.{◌≡◌, IsOkAnd, MatchResult, Err, rules, sym, ap, ◌∙◌, subst₂, arith}
-use Rattle.cspf_jobs.proofs.Steps.{zip_front, gone_none, keeps, gone_more}
+use Rattle.cspf_jobs.proofs.JobSteps.{zip_front, gone_none, keeps, gone_more}
 use Rattle.std.proofs.lemmas.Bool.Decides.{nat_tests}
 use Rattle.cspf_jobs.proofs.crew.+call_all.Goals as goal
 

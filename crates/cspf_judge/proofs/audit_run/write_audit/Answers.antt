@@ -1,7 +1,7 @@
 use Rattle.std.proofs.Common.{rules, ◌≡◌, ◌<◌, ◌≤◌, length, get_or, ap, subst, arith}
 use Rattle.std.proofs.lemmas.List.{take_all}
 use Rattle.std.specs.List.{flat_map}
-use Rattle.cspf_audit.specs.declared.faults.AuditFault.TheVariants as fault
+use Rattle.cspf_judge.specs.declared.audits.faults.AuditFault.TheVariants as fault
 use Rattle.cspf_judge.specs.AuditRun.{fault_line}
 use Rattle.cspf_judge.proofs.Fronts.{at_error, front_before, front_behind, front_in_list}
 use Rattle.cspf_judge.proofs.audit_run.write_audit.Goals as goal

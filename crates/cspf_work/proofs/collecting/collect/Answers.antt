@@ -4,7 +4,7 @@ use Rattle.std.specs.Vec.Iter.{into_iter_items}
 use Rattle.std.proofs.lemmas.Grind.{common_steps}
 use Rattle.std.proofs.lemmas.List.{map-append}
 use Rattle.cspf_work.specs.declared.worker.Reply.{Reply}
-use Rattle.cspf_draw.specs.EachOnce.{once_below}
+use Rattle.cspf_jobs.specs.EachOnce.{once_below}
 use Rattle.cspf_work.specs.Working.{indexes}
 use Rattle.cspf_work.specs.Collected.{AreFilled, IsPlaced}
 use Rattle.cspf_work.proofs.Filling.{replies, replies-push, left_step, twice_collected, missing_collected, times_in-indexes, times-replies, filled_once, filled_placed, all_lists}

@@ -1,6 +1,6 @@
 use Rattle.std.proofs.Common.{◌≡◌, ◌∙◌, List, All, ap, sym, subst, flat_map}
 use Rattle.std.specs.List.Sorted.{IsStrictlyIncreasing}
-use Rattle.cspf_draw.specs.DrawnNumbers.{DrawnNumbers}
+use Rattle.cspf_jobs.specs.DrawnNumbers.{DrawnNumbers}
 use Rattle.cspf_work.proofs.Running.{run_faults, run_counters}
 use Rattle.cspf_work.proofs.crew.dismiss.Goals as goal
 

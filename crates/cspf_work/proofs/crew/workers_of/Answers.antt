@@ -1,7 +1,7 @@
 use Rattle.std.proofs.Common.{◌++◌, [], ◌∷◌, List, None, All, refl, sym, ap, ◌∙◌, subst, arith, length-append}
 use Rattle.std.specs.Vec.Iter.{into_iter_items}
 use Rattle.std.proofs.lemmas.List.Elements.{All-push}
-use Rattle.cspf_draw.specs.DrawnNumbers.{DrawnNumbers}
+use Rattle.cspf_jobs.specs.DrawnNumbers.{DrawnNumbers}
 use Rattle.cspf_publish.specs.AskerStates.{AskerState}
 use Rattle.cspf_work.specs.declared.worker.Worker.{Worker}
 use Rattle.cspf_work.specs.Working.{IsIdle}

@@ -1,7 +1,7 @@
 use Rattle.std.proofs.Common.{rules, inl, inr, ◌<◌, List, length, All, Vec, sym, subst}
 use Rattle.std.specs.Global.{Global}
 use Rattle.std.proofs.lemmas.List.Elements.{All-map}
-use Rattle.cspf_draw.specs.EachOnce.{HoldsEachOnce}
+use Rattle.cspf_jobs.specs.EachOnce.{HoldsEachOnce}
 use Rattle.cspf_work.specs.declared.worker.Reply.{Reply}
 use Rattle.cspf_work.specs.declared.worker.Worker.{Worker}
 use Rattle.cspf_work.proofs.Draws.{drawn_out, only_memory, rising_lists}

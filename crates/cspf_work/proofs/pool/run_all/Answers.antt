@@ -1,5 +1,5 @@
 use Rattle.std.proofs.Common.{rules, ◌≡◌, List, get_or, subst}
-use Rattle.cspf_draw.specs.DrawnNumbers.{CounterId}
+use Rattle.cspf_jobs.specs.DrawnNumbers.{CounterId}
 use Rattle.cspf_publish.specs.AskerStates.{AskerState}
 use Rattle.cspf_work.specs.declared.worker.Worker.{Worker}
 use Rattle.cspf_work.specs.Working.{IsWorkerRun, AreRun}

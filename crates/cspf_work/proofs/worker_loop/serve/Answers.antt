@@ -1,5 +1,5 @@
 use Rattle.std.proofs.Common.{rules, ◌≡◌, ◌<◌, ◌++◌, ◌∙◌, ℕ, List, [], ◌∷◌, length, All, ap, sym, subst, arith}
-use Rattle.cspf_draw.specs.DrawnNumbers.{CounterId, DrawnNumbers}
+use Rattle.cspf_jobs.specs.DrawnNumbers.{CounterId, DrawnNumbers}
 use Rattle.cspf_work.specs.Working.{indexes}
 use Rattle.cspf_work.proofs.Draws.{below_indexes, too_many}
 use Rattle.cspf_work.proofs.worker_loop.serve.Goals as goal

@@ -2,7 +2,7 @@
 //! memory is available again, the audit returns the whole result.
 
 use crate::tests::assert_case;
-use cspf_audit::{AuditError, AuditFault, audit};
+use cspf_judge::{AuditError, AuditFault, audit};
 use std::alloc::Global;
 use std::test::Fail;
 

@@ -50,27 +50,12 @@ fn lines_of(alloc: Global, run: Run, count: usize) -> Result<String, AllocError>
     Ok(lines)
 }
 
-/// Whether a run over an empty journal and some requests writes these lines.
-fn batch_run_writes<G: Gate + Sync, T: Threads + Wait + Sync>(
+/// Whether a run without batches and over some requests writes these lines, and nothing to a
+/// journal.
+fn writes<G: Gate + Sync, T: Threads + Wait + Sync>(
     rt: &T,
     alloc: Global,
-    asked: &[u8],
-    lines: &[u8],
-    workers: usize,
-    gate: &G,
-) -> bool
-    requires { (0 < workers) × (workers ≤ MOST_ASKERS) }
-{
-    let none: &[u8] = b"";
-    let mut held = Vec::new(alloc);
-    let found = run_batch(rt, alloc, none, asked, &mut held, workers, false, gate);
-    found == Ok(0) && held.as_slice() == lines
-}
-
-/// Whether a run over no updates and some requests writes these lines, and nothing to its journal.
-fn live_run_writes<G: Gate + Sync, T: Threads + Wait + Sync>(
-    rt: &T,
-    alloc: Global,
+    run: Run,
     asked: &[u8],
     lines: &[u8],
     workers: usize,
@@ -81,7 +66,13 @@ fn live_run_writes<G: Gate + Sync, T: Threads + Wait + Sync>(
     let none: &[u8] = b"";
     let mut held = Vec::new(alloc);
     let kept: Vec<u8> = Vec::new(alloc);
-    let (found, kept) = run_live_rows(rt, alloc, none, asked, kept, &mut held, workers, gate);
+    let (found, kept) = match run {
+        Run::Batch => {
+            let found = run_batch(rt, alloc, none, asked, &mut held, workers, false, gate);
+            (found, kept)
+        }
+        Run::Live => run_live_rows(rt, alloc, none, asked, kept, &mut held, workers, gate),
+    };
     found == Ok(0) && held.as_slice() == lines && kept.is_empty()
 }
 
@@ -100,10 +91,7 @@ fn answers<G: Gate + Sync, T: Threads + Wait + Sync>(
     let rows = rows_of(alloc, count)?;
     let lines = lines_of(alloc, run, count)?;
     let (asked, lines) = (rows.as_bytes(), lines.as_bytes());
-    Ok(match run {
-        Run::Batch => batch_run_writes(rt, alloc, asked, lines, workers, gate),
-        Run::Live => live_run_writes(rt, alloc, asked, lines, workers, gate),
-    })
+    Ok(writes(rt, alloc, run, asked, lines, workers, gate))
 }
 
 /// Whether `count` workers answer `count` requests. Each worker waits before it computes its

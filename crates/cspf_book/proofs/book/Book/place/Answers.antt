@@ -7,10 +7,7 @@ use Rattle.cspf_model.specs.Best.{IsBestAnswer}
 use Rattle.cspf_model.specs.Outcome.{answer_of}
 use Rattle.cspf_book.specs.declared.placement.Placement.{Placement}
 use Rattle.cspf_book.specs.Placements.{others, counted}
-use Rattle.cspf_book.specs.Kept.{IsCountOf}
-use Rattle.cspf_book.proofs.Covered.{counted-others}
-use Rattle.cspf_book.proofs.KeptSums.{sums_small, small_with, counted-placed}
-use Rattle.cspf_book.specs.Effective.{effective}
+use Rattle.cspf_book.proofs.KeptSums.{small_with, counted-placed}
 use Rattle.cspf_book.specs.BookState.{links_placed}
 use Rattle.cspf_book.specs.Inside.{HaveDistinctIds}
 use Rattle.cspf_book.specs.Offers.{IsOffered, IsOfferRefused}
@@ -19,7 +16,7 @@ use Rattle.cspf_model.specs.declared.request.Request.{Request}
 use Rattle.cspf_book.specs.ById.{AreIdsOf, HasEntered}
 use Rattle.cspf_book.proofs.ById.{ids_same, ids_placed}
 use Rattle.cspf_book.proofs.StateParts.{state_of}
-use Rattle.cspf_book.proofs.Placing.{offered_of, answer_placed, place_error}
+use Rattle.cspf_book.proofs.Placing.{offered_of, answer_placed, place_error, room_for, small_aside, effective_aside}
 use Rattle.cspf_book.proofs.book.Book.place.Goals as goal
 use Rattle.cspf_book.proofs.book.Book.place.Goals.{in-Ok+in-None, in-Err}
 
@@ -37,33 +34,21 @@ returns-then-at-eq-MOST_PLACEMENTS-clause-why c =
 
 pub returns-in_err-reserve-clause-why : goal.returns-in_err-reserve-clause-why
 returns-in_err-reserve-clause-why c =
-    let ps = c.self.inside.placements.items in
-    let id = c.args.request.now.id in
-    let at = c.index_of-at.ensures c.self.inside.version ps c.self.invariant.ids in
-    let gone = ap (remove ps) at ∙ remove-index_of id ps c.self.invariant.own_ids in
-    let kept = few_kept ps c.index_of-at.result 65536 (omega (arith, at, index_of-le id ps)) c.self.invariant.few c.if-at-eq-MOST_PLACEMENTS.false in
     let refused = err_from_is_err_and c.from_residual.result c.from_residual.ensures.1 in
-    rw (refused.1, refused.2) (rw (← c.self.view_is) (omega (arith, kept, ap length gone)))
+    rw (refused.1, refused.2, ← c.self.view_is)
+    (room_for c.self.inside.placements.items c.args.request.now.id c.index_of-at.result (c.index_of-at.ensures c.self.inside.version c.self.inside.placements.items c.self.invariant.ids) c.self.invariant.own_ids c.self.invariant.few c.if-at-eq-MOST_PLACEMENTS.false)
 
 pub returns-in_err-reserve-2-clause-why : goal.returns-in_err-reserve-2-clause-why
 returns-in_err-reserve-2-clause-why c =
-    let ps = c.self.inside.placements.items in
-    let id = c.args.request.now.id in
-    let at = c.index_of-at.ensures c.self.inside.version ps c.self.invariant.ids in
-    let gone = ap (remove ps) at ∙ remove-index_of id ps c.self.invariant.own_ids in
-    let kept = few_kept ps c.index_of-at.result 65536 (omega (arith, at, index_of-le id ps)) c.self.invariant.few c.if-at-eq-MOST_PLACEMENTS.false in
     let refused = err_from_is_err_and c.from_residual-in_err-reserve-2.result c.from_residual-in_err-reserve-2.ensures.1 in
-    rw (refused.1, refused.2) (rw (← c.self.view_is) (omega (arith, kept, ap length gone)))
+    rw (refused.1, refused.2, ← c.self.view_is)
+    (room_for c.self.inside.placements.items c.args.request.now.id c.index_of-at.result (c.index_of-at.ensures c.self.inside.version c.self.inside.placements.items c.self.invariant.ids) c.self.invariant.own_ids c.self.invariant.few c.if-at-eq-MOST_PLACEMENTS.false)
 
 pub returns-in_err-enter_at-clause-why : goal.returns-in_err-enter_at-clause-why
 returns-in_err-enter_at-clause-why c =
-    let ps = c.self.inside.placements.items in
-    let id = c.args.request.now.id in
-    let at = c.index_of-at.ensures c.self.inside.version ps c.self.invariant.ids in
-    let gone = ap (remove ps) at ∙ remove-index_of id ps c.self.invariant.own_ids in
-    let kept = few_kept ps c.index_of-at.result 65536 (omega (arith, at, index_of-le id ps)) c.self.invariant.few c.if-at-eq-MOST_PLACEMENTS.false in
     let refused = err_from_is_err_and c.from_residual-in_err-enter_at.result c.from_residual-in_err-enter_at.ensures.1 in
-    rw (refused.1, refused.2) (rw (← c.self.view_is) (omega (arith, kept, ap length gone)))
+    rw (refused.1, refused.2, ← c.self.view_is)
+    (room_for c.self.inside.placements.items c.args.request.now.id c.index_of-at.result (c.index_of-at.ensures c.self.inside.version c.self.inside.placements.items c.self.invariant.ids) c.self.invariant.own_ids c.self.invariant.few c.if-at-eq-MOST_PLACEMENTS.false)
 
 pub put_in-requires-clause-room : goal.put_in-requires-clause-room
 put_in-requires-clause-room c =
@@ -79,12 +64,8 @@ put_in-requires-clause-room c =
 pub put_in-requires-clause-small : goal.put_in-requires-clause-small
 put_in-requires-clause-small c =
     let ps = c.self.inside.placements.items in
-    let id = c.args.request.now.id in
-    let at = c.index_of-at.ensures c.self.inside.version ps c.self.invariant.ids in
-    let rest = ap (λ qs. remove qs c.index_of-at.result) (c.deref-3.ensures.value ∙ c.in_ok-reserve.ensures.items) ∙ ap (remove ps) at ∙ remove-index_of id ps c.self.invariant.own_ids in
-    sums_small c.set_aside.new.self.counts c.offer_counted.new.counts ps (others id ps) c.self.inside.version c.offer_counted.ensures.sums
-    (subst (IsCountOf c.set_aside.new.self.counts) rest c.set_aside.ensures.counted) (counted-others id ps) c.self.invariant.small
-    (rw (← c.self.view_is) at c.requires.room)
+    small_aside c.set_aside.new.self.counts c.offer_counted.new.counts ps _ c.args.request.now.id c.index_of-at.result c.self.inside.version (c.deref-3.ensures.value ∙ c.in_ok-reserve.ensures.items)
+    (c.index_of-at.ensures c.self.inside.version ps c.self.invariant.ids) c.self.invariant.own_ids c.offer_counted.ensures.sums c.set_aside.ensures.counted c.self.invariant.small (rw (← c.self.view_is) at c.requires.room)
 
 pub replace-requires-clause-room : goal.replace-requires-clause-room
 replace-requires-clause-room c = rw c.in-Ok.ensures.versions c.in_ok-reserve-2.ensures.room
@@ -130,21 +111,13 @@ invariant_of-self-in-Some c =
 pub returns-in-Some-clause-best : goal.returns-in-Some-clause-best
 returns-in-Some-clause-best c =
     let ps = c.self.inside.placements.items in
-    let base = c.self.inside.base in
-    let id = c.args.request.now.id in
-    let at = c.index_of-at.ensures c.self.inside.version ps c.self.invariant.ids in
-    let rest = ap (λ qs. remove qs c.index_of-at.result) (c.deref-3.ensures.value ∙ c.in_ok-reserve.ensures.items) ∙ ap (remove ps) at ∙ remove-index_of id ps c.self.invariant.own_ids in
-    let eff = c.set_aside.ensures.current ∙ ap (effective base) rest in
+    let eff = effective_aside c.self.inside.base _ ps _ c.args.request.now.id c.index_of-at.result (c.deref-3.ensures.value ∙ c.in_ok-reserve.ensures.items) (c.index_of-at.ensures c.self.inside.version ps c.self.invariant.ids) c.self.invariant.own_ids c.set_aside.ensures.current in
     rw (← c.self.view_is) (subst (λ (d : Database). IsBestAnswer d c.args.request.now (answer_of c.in-Ok.outcome)) eff c.in-Ok.ensures.best)
 
 pub returns-in-Some-clause-few : goal.returns-in-Some-clause-few
 returns-in-Some-clause-few c =
     let ps = c.self.inside.placements.items in
-    let id = c.args.request.now.id in
-    let at = c.index_of-at.ensures c.self.inside.version ps c.self.invariant.ids in
-    let gone = ap (remove ps) at ∙ remove-index_of id ps c.self.invariant.own_ids in
-    let kept = few_kept ps c.index_of-at.result 65536 (omega (arith, at, index_of-le id ps)) c.self.invariant.few c.if-at-eq-MOST_PLACEMENTS.false in
-    rw (← c.self.view_is) (omega (arith, kept, ap length gone))
+    rw (← c.self.view_is) (room_for ps c.args.request.now.id c.index_of-at.result (c.index_of-at.ensures c.self.inside.version ps c.self.invariant.ids) c.self.invariant.own_ids c.self.invariant.few c.if-at-eq-MOST_PLACEMENTS.false)
 
 pub returns-in-Some-clause-placed : goal.returns-in-Some-clause-placed
 returns-in-Some-clause-placed c =
@@ -166,22 +139,13 @@ returns-in-Some-clause-placed c =
 pub set_back-requires-clause-small : goal.set_back-requires-clause-small
 set_back-requires-clause-small c =
     let ps = c.self.inside.placements.items in
-    let id = c.args.request.now.id in
-    let at = c.index_of-at.ensures c.self.inside.version ps c.self.invariant.ids in
-    let rest = ap (λ qs. remove qs c.index_of-at.result) (c.deref-3.ensures.value ∙ c.in_ok-reserve.ensures.items) ∙ ap (remove ps) at ∙ remove-index_of id ps c.self.invariant.own_ids in
-    sums_small c.set_aside.new.self.counts c.offer_counted.new.counts ps (others id ps) c.self.inside.version c.offer_counted.ensures.sums
-    (subst (IsCountOf c.set_aside.new.self.counts) rest c.set_aside.ensures.counted) (counted-others id ps) c.self.invariant.small
-    (rw (← c.self.view_is) at c.requires.room)
+    small_aside c.set_aside.new.self.counts c.offer_counted.new.counts ps _ c.args.request.now.id c.index_of-at.result c.self.inside.version (c.deref-3.ensures.value ∙ c.in_ok-reserve.ensures.items)
+    (c.index_of-at.ensures c.self.inside.version ps c.self.invariant.ids) c.self.invariant.own_ids c.offer_counted.ensures.sums c.set_aside.ensures.counted c.self.invariant.small (rw (← c.self.view_is) at c.requires.room)
 
 pub returns-clause-best : goal.returns-clause-best
 returns-clause-best c =
     let ps = c.self.inside.placements.items in
-    let base = c.self.inside.base in
-    let id = c.args.request.now.id in
-    let at = c.index_of-at.ensures c.self.inside.version ps c.self.invariant.ids in
-    let gone = ap (remove ps) at ∙ remove-index_of id ps c.self.invariant.own_ids in
-    let rest = ap (λ qs. remove qs c.index_of-at.result) (c.deref-3.ensures.value ∙ c.in_ok-reserve.ensures.items) ∙ gone in
-    let eff = c.set_aside.ensures.current ∙ ap (effective base) rest in
+    let eff = effective_aside c.self.inside.base _ ps _ c.args.request.now.id c.index_of-at.result (c.deref-3.ensures.value ∙ c.in_ok-reserve.ensures.items) (c.index_of-at.ensures c.self.inside.version ps c.self.invariant.ids) c.self.invariant.own_ids c.set_aside.ensures.current in
     elim c.match-offer_counted.branch [
       | in-Ok+in-None w ↦
           rw w.answer-is (rw (← c.self.view_is) (subst (λ (d : Database). IsBestAnswer d c.args.request.now (answer_of w.in-Ok.outcome)) eff w.in-Ok.ensures.best))
@@ -191,12 +155,8 @@ returns-clause-best c =
 pub returns-clause-few : goal.returns-clause-few
 returns-clause-few c =
     let ps = c.self.inside.placements.items in
-    let id = c.args.request.now.id in
-    let at = c.index_of-at.ensures c.self.inside.version ps c.self.invariant.ids in
-    let gone = ap (remove ps) at ∙ remove-index_of id ps c.self.invariant.own_ids in
-    let kept = few_kept ps c.index_of-at.result 65536 (omega (arith, at, index_of-le id ps)) c.self.invariant.few c.if-at-eq-MOST_PLACEMENTS.false in
     elim c.match-offer_counted.branch [
-      | in-Ok+in-None w ↦ rw w.answer-is (rw (← c.self.view_is) (omega (arith, kept, ap length gone)))
+      | in-Ok+in-None w ↦ rw (w.answer-is, ← c.self.view_is) (room_for ps c.args.request.now.id c.index_of-at.result (c.index_of-at.ensures c.self.inside.version ps c.self.invariant.ids) c.self.invariant.own_ids c.self.invariant.few c.if-at-eq-MOST_PLACEMENTS.false)
       | in-Err w ↦ rw w.answer-is tt
     ]
 
@@ -206,20 +166,17 @@ returns-clause-why c =
     let base = c.self.inside.base in
     let id = c.args.request.now.id in
     let at = c.index_of-at.ensures c.self.inside.version ps c.self.invariant.ids in
-    let gone = ap (remove ps) at ∙ remove-index_of id ps c.self.invariant.own_ids in
     let room = 1048576 - (c.self.inside.links - c.links_at.result) in
-    let rest = ap (λ qs. remove qs c.index_of-at.result) (c.deref-3.ensures.value ∙ c.in_ok-reserve.ensures.items) ∙ gone in
-    let eff = c.set_aside.ensures.current ∙ ap (effective base) rest in
-    let all = c.deref-2.ensures.value ∙ c.in_ok-reserve.ensures.items in
-    let held = rw all at c.links_at.ensures in
-    let kept = few_kept ps c.index_of-at.result 65536 (omega (arith, at, index_of-le id ps)) c.self.invariant.few c.if-at-eq-MOST_PLACEMENTS.false in
+    let eff = effective_aside base _ ps _ id c.index_of-at.result (c.deref-3.ensures.value ∙ c.in_ok-reserve.ensures.items) at c.self.invariant.own_ids c.set_aside.ensures.current in
+    let held = rw (c.deref-2.ensures.value ∙ c.in_ok-reserve.ensures.items) at c.links_at.ensures in
+    let gone = ap (remove ps) at ∙ remove-index_of id ps c.self.invariant.own_ids in
     elim c.match-offer_counted.branch [
       | in-Ok+in-None w ↦ rw w.answer-is tt
       | in-Err w ↦
           rw w.answer-is
           (rw (← c.self.view_is)
           (place_error (record { base = base; version = c.self.inside.version; placements = ps }) c.args.request.now room w.in-Err.why
-          (omega (arith, kept, ap length gone))
+          (room_for ps id c.index_of-at.result at c.self.invariant.own_ids c.self.invariant.few c.if-at-eq-MOST_PLACEMENTS.false)
           (omega (arith, held, ap links_placed gone, c.self.invariant.links, c.self.invariant.few_links))
           (subst (λ (d : Database). IsOfferRefused d c.args.request.now room w.in-Err.why) eff w.in-Err.ensures.refused)))
     ]

@@ -2,8 +2,4 @@ use Rattle.std.proofs.Common.{refl}
 use Rattle.cspf_book.proofs.changed.Changed.none.Goals as goal
 
 pub invariant_of-result : goal.invariant_of-result
-invariant_of-result c = record {
-  last_at = λ k. rw c.new.ensures.empty refl;
-  has = λ router. rw c.new-2.ensures.empty refl;
-  among = λ router never. absurd (cc);
-}
+invariant_of-result c = record { last_at = λ k. rw c.new.ensures.empty refl }

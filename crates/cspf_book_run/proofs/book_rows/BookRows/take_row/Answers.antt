@@ -1,5 +1,5 @@
 use Rattle.std.proofs.lemmas.Result.{IfOk-weaker}
-use Rattle.cspf_stream.specs.Steps.{step_of}
+use Rattle.cspf_rows.specs.Steps.{step_of}
 use Rattle.cspf_book_run.proofs.BookSteps.{base_row}
 use Rattle.cspf_book_run.proofs.book_rows.BookRows.take_row.Goals as goal
 

@@ -1,14 +1,9 @@
-use Rattle.cspf_rows.proofs.BatchRecords.{AreRowsReadBack, texts_cut, journals_read_back}
+use Rattle.cspf_rows.proofs.BatchRecords.{read_back, texts_cut, journals_read_back}
 use Rattle.cspf_rows.proofs.journal.laws.journals_are_read_back.Goals as goal
 
 pub returns : goal.returns
 returns c =
-    let laws : AreRowsReadBack = record {
-      puts = c.rows_are_read_back.ensures.puts;
-      drops = c.rows_are_read_back.ensures.drops;
-      nodes = c.rows_are_read_back.ensures.nodes;
-      ends = c.rows_are_read_back.ensures.ends;
-      masks = c.masks_are_spelled.ensures.read;
-      back = c.masks_are_spelled.ensures.back;
-    } in
+    let rows = c.rows_are_read_back.ensures in
+    let masks = c.masks_are_spelled.ensures in
+    let laws = read_back rows.puts rows.drops rows.nodes rows.ends masks.read masks.back in
     record { cut = texts_cut laws; back = journals_read_back laws }

@@ -1,10 +1,11 @@
-use Rattle.std.proofs.Common.{◌≡◌, ◌∷◌, [], ◌++◌, List, length, vec_len, length-append, rules, sym, ap, subst, ◌∙◌, arith}
+use Rattle.std.proofs.Common.{◌≡◌, ◌∷◌, [], ◌++◌, List, length, vec_len, rules, sym, ap, subst, ◌∙◌, arith}
 use Rattle.std.specs.List.{AllZip}
 use Rattle.std.specs.Vec.Iter.{into_iter_items}
 use Rattle.cspf_client.specs.ServingStates.{ServingState}
 use Rattle.cspf_serve.specs.ServedSteps.{IsOfSource, IsServedEnd}
 use Rattle.cspf_serve.specs.UpdatesStates.{KeptUpdates}
-use Rattle.cspf_serve.proofs.Pairs.{pairs_push, room_for_next, left_none, left_step, left_next}
+use Rattle.cspf_serve.proofs.Pairs.{pairs_push, room_for_next}
+use Rattle.cspf_work.proofs.Filling.{left_none, left_step, left_next}
 use Rattle.cspf_serve.proofs.ServedSteps.{closed_of}
 use Rattle.cspf_serve.proofs.serving.served_run.close_all.Goals as goal
 

@@ -1,4 +1,4 @@
-use Rattle.std.proofs.Common.{◌≡◌, List, refl, sym, ap, subst, ◌∙◌}
+use Rattle.std.proofs.Common.{List, refl, sym, ap, subst, ◌∙◌}
 use Rattle.cspf_client.specs.declared.client.ServedClient.{ServedClient}
 use Rattle.cspf_serve.specs.ServedRun.{IsServedStatus}
 use Rattle.cspf_serve.specs.UpdatesStates.{KeptUpdates, KeepsUpdates}

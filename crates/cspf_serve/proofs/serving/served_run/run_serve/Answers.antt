@@ -1,4 +1,4 @@
-use Rattle.std.proofs.Common.{◌≡◌, length, vec_len, sym, subst, ◌∙◌, arith}
+use Rattle.std.proofs.Common.{◌≡◌, length, subst, arith}
 use Rattle.cspf_serve.specs.ServedRun.{IsServedRun}
 use Rattle.cspf_serve.specs.ServedSteps.{IsAnswered}
 use Rattle.cspf_serve.proofs.Pairs.{length_numbered}

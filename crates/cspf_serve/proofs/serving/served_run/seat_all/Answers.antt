@@ -1,9 +1,9 @@
 use Rattle.std.proofs.Common.{◌≡◌, ◌+◌, ◌∷◌, [], All, length, vec_len, length-append, rules, sym, ap, subst, arith}
 use Rattle.std.specs.Vec.Iter.{into_iter_items}
-use Rattle.std.proofs.lemmas.List.Elements.{All-nil, All-push}
+use Rattle.std.proofs.lemmas.List.Elements.{All-push}
 use Rattle.cspf_publish.specs.AskerStates.{AskerState}
 use Rattle.cspf_serve.specs.ServedSteps.{IsSeat, AreNumberedSeats}
-use Rattle.cspf_serve.proofs.Pairs.{left_none, left_step, left_next}
+use Rattle.cspf_work.proofs.Filling.{left_none, left_step, left_next}
 use Rattle.cspf_serve.proofs.ServedSteps.{seats_more}
 use Rattle.cspf_serve.proofs.serving.served_run.seat_all.Goals as goal
 

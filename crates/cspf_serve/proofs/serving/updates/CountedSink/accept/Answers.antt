@@ -1,9 +1,7 @@
-use Rattle.std.proofs.Common.{length, refl, sym, ap, subst, ◌∙◌, arith}
+use Rattle.std.proofs.Common.{refl, sym, ap, subst, ◌∙◌, arith}
 use Rattle.cspf_model.specs.Numbered.{NumberedChanges}
-use Rattle.cspf_publish.specs.JournalSteps.{count_of}
 use Rattle.cspf_stream.specs.Lines.{version_line}
 use Rattle.cspf_serve.specs.UpdatesStates.{CountedState, publisher_spec}
-use Rattle.cspf_serve.proofs.StepsOfRun.{counted_again, counted_by}
 use Rattle.cspf_serve.proofs.UpdatesSteps.{published_whole, apply_error_whole}
 use Rattle.cspf_serve.proofs.serving.updates.CountedSink.accept.Goals as goal
 

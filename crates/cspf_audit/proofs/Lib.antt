@@ -1,9 +1,0 @@
-pub mod Lookups
-pub mod ReplyComparison
-pub mod LineCuts
-pub mod BatchSteps
-pub mod IdPlaces
-pub mod ComparingSteps
-pub mod ReadingSteps
-pub mod ReplySteps
-pub mod AuditSteps

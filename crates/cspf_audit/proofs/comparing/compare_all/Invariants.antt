@@ -1,9 +1,0 @@
-use Rattle.std.proofs.Common.{drop}
-use Rattle.cspf_audit.specs.Reading.{IsAtVersion, AreOpenFindings}
-use Rattle.cspf_audit.proofs.comparing.compare_all.Given as goal
-
-abbrev pub invariant-loop-claim : goal.invariant-loop-claim
-invariant-loop-claim l = record {
-  here : IsAtVersion l.batches l.replay;
-  open_ones : AreOpenFindings l.batches l.requests l.lines (drop l.claim-index l.claims) l.findings;
-}

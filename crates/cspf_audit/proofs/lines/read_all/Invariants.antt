@@ -1,9 +1,0 @@
-use Rattle.std.proofs.Common.{◌≡◌, length}
-use Rattle.cspf_audit.specs.LineReading.{AreSeen}
-use Rattle.cspf_audit.proofs.lines.read_all.Given as goal
-
-abbrev pub invariant-loop-read : goal.invariant-loop-read
-invariant-loop-read g l = record {
-  counted : length l.lines.items ≡ l._read;
-  seen : AreSeen (g.B.Read.remaining l.fn.reader) (g.B.Read.remaining l.reader) l.lines.items;
-}

@@ -1,6 +1,0 @@
-use Rattle.std.proofs.Common.{◌≡◌, ◌++◌, drop}
-use Rattle.cspf_audit.specs.Reading.{unnamed_faults}
-use Rattle.cspf_audit.proofs.reporting.report_requests.Given as goal
-
-abbrev pub invariant-loop-index : goal.invariant-loop-index
-invariant-loop-index l = l.faults.items ++ unnamed_faults (drop l.index l.requests) (drop l.index l.named) ≡ l.fn.faults.items ++ unnamed_faults l.requests l.named

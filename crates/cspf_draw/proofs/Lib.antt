@@ -1,3 +1,0 @@
--- The lemmas of this crate's proofs.
-pub mod Totals
-pub mod Steps

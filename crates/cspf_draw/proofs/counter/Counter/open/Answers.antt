@@ -1,5 +1,0 @@
-use Rattle.cspf_draw.proofs.Steps.{opens}
-use Rattle.cspf_draw.proofs.counter.Counter.open.Goals as goal
-
-pub of_words-requires : goal.of_words-requires
-of_words-requires c = opens _ c.requires

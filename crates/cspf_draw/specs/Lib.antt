@@ -1,5 +1,0 @@
--- The definitions of this crate.
-pub mod EachOnce
-pub mod DrawnNumbers
-pub mod SeatDraws
-pub mod DrawRule

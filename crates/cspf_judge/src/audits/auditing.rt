@@ -1,0 +1,78 @@
+//! The audit itself: it reads the journal, the requests and the replies, in this order, and then
+//! judges each line of the replies.
+
+ghost use Rattle.std.specs.Prelude.{◌≤◌, length, IfOk, IfErr, IfSome};
+ghost use Rattle.cspf_rows.specs.declared.limits.TheConstants.{MOST_ROWS};
+ghost use Rattle.cspf_rows.specs.Records.{rows_of};
+ghost use Rattle.cspf_judge.specs.Audits.{IsAudit};
+ghost use Rattle.cspf_judge.specs.AuditErrors.{IsAuditOf, IsAuditError};
+ghost use Rattle.cspf_judge.specs.Requests.{HaveOwnIds};
+ghost use Rattle.cspf_judge.specs.Reading.{ArePlaces, ArePlansUpTo};
+
+use crate::AuditError;
+use crate::audits::comparing::compare_all;
+use crate::audits::faults::Audit;
+use crate::audits::ids::index_ids;
+use crate::audits::journal::{LawfulJournal, lawful_journal};
+use crate::audits::lines::{ReplyLine, read_lines};
+use crate::audits::replies::read_replies;
+use crate::audits::reporting::report;
+use cspf_db::Plan;
+use cspf_model::{Batch, Request};
+use cspf_rows::read_requests;
+use std::alloc::{AllocError, Global};
+use std::collections::BTreeMap;
+use std::io::Read;
+
+/// Audits replies. Each line names a request and a version of the journal, and has to be the reply
+/// to this request at this version. `best_by_rounds` computes the answer for this reply. A request
+/// that no line answers is a fault, too. Lines whose first word is `version`, `applied` or `batch`
+/// are skipped. Each stream is read whole. A stream with more than `MOST_ROWS` rows or lines is
+/// refused.
+pub fn audit<R: Read + Drop, Q: Read + Drop, P: Read + Drop>(
+    alloc: Global,
+    journal: R,
+    requests: Q,
+    replies: P,
+) -> Result<Audit, AuditError>
+    ensures whole { IfOk result (λ audit. IfSome (R.remaining journal) (λ kept.
+        IfSome (Q.remaining requests) (λ asked. IfSome (P.remaining replies) (λ said.
+        IsAuditOf (rows_of kept) (rows_of asked) said audit)))) }
+    ensures err { IfErr result
+        (IsAuditError (R.remaining journal) (Q.remaining requests) (P.remaining replies)) }
+{
+    let LawfulJournal { batches, plans } = lawful_journal(alloc, journal)?;
+    let requests = read_requests(alloc, requests)?;
+    let ids = index_ids(alloc, &requests)?;
+    let lines = read_lines(alloc, replies)?;
+    Ok(audit_lines(alloc, &batches, &plans, &requests, &ids, &lines)?)
+}
+
+/// Audits the lines of the replies.
+fn audit_lines(
+    alloc: Global,
+    batches: &[Batch],
+    plans: &[Plan],
+    requests: &[Request],
+    ids: &BTreeMap<u64, usize>,
+    lines: &[ReplyLine],
+) -> Result<Audit, AllocError>
+    requires planned { ArePlansUpTo batches.now plans.now (length batches.now) }
+    requires places { ArePlaces ids.now requests.now }
+    requires own { HaveOwnIds requests.now }
+    requires most { length lines.now ≤ MOST_ROWS }
+    ensures { IfOk result (IsAudit batches.now requests.now lines.now) }
+{
+    let mut replies = read_replies(alloc, lines, requests, ids, batches.len())?;
+    replies.claims.sort_by_key(|claim| claim.version)?;
+    compare_all(
+        alloc,
+        batches,
+        plans,
+        requests,
+        lines,
+        &replies.claims,
+        &mut replies.findings,
+    )?;
+    report(alloc, &replies.findings, requests, &replies.named)
+}

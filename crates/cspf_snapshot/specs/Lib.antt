@@ -1,4 +1,0 @@
--- The definitions that this crate's contracts use.
-pub mod Snapshots
-pub mod SnapshotLaws
-pub mod Replays
