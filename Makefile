@@ -54,7 +54,7 @@ install-program: $(PROGRAM)
 	install $(PROGRAM) $(bin)/routed
 	install tools/routed-tools $(bin)/routed-tools
 	sed -i '1s|.*|#!/usr/bin/python3|' $(bin)/routed-tools
-	for file in $$(cd python/routed && find . -name '*.py' -o -name '*.c'); do install -D -m 644 python/routed/$$file $(modules)/$$file || exit 1; done
+	for file in $$(cd python/routed && find . -name '*.py' -o -name '*.c' -o -path './page/static/*'); do install -D -m 644 python/routed/$$file $(modules)/$$file || exit 1; done
 	install deploy/keep deploy/serve deploy/fed $(lib)/routed
 	[ ! -f $(dir $(PROGRAM))logic ] || install -m 644 $(dir $(PROGRAM))logic $(lib)/routed
 	for unit in $(units); do $(placed) $$unit >$(lib)/systemd/system/$${unit##*/} || exit 1; done
@@ -70,7 +70,7 @@ install-program: $(PROGRAM)
 	$(completion) zsh >$(zsh)/_routed-tools
 	$(completion) fish >$(share)/fish/vendor_completions.d/routed-tools.fish
 	install -m 644 README.md SECURITY.md THEOREM.md $(share)/doc/routed
-	for folder in run believe change; do install -D -m 644 -t $(share)/doc/routed/docs/$$folder docs/$$folder/*.md || exit 1; done
+	for folder in run believe change; do install -D -m 644 -t $(share)/doc/routed/docs/$$folder docs/$$folder/*.* || exit 1; done
 	gzip -9n <CHANGELOG.md >$(share)/doc/routed/NEWS.gz
 	ln -sfn ../../routed/examples $(share)/doc/routed/examples
 

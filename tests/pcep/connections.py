@@ -10,14 +10,15 @@ from pcep.played import PATH, SOUTH, Front, hop, report, report_of, request, row
 from pcep.played import Pcc as Played
 from tools.fronts import reset as cut_off
 
+from routed.follow import slices
+from routed.follow.asks import Asks
+from routed.follow.versions import Watch
 from routed.model.rows import Reply
 from routed.net.endpoints import Endpoint
 from routed.net.loop import Loop
 from routed.net.stream import Stream
-from routed.pcep import lsps, slices, wire
-from routed.pcep.asks import Asks
+from routed.pcep import lsps, wire
 from routed.pcep.pcc import Pcc as Connected
-from routed.pcep.versions import Watch
 from routed.pcep.wire import pack, tlv
 
 LARGE = 32000  # bytes of an SVEC
@@ -376,10 +377,9 @@ def strange(checks, room):
                                for text in (b"version \n", b"version x\n", b"version -1\n", b"version " + b"9" * 5000 + b"\n", b"run x\n",
                                             b"version 1\nHTTP/1.1 400 Bad Request\r\n", b"\n", b"version " + b"1" * 200))]:
             found, runs, loop = [], [], Loop()
-            front = argparse.Namespace(options=argparse.Namespace(watch=Endpoint(path)), loop=loop, told=found.append, sids=None,
-                                       begun=runs.append, answers=lambda: None, reached=lambda: None,
-                                       lost=lambda why="the server has ended", after=0: found.append(why))
-            watch, there = Watch(front), server.accept()[0]
+            hearer = argparse.Namespace(loop=loop, told=found.append, begun=runs.append, answers=lambda: None, reached=lambda: None,
+                                        lost=lambda why="the server has ended", after=0: found.append(why))
+            watch, there = Watch(hearer, Endpoint(path), False), server.accept()[0]
             there.sendall(text)
             if not text:
                 there.close()

@@ -152,10 +152,10 @@ def followed(checks, room):
             for request, group, asked, route in routes:
                 wanted = cost_of(network, asked, route)
                 costs[wanted is not None] += 1
-                if len(route) > 1 and front.network.cost(request, group, route[:-1]) is not None:
+                if len(route) > 1 and front.network.cost(request.asked(group), route[:-1]) is not None:
                     faults.append((version, "without its last link", route))
-                if front.network.cost(request, group, route) != wanted:
-                    faults.append((version, asked, route, wanted, front.network.cost(request, group, route)))
+                if front.network.cost(request.asked(group), route) != wanted:
+                    faults.append((version, asked, route, wanted, front.network.cost(request.asked(group), route)))
             request, group = drawn_ask(draw)
             asked = formats.row(f"ask,1,{request.row(group)}".split(","))[1]
             walk = network.least(asked)

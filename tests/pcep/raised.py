@@ -16,7 +16,7 @@ from routed.pcep.making import Making
 from routed.pcep.moves import Moves
 from routed.pcep.pcc import Pcc
 from routed.pcep.session import Session
-from routed.pcep.slices import Slices
+from routed.follow.slices import Slices
 from routed.pcep.wanted import request_of
 from routed.pcep.wire import pack, tlv
 

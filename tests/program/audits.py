@@ -300,7 +300,7 @@ def speed(audit):
 def search(audit):
     """Outcomes are computed by the plain search. No clause says so, since both searches have one contract: the sources do."""
     named = set()
-    for path in glob.glob(os.path.join(TOP, "crates/cspf_audit/src/*.rt")):
+    for path in glob.glob(os.path.join(TOP, "crates/cspf_judge/src/**/*.rt"), recursive=True):
         with open(path, encoding="utf-8") as source:
             named.update(re.findall(r"cspf_search::(\w+|\{[^}]*\}|\*)", source.read()))
     audit.checks.same("what the audit takes from the search", named, {"best_by_rounds"})

@@ -204,7 +204,8 @@ class Steps:
 
     def install(self):
         self.does("the package is installed", self.quoted("apt-get install ./routed_*_amd64.deb"), folder="/packages/first")
-        units = ["routed-serve.service", "routed-feed.service", "routed-pcep.service", "routed-solve.socket", "routed-roll.timer"]
+        units = ["routed-serve.service", "routed-feed.service", "routed-pcep.service", "routed-page.service", "routed-solve.socket",
+                 "routed-roll.timer"]
         self.checks.same("no unit is active or enabled", [self.state(unit) for unit in units], [("inactive", "disabled")] * len(units))
         self.checks.same("the folders", self.system.said("stat -c '%n %a %U %G' /var/lib/routed /run/routed /run/routed/updates"),
                          "/var/lib/routed 750 routed routed\n/run/routed 755 routed routed\n/run/routed/updates 2750 routed routed-updates")
@@ -227,6 +228,9 @@ class Steps:
         self.does("pcep starts by being enabled", "systemctl enable --now routed-pcep")
         self.eventually("its status line", lambda: self.system.said("systemctl show -p StatusText routed-pcep"),
                         "StatusText=version 10, 0 sessions")
+        self.does("the page starts by being enabled", "systemctl enable --now routed-page")
+        self.eventually("its status line", lambda: self.system.said("systemctl show -p StatusText routed-page"),
+                        "StatusText=version 10, 0 pages")
 
     def ports(self):
         """Figures are read at a port from outside the unit."""
@@ -334,12 +338,13 @@ class Steps:
 
     def remove(self):
         self.does("a removal", self.quoted("apt-get remove routed"))
-        units = ["routed-serve", "routed-pcep", "routed-solve.socket", "routed-roll.timer"]
+        units = ["routed-serve", "routed-pcep", "routed-page", "routed-solve.socket", "routed-roll.timer"]
         self.checks.same("nothing runs", [self.state(unit)[0] for unit in units], ["inactive"] * len(units))
         self.checks.same("nothing of it is a process", self.system.said("pgrep -u routed -a"), "")
         self.checks.same("nothing is enabled", self.system.said("find /etc/systemd -name 'routed*' -type l"), "")
         self.checks.same("the configuration stays", self.system.said("ls /etc/routed").split(),
-                         ["feed.conf", "pcep.conf", "serve.conf", "serve.conf.dpkg-dist", "solve.conf"])  # of the later package
+                         ["feed.conf", "page.conf", "pcep.conf", "serve.conf", "serve.conf.dpkg-dist",  # of the later package
+                          "solve.conf"])
 
     def purge(self):
         said = self.does("a purge", self.quoted("apt-get purge routed"))

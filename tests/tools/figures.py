@@ -324,7 +324,7 @@ def each(program, checks, room):
             checks.same("and one of another address", other.recv(100), b"ask 1 v0 unknown-from\n")
 
 
-OTHER = "give the place of --metrics of listen, pcep or a feed"
+OTHER = "give the place of --metrics of listen, pcep or a feed, or that of a page"
 
 
 def told(*words):

@@ -25,16 +25,19 @@ from routed.tools import TOOLS as NAMES
 
 DEPLOY = os.path.join(TOP, "deploy")
 UNITS = sorted(name for name in os.listdir(DEPLOY) if name.endswith((".service", ".socket", ".timer")))
-CONFIGURED = [f"etc/routed/{name}.conf" for name in ("feed", "pcep", "serve", "solve")]
+CONFIGURED = [f"etc/routed/{name}.conf" for name in ("feed", "page", "pcep", "serve", "solve")]
 MOST_EXPOSED = 4.0  # of systemd-analyze security
 FILES = """bin/routed bin/routed-tools lib/python3/dist-packages/routed/front/listen.py lib/python3/dist-packages/routed/feed/ospf/ospf.py
 lib/routed/keep lib/routed/serve lib/routed/fed lib/systemd/system/routed-serve.service lib/systemd/system/routed-feed.service
 lib/systemd/system/routed-pcep.service lib/systemd/system/routed-roll.timer lib/python3/dist-packages/routed/pcep/front.py
+lib/systemd/system/routed-page.service lib/python3/dist-packages/routed/page/front.py
+lib/python3/dist-packages/routed/page/static/page.html lib/python3/dist-packages/routed/page/static/page.js
+lib/python3/dist-packages/routed/page/static/page.css
 lib/systemd/system/routed-solve.socket lib/systemd/system/routed-solve@.service lib/sysusers.d/routed.conf lib/tmpfiles.d/routed.conf
 lib/systemd/system/routed-serve.service.d/port.conf.example lib/systemd/system/routed-roll.service
 share/man/man1/routed.1.gz share/man/man1/routed-tools.1.gz share/man/man5/routed-formats.5.gz share/man/man5/routed.conf.5.gz
 share/man/man7/routed-service.7.gz
-share/doc/routed/docs/run/OPERATORS.md
+share/doc/routed/docs/run/OPERATORS.md share/doc/routed/docs/run/PAGE.md share/doc/routed/docs/run/page-50.png
 share/routed/examples/nsfnet.journal share/routed/alarms.yml share/routed/dashboard.json share/doc/routed/copyright
 share/bash-completion/completions/routed-tools share/zsh/vendor-completions/_routed-tools
 share/fish/vendor_completions.d/routed-tools.fish share/doc/routed/SECURITY.md share/doc/routed/NEWS.gz
@@ -81,7 +84,7 @@ def package(program, checks):
         for name in FILES:
             checks.true(f"it has {name}", os.path.isfile(os.path.join(empty, "usr", name)))
         checks.same("no file of Python's cache", [line for line in held if "__pycache__" in line], [])
-        modules = {name for name in files_below(os.path.join(TOP, "python/routed")) if name.endswith((".py", ".c"))}
+        modules = {name for name in files_below(os.path.join(TOP, "python/routed")) if name.endswith((".py", ".c")) or "/static/" in name}
         installed = files_below(os.path.join(empty, "usr/lib/python3/dist-packages/routed"))
         checks.same("all modules are installed, each in its folder", installed, modules)
         unpacked(program, checks, room, os.path.join(empty, "usr"))
@@ -177,6 +180,14 @@ def units(checks, home, top, env):
                 checks.true("the command of routed-pcep.service answers a router", found.startswith("PCRep "), found)
                 answering.terminate()
                 checks.same("its status after a signal", answering.wait(PATIENCE), 0)
+            words, given = command_of("routed-page.service", top, env, home)
+            with started([*words, "--at", os.path.join(home, "page")], env=given, stderr=subprocess.DEVNULL) as page:
+                checks.same("the command of routed-page.service", page.stdout.readline(), "ready\n")
+                made = Connection(os.path.join(home, "page"))
+                made.say("GET /page.js HTTP/1.1\r\nHost: localhost\r\n\r\n")
+                checks.true("it has its files", made.rest().startswith("HTTP/1.1 200 OK\r\n"))
+                page.terminate()
+                checks.same("its status after a signal", page.wait(PATIENCE), 0)
         server.terminate()
         checks.same("the server's status after a signal", server.wait(PATIENCE), 143)
     words, given = command_of("routed-solve@.service", top, env, home)
@@ -188,8 +199,8 @@ def units(checks, home, top, env):
 
 
 def hardened(_, checks):
-    checks.same("the units", UNITS, ["routed-feed.service", "routed-pcep.service", "routed-roll.service", "routed-roll.timer",
-                                     "routed-serve.service", "routed-solve.socket", "routed-solve@.service"])
+    checks.same("the units", UNITS, ["routed-feed.service", "routed-page.service", "routed-pcep.service", "routed-roll.service",
+                                     "routed-roll.timer", "routed-serve.service", "routed-solve.socket", "routed-solve@.service"])
     for unit in UNITS:
         text = text_of(f"deploy/{unit}")
         checks.same(f"{unit} has no condition but being enabled", re.findall("(?m)^(?:Condition|Assert).*", text), [])
@@ -197,7 +208,7 @@ def hardened(_, checks):
             checks.true(f"{unit} may fail however often", "\nStartLimitIntervalSec=0\n" in text.partition("\n[Service]")[0])
         if "\nRestart=" in text:
             checks.true(f"{unit} starts again after 5 seconds", "\nRestartSec=5\n" in text)
-    for unit in ("routed-feed.service", "routed-pcep.service", "routed-serve.service"):
+    for unit in ("routed-feed.service", "routed-page.service", "routed-pcep.service", "routed-serve.service"):
         checks.true(f"{unit} says when it is ready, and that its loop turns",
                     re.search(r"(?m)^Type=notify\n(.*\n)*WatchdogSec=\d+\n", text_of(f"deploy/{unit}")))
     if skipped("systemd-analyze"):

@@ -12,7 +12,8 @@ import tempfile
 from checks import TOP
 from tools.installed import CONFIGURED, files_below, skipped, text_of
 
-UNITS = ["routed-serve.service", "routed-feed.service", "routed-pcep.service", "routed-solve.socket", "routed-roll.timer"]
+UNITS = ["routed-serve.service", "routed-feed.service", "routed-pcep.service", "routed-page.service", "routed-solve.socket",
+         "routed-roll.timer"]
 LATER = "99.0.0"  # the version of a later package
 # Notes the words that it is called with, below the root.
 NOTED = """#!/bin/sh

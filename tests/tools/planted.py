@@ -10,9 +10,10 @@ sys.path.insert(1, os.path.join(os.path.dirname(os.path.dirname(os.path.dirname(
 from routed import tools
 from routed.feed.bgpls import lsdb
 from routed.feed.ospf import lsas
+from routed.follow import asks, versions
 from routed.front import accounts, channels, listen, snapshots, watch
 from routed.net import http, stream
-from routed.pcep import admission, answers, asks, front, making, moves, pcc, session, versions
+from routed.pcep import admission, answers, front, making, moves, pcc, session
 
 
 class Planted(Exception):

@@ -32,7 +32,7 @@ from ..net.endpoints import Endpoint, tell
 from ..net.loop import Stopped
 from ..program import failed
 from .cuts import Cut, cut
-from .reasons import Asker, Moved, Reason, Why
+from .reasons import Answering, Asker, Moved, Reason, Why
 from .telling import Telling
 
 ROUNDS = 4  # of asks: the first one, and three more where the version changed
@@ -108,7 +108,7 @@ def database_at(asked: argparse.Namespace) -> Callable[[int], Database] | None:
     return shown if asked.show else kept if asked.journal else None
 
 
-def answered(asker: Asker, request: Request, is_explained: bool, read: Callable[[int], Database] | None) -> Answer:
+def answered(asker: Answering, request: Request, is_explained: bool, read: Callable[[int], Database] | None) -> Answer:
     """Asks, and looks for reasons, as often as it takes until all is of one version."""
     for _ in range(ROUNDS):
         asker.begin()

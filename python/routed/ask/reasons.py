@@ -4,6 +4,7 @@ from __future__ import annotations
 import itertools
 from collections.abc import Callable, Iterable, Sequence
 from dataclasses import dataclass, replace
+from typing import Protocol
 
 from ..client import Client
 from ..model.groups import bits_of
@@ -30,6 +31,16 @@ class Reason:
 
     parts: tuple[Part, ...]
     reply: Reply
+
+
+class Answering(Protocol):
+    """What answers requests, all of them at one version."""
+
+    def begin(self) -> None:
+        """From now on answers may be of another version."""
+
+    def answer(self, request: Request) -> tuple[str, str, Reply]:
+        """The row that asks, its line and the reply."""
 
 
 class Asker:
@@ -81,7 +92,7 @@ def relaxed(request: Request, parts: Iterable[Part]) -> Request:
 class Why:
     """Looks for the reasons of one request."""
 
-    def __init__(self, asker: Asker, request: Request) -> None:
+    def __init__(self, asker: Answering, request: Request) -> None:
         self.asker, self.request, self.constraints = asker, request, constraints_of(request)
 
     def reply(self, *parts: Part) -> Reply:

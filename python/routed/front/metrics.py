@@ -1,6 +1,7 @@
 """Figures of a tool that runs, as Prometheus reads them: its text form 0.0.4."""
 from __future__ import annotations
 
+import bisect
 import time
 from collections.abc import Callable, Iterable, Mapping
 from typing import Any
@@ -48,6 +49,12 @@ class Figures:
     def add(self, name: str, count: int = 1, value: str | None = None) -> None:
         found = self.values[name]
         found[value] = found.get(value, 0) + count
+
+    def take(self, name: str, seconds: float) -> None:
+        """Adds a time to a histogram."""
+        found = self.values[name]
+        found[0][bisect.bisect_left(TIMES, seconds)] += 1
+        found[1] += seconds
 
     def text(self) -> str:
         """All figures in Prometheus' text form."""

@@ -1,20 +1,16 @@
 """Snapshots of the journal of a server that runs, for routed-tools listen."""
 from __future__ import annotations
 
-import ctypes
-import functools
 import os
-import signal
 import subprocess
 import time
 from collections.abc import Callable, Sequence
 
+from ..net.children import DIE_WITH_US
 from ..net.loop import Loop, Owned
 from .accounts import Account
 
 TAIL = 1 << 16  # bytes of a journal's end in which its last row stands
-PR_SET_PDEATHSIG = 1
-DIE_WITH_US = functools.partial(ctypes.CDLL(None).prctl, PR_SET_PDEATHSIG, signal.SIGKILL)  # if this is killed its child is killed, too
 
 Say = Callable[[bytes], object]
 

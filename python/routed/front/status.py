@@ -1,10 +1,10 @@
-"""Prints one screen of the figures of a running `routed-tools listen`, `routed-tools pcep` or feed.
+"""Prints one screen of the figures of a running `routed-tools listen`, `pcep`, `page` or feed.
 
     routed-tools status PLACE [--watch SECONDS] [--names FILE]
 
-PLACE is that of --metrics. With --names an address among the figures is called by its name. The status is 0, or 1 where the
-figures can't be read, with a line that says why. With --watch this line is printed in place of the figures, and they are read
-again after the time of --watch.
+PLACE is that of --metrics, or that of --at of a page. With --names an address among the figures is called by its name. The status
+is 0, or 1 where the figures can't be read, with a line that says why. With --watch this line is printed in place of the figures,
+and they are read again after the time of --watch.
 """
 from __future__ import annotations
 
@@ -84,6 +84,14 @@ def screen(figures: Figures, names: Names) -> Iterator[tuple[str, str]]:
         yield "errors of PCCs", listed("routed_pcep_refused_by_pccs_total")
         yield "turned away", listed("routed_pcep_turned_away_total")
         yield "lost replies", number("routed_pcep_replies_lost")
+    if one("routed_page_open") is not None:
+        yield "server", "connected" if one("routed_page_connected") else "not connected"
+        yield "journal", "followed" if one("routed_page_journal_followed") else "not followed"
+        yield "version", number("routed_page_version")
+        yield "pages", f"{number('routed_page_open')} open, {number('routed_page_pinned')} asks pinned"
+        yield "asks", listed("routed_page_asks_total")
+        yield "requests", listed("routed_page_requests_total")
+        yield "skipped versions", number("routed_page_versions_skipped_total")
     if one("routed_version") is not None:
         if one("routed_run") is not None:
             yield "run", number("routed_run")
@@ -138,4 +146,4 @@ def advice_of(why: str) -> str:
     """What to do where the figures can't be read."""
     if "No such file" in why:
         return "start the server with --metrics, or give the place that it was given"
-    return "" if "refused" in why or "Permission" in why else "give the place of --metrics of listen, pcep or a feed"
+    return "" if "refused" in why or "Permission" in why else "give the place of --metrics of listen, pcep or a feed, or that of a page"

@@ -1,4 +1,4 @@
-"""Figures over HTTP, at an endpoint of their own: how they are answered, and how they are asked for.
+"""Requests over HTTP: how their heads are read, how figures are answered at an endpoint of their own, and how they are asked for.
 
 One answer is sent on a connection, which ends behind it. A connection has 5 seconds. At most 16 are open, and others wait
 for one of them to end. GET and HEAD of /metrics are answered, and everything else is refused by its status.
@@ -10,6 +10,7 @@ import re
 import socket
 import time
 from collections.abc import Callable
+from typing import NamedTuple
 
 from .endpoints import Door, Endpoint
 from .loop import READ, Loop
@@ -22,9 +23,21 @@ LINE = re.compile(rb"[A-Za-z]{1,16} [^ \n]* HTTP/[^ \n]*\n")  # of a request, th
 PART_OF_LINE = re.compile(rb"[A-Za-z]{1,16}(?: [^ \n]*){0,2}\r*\Z")
 
 
+class Request(NamedTuple):
+    """The head of a request: its path and query as they came, and its fields by their names in small letters. A field that is there
+    twice has both values, with a comma between them."""
+
+    is_head: bool
+    path: str
+    query: str
+    fields: dict[str, str]
+
+
 class Page:
     """The place where figures are read: `text` gives them, and `counted` is called with 1 and -1 as connections come and go. Before an
     answer `prepare` is called, once in a turn of the loop, until it says that the figures are ready."""
+
+    most, seconds = MOST, SECONDS
 
     def __init__(self, loop: Loop, listener: socket.socket, text: Callable[[], str],
                  counted: Callable[[int], object] = lambda change: None, prepare: Callable[[], bool] = lambda: True) -> None:
@@ -38,7 +51,7 @@ class Page:
     def change(self, change: int) -> None:
         self.count += change
         self.counted(change)
-        if self.count >= MOST:
+        if self.count >= self.most:
             self.door.shut()
         elif not self.door.is_open:
             self.door.open()
@@ -52,7 +65,7 @@ class Reading:
         self.begun_at = time.monotonic()
         stream.give(self, self.go_on)
         stream.wait(True)
-        stream.loop.after(SECONDS, self.close)
+        stream.loop.after(page.seconds, self.close)
 
     def named(self) -> str:
         return "a reader of figures"
@@ -60,7 +73,7 @@ class Reading:
     def go_on(self, events: int) -> None:
         if events & READ:
             self.asked += self.stream.read(HEAD)
-            self.is_asked = answer_to(self.asked, str) is not None
+            self.is_asked = request_of(self.asked) is not None
             if self.is_asked and not self.stream.is_ended:
                 self.answer()
         else:
@@ -74,8 +87,12 @@ class Reading:
         if not self.page.prepare() and time.monotonic() < self.begun_at + SECONDS / 2:
             self.stream.loop.after(0, self.answer)
             return
+        self.say(answer_to(self.asked, self.page.text))
+
+    def say(self, answer: bytes) -> None:
+        """Writes the answer, behind which it ends."""
         self.is_answered = True
-        self.stream.write(answer_to(self.asked, self.page.text) or b"")
+        self.stream.write(answer)
         self.go_off()
 
     def go_off(self) -> None:
@@ -94,24 +111,38 @@ class Reading:
     fail = close
 
 
-def answer_to(asked: bytes, text: Callable[[], str]) -> bytes | None:
-    """The answer to a request's head, None while more of it has to come."""
+def request_of(asked: bytes) -> Request | bytes | None:
+    """The request whose head this is, or the answer that refuses it. None while more of it has to come."""
     if len(asked) > HEAD:
         return answer("431 Request Header Fields Too Large", b"The request is too long.\n")
     if not (LINE if b"\n" in asked else PART_OF_LINE).match(asked):
         return answer("400 Bad Request", b"This is no request of HTTP.\n")
     if b"\r\n\r\n" not in asked and b"\n\n" not in asked:
         return None
-    method, path, _ = asked.split(b" ", 2)
-    if method not in (b"GET", b"HEAD"):
-        return answer("405 Method Not Allowed", b"Figures are read by GET.\n", "Allow: GET, HEAD\r\n")
-    if path.partition(b"?")[0] != b"/metrics":
-        return answer("404 Not Found", b"Figures are at /metrics.\n", is_head=method == b"HEAD")
-    return answer("200 OK", text().encode(), is_head=method == b"HEAD")
+    line, *lines = re.split("\r*\n", re.split("\r*\n\r*\n", asked.decode("latin-1"), 1)[0])
+    method, target, _ = line.split(" ", 2)
+    if method not in ("GET", "HEAD"):
+        return answer("405 Method Not Allowed", b"What is here is read by GET.\n", "Allow: GET, HEAD\r\n")
+    fields: dict[str, str] = {}
+    for name, _, value in (line.partition(":") for line in lines):
+        name, value = name.lower(), value.strip()
+        fields[name] = f"{fields[name]}, {value}" if name in fields else value
+    path, _, query = target.partition("?")
+    return Request(method == "HEAD", path, query, fields)
 
 
-def answer(status: str, body: bytes, more: str = "", is_head: bool = False) -> bytes:
-    head = f"HTTP/1.1 {status}\r\nContent-Type: {TYPE}\r\nContent-Length: {len(body)}\r\n{more}Connection: close\r\n\r\n"
+def answer_to(asked: bytes, text: Callable[[], str]) -> bytes:
+    """The answer to a request for figures whose head is whole."""
+    request = request_of(asked)
+    if not isinstance(request, Request):
+        return request or b""
+    if request.path != "/metrics":
+        return answer("404 Not Found", b"Figures are at /metrics.\n", is_head=request.is_head)
+    return answer("200 OK", text().encode(), is_head=request.is_head)
+
+
+def answer(status: str, body: bytes, more: str = "", is_head: bool = False, kind: str = TYPE) -> bytes:
+    head = f"HTTP/1.1 {status}\r\nContent-Type: {kind}\r\nContent-Length: {len(body)}\r\n{more}Connection: close\r\n\r\n"
     return head.encode() + (b"" if is_head else body)
 
 
@@ -125,7 +156,7 @@ def get(endpoint: Endpoint) -> str:
     try:
         with contextlib.closing(Stream(loop, endpoint.connect())) as stream:
             stream.give(None, lambda _: found.extend(stream.read()))
-            stream.write(b"GET /metrics HTTP/1.1\r\nHost: routed\r\nConnection: close\r\n\r\n")
+            stream.write(b"GET /metrics HTTP/1.1\r\nHost: localhost\r\nConnection: close\r\n\r\n")
             stream.wait(True)
             loop.after(SECONDS, late)
             while not stream.is_ended and len(found) < LONGEST:

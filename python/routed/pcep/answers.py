@@ -5,12 +5,12 @@ import functools
 import struct
 import typing
 
+from ..follow.slices import Form
 from ..model.rows import Reply
 from ..net.loop import Owner
 from . import wire
 from .protocol import SessionFront
 from .requests import MOST_OBJECTS, MOST_RETURNED, UNAVAILABLE, UNKNOWN_FROM, UNKNOWN_TO, VECTORS, Asked, no_path, path, requests_of
-from .slices import Form
 from .wire import Object, Refused, pack
 
 if typing.TYPE_CHECKING:
@@ -111,7 +111,8 @@ class Answers:
         if answer is None:  # a row that was refused
             self.session.refuse(4, 4, asked.rp())
             return b"", "refused"
-        if asked.first and not answer.why and not self.front.network.follows(request, self.session.group(asked.setup_type), answer):
+        group = self.session.group(asked.setup_type)
+        if asked.first and not answer.why and not self.front.network.follows(request.asked(group), answer):
             asked.unknown = asked.first  # another server's journal said whose addresses these are
         if asked.unknown or answer.why:
             self.keep_vain(asked)

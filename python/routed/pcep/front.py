@@ -6,6 +6,8 @@ from argparse import Namespace
 from collections.abc import Callable, Iterable, Sequence
 
 from .. import program
+from ..follow.server import Server
+from ..follow.slices import Asking, Slices
 from ..front import processes
 from ..front.metrics import Figures
 from ..model.names import Names
@@ -18,7 +20,6 @@ from ..net.signals import take_signals
 from ..net.stream import Stream
 from . import wire
 from .admission import Admission
-from .asks import AGAIN, Asks
 from .census import Census
 from .keys import set_key
 from .network import Network
@@ -26,10 +27,8 @@ from .pcc import Pcc
 from .protocol import Link
 from .replies import Replies
 from .requests import Request
-from .slices import Asking, Slices
 from .session import UP, setup_types, stateful
 from .sids import Sids
-from .versions import Watch
 from .wanted import by_pcc, wanted
 
 
@@ -50,16 +49,16 @@ class Front:
         self.sids: Sids | None = Sids(options.sids) if options.sids else None
         self.network = Network(options.journal, self.say)
         self.replies = Replies(options.replies, self.say) if options.replies else None
-        self.version, self.is_away, self.is_over, self.number = 0, True, False, int(time.time())
+        self.version, self.is_over, self.number = 0, False, int(time.time())
         self.pccs: dict[str, Pcc] = {}  # by their addresses
         self.census = Census(self.pccs)
         self.lsps_wanted = wanted(options.initiate, options.mark)
         self.wanted_of = by_pcc(self.lsps_wanted)
         self.strange_run: str | None = None  # of the SIDs, where it isn't the server's
         self.lsps_unwanted: set[tuple[str, str]] = set()
-        self.asks = Asks(self.loop, options.ask, options.connections, self.cut_off, options.ask_seconds)
+        self.server = Server(self.loop, options.ask, options.watch, self, options.connections, options.ask_seconds,
+                             lambda: bool(self.sids))
         self.slices = Slices(self.loop, self.ask)
-        self.watch: Watch | None = None
         self.number_of_run: int | None = None
         self.figures = figures = Figures()
         figures.gauge("routed_pcep_sessions", "Sessions that are up.",
@@ -131,7 +130,7 @@ class Front:
                 self.replies.keep(sent, line)
             self.loop.call(owner, call, line)
 
-        self.asks.ask(row, answered)
+        self.server.asks.ask(row, answered)
 
     def in_turn(self, asking: Asking) -> None:
         self.slices.add(asking)
@@ -168,49 +167,17 @@ class Front:
 
     # ---- versions
 
-    def connect(self) -> None:
-        """Connects to the places of the server, and tries again until they are there."""
-        try:
-            self.watch = Watch(self) if self.options.watch else None
-        except OSError:
-            self.unreached()
-            return
-        if self.watch is None:
-            self.reached()
+    @property
+    def is_away(self) -> bool:
+        return self.server.is_away
 
-    def reached(self) -> None:
-        """The server is there."""
-        self.is_away = False
-        if not self.options.watch:  # else it is known first which run answers
-            self.asks.open()
-
-    def unreached(self) -> None:
-        """The server isn't there yet."""
-        if self.watch:
-            self.watch.close()
-        self.loop.after(AGAIN, self.connect)
-
-    def cut_off(self) -> None:
-        """A connection for asks has ended: with the server, or because it was idle. A place of versions says which."""
-        if not self.options.watch:
-            self.lost()
-
-    def lost(self, why: str = "the server has ended", after: float = AGAIN) -> None:
-        """There is no server that tells versions: one that comes may begin again from version 0."""
-        if self.is_away:
-            return
-        self.is_away = True
-        self.say("warning", f"{why}: connecting again")
-        self.asks.close()
-        if self.watch:
-            self.watch.close()
+    def lost(self, why: str) -> None:
         self.version, self.number_of_run = 0, None
         self.network.begin()
         if self.sids:
             self.sids.wanted = None
         if self.replies:
             self.replies.of_run(None)
-        self.loop.after(after, self.connect)
 
     def begun(self, run: str) -> None:
         """The server has said which run it is. A run that was given no number has a longer name."""
@@ -221,10 +188,6 @@ class Front:
             self.number_of_run = number
             if self.replies:
                 self.replies.of_run(number)
-
-    def answers(self) -> None:
-        """The place of versions has told something, and which run it is of if that has a number."""
-        self.asks.open()
 
     def status(self) -> str:
         """The status line of the unit."""
@@ -297,7 +260,7 @@ class Front:
         if self.options.metrics:
             Page(self.loop, self.options.metrics.bind(0o600), self.figures.text, prepare=self.census.go_on)
         Door(self.loop, listener, self.take)
-        self.connect()
+        self.server.connect()
         self.tick()
         say(f"pcep {':'.join(map(str, listener.getsockname()[:2]))}", "ready")
         self.supervised.ready()

@@ -4,13 +4,13 @@ from __future__ import annotations
 import struct
 import typing
 
+from ..follow.slices import Form
 from ..model.rows import Reply
 from ..net.loop import Owner
 from . import wire
 from .lsp import ADMIN, CREATED, DELEGATED, Lsp
 from .protocol import SessionFront
 from .requests import Request
-from .slices import Form
 from .wire import pack
 
 if typing.TYPE_CHECKING:

@@ -3,6 +3,7 @@ from __future__ import annotations
 
 import typing
 
+from ..follow.slices import Form
 from ..model.rows import Reply
 from ..net.loop import Owner
 from . import wire
@@ -11,7 +12,6 @@ from .protocol import SessionFront
 from .reports import error_named
 from .requests import Request
 from .routes import Route, has_labels, plain, route_of, says
-from .slices import Form
 
 if typing.TYPE_CHECKING:
     from .lsps import Lsps
@@ -113,7 +113,7 @@ class Moves:
     def judge(self, lsp: Lsp, group: int, answer: Reply) -> None:
         """Moves the LSP where its best route is another one, unless what it has still serves and little is gained, or its PCC has
         refused that."""
-        request, network = lsp.asked(), self.front.network
+        request, asked, network = lsp.asked(), lsp.asked().asked(group), self.front.network
         if answer.why or request.broken(answer.cost):
             self.lose(lsp, answer.why or "above its bound")
             return
@@ -121,11 +121,11 @@ class Moves:
         if refusal:
             self.lose(lsp, refusal[1])
             return
-        body, is_known = ero[4:], network.follows(request, group, answer)
+        body, is_known = ero[4:], network.follows(asked, answer)
         self.found(lsp)
         sent = lsp.pending
         route = sent.route if sent else self.route_of(lsp)
-        had = None if not is_known or not route else answer.cost if route == answer.fars else network.cost(request, group, route)
+        had = None if not is_known or not route else answer.cost if route == answer.fars else network.cost(asked, route)
         is_broken = bool(is_known and route) and had is None
         is_same = sent.ero == body if sent else self.is_same(lsp, body, answer.fars)
         is_down = not sent and bool(lsp.ero) and lsp.is_reported_down()

@@ -3,11 +3,11 @@ from argparse import Namespace
 from collections.abc import Callable, Iterable, Sequence
 from typing import Protocol
 
+from ..follow.slices import Asking
 from ..net.loop import Owner
 from .network import Network
 from .requests import Request
 from .sids import Sids
-from .slices import Asking
 
 Link = tuple[str, str, int]  # a link of a segment routing path: near address, far address, label
 
@@ -19,8 +19,11 @@ class SessionFront(Protocol):
     network: Network
     sids: Sids | None
     version: int  # the newest that is known
-    is_away: bool  # there is no server that tells versions
     clock: Callable[[], float]
+
+    @property
+    def is_away(self) -> bool:
+        """Whether there is no server that tells versions."""
 
     def say(self, level: str, text: str) -> None:
         """Writes a line of the log."""

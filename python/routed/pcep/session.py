@@ -304,7 +304,7 @@ class Session:
         for most, who in ((self.most_sids, "the PCC"), (request.most_sids, "its METRIC of SID depth")):
             if most is not None and len(answer.fars) > most:
                 return b"", ((10, 3), f"its path has {len(answer.fars)} SIDs, and {who} takes {most}")
-        if not self.front.network.follows(request, self.group(setup_type), answer):
+        if not self.front.network.follows(request.asked(self.group(setup_type)), answer):
             return b"", (None, "the network isn't known at its version")
         links = self.front.segments(request.asked().head, answer.fars, answer.version)
         if links is None:

@@ -4,9 +4,9 @@ from __future__ import annotations
 import re
 from collections.abc import Iterable
 
+from ..follow.tail import Tail
 from ..model.rows import Key
 from .network import Network
-from .tail import Tail
 
 SID = re.compile(r"sid,([0-9]{1,7}),([0-9.]+),([0-9.]+),([0-9]{0,7})")
 RUN = re.compile(r"run,([0-9a-f]{1,64})")

@@ -70,6 +70,11 @@ def names_of(asked: argparse.Namespace, routers: Iterable[str]) -> Names:
     for path in (asked.keep, asked.places):
         if path and os.path.exists(path):
             found |= {router: name for _, router, (_, name) in read_places(path)}
+    return called(routers, given, found)
+
+
+def called(routers: Iterable[str], given: FileOfNames, found: Names) -> Names:
+    """The routers' names: those of a file of names, else those that were found with their positions, else their addresses."""
     return {router: given.names.get(router) or found.get(router) or router for router in routers}
 
 

@@ -16,7 +16,6 @@ The status is 0; 1 where the server can't be reached; and 2 where a word, a file
 from __future__ import annotations
 
 import argparse
-import itertools
 import json
 from collections.abc import Iterator
 from typing import Any
@@ -33,6 +32,7 @@ from ..net.endpoints import Endpoint, tell
 from ..net.loop import Stopped
 from ..program import failed
 from ..tables import table
+from .changes import Changes
 
 Values = list[dict[str, Any]]
 KINDS = ("links", "routers", "marks", "diff")
@@ -43,6 +43,7 @@ class Show:
 
     def __init__(self, asked: argparse.Namespace, database: Database) -> None:
         self.names, self.groups, self.database, self.priority = Names.read(asked.names), Groups.read(asked.groups), database, asked.priority
+        self.changes = Changes(self.names, self.groups)
         self.router = asked.router and self.names.address_of(asked.router)
         if asked.router and not self.router:
             raise Refused(f"{asked.router!r} is no address, and no name of a file of names")
@@ -91,28 +92,10 @@ class Show:
                 link = new or old
                 assert isinstance(link, Link)
                 found.append({"sign": "~" if old and new else "+" if new else "-", "link": link.key, **self.ends(link),
-                              "changes": self.changes(old, new) if isinstance(old, Link) and isinstance(new, Link) else []})
+                              "changes": self.changes.of_link(old, new) if isinstance(old, Link) and isinstance(new, Link) else []})
         marks = sorted(before.marks() ^ self.database.marks(), key=lambda it: rank((it,)))
         return found + [{"sign": "+" if router in self.database.marks() else "-", "mark": router, "name": self.name(router)}
                         for router in marks if self.router in (None, router)]
-
-    def changes(self, old: Link, new: Link) -> list[str]:
-        """What of a link is another one now, in words."""
-        def ends(link: Link) -> str:
-            return f"{self.name(link.neighbor)} {link.remote}"
-
-        def groups(link: Link) -> str:
-            return "+".join(self.groups.names_of(link.group)) or "none"
-
-        found = [(name, str(was), str(now)) for name, was, now in
-                 (("to", ends(old), ends(new)), ("metric", old.metric, new.metric), ("groups", groups(old), groups(new)))]
-        told = [f"{name} {was} > {now}" for name, was, now in found if was != now]
-        pairs = list(zip(old.unreserved, new.unreserved))
-        for (was, rate), priorities in itertools.groupby(range(len(pairs)), lambda at: pairs[at]):
-            first, *others = priorities
-            if was != rate:
-                told.append(f"unreserved {rate_text(was)} > {rate_text(rate)} at {first}{f' to {others[-1]}' if others else ''}")
-        return told
 
     def name(self, address: str) -> str:
         return self.names.name_of(address)

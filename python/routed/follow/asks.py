@@ -1,4 +1,4 @@
-"""Asks of all PCCs, over a few connections to `routed-tools listen`, each with an id of its own."""
+"""Asks of all who ask, over a few connections to `routed-tools listen`, each with an id of its own."""
 from __future__ import annotations
 
 import collections
@@ -35,6 +35,8 @@ class Asks:
         self.loop, self.endpoint, self.wanted, self.lost, self.number, self.is_open = loop, endpoint, count, lost, 0, False
         self.seconds = seconds
         self.connections: list[Connection] = []
+        self.is_busy = False  # the server has no place for them
+        self.noted: Callable[[], object] = lambda: None  # is called where that changes
 
     def open(self) -> None:
         """Connects; and again where that fails, until it is closed."""
@@ -56,6 +58,11 @@ class Asks:
         for connection in [*self.connections]:
             connection.close()
 
+    def note(self, is_busy: bool) -> None:
+        if is_busy != self.is_busy:
+            self.is_busy = is_busy
+            self.noted()
+
     def ask(self, row: str, call: Call) -> None:
         self.number += 1
         self.give(Ask(f"ask,{self.number},{row}", call, self.wanted), lambda one: (False, len(one.asks)))
@@ -70,6 +77,7 @@ class Asks:
     def gone(self, connection: Connection) -> None:
         """A connection has ended. Its asks go to another one, first to one that has answered."""
         state = connection.state
+        self.note(state is State.BUSY)
         if connection in self.connections:
             self.connections.remove(connection)
             if self.is_open:
@@ -116,6 +124,7 @@ class Connection:
     def settle(self) -> None:
         if self.state is State.NEW and self.stream.is_made:
             self.state = State.SETTLED
+            self.owner.note(False)
 
     def ask(self, ask: Ask) -> None:
         self.asks.append(ask)
@@ -152,7 +161,9 @@ class Connection:
             if line == b"busy" or not self.asks:
                 self.state = State.BUSY if line == b"busy" else self.state
                 continue
-            self.state = State.SERVED
+            if self.state is not State.SERVED:
+                self.state = State.SERVED
+                self.owner.note(False)
             self.asks.popleft().answer(line.decode(errors="replace"))
 
     def close(self) -> None:

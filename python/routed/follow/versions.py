@@ -4,11 +4,11 @@ from __future__ import annotations
 import re
 from typing import TYPE_CHECKING
 
-from ..net.endpoints import CONNECT
+from ..net.endpoints import CONNECT, Endpoint
 from ..net.loop import READ, WRITE
 
 if TYPE_CHECKING:
-    from .front import Front
+    from .server import Server
 
 LATE_AGAIN = 1  # seconds from one try to connect to the next where the place has no room, or tells something else
 LONGEST = 100  # bytes of a line that has no end yet
@@ -18,14 +18,14 @@ RUN_LINE = re.compile(rb"run ([0-9a-f]{1,64})")
 
 
 class Watch:
-    """A connection that tells versions and, where SIDs are used, which run of the server they are of. The front hears of it once it is
-    connected."""
+    """A connection that tells versions and, where it is held, which run of the server they are of before that. The server hears of it
+    once it is connected."""
 
-    def __init__(self, front: Front) -> None:
-        self.front, self.stream, self.is_there = front, front.options.watch.begin(front.loop), False
+    def __init__(self, server: Server, place: Endpoint, is_held: bool) -> None:
+        self.server, self.stream, self.is_there = server, place.begin(server.loop), False
         self.stream.give(self, self.go_on)
         self.version: int | None = None  # that isn't told yet
-        self.is_held = bool(front.sids)
+        self.is_held = is_held
         self.is_new = True  # no line has come
         self.stream.wait(True)
         if not self.stream.is_made:
@@ -36,24 +36,24 @@ class Watch:
 
     def fail(self) -> None:
         if self.is_there:
-            self.front.lost("the connection for versions has ended")
+            self.server.lost("the connection for versions has ended")
         else:
-            self.front.unreached()
+            self.server.unreached()
 
     def give_up(self) -> None:
         if not self.stream.is_made and not self.stream.is_closed:
-            self.front.unreached()
+            self.server.unreached()
 
     def go_on(self, events: int) -> None:
         if events & WRITE:
             self.stream.flush()
         if not self.stream.is_made:
             if self.stream.is_ended:
-                self.front.unreached()
+                self.server.unreached()
             return
         if not self.is_there:
             self.is_there = True
-            self.front.reached()
+            self.server.reached()
             if self.is_held:
                 self.stream.write(b"run\n")
                 self.stream.loop.after(RUN, self.release)
@@ -64,19 +64,19 @@ class Watch:
     def read(self) -> None:
         lines = self.stream.lines()
         for found in filter(None, map(RUN_LINE.fullmatch, lines)):
-            self.front.begun(found[1].decode())
+            self.server.begun(found[1].decode())
             self.is_held = False
         if self.is_new and lines and lines[0] != b"busy":
             self.is_new = False  # a run that has a number has said it
-            self.front.answers()
+            self.server.answers()
         lines = [line for line in lines if not RUN_LINE.fullmatch(line)]
         versions = [int(found[1]) for found in map(VERSION.fullmatch, lines) if found]
         if self.stream.is_ended:
-            self.front.lost()
+            self.server.lost()
         elif b"busy" in lines:
-            self.front.lost("the place of versions is busy", LATE_AGAIN)
+            self.server.lost("the place of versions is busy", LATE_AGAIN)
         elif len(versions) < len(lines) or len(self.stream.unread) > LONGEST:
-            self.front.lost("the place of versions tells something else", LATE_AGAIN)
+            self.server.lost("the place of versions tells something else", LATE_AGAIN)
         else:
             self.tell(versions)
 
@@ -85,7 +85,7 @@ class Watch:
         self.version = versions[-1] if versions else self.version
         if self.version is not None and not self.is_held:
             version, self.version = self.version, None
-            self.front.told(version)
+            self.server.told(version)
 
     def release(self) -> None:
         """A server that doesn't say which run it is."""

@@ -1,4 +1,4 @@
-"""Asks for the routes of LSPs, a few at a time, so that a request of a PCC never waits behind many of them."""
+"""Asks again for many routes, a few at a time, so that a request of somebody else never waits behind many of them."""
 from __future__ import annotations
 
 from collections.abc import Callable
@@ -6,25 +6,25 @@ from typing import Optional, Protocol
 
 from ..net.loop import Loop, Owner
 
-AT_ONCE = 32  # asks for LSPs that have no answer yet
+AT_ONCE = 32  # such asks that have no answer yet
 Form = tuple[str, Callable[[Optional[str]], object]]  # a row, and what its line is given to
 
 
 class Asking(Protocol):
-    """The LSPs of one session that are to be asked for."""
+    """What one session has to be asked for, as its LSPs."""
 
     def has_more(self) -> bool:
-        """Whether any LSP waits to be asked for."""
+        """Whether anything waits to be asked for."""
 
     def following(self) -> Form | None:
-        """Takes the LSP that has waited longest. None if there is nothing to ask for it now."""
+        """Takes what has waited longest. None if there is nothing to ask for it now."""
 
     def whose(self) -> Owner | None:
         """Whom an exception ends."""
 
 
 class Slices:
-    """The sessions take turns, and each has one LSP asked for in its turn."""
+    """The sessions take turns, and each has one ask in its turn."""
 
     def __init__(self, loop: Loop, ask: Callable[[str, Callable[[Optional[str]], None], Optional[Owner]], None]) -> None:
         self.loop, self.ask = loop, ask
@@ -32,7 +32,7 @@ class Slices:
         self.count, self.is_going, self.is_due = 0, False, False
 
     def add(self, asking: Asking) -> None:
-        """This session has LSPs to be asked for."""
+        """This session has something to be asked for."""
         if asking not in self.waiting:
             self.waiting[asking] = asking.whose()
         self.go_on()

@@ -1,0 +1,1 @@
+"""`routed-tools page`: a running server in a browser."""
