@@ -1,7 +1,8 @@
 //! The keys that changes of the base touch. A key is touched if the changes move the far end of its
 //! link, or of the link whose reverse has this key, or change the mark of its router. The far end
-//! is the neighbor and the remote address; a mark says that a router carries no transit. A route
-//! that the base admits is lost only if one of its links has a touched key.
+//! is the neighbor and the remote address; a mark says that a router carries no transit. Where
+//! groups matter, a key is also touched if the changes put its link into other groups. A route that
+//! the base admits is lost only if one of its links has a touched key.
 
 ghost use Rattle.std.specs.Prelude.{◌≡◌, length};
 
