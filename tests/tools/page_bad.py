@@ -280,7 +280,7 @@ def raised(program, checks, room):
 
 
 class Held(threading.Thread):
-    """A place of asks whose lines come once they are let go."""
+    """A place of asks, which has the line of each of its `rows` and lets them go one by one."""
 
     def __init__(self, path, to):
         super().__init__(daemon=True)
@@ -294,8 +294,8 @@ class Held(threading.Thread):
         with contextlib.suppress(ConnectionError):
             while row := made.recv(1 << 16).decode():
                 for one in row.splitlines():
-                    self.rows.append(one)
                     line = asking.talk(f"{one}\n")
+                    self.rows.append(one)
                     self.go.acquire()
                     made.sendall(line.encode())
 
