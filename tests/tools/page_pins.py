@@ -10,8 +10,9 @@ from reference import formats
 from tools.paged import BERLIN, BONN, GERMANY, Events, paged
 from tools.reading import eventually, figures_of
 
-from routed.page import page, pins
+from routed.page import page, picture, pins
 
+GEOMETRY = picture.CHILD[-1].encode()
 PAGES, SEEN = 100, 10  # and seconds until the end of one is seen
 SHORT = [sys.executable, "-c", f"import sys; sys.path.insert(0, {os.path.join(TOP, 'python')!r}); from routed.page import whatif; "
          "whatif.IDLE = 5; from routed.tools import main; sys.exit(main(['page', *sys.argv[1:]]))"]
@@ -192,20 +193,30 @@ def supposed(program, checks, _):
             checks.same(f"{str(fields)[:40]}", at.call("whatif", page=mine, **fields)[0], 400)
         version = at.publish(drops_of(key))
         checks.same("at the newest version", at.call("whatif", page=mine, router=leaf)[1]["version"], version)
-        numbers = children_of(at.child.pid)
+        numbers = programs_of(at.child.pid)
         os.kill(numbers[-1], signal.SIGKILL)
         eventually(checks, "a program that was killed is told of, or replaced", lambda: at.call("whatif", page=mine, router=leaf)[0], 200)
         checks.same("given back", at.call("whatif", page=mine), (200, {"version": version, "out": [], "pins": []}))
-        checks.same("no program runs", (children_of(at.child.pid), at.figures().get(("process_open_fds", "solve"))), ([], None))
+        checks.same("no program runs", (programs_of(at.child.pid), at.figures().get(("process_open_fds", "solve"))), ([], None))
         checks.same("a second page has it then", at.call("whatif", page=theirs, router=leaf)[0], 200)
         other.close()
-        eventually(checks, "it ends with its page", lambda: children_of(at.child.pid), [])
+        eventually(checks, "it ends with its page", lambda: programs_of(at.child.pid), [])
         one.close()
 
 
-def children_of(number):
+def programs_of(number):
+    """The children of a page but the one that lays out its picture, which on a busy machine takes as long as these tests."""
     with open(f"/proc/{number}/task/{number}/children", encoding="ascii") as file:
-        return [int(word) for word in file.read().split()]
+        return [word for word in map(int, file.read().split()) if GEOMETRY not in words_of(word)]
+
+
+def words_of(number):
+    """The words of a process's command; none of one that has ended."""
+    try:
+        with open(f"/proc/{number}/cmdline", "rb") as file:
+            return file.read().split(b"\0")
+    except OSError:
+        return []
 
 
 def idle(program, checks, _):
@@ -214,7 +225,7 @@ def idle(program, checks, _):
         one, other = Events(at), Events(at)
         mine, theirs = (events.until("hello")["page"] for events in (one, other))
         checks.same("one page has it", [at.call("whatif", page=name, router=BONN)[0] for name in (mine, theirs)], [200, 409])
-        eventually(checks, "until it was idle", lambda: children_of(at.child.pid), [])
+        eventually(checks, "until it was idle", lambda: programs_of(at.child.pid), [])
         checks.same("then another may", at.call("whatif", page=theirs, router=BONN)[0], 200)
         for events in (one, other):
             events.close()
