@@ -41,7 +41,7 @@ returns-in_err-make_room-clause-why c =
 pub put_in-requires-clause-id_room : goal.put_in-requires-clause-id_room
 put_in-requires-clause-id_room c =
     let room = subst HasRoom (sym c.set_aside.ensures.ids) c.in_ok-make_room.ensures.id_room in
-    record { versions = rw c.in-Ok.ensures.versions room.versions; bits = rw c.in-Ok.ensures.bits room.bits; }
+    record { versions = rw c.in-Ok.ensures.versions room.versions; bits = rw c.in-Ok.ensures.bits room.bits }
 
 pub put_in-requires-clause-few : goal.put_in-requires-clause-few
 put_in-requires-clause-few c =

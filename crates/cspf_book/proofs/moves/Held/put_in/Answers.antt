@@ -1,6 +1,5 @@
-use Rattle.std.proofs.Common.{[], ◌∷◌, ◌++◌, length, remove, sym, ap, subst, ◌∙◌, arith}
+use Rattle.std.proofs.Common.{[], ◌∷◌, ◌++◌, remove, sym, ap, subst, ◌∙◌}
 use Rattle.cspf_book.specs.Effective.{effective}
-use Rattle.cspf_book.specs.Alike.{IsCurrentBut}
 use Rattle.cspf_book.specs.Kept.{IsCountOf}
 use Rattle.cspf_book.proofs.Currents.{alike_current, current_with}
 use Rattle.cspf_book.proofs.KeptSums.{count_more}

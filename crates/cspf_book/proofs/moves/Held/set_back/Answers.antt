@@ -1,4 +1,4 @@
-use Rattle.std.proofs.Common.{remove, sym, ap, subst, ◌∙◌}
+use Rattle.std.proofs.Common.{remove, sym, ap, subst}
 use Rattle.cspf_book.specs.declared.placement.Placement.{Placement}
 use Rattle.cspf_book.specs.Alike.{IsCurrentBut}
 use Rattle.cspf_book.specs.Kept.{HasMoreAlong}
