@@ -13,7 +13,7 @@ ghost use Rattle.cspf_book.specs.BookState.{links_placed};
 ghost use Rattle.cspf_book.specs.Kept.{IsCountOf, AreSmall, HasKeys, HasKeysAt, KeepsKeys, HasSameSums};
 
 use crate::counts::Counts;
-use crate::effective_links::{refresh_links, within_limits};
+use crate::effective_links::{refresh, within_limits};
 use crate::placement::Placement;
 use crate::router_bits::bits_of;
 use crate::versions::Ids;
@@ -181,8 +181,8 @@ impl Held {
         placements.push_reserved(placement);
     }
 
-    /// Computes the effective bandwidths of the links of the placement's route again, from the
-    /// sums.
+    /// For each link of the placement's route, puts the base's link with the same key into the
+    /// effective database, with its effective bandwidths.
     fn refresh(&mut self, base: &Table, placement: &Placement)
         requires one { length self.old.one.changes ≡ 1 }
         requires alike { AreAlike base.now self.old.effective }
@@ -194,12 +194,16 @@ impl Held {
             → IsCurrentBut base.now placements self.old.effective placement.now.route
             → self.new.effective ≡ effective base.now placements }
     {
-        refresh_links(
-            &mut self.effective,
-            &mut self.one,
-            base,
-            &self.counts,
-            placement.route.links(),
-        );
+        for link in placement.route.links() {
+            let (from, local) = (link.from, link.local);
+            refresh(
+                &mut self.effective,
+                &mut self.one,
+                base,
+                &self.counts,
+                from,
+                local,
+            );
+        }
     }
 }
