@@ -1,5 +1,5 @@
 -- How placing a request changes a book.
-use Rattle.std.proofs.Common.{◌≡◌, ℕ, ◌+◌, ◌*◌, ◌^◌, ◌<◌, ◌≤◌, Some, List, [], ◌∷◌, ◌++◌, length, remove, ap, subst, ◌∙◌, arith}
+use Rattle.std.proofs.Common.{◌≡◌, ℕ, ◌+◌, ◌-◌, ◌*◌, ◌^◌, ◌<◌, ◌≤◌, Some, List, [], ◌∷◌, ◌++◌, length, remove, ap, subst, ◌∙◌, arith}
 use Rattle.cspf_model.specs.declared.limits.TheConstants.{MOST_VERSIONS}
 use Rattle.cspf_model.specs.declared.request.Request.{Request}
 use Rattle.cspf_model.specs.Best.{Answer, unknown_from, unknown_to, no_route, route}
@@ -68,6 +68,15 @@ room_for ps id at is own few apart =
 -- placements with other ids are left.
 pub others_left : (ps items : List Placement) (id at : ℕ) → items ≡ ps → at ≡ index_of_id id ps → HaveDistinctIds ps → remove items at ≡ others id ps
 others_left ps items id at all is own = ap (λ qs. remove qs at) all ∙ ap (remove ps) is ∙ remove-index_of id ps own
+
+-- Let the routes of `items` have `links` links together, without the placement at index `at`. Then
+-- the routes of the placements with other ids have as many, and as many may be added as are left of
+-- the limit.
+pub links_left : (ps items : List Placement) (id at : ℕ) {links before all : ℕ} → links ≡ links_placed (remove items at) → items ≡ ps → remove ps at ≡ others id ps
+    → links ≤ before → before ≡ all → all ≤ MOST_ROUTES_LINKS
+    → links_placed (others id ps) + (MOST_ROUTES_LINKS - links) ≡ MOST_ROUTES_LINKS
+links_left ps items id at is same gone fewer before few =
+    omega (arith, is, ap (λ qs. links_placed (remove qs at)) same, ap links_placed gone, fewer, before, few)
 
 -- In the two lemmas that follow, the placement with an id is set aside.
 pub effective_aside : (base d : Database) (ps items : List Placement) (id at : ℕ) → items ≡ ps → at ≡ index_of_id id ps → HaveDistinctIds ps

@@ -1,6 +1,6 @@
 -- How to tell whether a database that admits a route still admits it after changes. A link of the
 -- route is looked up only if the changes may touch its key or the mark of its router.
-use Rattle.std.proofs.Common.{◌≡◌, ◌≢◌, ◌↔◌, ◌⊎◌, ℕ, ◌+◌, ◌<◌, ◌≤◌, inl, inr, Bool, true, false, not, IsTrue, Option, Some, None, List, [], ◌∷◌, length, drop, get_or, nat_eq, refl, sym, ap, subst, ◌∙◌, eqb-true, arith}
+use Rattle.std.proofs.Common.{◌≡◌, ◌≢◌, ◌↔◌, ◌⊎◌, ℕ, ◌+◌, ◌<◌, ◌≤◌, inl, inr, Bool, true, false, not, IsTrue, Option, Some, None, List, [], ◌∷◌, length, drop, get_or, unwrap_or, nat_eq, refl, sym, ap, subst, ◌∙◌, eqb-true, arith}
 use Rattle.std.specs.Int.Bits.{bit_and, bit_xor, and_zero_r}
 use Rattle.std.specs.FinSet as set
 use Rattle.std.specs.List.{AllByRecursion}
@@ -15,7 +15,7 @@ use Rattle.cspf_model.proofs.Databases.LastChanges.{link_at-after_changes}
 use Rattle.cspf_book.specs.declared.placement.Placement.{Placement}
 use Rattle.cspf_book.specs.declared.touched.Touched.{Touched}
 use Rattle.cspf_book.specs.LostRoutes.{without_bandwidth, AdmitsRoute}
-use Rattle.cspf_book.specs.Following.{MayGoOn}
+use Rattle.cspf_book.specs.Following.{IsAccepted, MayGoOn}
 use Rattle.cspf_book.specs.RouterBits.{bits_of, IsAmong}
 use Rattle.cspf_book.specs.Touched.{has_moved, has_other_groups, IsTouched, IsLinkEntered, AreTouched, IsFor, IsUntouched}
 use Rattle.cspf_book.proofs.ChangedBases.{marked-after_changes, keyed_after}
@@ -75,6 +75,54 @@ module _ (d : Database) (cs : List Change) (t : Touched) (touched : AreTouched d
         (ends.0, ends.1, ends.2, ends.3, λ on. same_number l.group ends.0.group (false_from_ne_true _ (λ other. off (entered.groups l is on (ap (has_other_groups l) ends.1 ∙ other)))))
   ]
 
+  module _ (keyed : AreAtTheirKeys d) where
+    still_reverse : (l m : Link) → key_of m ≡ key_of l → m.to ≡ l.to → m.remote ≡ l.remote → ¬ IsTouched t (link_key (key_of l)) → HasReverse d l → HasReverse after m
+    still_reverse l m key to remote off (r, is, reverse) =
+        let its : ◌≡◌ {A = Key} (r.to, r.remote) (key_of l) = λ i. (reverse.to i, reverse.remote i) in
+        let back = kept_back r is (λ on. off (subst (λ (k : Key). IsTouched t (link_key k)) its on)) in
+        let own = keyed_after d cs keyed (key_of r) back.0 back.1 in (
+          back.0,
+          ap (link_at after) own ∙ back.1,
+          record {
+            from = ap (λ (k : Key). k.0) own ∙ reverse.from ∙ sym to;
+            local = ap (λ (k : Key). k.1) own ∙ reverse.local ∙ sym remote;
+            to = back.2 ∙ reverse.to ∙ sym (ap (λ (k : Key). k.0) key);
+            remote = back.3 ∙ reverse.remote ∙ sym (ap (λ (k : Key). k.1) key);
+          },
+        )
+
+    -- Let a walk be able to continue along an untouched link before the changes. If the request
+    -- admits the link that is at its key after the changes, the walk may continue along that link.
+    pub accepted_goes_on : (q : Request) (links router : ℕ) (l : Link) → IsUntouched t l → MayGoOn d q links router l
+        → ((found m : Link) → link_at after (key_of l) ≡ Some m → (t.groups ≡ true → m.group ≡ found.group) → IsAdmitted q found → IsAdmitted q m)
+        → MayGoOn after q links router l
+    accepted_goes_on q links router l off old accepted =
+        let found : Link = old.there.found in
+        let key : key_of found ≡ key_of l = ap (λ (x : Key × ℕ). x.0) old.there.alike in
+        let there : ¬ IsTouched t (link_key (key_of found)) = λ on. off.key (subst (λ (k : Key). IsTouched t (link_key k)) key on) in
+        let own = kept_own found old.there.admissible.link there in
+        let its = keyed_after d cs keyed (key_of found) own.0 own.1 in record {
+          from = old.from;
+          leaves = elim old.leaves [
+            | inl free ↦ inl (λ marked. free (sym (kept_mark router (λ on. off.mark (subst (λ r. IsTouched t (mark_key r)) (sym old.from) on))) ∙ marked))
+            | inr none ↦ inr none
+          ];
+          there = record {
+            found = own.0;
+            admissible = record {
+              link = ap (link_at after) its ∙ own.1;
+              usable = record {
+                admitted = accepted found own.0 (sym (ap (link_at after) key) ∙ own.1) own.4 old.there.admissible.usable.admitted;
+                reverse = still_reverse found own.0 its own.2 own.3 there old.there.admissible.usable.reverse;
+              };
+            };
+            alike = both its own.2 ∙ old.there.alike;
+          };
+        }
+      where
+        both : {a b : Key} {x y : ℕ} → a ≡ b → x ≡ y → ◌≡◌ {A = Key × ℕ} (a, x) (b, y)
+        both k r = λ i. (k i, r i)
+
   module _ (q : Request) (keyed : AreAtTheirKeys d) (fits : IsFor t q) where
     abbrev bare : Request
     bare = without_bandwidth q
@@ -97,50 +145,10 @@ module _ (d : Database) (cs : List Change) (t : Touched) (touched : AreTouched d
       room = omega arith;
     }
 
-    still_reverse : (l m : Link) → key_of m ≡ key_of l → m.to ≡ l.to → m.remote ≡ l.remote → ¬ IsTouched t (link_key (key_of l)) → HasReverse d l → HasReverse after m
-    still_reverse l m key to remote off (r, is, reverse) =
-        let its : ◌≡◌ {A = Key} (r.to, r.remote) (key_of l) = λ i. (reverse.to i, reverse.remote i) in
-        let back = kept_back r is (λ on. off (subst (λ (k : Key). IsTouched t (link_key k)) its on)) in
-        let own = keyed_after d cs keyed (key_of r) back.0 back.1 in (
-          back.0,
-          ap (link_at after) own ∙ back.1,
-          record {
-            from = ap (λ (k : Key). k.0) own ∙ reverse.from ∙ sym to;
-            local = ap (λ (k : Key). k.1) own ∙ reverse.local ∙ sym remote;
-            to = back.2 ∙ reverse.to ∙ sym (ap (λ (k : Key). k.0) key);
-            remote = back.3 ∙ reverse.remote ∙ sym (ap (λ (k : Key). k.1) key);
-          },
-        )
-
     -- If a walk may continue along an untouched link before the changes, it may continue along it
     -- after them.
     pub untouched_goes_on : (links router : ℕ) (l : Link) → IsUntouched t l → MayGoOn d bare links router l → MayGoOn after bare links router l
-    untouched_goes_on links router l off old =
-        let found : Link = old.there.found in
-        let key : key_of found ≡ key_of l = ap (λ (x : Key × ℕ). x.0) old.there.alike in
-        let there : ¬ IsTouched t (link_key (key_of found)) = λ on. off.key (subst (λ (k : Key). IsTouched t (link_key k)) key on) in
-        let own = kept_own found old.there.admissible.link there in
-        let its = keyed_after d cs keyed (key_of found) own.0 own.1 in record {
-          from = old.from;
-          leaves = elim old.leaves [
-            | inl free ↦ inl (λ marked. free (sym (kept_mark router (λ on. off.mark (subst (λ r. IsTouched t (mark_key r)) (sym old.from) on))) ∙ marked))
-            | inr none ↦ inr none
-          ];
-          there = record {
-            found = own.0;
-            admissible = record {
-              link = ap (link_at after) its ∙ own.1;
-              usable = record {
-                admitted = still_admitted found own.0 own.4 fits old.there.admissible.usable.admitted;
-                reverse = still_reverse found own.0 its own.2 own.3 there old.there.admissible.usable.reverse;
-              };
-            };
-            alike = both its own.2 ∙ old.there.alike;
-          };
-        }
-      where
-        both : {a b : Key} {x y : ℕ} → a ≡ b → x ≡ y → ◌≡◌ {A = Key × ℕ} (a, x) (b, y)
-        both k r = λ i. (k i, r i)
+    untouched_goes_on links router l off old = accepted_goes_on keyed bare links router l off old (λ found m _ same admitted. still_admitted found m same fits admitted)
 
     untouched_followed : (links router : ℕ) (route : List Link) → ¬ IsAmong t.bits router → AllByRecursion (λ l. ¬ IsAmong t.bits l.to) route
         → IsFollowed d bare links router route → IsFollowed after bare links router route
@@ -162,6 +170,17 @@ module _ (d : Database) (cs : List Change) (t : Touched) (touched : AreTouched d
       let parts = off_route (λ router. ¬ IsAmong t.bits router) p off in
       (admits_followed after p).0
       (untouched_followed p.request keyed fits 0 p.request.from p.route parts.0 parts.1 ((admits_followed d p).1 admits))
+
+-- Along which link a walk may continue, the request admits it.
+pub accepted_if_goes_on : (d : Database) (q : Request) (links router : ℕ) (l : Link) → MayGoOn d q links router l → IsAccepted d q l
+accepted_if_goes_on d q links router l goes = record {
+  found = goes.there.found;
+  link = sym (ap (λ (x : Key × ℕ). link_at d x.0) goes.there.alike) ∙ goes.there.admissible.link;
+  admitted = goes.there.admissible.usable.admitted;
+}
+
+pub some_same : (l m : Link) → ◌≡◌ {A = Option Link} (Some l) (Some m) → l ≡ m
+some_same l m e = ap (λ o. unwrap_or o l) e
 
 -- Let the database `d` admit the route. In the database `e`, a walk can follow the whole route
 -- exactly if a walk from `router` can follow the links from index `i` on.
@@ -194,11 +213,11 @@ module _ (d e : Database) (p : Placement) (items : List Link) (i router : ℕ) (
         (go (goes_on d its p.route items i router l whole within is (so_far.before admits))) (so_far.after admits);
   }
 
-  -- If the walk may not continue along the link in `e`, this database doesn't admit the route.
-  pub up_to_broken : ¬ MayGoOn e its i router l → AdmitsRoute d p → IsTrue false ↔ AdmitsRoute e p
+  -- If the walk may continue along the link in `d` but not in `e`, `e` doesn't admit the route.
+  pub up_to_broken : (MayGoOn d its i router l → ¬ MayGoOn e its i router l) → AdmitsRoute d p → IsTrue false ↔ AdmitsRoute e p
   up_to_broken stuck admits = (
     λ never. absurd (false≢true never),
-    λ later. absurd (stuck (goes_on e its p.route items i router l whole within is ((so_far.after admits).1 ((admits_followed e p).1 later)))),
+    λ later. absurd (stuck (goes_on d its p.route items i router l whole within is (so_far.before admits)) (goes_on e its p.route items i router l whole within is ((so_far.after admits).1 ((admits_followed e p).1 later)))),
   )
 
 -- If `d` admits the route, and `IsFollowedUpTo` holds for all links of the route, `e` also admits

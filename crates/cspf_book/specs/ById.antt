@@ -1,8 +1,9 @@
 -- Private: the version of the book in which each placement was placed. A map has these versions by
 -- the placements' ids. Also: the bits of the routers on each placement's route.
-use Rattle.std.specs.Prelude.{◌≡◌, ◌+◌, ◌<◌, ◌≤◌, ◌++◌, ℕ, Option, Some, None, cond, List, [], ◌∷◌, length, map, nat_eq, remove, slice_index}
+use Rattle.std.specs.Prelude.{◌≡◌, ◌+◌, ◌<◌, ◌≤◌, ◌++◌, ℕ, Option, Some, None, cond, List, [], ◌∷◌, length, map, nat_eq, remove, slice_index, vec_len}
 use Rattle.std.specs.Ordering.{nat_cmp}
 use Rattle.std.specs.BTreeMap.{get}
+use Rattle.std.specs.Vec.{vec_capacity}
 use Rattle.cspf_book.specs.declared.versions.Ids.{Ids}
 use Rattle.cspf_book.specs.declared.placement.Placement.{Placement}
 use Rattle.cspf_book.specs.Placements.{id_of}
@@ -39,6 +40,11 @@ pub record AreIdsOf (x : Ids) (version : ℕ) (placements : List Placement) : Ty
   pub rising : IsRising 0 x.versions.items (version + 1)
   pub at : (id : ℕ) → entered x id ≡ version_of x.versions.items placements id
   pub bits : x.bits.items ≡ map bits_of placements
+
+-- The memory of `x` has room for one more version and for the bits of one more placement.
+pub record HasRoom (x : Ids) : Type 0 where
+  pub versions : vec_len x.versions < vec_capacity x.versions
+  pub bits : vec_len x.bits < vec_capacity x.bits
 
 -- `new` lists the same versions and bits as `old`, and its map has the same version for each id
 pub record HasSameIds (old new : Ids) : Type 0 where

@@ -21,17 +21,7 @@ figures free held = map (figure free held) (0 ∷ 1 ∷ 2 ∷ 3 ∷ 4 ∷ 5 ∷ 
 
 -- the same link with these unreserved bandwidths
 abbrev pub with_free : Link → (free : List ℕ) → length free ≡ 8 → Link
-with_free l free eight = record {
-  from = l.from;
-  local = l.local;
-  to = l.to;
-  remote = l.remote;
-  metric = l.metric;
-  group = l.group;
-  free = free;
-  eight = eight;
-  two_ends = l.two_ends;
-}
+with_free l free eight = record l { free = free; eight = eight }
 
 -- a link of the base, with the effective bandwidths that these placements leave on it
 unfoldable pub effective_link : List Placement → Link → Link

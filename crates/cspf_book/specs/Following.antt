@@ -1,10 +1,10 @@
 -- Private: how a route is followed link by link in a database, and how the placements that lose
 -- their routes are sorted.
-use Rattle.std.specs.Prelude.{◌≡◌, ◌≢◌, ◌-◌, ◌↔◌, ℕ, List, AllPairs, Contains, map}
+use Rattle.std.specs.Prelude.{◌≡◌, ◌≢◌, ◌-◌, ◌↔◌, ℕ, Some, List, AllPairs, Contains, map}
 use Rattle.cspf_model.specs.declared.link.Link.{Link}
 use Rattle.cspf_model.specs.declared.request.Request.{Request}
-use Rattle.cspf_model.specs.Database.{Database}
-use Rattle.cspf_model.specs.Admissible.{IsAdmissible, MayLeave}
+use Rattle.cspf_model.specs.Database.{Database, key_of, link_at}
+use Rattle.cspf_model.specs.Admissible.{IsAdmitted, IsAdmissible, MayLeave}
 use Rattle.cspf_book.specs.declared.placement.Placement.{Placement}
 use Rattle.cspf_book.specs.Placements.{ends_of_link, id_of}
 use Rattle.cspf_book.specs.LostRoutes.{IsLost}
@@ -14,6 +14,12 @@ pub record HasItsLink (d : Database) (q : Request) (l : Link) : Type 0 where
   pub found : Link
   pub admissible : IsAdmissible d q found
   pub alike : ends_of_link found ≡ ends_of_link l
+
+-- The database has a link with the same key as this link, and the request admits that link.
+pub record IsAccepted (d : Database) (q : Request) (l : Link) : Type 0 where
+  pub found : Link
+  pub link : link_at d (key_of l) ≡ Some found
+  pub admitted : IsAdmitted q found
 
 -- A walk has reached `router` over `links` links, and may continue along the database's link at the
 -- key of `l`.

@@ -24,9 +24,9 @@ pub record IsBook (a : Inside) : Type 0 where
   pub current : a.held.effective ≡ effective a.base a.placements.items
   pub sums : IsCountOf a.held.counts a.placements.items
   pub small : (k : Key) (priority : ℕ) → counted a.placements.items k priority ≤ a.version * 2 ^ 64
-  pub ids : AreIdsOf a.ids a.version a.placements.items
+  pub ids : AreIdsOf a.held.ids a.version a.placements.items
   pub own_ids : HaveDistinctIds a.placements.items
   pub few : length a.placements.items ≤ MOST_PLACEMENTS
-  pub links : a.links ≡ links_placed a.placements.items
-  pub few_links : a.links ≤ MOST_ROUTES_LINKS
+  pub links : a.held.links ≡ links_placed a.placements.items
+  pub few_links : a.held.links ≤ MOST_ROUTES_LINKS
   pub one : length a.held.one.changes ≡ 1

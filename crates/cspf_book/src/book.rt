@@ -16,13 +16,11 @@ ghost use Rattle.cspf_book.specs.LostRoutes.{AreLost};
 use crate::counts::Counts;
 use crate::effective_links::{refresh_puts, within_limits};
 use crate::error::{Absent, PlaceError};
-use crate::limits::{MOST_PLACEMENTS, MOST_ROUTES_LINKS};
+use crate::limits::MOST_PLACEMENTS;
 use crate::lost::lost;
-use crate::moves::{Held, enter_at, forget_at, links_at, take_out};
-use crate::offer::offer_counted;
+use crate::moves::{Held, forget_at, take_out};
 use crate::over::{Over, find_over};
 use crate::placement::Placement;
-use crate::router_bits::bits_of;
 use crate::versions::Ids;
 use cspf_addr::Addr;
 use cspf_db::Table;
@@ -40,8 +38,6 @@ pub struct Book {
     base: Table,
     held: Held,
     placements: Vec<Placement>,
-    ids: Ids,
-    links: usize,
     version: u32,
 }
 
@@ -74,11 +70,11 @@ impl Book {
             held: Held {
                 effective: Table::new(alloc)?,
                 counts: Counts::new(alloc),
+                ids: Ids::new(alloc),
+                links: 0,
                 one: Batch { number: 0, changes },
             },
             placements: Vec::new(alloc),
-            ids: Ids::new(alloc),
-            links: 0,
             version: 0,
         })
     }
@@ -149,7 +145,7 @@ impl Book {
             alloc,
             &self.base,
             &self.placements,
-            self.ids.bits(),
+            self.held.ids.bits(),
             &batch.changes,
         )
     }
@@ -204,34 +200,19 @@ impl Book {
         ensures why { IfErr result (λ why. IsPlaceError self.old request.now why) }
         ensures same { OnErr result (self.new ≡ self.old) }
     {
-        let at = self.ids.index_of(request.id);
+        let at = self.held.ids.index_of(request.id);
         if at == MOST_PLACEMENTS {
             return Err(PlaceError::Full);
         }
-        self.placements.reserve(1)?;
-        self.ids.reserve()?;
-        enter_at(&mut self.held.counts, &self.placements, at)?;
-        let kept = self.links - links_at(&self.placements, at);
+        self.held.make_room(&mut self.placements, at)?;
         self.held.set_aside(&self.base, &self.placements, at);
-        let room = MOST_ROUTES_LINKS - kept;
-        let answer = match offer_counted(
-            alloc,
-            &self.held.effective,
-            &mut self.held.counts,
-            &mut self.ids,
-            request,
-            hold,
-            room,
-            self.version + 1,
-        ) {
+        let next = self.version + 1;
+        let answer = match self.held.offer(alloc, request, hold, next) {
             Ok((outcome, offered)) => match offered {
                 Some(placement) => {
-                    take_out(&mut self.placements, at);
-                    self.ids.replace(at, self.version + 1, bits_of(&placement));
-                    self.links = kept + placement.route.links().len();
                     self.held
-                        .put_in(&self.base, &mut self.placements, placement);
-                    self.version += 1;
+                        .put_in(&self.base, &mut self.placements, at, next, placement);
+                    self.version = next;
                     return Ok(outcome);
                 }
                 None => Ok(outcome),
@@ -255,15 +236,14 @@ impl Book {
         ensures absent { OnErr result (¬ IsTrue (has_id id self.old.placements)) }
         ensures same { OnErr result (self.new ≡ self.old) }
     {
-        let at = self.ids.index_of(id);
+        let at = self.held.ids.index_of(id);
         if at == self.placements.len() {
             return Err(Absent);
         }
         self.held.set_aside(&self.base, &self.placements, at);
         forget_at(&mut self.held.counts, &self.placements, at);
-        self.links -= links_at(&self.placements, at);
         take_out(&mut self.placements, at);
-        self.ids.forget(id, at);
+        self.held.ids.forget(id, at);
         self.version += 1;
         Ok(())
     }

@@ -10,7 +10,7 @@ ghost use Rattle.cspf_model.specs.Changes.{after_change};
 ghost use Rattle.cspf_book.specs.declared.placement.Placement.{Placement as Placed};
 ghost use Rattle.cspf_book.specs.Placements.{ends_of_link};
 ghost use Rattle.cspf_book.specs.Effective.{effective, effective_link};
-ghost use Rattle.cspf_book.specs.Alike.{AreAlike, IsCurrentBut, IsCurrentButPut, IsCurrentNowAt, IsWithinLimits};
+ghost use Rattle.cspf_book.specs.Alike.{AreAlike, IsCurrentButPut, IsCurrentNowAt, IsWithinLimits};
 ghost use Rattle.cspf_book.specs.Kept.{IsCountOf};
 
 use crate::counts::Counts;
@@ -100,7 +100,7 @@ fn put_over(table: &mut Table, one: &mut Batch, link: Link)
 
 /// If the base has a link with this key, puts this link with its effective bandwidths into the
 /// table.
-fn refresh(
+pub(crate) fn refresh(
     table: &mut Table,
     one: &mut Batch,
     base: &Table,
@@ -118,28 +118,6 @@ fn refresh(
     within_limits(base);
     if let Some(link) = base.find(from, local) {
         put_over(table, one, effective_link(counts, &link));
-    }
-}
-
-/// For each of these links, puts the base's link with the same key into the table, with its
-/// effective bandwidths. If the table already agreed with the effective database at all other keys,
-/// it is then the effective database.
-pub(crate) fn refresh_links(
-    table: &mut Table,
-    one: &mut Batch,
-    base: &Table,
-    counts: &Counts,
-    links: &[Link],
-)
-    requires one { length one.old.changes ≡ 1 }
-    requires alike { AreAlike base.now table.old }
-    ensures one { length one.new.changes ≡ 1 }
-    ensures current { (placements : List Placed) → IsCountOf counts.now placements
-        → IsCurrentBut base.now placements table.old links.now
-        → table.new ≡ effective base.now placements }
-{
-    for link in links {
-        refresh(table, one, base, counts, link.from, link.local);
     }
 }
 

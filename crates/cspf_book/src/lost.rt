@@ -4,7 +4,7 @@
 ghost use Rattle.std.specs.Prelude.{◌≡◌, ◌↔◌, [], map, true, IsTrue, IfOk};
 ghost use Rattle.cspf_model.specs.Changes.{after_changes};
 ghost use Rattle.cspf_book.specs.LostRoutes.{without_bandwidth, AdmitsRoute, IsLost, AreLost};
-ghost use Rattle.cspf_book.specs.Following.{HasItsLink, MayGoOn, HaveOtherIds, AreRanksOfLost};
+ghost use Rattle.cspf_book.specs.Following.{HasItsLink, IsAccepted, MayGoOn, HaveOtherIds, AreRanksOfLost};
 ghost use Rattle.cspf_book.specs.RouterBits.{bits_of};
 ghost use Rattle.cspf_book.specs.Touched.{AreTouched, IsFor, HasNoAffinities};
 
@@ -86,11 +86,53 @@ fn has_no_affinities(request: &Request) -> bool
         && request.include_all.bits() == 0
 }
 
+/// Whether the base, after the changes, has a link with the same key as this link, and the request
+/// admits that link.
+fn is_accepted(base: &Table, changes: &Changed, request: &Request, link: &Link) -> bool
+    ensures { IsTrue result ↔ IsAccepted (after_changes base.now changes.now) request.now link.now }
+{
+    match find_after(base, changes, link.from, link.local) {
+        Some(found) => accepts(&found, request),
+        None => false,
+    }
+}
+
+/// A walk has reached `router` over `links` links, and may continue along the link at the key of
+/// `link`, in the base. Returns whether it may continue along the link at this key after the
+/// changes. If the changes don't move the link, only its groups can have changed.
+fn may_still_go_on(
+    base: &Table,
+    changes: &Changed,
+    moved: &Touched,
+    request: &Request,
+    links: usize,
+    router: Addr,
+    link: &Link,
+) -> bool
+    requires { AreTouched base.now changes.now moved.now }
+    ensures { MayGoOn base.now request.now links router link.now
+        → IsTrue result ↔ MayGoOn (after_changes base.now changes.now) request.now links router link.now }
+{
+    within_limits(base);
+    if moved.may_touch(link) {
+        may_go_on(base, changes, request, links, router, link)
+    } else {
+        is_accepted(base, changes, request, link)
+    }
+}
+
 /// Whether the base still admits the placement's route after the changes. The base has to admit the
 /// route now. A link of the route is looked up only if the changes may touch it.
-fn still_admits(base: &Table, changes: &Changed, touched: &Touched, placement: &Placement) -> bool
-    requires touched { AreTouched base.now changes.now touched.now }
+fn still_admits(
+    base: &Table,
+    changes: &Changed,
+    touched: &Touched,
+    moved: &Touched,
+    placement: &Placement,
+) -> bool
     requires groups { IsFor touched.now placement.now.request }
+    requires touched { AreTouched base.now changes.now touched.now }
+    requires moved { AreTouched base.now changes.now moved.now }
     ensures { AdmitsRoute base.now placement.now
         → IsTrue result ↔ AdmitsRoute (after_changes base.now changes.now) placement.now }
 {
@@ -98,7 +140,9 @@ fn still_admits(base: &Table, changes: &Changed, touched: &Touched, placement: &
     let request = without_bandwidth(&placement.request);
     let mut router = placement.request.from;
     for (i, link) in placement.route.links().iter().enumerate() {
-        if touched.may_touch(link) && !may_go_on(base, changes, &request, i, router, link) {
+        if touched.may_touch(link)
+            && !may_still_go_on(base, changes, moved, &request, i, router, link)
+        {
             return false;
         }
         router = link.to;
@@ -106,34 +150,11 @@ fn still_admits(base: &Table, changes: &Changed, touched: &Touched, placement: &
     true
 }
 
-/// Whether the base admits the placement's route now, but not after the changes. `bits` has the
-/// bits of the routers on the route. The route is read only if the changes may touch a key of one
-/// of these routers.
+/// Whether the base admits the placement's route now, but not after the changes. `touched` has the
+/// keys that are touched where groups matter, and `moved` has those that are touched where they
+/// don't. `bits` has the bits of the routers on the route. The placement is read only if one of
+/// these keys may be a key of one of these routers.
 fn is_lost(
-    base: &Table,
-    none: &Changed,
-    changes: &Changed,
-    touched: &Touched,
-    placement: &Placement,
-    bits: u128,
-) -> bool
-    requires none { none.now ≡ [] }
-    requires touched { AreTouched base.now changes.now touched.now }
-    requires groups { IsFor touched.now placement.now.request }
-    requires bits { bits ≡ bits_of placement.now }
-    ensures { IsTrue result
-        ↔ IsLost base.now (after_changes base.now changes.now) placement.now }
-{
-    within_limits(base);
-    touched.may_affect(bits)
-        && !still_admits(base, changes, touched, placement)
-        && admits(base, none, placement)
-}
-
-/// As `is_lost`. `touched` has the keys that are touched where groups matter, and `moved` has those
-/// that are touched where they don't. The placement is read only if one of these may be a key of a
-/// router on its route.
-fn is_lost_at(
     base: &Table,
     none: &Changed,
     changes: &Changed,
@@ -151,12 +172,15 @@ fn is_lost_at(
         ↔ IsLost base.now (after_changes base.now changes.now) placement.now }
 {
     within_limits(base);
-    touched.may_affect(bits)
-        && if has_no_affinities(&placement.request) {
-            is_lost(base, none, changes, moved, placement, bits)
-        } else {
-            is_lost(base, none, changes, touched, placement, bits)
-        }
+    if !touched.may_affect(bits) {
+        return false;
+    }
+    let is_kept = if has_no_affinities(&placement.request) {
+        !moved.may_affect(bits) || still_admits(base, changes, moved, moved, placement)
+    } else {
+        still_admits(base, changes, touched, moved, placement)
+    };
+    !is_kept && admits(base, none, placement)
 }
 
 /// Lists the rank of each placement that loses its route. A rank is 7 minus the holding priority of
@@ -182,7 +206,7 @@ fn list_ranks(
 {
     let mut ranks = Vec::new(alloc);
     for (i, placement) in placements.iter().enumerate() {
-        if is_lost_at(base, none, changes, touched, moved, placement, bits[i]) {
+        if is_lost(base, none, changes, touched, moved, placement, bits[i]) {
             ranks.push((7 - placement.hold, placement.request.id))?;
         }
     }

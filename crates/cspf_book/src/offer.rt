@@ -1,21 +1,21 @@
 //! Finds the best answer to a request that is to be placed. If the answer is a route that may be
 //! placed, the placement is returned with the answer.
 
-ghost use Rattle.std.specs.Prelude.{◌≡◌, ◌↔◌, ◌<◌, ◌≤◌, IfOk, IfErr, IfSome, IfNone, OnErr, IsTrue, length};
+ghost use Rattle.std.specs.Prelude.{◌≡◌, ◌↔◌, ◌-◌, ◌<◌, ◌≤◌, IfOk, IfErr, IfSome, IfNone, OnErr, IsTrue, length};
 ghost use Rattle.cspf_model.specs.Best.{IsBestAnswer, route};
 ghost use Rattle.cspf_model.specs.Database.{HaveOwnKeys};
 ghost use Rattle.cspf_model.specs.Outcome.{answer_of};
+ghost use Rattle.cspf_book.specs.declared.limits.TheConstants.{MOST_ROUTES_LINKS};
 ghost use Rattle.cspf_book.specs.BookState.{IsPlacementOf};
 ghost use Rattle.cspf_book.specs.Offers.{IsOffered, IsAnswerRefused, IsWalkRefused, IsOfferRefused};
 ghost use Rattle.cspf_book.specs.Kept.{HasSameSums, KeepsKeys, HasKeys};
 ghost use Rattle.cspf_book.specs.ById.{HasSameIds, HasEntered};
 
 use crate::counting::has_key;
-use crate::counts::Counts;
 use crate::error::PlaceError;
+use crate::limits::MOST_ROUTES_LINKS;
+use crate::moves::Held;
 use crate::placement::Placement;
-use crate::versions::Ids;
-use cspf_db::Table;
 use cspf_model::{Link, Outcome, Request, Route};
 use cspf_search::best;
 use std::alloc::{AllocError, Global};
@@ -94,43 +94,51 @@ fn offer_of(
     }
 }
 
-/// The best answer to a request in the table's database. If the answer is a route, its placement is
-/// returned too. A route that can't be placed is an error (`placement_on`). If there is a placement,
-/// entries of `counts` are also made for its links, and `version` is entered for its id. No sum
-/// changes. After an error, `ids` is unchanged.
-pub(crate) fn offer_counted(
-    alloc: Global,
-    table: &Table,
-    counts: &mut Counts,
-    ids: &mut Ids,
-    request: &Request,
-    hold: u8,
-    room: usize,
-    version: u32,
-) -> Result<(Outcome, Option<Placement>), PlaceError>
-    requires { hold < 8 }
-    ensures best { IfOk result (λ offered. IsBestAnswer table.now request.now (answer_of offered.0)) }
-    ensures placement { IfOk result (λ offered.
-        IsOffered request.now hold room (answer_of offered.0) offered.1) }
-    ensures refused { IfErr result (λ why. IsOfferRefused table.now request.now room why) }
-    ensures sums { HasSameSums counts.old counts.new }
-    ensures kept { KeepsKeys counts.old counts.new }
-    ensures keys { IfOk result (λ offered. IfSome offered.1 (λ p. HasKeys counts.new p.route)) }
-    ensures versions { ids.new.versions ≡ ids.old.versions }
-    ensures bits { ids.new.bits ≡ ids.old.bits }
-    ensures entered { IfOk result (λ offered. IfSome offered.1 (λ p.
-        HasEntered ids.old ids.new request.now.id version)) }
-    ensures none { IfOk result (λ offered. IfNone offered.1 (HasSameIds ids.old ids.new)) }
-    ensures err { OnErr result (HasSameIds ids.old ids.new) }
-{
-    let answer = best(alloc, table, request)?;
-    let (outcome, offered) = offer_of(alloc, answer, request, hold, room)?;
-    match offered {
-        Some(placement) => {
-            counts.enter(placement.route.links())?;
-            ids.enter(request.id, version)?;
-            Ok((outcome, Some(placement)))
+impl Held {
+    /// The best answer to a request in the effective database. If the answer is a route, its
+    /// placement in this version of the book is returned too. A route that can't be placed is an
+    /// error (`placement_on`). If there is a placement, entries of the sums are also made for its
+    /// links, and `version` is entered for its id. No sum changes. After an error, no id has
+    /// changed.
+    pub(crate) fn offer(
+        &mut self,
+        alloc: Global,
+        request: &Request,
+        hold: u8,
+        version: u32,
+    ) -> Result<(Outcome, Option<Placement>), PlaceError>
+        requires hold { hold < 8 }
+        requires few { self.old.links ≤ MOST_ROUTES_LINKS }
+        ensures best { IfOk result (λ offered.
+            IsBestAnswer self.old.effective request.now (answer_of offered.0)) }
+        ensures placement { IfOk result (λ offered. IsOffered request.now hold
+            (MOST_ROUTES_LINKS - self.old.links) (answer_of offered.0) offered.1) }
+        ensures refused { IfErr result (λ why. IsOfferRefused self.old.effective request.now
+            (MOST_ROUTES_LINKS - self.old.links) why) }
+        ensures effective { self.new.effective ≡ self.old.effective }
+        ensures links { self.new.links ≡ self.old.links }
+        ensures one { self.new.one ≡ self.old.one }
+        ensures sums { HasSameSums self.old.counts self.new.counts }
+        ensures kept { KeepsKeys self.old.counts self.new.counts }
+        ensures keys { IfOk result (λ offered. IfSome offered.1 (λ p. HasKeys self.new.counts p.route)) }
+        ensures versions { self.new.ids.versions ≡ self.old.ids.versions }
+        ensures bits { self.new.ids.bits ≡ self.old.ids.bits }
+        ensures entered { IfOk result (λ offered. IfSome offered.1 (λ p.
+            HasEntered self.old.ids self.new.ids request.now.id version)) }
+        ensures none { IfOk result (λ offered. IfNone offered.1
+            (HasSameIds self.old.ids self.new.ids)) }
+        ensures err { OnErr result (HasSameIds self.old.ids self.new.ids) }
+    {
+        let answer = best(alloc, &self.effective, request)?;
+        let room = MOST_ROUTES_LINKS - self.links;
+        let (outcome, offered) = offer_of(alloc, answer, request, hold, room)?;
+        match offered {
+            Some(placement) => {
+                self.counts.enter(placement.route.links())?;
+                self.ids.enter(request.id, version)?;
+                Ok((outcome, Some(placement)))
+            }
+            None => Ok((outcome, None)),
         }
-        None => Ok((outcome, None)),
     }
 }

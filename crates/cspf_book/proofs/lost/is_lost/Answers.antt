@@ -1,19 +1,28 @@
-use Rattle.std.proofs.Common.{sym, subst, ◌∙◌}
+use Rattle.std.proofs.Common.{inl, inr, not, sym, ap, subst, ◌∙◌}
 use Rattle.std.proofs.lemmas.Bool.{false≢true}
 use Rattle.cspf_book.specs.RouterBits.{IsAmong}
-use Rattle.cspf_book.proofs.UntouchedRoutes.{not_false, untouched_admits}
+use Rattle.cspf_book.proofs.UntouchedRoutes.{untouched_admits}
 use Rattle.cspf_book.proofs.lost.is_lost.Goals as goal
-use Rattle.cspf_book.proofs.lost.is_lost.Goals.{then-may_affect, else-may_affect}
+use Rattle.cspf_book.proofs.lost.is_lost.Goals.{then-has_no_affinities+then-not-may_affect-2, then-has_no_affinities+else-not-may_affect-2, else-has_no_affinities}
 
-pub returns-else-not-still_admits : goal.returns-else-not-still_admits
-returns-else-not-still_admits c = (
-  λ found. absurd (false≢true (sym c.if-not-still_admits.false ∙ found)),
-  λ lost. absurd (elim c.if-may_affect.branch [
-    | then-may_affect w ↦
-        lost.broken ((w.still_admits.ensures lost.admitted).0 (not_false w.still_admits.result (sym w.value-is ∙ c.if-not-still_admits.false)))
-    | else-may_affect w ↦
-        lost.broken
-        (untouched_admits c.args.base.now c.args.changes.now c.args.touched.now c.requires.touched c.args.placement.now c.within_limits.ensures.keyed c.requires.groups
-        (λ router is. c.may_affect.ensures w.if-may_affect.false router (subst (λ bits. IsAmong bits router) (sym c.requires.bits) is)) lost.admitted)
-  ]),
+pub returns-then-not-may_affect : goal.returns-then-not-may_affect
+returns-then-not-may_affect c = (
+  λ yes. absurd (false≢true yes),
+  λ lost.
+      absurd (lost.broken
+      (untouched_admits c.args.base.now c.args.changes.now c.args.touched.now c.requires.touched c.args.placement.now c.within_limits.ensures.keyed (inl c.requires.groups)
+      (λ router is. c.may_affect.ensures c.if-not-may_affect.true router (subst (λ bits. IsAmong bits router) (sym c.requires.bits) is)) lost.admitted)),
+)
+
+pub returns-else-not-is_kept : goal.returns-else-not-is_kept
+returns-else-not-is_kept c = (
+  λ yes. absurd (false≢true (sym (ap not c.if-not-is_kept.false) ∙ yes)),
+  λ lost. absurd (lost.broken (elim c.if-has_no_affinities.branch [
+    | then-has_no_affinities+then-not-may_affect-2 w ↦
+        untouched_admits c.args.base.now c.args.changes.now c.args.moved.now c.requires.moved c.args.placement.now c.within_limits.ensures.keyed
+        (inr (c.has_no_affinities.ensures w.if-has_no_affinities.true))
+        (λ router is. w.may_affect-then-has_no_affinities.ensures w.if-not-may_affect-2.true router (subst (λ bits. IsAmong bits router) (sym c.requires.bits) is)) lost.admitted
+    | then-has_no_affinities+else-not-may_affect-2 w ↦ (w.still_admits.ensures lost.admitted).0 (sym w.is_kept-is ∙ c.if-not-is_kept.false)
+    | else-has_no_affinities w ↦ (w.still_admits-is_kept.ensures lost.admitted).0 (sym w.is_kept-is ∙ c.if-not-is_kept.false)
+  ])),
 )

@@ -14,14 +14,14 @@ unfolding IsDistinct
 invariant_of-result c =
     record {
       current =
-          c.in_ok-new-2.ensures ∙ effective-no_links c.new-6.result.items
-          ∙ ap (λ (d : Database). effective d c.new-6.result.items) (sym c.in_ok-new.ensures);
-      sums = subst (IsCountOf c.new-5.result) (sym c.new-6.ensures.items) c.new-5.ensures;
-      small = λ k p. rw c.new-6.ensures.items (omega arith);
-      ids = subst (AreIdsOf c.new-7.result 0) (sym c.new-6.ensures.items) c.new-7.ensures;
-      own_ids = subst HaveDistinctIds (sym c.new-6.ensures.items) tt;
-      few = omega (arith, ap length c.new-6.ensures.items);
-      links = sym (ap links_placed c.new-6.ensures.items);
+          c.in_ok-new-2.ensures ∙ effective-no_links c.new-7.result.items
+          ∙ ap (λ (d : Database). effective d c.new-7.result.items) (sym c.in_ok-new.ensures);
+      sums = subst (IsCountOf c.new-5.result) (sym c.new-7.ensures.items) c.new-5.ensures;
+      small = λ k p. rw c.new-7.ensures.items (omega arith);
+      ids = subst (AreIdsOf c.new-6.result 0) (sym c.new-7.ensures.items) c.new-6.ensures;
+      own_ids = subst HaveDistinctIds (sym c.new-7.ensures.items) tt;
+      few = omega (arith, ap length c.new-7.ensures.items);
+      links = sym (ap links_placed c.new-7.ensures.items);
       few_links = omega arith;
       one = rw (c.in_ok-push.ensures.items, c.new-changes.ensures.items) refl;
     }

@@ -4,7 +4,8 @@ use Rattle.std.proofs.lemmas.List.{length-map}
 use Rattle.std.proofs.lemmas.List.Edits.{length-remove}
 use Rattle.cspf_book.specs.Placements.{counted}
 use Rattle.cspf_book.specs.Kept.{IsCountOf}
-use Rattle.cspf_book.specs.ById.{AreIdsOf}
+use Rattle.cspf_book.specs.declared.versions.Ids.{Ids}
+use Rattle.cspf_book.specs.ById.{AreIdsOf, HasForgotten}
 use Rattle.cspf_book.specs.RouterBits.{bits_of}
 use Rattle.cspf_book.proofs.ById.{ids_forgotten}
 use Rattle.cspf_book.proofs.Covered.{counted-others}
@@ -28,14 +29,14 @@ forget-requires-clause-versions c =
     let ps = c.self.inside.placements.items in
     let at = c.index_of-at.ensures c.self.inside.version ps c.self.invariant.ids in
     let le = index_of-le c.args.id ps in
-    omega (arith, at, le, c.self.inside.placements.ok.0, c.self.invariant.ids.many, c.if-at-len.false, c.len.ensures)
+    omega (arith, at, le, c.self.inside.placements.ok.0, c.self.invariant.ids.many, ap (λ (x : Ids). length x.versions.items) c.set_aside.ensures.ids, c.if-at-len.false, c.len.ensures)
 
 pub forget-requires-clause-bits : goal.forget-requires-clause-bits
 forget-requires-clause-bits c =
     let ps = c.self.inside.placements.items in
     let at = c.index_of-at.ensures c.self.inside.version ps c.self.invariant.ids in
     let le = index_of-le c.args.id ps in
-    let many = ap length c.self.invariant.ids.bits ∙ length-map ps bits_of in
+    let many = ap (λ (x : Ids). length x.bits.items) c.set_aside.ensures.ids ∙ ap length c.self.invariant.ids.bits ∙ length-map ps bits_of in
     omega (arith, at, le, c.self.inside.placements.ok.0, many, c.if-at-len.false, c.len.ensures)
 
 pub invariant_of-self : goal.invariant_of-self
@@ -46,8 +47,6 @@ invariant_of-self c =
     let le = index_of-le c.args.id ps in
     let within : c.index_of-at.result < length ps = omega (arith, at, le, many, c.if-at-len.false, c.len.ensures) in
     let gone = c.take_out.ensures.items ∙ ap (remove ps) at ∙ remove-index_of c.args.id ps c.self.invariant.own_ids in
-    let held = rw c.deref-3.ensures.value at c.links_at.ensures in
-    let left = ap links_placed c.take_out.ensures.items in
     record {
       current =
           c.set_aside.ensures.current
@@ -58,11 +57,12 @@ invariant_of-self c =
           (subst (IsCountOf c.set_aside.new.self.counts) (ap (λ qs. remove qs c.index_of-at.result) c.deref.ensures.value ∙ sym c.take_out.ensures.items) c.set_aside.ensures.counted);
       small = λ k p. small_after c.self.inside.version _ _ (c.self.invariant.small k p) (subst (λ qs. counted qs k p ≤ counted ps k p) (sym gone) (counted-others c.args.id ps k p));
       ids = subst (AreIdsOf c.forget.new.self (c.self.inside.version + 1)) (sym c.take_out.ensures.items)
-          (ids_forgotten c.self.inside.ids c.forget.new.self c.self.inside.version c.index_of-at.result c.args.id ps c.self.invariant.ids c.self.invariant.own_ids at c.forget.ensures);
+          (ids_forgotten c.self.inside.held.ids c.forget.new.self c.self.inside.version c.index_of-at.result c.args.id ps c.self.invariant.ids c.self.invariant.own_ids at
+          (subst (λ x. HasForgotten x c.forget.new.self c.args.id c.index_of-at.result) c.set_aside.ensures.ids c.forget.ensures));
       own_ids = rw gone (own_ids-others c.args.id ps c.self.invariant.own_ids);
       few = omega (arith, ap length c.take_out.ensures.items, length-remove ps c.index_of-at.result within, c.self.invariant.few);
-      links = omega (arith, held, left, c.self.invariant.links);
-      few_links = omega (arith, c.self.invariant.few_links);
+      links = c.set_aside.ensures.links ∙ ap (λ qs. links_placed (remove qs c.index_of-at.result)) c.deref.ensures.value ∙ ap links_placed (sym c.take_out.ensures.items);
+      few_links = omega (arith, c.set_aside.ensures.fewer, c.self.invariant.few_links);
       one = c.set_aside.ensures.one;
     }
 

@@ -35,7 +35,7 @@ invariant_of-self-2 c =
           (rw (changed, absorbed, all) (current_changes base ps table batch.changes (current_at_all base ps table c.self.invariant.current)));
       sums = c.self.invariant.sums;
       small = λ k p. small_after c.self.inside.version _ _ (c.self.invariant.small k p) (omega arith);
-      ids = ids_later c.self.inside.ids c.self.inside.version ps c.self.invariant.ids;
+      ids = ids_later c.self.inside.held.ids c.self.inside.version ps c.self.invariant.ids;
       own_ids = c.self.invariant.own_ids;
       few = c.self.invariant.few;
       links = c.self.invariant.links;
