@@ -1,4 +1,5 @@
 """`routed-tools page` in Chromium: what is drawn, asked, pinned and supposed there."""
+import math
 import re
 import time
 
@@ -25,8 +26,8 @@ def page_browser(program, checks):
         return
     start = time.monotonic()
     with browser() as window:
-        checks.parts((drawn, pushed, by_clicks, by_keys, reached, faded, drawn_asks, without_route, pinned, supposed, gone, narrow, large,
-                      others), window, program.path, checks)
+        checks.parts((drawn, pushed, by_clicks, by_keys, reached, faded, drawn_asks, without_route, pinned, compared, supposed, gone,
+                      narrow, large, others), window, program.path, checks)
     print(f"page: in a browser, {time.monotonic() - start:.0f} s")
 
 
@@ -281,6 +282,37 @@ def pinned(window, path, checks):
         checks.true("both in the legend", all(it in window.text("#legend") for it in ("now: cost 20, 2 links", "before: cost 40, 4 links")))
         window.click("#pins > li > button:nth-of-type(2)")
         checks.same("removed", window.until(count_of("#pins > li"), lambda count: not count), 0)
+        checks.same("lines in the console", window.told(), [])
+
+
+def routers_passed(window):
+    """The last numbers of the routers on each drawn route, by the places where the route's links begin and end."""
+    places = window.value("Object.entries(picture.routers).map(([router, it]) => [router, onFrame(it)])")
+    found = []
+    for drawn_path in window.value(each("#frame .routes [data-key^=route]", "it.getAttribute('d')")):
+        numbers = [float(it) for it in re.findall(r"-?[\d.]+", drawn_path)]  # of each link: its start, its control point and its end
+        ends = [numbers[:2], *(numbers[at:at + 2] for at in range(4, len(numbers), 6))]
+        found.append([int(min(places, key=lambda it: math.dist(it[1], end))[0].rpartition(".")[2]) for end in ends])
+    return found
+
+
+def compared(window, path, checks):
+    """Compare on an entry of a history draws the route of this entry and the route before it, also where the entry isn't the newest."""
+    with opened(window, path) as at:
+        pin(window, 1, 3)
+        at.publish(put(1, 2, 50))
+        window.until(count_of("#pins ol > li"), lambda count: count == 2)
+        at.publish(put(3, 6) + put(1, 6, 15) + f"node,192.0.2.{MARKED},1\n")
+        window.until(count_of("#pins ol > li"), lambda count: count == 3)
+        checks.same("three routes, the newest first", costs(window), [25, 40, 20])
+        window.click("#pins summary")
+        first, second, third = [1, 2, 3], [1, 4, 5, 2, 3], [1, 6, 3]
+        for entry, now, ways in ((2, "cost 40, 4 links", [second, first]), (1, "cost 25, 2 links", [third, second]),
+                                 (3, "cost 20, 2 links", [first])):
+            window.click(f"#pins ol > li:nth-child({entry}) button")
+            legend = window.until(text_of("#legend"), lambda text: f"now: {now}" in text, SECONDS_APART)
+            checks.true(f"entry {entry} is in the legend", f"now: {now}" in legend, legend)
+            checks.same(f"the routes that are drawn for entry {entry}", routers_passed(window), ways)
         checks.same("lines in the console", window.told(), [])
 
 

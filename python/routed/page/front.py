@@ -39,6 +39,7 @@ class Front(Follower):
         self.names, self.groups = Names.read(options.names or options.places), Groups.read(options.groups)
         super().__init__(Loop(self.failed), options.ask, options.watch, options.journal, Changes(self.names, self.groups).of_batch)
         self.readers: dict[str, Reader] = {}  # by their names
+        self.state_known: dict[str, object] = {}  # of the server, whose text pages are told
         self.state_told, self.picture, self.is_over = "", "", False
         self.made_at: tuple[int, int] | None = None  # what was shown then
         self.made: dict[tuple[str, int], bytes] = {}  # events that many pages are told
@@ -54,8 +55,7 @@ class Front(Follower):
         figures.gauge("routed_page_connected", "Whether the server is there.", lambda: not self.server.is_away)
         figures.gauge("routed_page_journal_followed", "Whether the journal yields the server's versions and answers.", self.is_followed)
         figures.gauge("routed_page_version", "The newest version that is known.", lambda: self.version)
-        figures.gauge("routed_page_pinned", "Different asks that pages have pinned.",
-                      lambda: len(self.pins.used()))
+        figures.gauge("routed_page_pinned", "Different asks that pages have pinned.", lambda: len(self.pins.used()))
         figures.gauge("routed_page_layout_seconds", "Seconds that the last layout of the picture took.", lambda: self.layout.seconds)
         figures.counter("routed_page_asks_total", "Asks of forms and for pins, by their outcome.", "outcome", OUTCOMES)
         figures.counter("routed_page_requests_total", "Requests, by the status of their answer.", "status")
@@ -93,9 +93,9 @@ class Front(Follower):
 
     def settle(self) -> None:
         """Tells all pages what is new."""
-        now, before = self.state(), json.loads(self.state_told or "{}")
-        if {**before, **now} != before:
-            self.state_told = json.dumps({**now, "since": time.time()})
+        now = self.state()
+        if now != self.state_known:
+            self.state_known, self.state_told = now, json.dumps({**now, "since": time.time()})
             if now["words"] and now["there"]:  # else the connections have said so
                 self.say("warning", now["words"])
         for reader in [*self.readers.values()]:

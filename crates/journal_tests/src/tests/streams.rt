@@ -23,11 +23,10 @@ use std::io::{ErrorKind, Read, Write};
 struct Refusals {
     /// The number of rows of the stream that were refused.
     refused: u64,
-    /// The number of the row at which memory is refused. The first row has the number 1.
-    no_memory_at: u64,
 }
 
-impl Answering<()> for Refusals {
+/// The context is the number of the row at which memory is refused. The first row has the number 1.
+impl Answering<u64> for Refusals {
     type Fault = AllocError;
 
     ghost answers = { λ place s fields line t. MatchResult (row_of fields) (λ _. (line ≡ []) × (t ≡ s))
@@ -40,12 +39,12 @@ impl Answering<()> for Refusals {
 
     fn answer(
         &mut self,
-        _context: &(),
+        no_memory_at: &u64,
         alloc: Global,
         place: u64,
         fields: &ByteRecord,
     ) -> Result<Vec<u8>, AllocError> {
-        if place == self.no_memory_at {
+        if place == *no_memory_at {
             return Err(AllocError);
         }
         match Row::read(fields) {

@@ -155,6 +155,22 @@ pub(super) fn is_answered(
     says(&asker.ask(alloc, request), request.id, version, wanted)
 }
 
+/// Checks each version from 1 to `last`. `is_right` publishes the version, and returns whether the
+/// answers at the version are right.
+pub(super) fn check_versions<R: Abort, F: FnMut(u32) -> Result<bool, Fail>>(
+    rt: &R,
+    last: u32,
+    mut is_right: F,
+) -> Result<(), Fail>
+    requires { F.IsAlwaysCallable is_right }
+{
+    for number in 1..=last {
+        let is_right = is_right(number)?;
+        assert_case(rt, "a version", number as usize, is_right);
+    }
+    Ok(())
+}
+
 /// Whether the journal has the text of batch 1, followed by the text `behind`.
 pub(super) fn is_text(journal: &[u8], behind: &[u8]) -> bool {
     journal.strip_prefix(TEXT) == Some(behind)

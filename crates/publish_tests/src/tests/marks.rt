@@ -2,15 +2,12 @@
 //! versions.
 
 use super::fixtures::{
-    ONE, Said, TWO, assert_case, back, batch, empty_batch, is_answered, only_link, opened, request,
+    ONE, Said, TWO, assert_case, back, batch, check_versions, empty_batch, is_answered, only_link,
+    opened, request,
 };
 use cspf_addr::{Addr, Mask};
-use cspf_model::{Batch, Change, Link, LinkError, Request};
-use cspf_publish::{Asker, Publisher};
+use cspf_model::{Batch, Change, Link, LinkError};
 use std::alloc::{AllocError, Global};
-use std::io::Write;
-use std::process::Abort;
-use std::sync::Wait;
 use std::test::Fail;
 
 const THREE: u32 = 0x03030303; // 3.3.3.3
@@ -63,28 +60,18 @@ fn said_at(version: u32) -> Said {
     }
 }
 
-/// An asker (which computes the answers) answers the request after each of the batches. The
+/// An asker (which computes the answers) answers the request after each of the six batches. The
 /// publisher writes to its two copies of the database alternately.
-fn ask_after_each<W: Write, R: Wait + Abort>(
-    rt: &R,
-    alloc: Global,
-    publisher: &mut Publisher<W>,
-    asker: &mut Asker,
-    request: &Request,
-) -> Result<(), Fail> {
-    for number in 1..7 {
-        let applied = publisher.apply(rt, alloc, &batch_at(alloc, number)?) == Ok(number);
-        let is_answered = is_answered(alloc, asker, request, number, said_at(number));
-        assert_case(rt, "a version", number as usize, applied && is_answered);
-    }
-    Ok(())
-}
-
 #[test]
 fn marks_at_each_version(rt: HostRuntime) -> Result<(), Fail> {
     let request = request(7, ONE, THREE, 1000)?;
     let (mut publisher, mut asker) = opened(&rt, rt.alloc(), Vec::<u8>::new(rt.alloc()));
-    let asked = ask_after_each(&rt, rt.alloc(), &mut publisher, &mut asker, &request);
+    let asked = check_versions(&rt, 6, |number| {
+        let applied = publisher.apply(&rt, rt.alloc(), &batch_at(rt.alloc(), number)?);
+        let wanted = said_at(number);
+        let is_answered = is_answered(rt.alloc(), &mut asker, &request, number, wanted);
+        Ok(applied == Ok(number) && is_answered)
+    });
     let ends = publisher.close(&rt).ends_with(LAST);
     assert_case(&rt, "the journal", 0, ends);
     asked

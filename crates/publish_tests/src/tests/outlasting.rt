@@ -2,7 +2,7 @@
 //! to make a tree of lower bounds for its search. Some batches change only unreserved bandwidths,
 //! and each other batch makes a cheaper route.
 
-use super::fixtures::{ONE, Said, TWO, assert_case, batch, is_same, opened, said_by};
+use super::fixtures::{ONE, Said, TWO, batch, check_versions, is_same, opened, said_by};
 use cspf_addr::{Addr, Hops, Mask};
 use cspf_db::Table;
 use cspf_model::{Batch, Change, Link, LinkError, Outcome, Request, RequestError};
@@ -10,7 +10,6 @@ use cspf_publish::{Answer, ApplyError, AskError, Asker, Publisher};
 use cspf_search::best_by_rounds;
 use std::alloc::{AllocError, Global};
 use std::io::Write;
-use std::process::Abort;
 use std::sync::Wait;
 use std::test::Fail;
 
@@ -162,27 +161,14 @@ fn is_right_after<W: Write, R: Wait>(
 }
 
 /// Checks the answers that the asker computes after each of the nine batches.
-fn ask_after_each<W: Write, R: Wait + Abort>(
-    rt: &R,
-    alloc: Global,
-    publisher: &mut Publisher<W>,
-    asker: &mut Asker,
-    request: &Request,
-) -> Result<(), Fail> {
-    let mut table = Table::new(alloc)?;
-    for number in 1..10 {
-        let published = (&mut *publisher, &mut table);
-        let is_right = is_right_after(rt, alloc, published, (&mut *asker, request), number)?;
-        assert_case(rt, "a version", number as usize, is_right);
-    }
-    Ok(())
-}
-
 #[test]
 fn asked_with_trees_at_each_version(rt: HostRuntime) -> Result<(), Fail> {
-    let request = request()?;
+    let (request, mut table) = (request()?, Table::new(rt.alloc())?);
     let (mut publisher, mut asker) = opened(&rt, rt.alloc(), Vec::<u8>::new(rt.alloc()));
-    let asked = ask_after_each(&rt, rt.alloc(), &mut publisher, &mut asker, &request);
+    let asked = check_versions(&rt, 9, |number| {
+        let published = (&mut publisher, &mut table);
+        is_right_after(&rt, rt.alloc(), published, (&mut asker, &request), number)
+    });
     publisher.close(&rt);
     asked
 }

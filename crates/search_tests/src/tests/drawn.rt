@@ -142,36 +142,19 @@ fn without_marks(
     }
 }
 
-// Lets the trees answer the request without its hops six times. Then there is a tree for the
-// request's tail-end and affinities.
-fn ask_without_hops(
-    alloc: Global,
-    table: &Table,
-    request: &Request,
-    trees: &mut Trees,
-) -> Result<(), Fail>
-    requires { AreTreesOf table.now trees.old }
-    ensures { AreTreesOf table.now trees.new }
-{
-    let direct = without_hops(request);
-    for _ask in 0..6 {
-        trees.best(alloc, table, &direct)?;
-    }
-    Ok(())
-}
-
-// Fails if the trees don't give this outcome for the request three times.
+// Fails if the trees don't give this outcome for the request this number of times.
 fn check_asks(
     alloc: Global,
     table: &Table,
     request: &Request,
     outcome: &Outcome,
+    times: u32,
     trees: &mut Trees,
 ) -> Result<(), Fail>
     requires { AreTreesOf table.now trees.old }
     ensures { AreTreesOf table.now trees.new }
 {
-    for _ask in 0..3 {
+    for _ask in 0..times {
         let found = trees.best(alloc, table, request)?;
         check_same(outcome, &found)?;
     }
@@ -179,8 +162,9 @@ fn check_asks(
 }
 
 // Whether a request has a route. Fails if the trees give another answer than the searches, before
-// or after they have a tree for the request. If the network has routers that are marked as without
-// transit, the function also fails if the table without marked routers gives another answer.
+// or after they have a tree for the request's tail-end and affinities. They make this tree while
+// they answer the request without its hops six times. If the network has routers that are marked as
+// without transit, the function also fails if the table without marked routers gives another answer.
 fn has_route(
     alloc: Global,
     network: &DrawnNetwork,
@@ -191,9 +175,11 @@ fn has_route(
     ensures { AreTreesOf network.now.marked trees.new }
 {
     let outcome = answered(alloc, &network.marked, request)?;
-    check_asks(alloc, &network.marked, request, &outcome, trees)?;
-    ask_without_hops(alloc, &network.marked, request, trees)?;
-    check_asks(alloc, &network.marked, request, &outcome, trees)?;
+    let direct = without_hops(request);
+    let found = answered(alloc, &network.marked, &direct)?;
+    check_asks(alloc, &network.marked, request, &outcome, 3, trees)?;
+    check_asks(alloc, &network.marked, &direct, &found, 6, trees)?;
+    check_asks(alloc, &network.marked, request, &outcome, 3, trees)?;
     if !network.marks.is_empty() {
         let wanted = without_marks(alloc, network, request)?;
         if !is_same(&outcome, &wanted) {

@@ -21,12 +21,9 @@ fn is_flushed_in_time(alloc: Global) -> bool {
     let events = no_events();
     let reader = rows_of(&ROWS, false, &events);
     let mut writer = lines_of(alloc, 1000, 1000, &events);
-    let mut answering = Refusals {
-        refused: 0,
-        no_memory_at: 0,
-    };
+    let mut answering = Refusals { refused: 0 };
     let mut rows = open_records(alloc, reader);
-    let found = answer_rows(&(), alloc, &mut rows, &mut writer, &mut answering);
+    let found = answer_rows(&0, alloc, &mut rows, &mut writer, &mut answering);
     found.is_ok()
         && writer.held.as_slice() == ANSWERS
         && !events.is_late.get()
@@ -44,12 +41,9 @@ fn lines_before_the_next_row(rt: HostRuntime) {
 /// Whether nothing is written for a stream.
 fn is_answered_nothing(alloc: Global, text: &[u8]) -> bool {
     let mut written = Vec::new(alloc);
-    let mut answering = Refusals {
-        refused: 0,
-        no_memory_at: 0,
-    };
+    let mut answering = Refusals { refused: 0 };
     let mut rows = open_records(alloc, text);
-    let found = answer_rows(&(), alloc, &mut rows, &mut written, &mut answering);
+    let found = answer_rows(&0, alloc, &mut rows, &mut written, &mut answering);
     found.is_ok() && written.is_empty() && answering.refused == 0
 }
 

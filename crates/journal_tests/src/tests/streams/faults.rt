@@ -101,12 +101,15 @@ fn is_stopped(alloc: Global, fault: &Fault) -> bool {
     let events = no_events();
     let mut reader = rows_of(&ROWS, true, &events);
     let mut writer = lines_of(alloc, fault.most, fault.most_flushes, &events);
-    let mut answering = Refusals {
-        refused: 0,
-        no_memory_at: fault.no_memory_at,
-    };
+    let mut answering = Refusals { refused: 0 };
     let mut rows = open_records(alloc, &mut reader);
-    let found = answer_rows(&(), alloc, &mut rows, &mut writer, &mut answering);
+    let found = answer_rows(
+        &fault.no_memory_at,
+        alloc,
+        &mut rows,
+        &mut writer,
+        &mut answering,
+    );
     found.map_err(|stop| StreamError::from(stop)) == Err(fault.error)
         && writer.held.len() == fault.written
         && ANSWERS.starts_with(writer.held.as_slice())

@@ -18,13 +18,10 @@ fn ends(alloc: Global, limit: u64, wanted: Result<(), StreamError>, length: usiz
     let events = no_events();
     let reader = rows_of(&ROWS, false, &events);
     let mut writer = lines_of(alloc, 1000, 0, &events);
-    let mut answering = Refusals {
-        refused: 0,
-        no_memory_at: 0,
-    };
+    let mut answering = Refusals { refused: 0 };
     let mut rows = open_records(alloc, reader);
     let (written, ended) = answer_first_rows(
-        &(),
+        &0,
         alloc,
         limit,
         false,
