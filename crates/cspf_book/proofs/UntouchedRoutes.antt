@@ -15,7 +15,7 @@ use Rattle.cspf_model.proofs.Databases.LastChanges.{link_at-after_changes}
 use Rattle.cspf_book.specs.declared.placement.Placement.{Placement}
 use Rattle.cspf_book.specs.declared.touched.Touched.{Touched}
 use Rattle.cspf_book.specs.LostRoutes.{without_bandwidth, AdmitsRoute}
-use Rattle.cspf_book.specs.Following.{IsAccepted, MayGoOn}
+use Rattle.cspf_book.specs.Following.{HasAdmittedLink, MayGoOn}
 use Rattle.cspf_book.specs.RouterBits.{bits_of, IsAmong}
 use Rattle.cspf_book.specs.Touched.{has_moved, has_other_groups, IsTouched, IsLinkEntered, AreTouched, IsFor, IsUntouched}
 use Rattle.cspf_book.proofs.ChangedBases.{marked-after_changes, keyed_after}
@@ -93,10 +93,10 @@ module _ (d : Database) (cs : List Change) (t : Touched) (touched : AreTouched d
 
     -- Let a walk be able to continue along an untouched link before the changes. If the request
     -- admits the link that is at its key after the changes, the walk may continue along that link.
-    pub accepted_goes_on : (q : Request) (links router : ℕ) (l : Link) → IsUntouched t l → MayGoOn d q links router l
+    pub admitted_goes_on : (q : Request) (links router : ℕ) (l : Link) → IsUntouched t l → MayGoOn d q links router l
         → ((found m : Link) → link_at after (key_of l) ≡ Some m → (t.groups ≡ true → m.group ≡ found.group) → IsAdmitted q found → IsAdmitted q m)
         → MayGoOn after q links router l
-    accepted_goes_on q links router l off old accepted =
+    admitted_goes_on q links router l off old accepted =
         let found : Link = old.there.found in
         let key : key_of found ≡ key_of l = ap (λ (x : Key × ℕ). x.0) old.there.alike in
         let there : ¬ IsTouched t (link_key (key_of found)) = λ on. off.key (subst (λ (k : Key). IsTouched t (link_key k)) key on) in
@@ -148,7 +148,7 @@ module _ (d : Database) (cs : List Change) (t : Touched) (touched : AreTouched d
     -- If a walk may continue along an untouched link before the changes, it may continue along it
     -- after them.
     pub untouched_goes_on : (links router : ℕ) (l : Link) → IsUntouched t l → MayGoOn d bare links router l → MayGoOn after bare links router l
-    untouched_goes_on links router l off old = accepted_goes_on keyed bare links router l off old (λ found m _ same admitted. still_admitted found m same fits admitted)
+    untouched_goes_on links router l off old = admitted_goes_on keyed bare links router l off old (λ found m _ same admitted. still_admitted found m same fits admitted)
 
     untouched_followed : (links router : ℕ) (route : List Link) → ¬ IsAmong t.bits router → AllByRecursion (λ l. ¬ IsAmong t.bits l.to) route
         → IsFollowed d bare links router route → IsFollowed after bare links router route
@@ -172,8 +172,8 @@ module _ (d : Database) (cs : List Change) (t : Touched) (touched : AreTouched d
       (untouched_followed p.request keyed fits 0 p.request.from p.route parts.0 parts.1 ((admits_followed d p).1 admits))
 
 -- Along which link a walk may continue, the request admits it.
-pub accepted_if_goes_on : (d : Database) (q : Request) (links router : ℕ) (l : Link) → MayGoOn d q links router l → IsAccepted d q l
-accepted_if_goes_on d q links router l goes = record {
+pub admitted_if_goes_on : (d : Database) (q : Request) (links router : ℕ) (l : Link) → MayGoOn d q links router l → HasAdmittedLink d q l
+admitted_if_goes_on d q links router l goes = record {
   found = goes.there.found;
   link = sym (ap (λ (x : Key × ℕ). link_at d x.0) goes.there.alike) ∙ goes.there.admissible.link;
   admitted = goes.there.admissible.usable.admitted;

@@ -42,7 +42,7 @@ pub record AreIdsOf (x : Ids) (version : ℕ) (placements : List Placement) : Ty
   pub bits : x.bits.items ≡ map bits_of placements
 
 -- The memory of `x` has room for one more version and for the bits of one more placement.
-pub record HasRoom (x : Ids) : Type 0 where
+pub record HasRoomForOne (x : Ids) : Type 0 where
   pub versions : vec_len x.versions < vec_capacity x.versions
   pub bits : vec_len x.bits < vec_capacity x.bits
 

@@ -16,7 +16,7 @@ pub record HasItsLink (d : Database) (q : Request) (l : Link) : Type 0 where
   pub alike : ends_of_link found ≡ ends_of_link l
 
 -- The database has a link with the same key as this link, and the request admits that link.
-pub record IsAccepted (d : Database) (q : Request) (l : Link) : Type 0 where
+pub record HasAdmittedLink (d : Database) (q : Request) (l : Link) : Type 0 where
   pub found : Link
   pub link : link_at d (key_of l) ≡ Some found
   pub admitted : IsAdmitted q found

@@ -4,7 +4,7 @@
 ghost use Rattle.std.specs.Prelude.{◌≡◌, ◌↔◌, [], map, true, IsTrue, IfOk};
 ghost use Rattle.cspf_model.specs.Changes.{after_changes};
 ghost use Rattle.cspf_book.specs.LostRoutes.{without_bandwidth, AdmitsRoute, IsLost, AreLost};
-ghost use Rattle.cspf_book.specs.Following.{HasItsLink, IsAccepted, MayGoOn, HaveOtherIds, AreRanksOfLost};
+ghost use Rattle.cspf_book.specs.Following.{HasItsLink, HasAdmittedLink, MayGoOn, HaveOtherIds, AreRanksOfLost};
 ghost use Rattle.cspf_book.specs.RouterBits.{bits_of};
 ghost use Rattle.cspf_book.specs.Touched.{AreTouched, IsFor, HasNoAffinities};
 
@@ -88,8 +88,8 @@ fn has_no_affinities(request: &Request) -> bool
 
 /// Whether the base, after the changes, has a link with the same key as this link, and the request
 /// admits that link.
-fn is_accepted(base: &Table, changes: &Changed, request: &Request, link: &Link) -> bool
-    ensures { IsTrue result ↔ IsAccepted (after_changes base.now changes.now) request.now link.now }
+fn has_admitted_link(base: &Table, changes: &Changed, request: &Request, link: &Link) -> bool
+    ensures { IsTrue result ↔ HasAdmittedLink (after_changes base.now changes.now) request.now link.now }
 {
     match find_after(base, changes, link.from, link.local) {
         Some(found) => accepts(&found, request),
@@ -117,7 +117,7 @@ fn may_still_go_on(
     if moved.may_touch(link) {
         may_go_on(base, changes, request, links, router, link)
     } else {
-        is_accepted(base, changes, request, link)
+        has_admitted_link(base, changes, request, link)
     }
 }
 

@@ -6,7 +6,7 @@ ghost use Rattle.std.specs.Vec.{vec_capacity};
 ghost use Rattle.cspf_book.specs.declared.limits.TheConstants.{MOST_ROUTES_LINKS};
 ghost use Rattle.cspf_book.specs.declared.placement.Placement.{Placement as Placed};
 ghost use Rattle.cspf_book.specs.Alike.{AreAlike, IsCurrentBut};
-ghost use Rattle.cspf_book.specs.ById.{HasSameIds, HasReplaced, HasRoom};
+ghost use Rattle.cspf_book.specs.ById.{HasSameIds, HasReplaced, HasRoomForOne};
 ghost use Rattle.cspf_book.specs.RouterBits.{bits_of};
 ghost use Rattle.cspf_book.specs.Effective.{effective};
 ghost use Rattle.cspf_book.specs.BookState.{links_placed};
@@ -83,7 +83,7 @@ impl Held {
         ensures links { self.new.links ≡ self.old.links }
         ensures one { self.new.one ≡ self.old.one }
         ensures room { OnOk result (vec_len placements.new < vec_capacity placements.new) }
-        ensures id_room { OnOk result (HasRoom self.new.ids) }
+        ensures id_room { OnOk result (HasRoomForOne self.new.ids) }
         ensures keys { OnOk result (HasKeysAt self.new.counts placements.old.items at) }
     {
         placements.reserve(1)?;
@@ -157,7 +157,7 @@ impl Held {
     )
         requires one { length self.old.one.changes ≡ 1 }
         requires room { vec_len placements.old < vec_capacity placements.old }
-        requires id_room { HasRoom self.old.ids }
+        requires id_room { HasRoomForOne self.old.ids }
         requires few { self.old.links + length placement.route ≤ MOST_ROUTES_LINKS }
         requires links { self.old.links ≡ links_placed (remove placements.old.items at) }
         requires keys { HasKeys self.old.counts placement.route }

@@ -6,7 +6,7 @@ ghost use Rattle.std.specs.Vec.{vec_capacity};
 ghost use Rattle.std.specs.List.Sorted.{IsNonDecreasing};
 ghost use Rattle.cspf_book.specs.declared.placement.Placement.{Placement as Placed};
 ghost use Rattle.cspf_book.specs.Placements.{index_of_id};
-ghost use Rattle.cspf_book.specs.ById.{AreIdsOf, IsIndexIn, HasRoom, HasSameIds, HasEntered, HasReplaced, HasForgotten};
+ghost use Rattle.cspf_book.specs.ById.{AreIdsOf, IsIndexIn, HasRoomForOne, HasSameIds, HasEntered, HasReplaced, HasForgotten};
 
 use std::alloc::{AllocError, Global};
 use std::collections::BTreeMap;
@@ -56,7 +56,7 @@ impl Ids {
     /// Reserves memory for the version and the bits of one more placement.
     pub(crate) fn reserve(&mut self) -> Result<(), AllocError>
         ensures same { HasSameIds self.old self.new }
-        ensures room { OnOk result (HasRoom self.new) }
+        ensures room { OnOk result (HasRoomForOne self.new) }
     {
         self.versions.reserve(1)?;
         self.bits.reserve(1)
@@ -77,7 +77,7 @@ impl Ids {
     /// Removes the version and the bits at index `at` from their lists, if the lists have this
     /// index. Then appends this version and these bits. No memory is allocated.
     pub(crate) fn replace(&mut self, at: usize, version: u32, bits: u128)
-        requires { HasRoom self.old }
+        requires { HasRoomForOne self.old }
         ensures { HasReplaced self.old self.new at version bits }
     {
         replace(&mut self.versions, at, version);

@@ -13,7 +13,7 @@ use Rattle.cspf_book.specs.Inside.{HaveDistinctIds}
 use Rattle.cspf_book.specs.Offers.{IsOffered, IsOfferRefused}
 use Rattle.cspf_book.proofs.Ids.{index_of-le, remove-index_of, remove-behind, own_ids-placed, few_kept}
 use Rattle.cspf_model.specs.declared.request.Request.{Request}
-use Rattle.cspf_book.specs.ById.{AreIdsOf, HasRoom, HasEntered}
+use Rattle.cspf_book.specs.ById.{AreIdsOf, HasRoomForOne, HasEntered}
 use Rattle.cspf_book.proofs.ById.{ids_same, ids_placed}
 use Rattle.cspf_book.proofs.StateParts.{state_of}
 use Rattle.cspf_book.proofs.Placing.{offered_of, answer_placed, place_error, room_for, links_left, small_aside, effective_aside}
@@ -40,7 +40,7 @@ returns-in_err-make_room-clause-why c =
 
 pub put_in-requires-clause-id_room : goal.put_in-requires-clause-id_room
 put_in-requires-clause-id_room c =
-    let room = subst HasRoom (sym c.set_aside.ensures.ids) c.in_ok-make_room.ensures.id_room in
+    let room = subst HasRoomForOne (sym c.set_aside.ensures.ids) c.in_ok-make_room.ensures.id_room in
     record { versions = rw c.in-Ok.ensures.versions room.versions; bits = rw c.in-Ok.ensures.bits room.bits }
 
 pub put_in-requires-clause-few : goal.put_in-requires-clause-few

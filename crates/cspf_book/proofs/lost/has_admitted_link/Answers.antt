@@ -1,7 +1,7 @@
 use Rattle.std.proofs.Common.{sym, subst, ◌∙◌}
 use Rattle.cspf_model.specs.Admissible.{IsAdmitted}
 use Rattle.cspf_book.proofs.UntouchedRoutes.{some_same}
-use Rattle.cspf_book.proofs.lost.is_accepted.Goals as goal
+use Rattle.cspf_book.proofs.lost.has_admitted_link.Goals as goal
 
 pub returns-in-Some : goal.returns-in-Some
 returns-in-Some c = (
