@@ -1,12 +1,15 @@
 -- The bits of routers: a test of bits shows that changes affect no router on a placement's route.
 use Rattle.std.proofs.Common.{◌≡◌, ℕ, zero, suc, ◌+◌, ◌*◌, ◌/◌, ◌%◌, ◌^◌, ◌<◌, ◌&&◌, Bool, true, false, not, nat_eq, eqb-true, List, [], ◌∷◌, map, remove, refl, sym, ap, ◌∙◌, arith}
 use Rattle.std.specs.Int.Bits.{bit_and, bit_or, and_zero_l, and_self}
+use Rattle.std.specs.Int.{bit_at}
 use Rattle.std.specs.List.{AllByRecursion}
 use Rattle.std.proofs.lemmas.Bool.{false≢true}
-use Rattle.std.proofs.lemmas.Nat.{or_comm, and_assoc, and_or_self, and_shr, and_mod, pow_pos, pow_below, mod_below}
+use Rattle.std.proofs.lemmas.Nat.Bits.{bit_at_and, bit_at_or, same_from_bits}
+use Rattle.std.proofs.lemmas.Nat.{or_comm, and_comm, and_assoc, and_or_self, and_shr, and_mod, pow_pos, pow_below, mod_below}
 use Rattle.cspf_model.specs.declared.link.Link.{Link}
 use Rattle.cspf_book.specs.declared.placement.Placement.{Placement}
 use Rattle.cspf_book.specs.RouterBits.{one_of_32, four_bits, bits_with, bits_of, IsAmong, has_quarters}
+use Rattle.cspf_book.specs.Touched.{IsCommon}
 
 -- Bits that are among `bits` are also among `bits` together with further bits.
 pub among_more : (bits more bit : ℕ) → bit_and bits bit ≡ bit → bit_and (bit_or bits more) bit ≡ bit
@@ -15,6 +18,26 @@ among_more bits more bit is =
     ∙ sym (and_assoc bit (bit_or bits more) bits)
     ∙ ap (λ b. bit_and b bit) (ap (λ b. bit_and b bits) (or_comm bits more) ∙ and_or_self bits more)
     ∙ is
+
+-- Bits that are all among `m` are still among `m` where some of them are left out.
+pub common_less : (common its m : ℕ) → bit_and common m ≡ common → bit_and (bit_and common its) m ≡ bit_and common its
+common_less common its m is =
+    and_assoc m common its ∙ ap (bit_and common) (and_comm its m) ∙ sym (and_assoc its common m) ∙ ap (λ b. bit_and b its) is
+
+-- Bits that have become common to the links of all keys are bits of the last link, too.
+pub common_last : (common m : ℕ) → bit_and (bit_and common m) m ≡ bit_and common m
+common_last common m = and_assoc m common m ∙ ap (bit_and common) (and_self m)
+
+-- If `bits` has the bits of both routers, it has the bits that are common to their links.
+pub common_among : (bits common router far : ℕ) → IsAmong bits router → IsAmong bits far → IsCommon common router far → bit_and common bits ≡ common
+common_among bits common router far near its is =
+    let m = bit_or (four_bits router) (four_bits far) in
+    let whole = among_both bits (four_bits router) (four_bits far) near its in
+    ap (λ b. bit_and b bits) (sym is) ∙ and_assoc bits common m ∙ ap (bit_and common) (and_comm m bits ∙ whole) ∙ is
+  where
+    among_both : (x a b : ℕ) → bit_and x a ≡ a → bit_and x b ≡ b → bit_and x (bit_or a b) ≡ bit_or a b
+    among_both x a b first second = same_from_bits _ _ (λ i.
+        omega (arith, bit_at_and x (bit_or a b) i, bit_at_or a b i, bit_at_and x a i, bit_at_and x b i, ap (λ y. bit_at y i) first, ap (λ y. bit_at y i) second))
 
 -- If the four bits of a router are added to some bits, they are among the resulting bits.
 pub among_added : (bits router : ℕ) → IsAmong (bit_or bits (four_bits router)) router

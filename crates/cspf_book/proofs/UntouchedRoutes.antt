@@ -17,7 +17,7 @@ use Rattle.cspf_book.specs.declared.touched.Touched.{Touched}
 use Rattle.cspf_book.specs.LostRoutes.{without_bandwidth, AdmitsRoute}
 use Rattle.cspf_book.specs.Following.{HasAdmittedLink, MayGoOn}
 use Rattle.cspf_book.specs.RouterBits.{bits_of, IsAmong}
-use Rattle.cspf_book.specs.Touched.{has_moved, has_other_groups, IsTouched, IsLinkEntered, AreTouched, IsFor, IsUntouched}
+use Rattle.cspf_book.specs.Touched.{has_moved, has_other_groups, IsCommon, IsTouched, IsLinkEntered, AreTouched, IsFor, IsUntouched}
 use Rattle.cspf_book.proofs.ChangedBases.{marked-after_changes, keyed_after}
 use Rattle.cspf_book.proofs.RouterBits.{off_route}
 use Rattle.cspf_book.proofs.RouteWalks.{admits_followed, goes_on, followed_on, followed_more, followed_all, IsFollowed}
@@ -36,12 +36,16 @@ kept_ends l (Some m) stays =
     let parts = or_parts (not (nat_eq l.to m.to)) (not (nat_eq l.remote m.remote)) (false_from_ne_true _ stays) in
     (m, refl, same_number l.to m.to parts.0, same_number l.remote m.remote parts.1)
 
+-- No touched key has the bits of two routers whose bits are all among `bits`.
+abbrev pub IsApart : Touched → ℕ → Type 0
+IsApart t bits = (router far : ℕ) → IsAmong bits router → IsAmong bits far → IsAmong t.bits router → ¬ IsCommon t.common router far
+
 module _ (d : Database) (cs : List Change) (t : Touched) (touched : AreTouched d cs t) where
   abbrev after : Database
   after = after_changes d cs
 
   -- If the key of a router's mark isn't touched, the mark is unchanged.
-  kept_mark : (router : ℕ) → ¬ IsTouched t (mark_key router) → set.contains after.marks router ≡ set.contains d.marks router
+  kept_mark : (router : ℕ) → ¬ IsTouched t (mark_key router) router → set.contains after.marks router ≡ set.contains d.marks router
   kept_mark router off = marked-after_changes d cs router ∙ by_last (last_on (mark_key router) cs) refl
     where
       by_last : (o : Option Change) → last_on (mark_key router) cs ≡ o → mark_after o (set.contains d.marks router) ≡ set.contains d.marks router
@@ -57,7 +61,7 @@ module _ (d : Database) (cs : List Change) (t : Touched) (touched : AreTouched d
       by_last (Some c) is = inr (touched.at (link_key k) c is)
 
   -- If the key of a link isn't touched, the reverse of this link still runs to the same interface.
-  kept_back : (r : Link) → IsLinkOf d r → ¬ IsTouched t (link_key (r.to, r.remote))
+  kept_back : (r : Link) → IsLinkOf d r → ¬ IsTouched t (link_key (r.to, r.remote)) r.from
       → (m : Link) × (link_at after (key_of r) ≡ Some m) × (m.to ≡ r.to) × (m.remote ≡ r.remote)
   kept_back r is off = elim (kept_or_entered (key_of r)) [
     | inl same ↦ (r, same ∙ is, refl, refl)
@@ -66,7 +70,7 @@ module _ (d : Database) (cs : List Change) (t : Touched) (touched : AreTouched d
 
   -- If the key of a link isn't touched, the link still runs to the same interface. Where groups
   -- matter, it is also in the same groups.
-  kept_own : (l : Link) → IsLinkOf d l → ¬ IsTouched t (link_key (key_of l))
+  kept_own : (l : Link) → IsLinkOf d l → ¬ IsTouched t (link_key (key_of l)) l.to
       → (m : Link) × (link_at after (key_of l) ≡ Some m) × (m.to ≡ l.to) × (m.remote ≡ l.remote) × (t.groups ≡ true → m.group ≡ l.group)
   kept_own l is off = elim (kept_or_entered (key_of l)) [
     | inl same ↦ (l, same ∙ is, refl, refl, λ _. refl)
@@ -76,10 +80,10 @@ module _ (d : Database) (cs : List Change) (t : Touched) (touched : AreTouched d
   ]
 
   module _ (keyed : AreAtTheirKeys d) where
-    still_reverse : (l m : Link) → key_of m ≡ key_of l → m.to ≡ l.to → m.remote ≡ l.remote → ¬ IsTouched t (link_key (key_of l)) → HasReverse d l → HasReverse after m
+    still_reverse : (l m : Link) → key_of m ≡ key_of l → m.to ≡ l.to → m.remote ≡ l.remote → ¬ IsTouched t (link_key (key_of l)) l.to → HasReverse d l → HasReverse after m
     still_reverse l m key to remote off (r, is, reverse) =
-        let its : ◌≡◌ {A = Key} (r.to, r.remote) (key_of l) = λ i. (reverse.to i, reverse.remote i) in
-        let back = kept_back r is (λ on. off (subst (λ (k : Key). IsTouched t (link_key k)) its on)) in
+        let its : ◌≡◌ {A = Key × ℕ} ((r.to, r.remote), r.from) (key_of l, l.to) = λ i. ((reverse.to i, reverse.remote i), reverse.from i) in
+        let back = kept_back r is (λ on. off (subst (λ (x : Key × ℕ). IsTouched t (link_key x.0) x.1) its on)) in
         let own = keyed_after d cs keyed (key_of r) back.0 back.1 in (
           back.0,
           ap (link_at after) own ∙ back.1,
@@ -99,12 +103,12 @@ module _ (d : Database) (cs : List Change) (t : Touched) (touched : AreTouched d
     admitted_goes_on q links router l off old accepted =
         let found : Link = old.there.found in
         let key : key_of found ≡ key_of l = ap (λ (x : Key × ℕ). x.0) old.there.alike in
-        let there : ¬ IsTouched t (link_key (key_of found)) = λ on. off.key (subst (λ (k : Key). IsTouched t (link_key k)) key on) in
+        let there : ¬ IsTouched t (link_key (key_of found)) found.to = λ on. off.key (subst (λ (x : Key × ℕ). IsTouched t (link_key x.0) x.1) old.there.alike on) in
         let own = kept_own found old.there.admissible.link there in
         let its = keyed_after d cs keyed (key_of found) own.0 own.1 in record {
           from = old.from;
           leaves = elim old.leaves [
-            | inl free ↦ inl (λ marked. free (sym (kept_mark router (λ on. off.mark (subst (λ r. IsTouched t (mark_key r)) (sym old.from) on))) ∙ marked))
+            | inl free ↦ inl (λ marked. free (sym (kept_mark router (λ on. off.mark (subst (λ r. IsTouched t (mark_key r) r) (sym old.from) on))) ∙ marked))
             | inr none ↦ inr none
           ];
           there = record {
@@ -150,26 +154,27 @@ module _ (d : Database) (cs : List Change) (t : Touched) (touched : AreTouched d
     pub untouched_goes_on : (links router : ℕ) (l : Link) → IsUntouched t l → MayGoOn d bare links router l → MayGoOn after bare links router l
     untouched_goes_on links router l off old = admitted_goes_on keyed bare links router l off old (λ found m _ same admitted. still_admitted found m same fits admitted)
 
-    untouched_followed : (links router : ℕ) (route : List Link) → ¬ IsAmong t.bits router → AllByRecursion (λ l. ¬ IsAmong t.bits l.to) route
+    untouched_followed : (bits : ℕ) → IsApart t bits → (links router : ℕ) (route : List Link) → IsAmong bits router → AllByRecursion (λ l. IsAmong bits l.to) route
         → IsFollowed d bare links router route → IsFollowed after bare links router route
-    untouched_followed links router [] here off old = tt
-    untouched_followed links router (l ∷ ls) here off old = (
+    untouched_followed bits apart links router [] near far old = tt
+    untouched_followed bits apart links router (l ∷ ls) near far old = (
       untouched_goes_on links router l
           (record {
-            key = λ on. here (subst (IsAmong t.bits) old.0.from on.bits);
-            mark = λ on. here (subst (IsAmong t.bits) old.0.from on.bits);
+            key = λ on. apart router l.to near far.0 (subst (IsAmong t.bits) old.0.from on.bits) (subst (λ r. IsCommon t.common r l.to) old.0.from on.common);
+            mark = λ on. apart router router near near (subst (IsAmong t.bits) old.0.from on.bits) (subst (λ r. IsCommon t.common r r) old.0.from on.common);
           })
           old.0,
-      untouched_followed (links + 1) l.to ls off.0 off.1 old.1,
+      untouched_followed bits apart (links + 1) l.to ls far.0 far.1 old.1,
     )
 
-  -- If no touched key has a router whose bits the placement has, the placement keeps its route.
-  pub untouched_admits : (p : Placement) → AreAtTheirKeys d → IsFor t p.request → ((router : ℕ) → IsAmong (bits_of p) router → ¬ IsAmong t.bits router)
+  -- If no touched key can be the key of a link of the placement's route, or of the mark of a router
+  -- on it, the placement keeps its route.
+  pub untouched_admits : (p : Placement) → AreAtTheirKeys d → IsFor t p.request → IsApart t (bits_of p)
       → AdmitsRoute d p → AdmitsRoute after p
-  untouched_admits p keyed fits off admits =
-      let parts = off_route (λ router. ¬ IsAmong t.bits router) p off in
+  untouched_admits p keyed fits apart admits =
+      let parts = off_route (IsAmong (bits_of p)) p (λ _ is. is) in
       (admits_followed after p).0
-      (untouched_followed p.request keyed fits 0 p.request.from p.route parts.0 parts.1 ((admits_followed d p).1 admits))
+      (untouched_followed p.request keyed fits (bits_of p) apart 0 p.request.from p.route parts.0 parts.1 ((admits_followed d p).1 admits))
 
 -- Along which link a walk may continue, the request admits it.
 pub admitted_if_goes_on : (d : Database) (q : Request) (links router : ℕ) (l : Link) → MayGoOn d q links router l → HasAdmittedLink d q l

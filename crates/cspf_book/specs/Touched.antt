@@ -7,17 +7,25 @@ use Rattle.cspf_model.specs.declared.batch.Change.{Change}
 use Rattle.cspf_model.specs.Database.{Database, Key, key_of, link_at}
 use Rattle.cspf_model.specs.Changes.{ChangeKey, link_key, mark_key, last_on, after_changes}
 use Rattle.cspf_book.specs.declared.touched.Touched.{Touched}
-use Rattle.cspf_book.specs.RouterBits.{slot_of, IsAmong}
+use Rattle.std.specs.Int.Bits.{bit_and, bit_or}
+use Rattle.cspf_book.specs.RouterBits.{slot_of, four_bits, IsAmong}
 
--- The key is touched: its slot is set, and the four bits of its router are among the bits.
-pub record IsTouched (t : Touched) (k : ChangeKey) : Type 0 where
+-- The bits in `common` are among the four bits of these two routers.
+abbrev pub IsCommon : ℕ → ℕ → ℕ → Type 0
+IsCommon common router far = bit_and common (bit_or (four_bits router) (four_bits far)) ≡ common
+
+-- The key is touched: its slot is set, and the four bits of its router are among the bits. `far` is
+-- the router at the far end of its link; for the key of a mark it is the router itself. The common
+-- bits are bits of these two routers.
+pub record IsTouched (t : Touched) (k : ChangeKey) (far : ℕ) : Type 0 where
   pub slot : slice_index_or t.slots.items (slot_of k) false ≡ true
   pub bits : IsAmong t.bits k.0
+  pub common : IsCommon t.common k.0 far
 
 -- Keys that are touched in `old` are touched in `new`.
 pub record KeepsTouched (old new : Touched) : Type 0 where
   pub groups : new.groups ≡ old.groups
-  pub at : (k : ChangeKey) → IsTouched old k → IsTouched new k
+  pub at : (k : ChangeKey) (far : ℕ) → IsTouched old k far → IsTouched new k far
 
 -- The link is missing after the changes, or it runs to another interface.
 abbrev pub has_moved : Link → Option Link → Bool
@@ -32,14 +40,14 @@ has_other_groups l (Some m) = not (nat_eq l.group m.group)
 -- `e` is the database `d` after changes. If the link of `d` at this key has moved, its key and the
 -- key of its reverse are touched. If it is in other groups, its key is touched where groups matter.
 pub record IsLinkEntered (d e : Database) (t : Touched) (k : Key) : Type 0 where
-  pub own : (l : Link) → link_at d k ≡ Some l → has_moved l (link_at e k) ≡ true → IsTouched t (link_key k)
-  pub reverse : (l : Link) → link_at d k ≡ Some l → has_moved l (link_at e k) ≡ true → IsTouched t (link_key (l.to, l.remote))
-  pub groups : (l : Link) → link_at d k ≡ Some l → t.groups ≡ true → has_other_groups l (link_at e k) ≡ true → IsTouched t (link_key k)
+  pub own : (l : Link) → link_at d k ≡ Some l → has_moved l (link_at e k) ≡ true → IsTouched t (link_key k) l.to
+  pub reverse : (l : Link) → link_at d k ≡ Some l → has_moved l (link_at e k) ≡ true → IsTouched t (link_key (l.to, l.remote)) k.0
+  pub groups : (l : Link) → link_at d k ≡ Some l → t.groups ≡ true → has_other_groups l (link_at e k) ≡ true → IsTouched t (link_key k) l.to
 
 -- The key of a change is entered: for a link, the keys of `IsLinkEntered` are touched, and for the
 -- mark of a router, the key of the mark.
 abbrev pub IsEntered : Database → Database → Touched → ℕ → Option ℕ → Type 0
-IsEntered d e t router None = IsTouched t (mark_key router)
+IsEntered d e t router None = IsTouched t (mark_key router) router
 IsEntered d e t router (Some local) = IsLinkEntered d e t (router, local)
 
 -- `e` is the database `d` after changes. The keys of these changes are entered.
@@ -63,5 +71,5 @@ IsFor t q = (t.groups ≡ true) ⊎ HasNoAffinities q
 
 -- Neither the link's key nor the mark of its router is touched.
 pub record IsUntouched (t : Touched) (l : Link) : Type 0 where
-  pub key : ¬ IsTouched t (link_key (key_of l))
-  pub mark : ¬ IsTouched t (mark_key l.from)
+  pub key : ¬ IsTouched t (link_key (key_of l)) l.to
+  pub mark : ¬ IsTouched t (mark_key l.from) l.from

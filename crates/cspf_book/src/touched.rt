@@ -24,6 +24,9 @@ pub(crate) struct Touched {
     slots: Vec<bool>,
     /// The bits of the routers of the touched keys.
     bits: u128,
+    /// The bits that all touched keys have in common. The key of a link has the four bits of the
+    /// routers at both ends of the link. The mark of a router has the four bits of this router.
+    common: u128,
     ghost many: { length slots.items ≡ 65536 },
 }
 
@@ -31,7 +34,7 @@ impl Touched {
     ghost use Rattle.std.specs.Prelude.{ℕ, false, IfOk};
     ghost use Rattle.cspf_model.specs.Changes.{after_changes, key_changed};
     ghost use Rattle.cspf_book.specs.RouterBits.{IsAmong};
-    ghost use Rattle.cspf_book.specs.Touched.{IsTouched, KeepsTouched, IsLinkEntered, IsEntered, AreTouched, IsUntouched};
+    ghost use Rattle.cspf_book.specs.Touched.{IsCommon, IsTouched, KeepsTouched, IsLinkEntered, IsEntered, AreTouched, IsUntouched};
 
     /// The keys that these changes of the base touch.
     pub(crate) fn new(
@@ -49,6 +52,7 @@ impl Touched {
             groups,
             slots: vec![in alloc; false; 65_536]?,
             bits: 0,
+            common: u128::MAX,
         };
         for change in changes {
             touched.enter(base, changed, change);
@@ -64,7 +68,7 @@ impl Touched {
     {
         match change.key() {
             (from, Some(local)) => self.enter_link(base, changes, from, local),
-            (router, None) => self.add(router, None),
+            (router, None) => self.add(router, None, router),
         }
     }
 
@@ -78,27 +82,29 @@ impl Touched {
         if let Some(link) = base.find(from, local) {
             let after = find_after(base, changes, from, local);
             if has_moved(&link, &after) {
-                self.add(from, Some(local));
-                self.add(link.to, Some(link.remote));
+                self.add(from, Some(local), link.to);
+                self.add(link.to, Some(link.remote), from);
             } else if self.groups && has_other_groups(&link, &after) {
-                self.add(from, Some(local));
+                self.add(from, Some(local), link.to);
             }
         }
     }
 
-    /// Adds a touched key.
-    fn add(&mut self, router: Addr, local: Option<Addr>)
+    /// Adds a touched key. `far` is the router at the far end of the key's link. For the key of a
+    /// mark it is the router itself.
+    fn add(&mut self, router: Addr, local: Option<Addr>, far: Addr)
         ensures kept { KeepsTouched self.old self.new }
-        ensures touched { IsTouched self.new (router, local) }
+        ensures touched { IsTouched self.new (router, local) far }
     {
         let slot = slot_of(router, local);
         self.slots[slot] = true;
         self.bits |= four_bits(router);
+        self.common &= four_bits(router) | four_bits(far);
     }
 
     /// Whether the key may be touched.
     fn has(&self, router: Addr, local: Option<Addr>) -> bool
-        ensures { result ≡ false → ¬ IsTouched self.now (router, local) }
+        ensures { result ≡ false → (far : ℕ) → ¬ IsTouched self.now (router, local) far }
     {
         let slot = slot_of(router, local);
         self.slots[slot]
@@ -111,11 +117,13 @@ impl Touched {
         self.has(link.from, Some(link.local)) || self.has(link.from, None)
     }
 
-    /// Whether a touched key may have a router whose four bits are all in `bits`.
+    /// Whether a touched key may be the key of a link on a route with these bits, or of the mark of
+    /// a router on it. Such a key has the four bits of its router, and of the router at the far end
+    /// of its link, all in `bits`.
     pub(crate) fn may_affect(&self, bits: u128) -> bool
-        ensures { result ≡ false → (router : ℕ) → IsAmong bits router
-            → ¬ IsAmong self.now.bits router }
+        ensures { result ≡ false → (router far : ℕ) → IsAmong bits router → IsAmong bits far
+            → IsAmong self.now.bits router → ¬ IsCommon self.now.common router far }
     {
-        has_quarters(self.bits & bits)
+        self.common & bits == self.common && has_quarters(self.bits & bits)
     }
 }
