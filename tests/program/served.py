@@ -19,6 +19,7 @@ import time
 
 from program.listed import listed
 from program.refusal import COMPILER, Refuser
+from program.sent_ahead import sent_ahead
 from program.served_bytes import streams
 from program.serving import AT, BATCHES, CLIENTS, MOMENT, PATIENCE, ROUTERS, Serving, ask_on, batches_of, circuit_at, judged, reply_at
 from program.serving import wait_for
@@ -52,6 +53,7 @@ def served(program, checks):
         for clients, batches in FRESH:
             fresh(checks, Serving(program, folder(f"fresh{clients}"), clients), clients, batches)
         silent(program, checks, folder("silent"), versions)
+        sent_ahead(program, checks, folder("sent_ahead"))
         limited(program, checks, folder("limited"), versions)
         devices(program, checks, folder("devices"))
         closed(program, checks, folder("closed"))
@@ -298,6 +300,8 @@ def refusals(program, checks, room):
         ("an OUT with bytes behind others", ["@a=@b", "/dev/null=@there"], full),
         ("another word", ["@a=@b", "more"], f"{unexpected} 'more' found"),
         ("workers", ["@a=@b", "--workers", "2"], f"{unexpected} '--workers' found"),
+        ("no row at once", ["@a=@b", "--at-once", "0"], "error: invalid value '0' for '--at-once <N>': 0 is not in 1..=64"),
+        ("65 rows at once", ["@a=@b", "--at-once", "65"], "error: invalid value '65' for '--at-once <N>': 65 is not in 1..=64"),
         ("two journals", ["@a=@b", "--journal", "@new"], "error: the argument '--journal <FILE>' cannot be used multiple times"),
     ]:
         status, out, errors = serve(["--journal", "@new", *words])
@@ -306,7 +310,7 @@ def refusals(program, checks, room):
     checks.same("serve without a journal", (status, out, errors.decode()[:len(missing)]), (1, b"", missing))
     _, _, text = program.run(["serve", "--help"])
     for word in [b"--journal", b"--client", b"--clients-from file", b"in=out", b"mkfifo", b"/dev/fd/n", b"stopped", b"status",
-                 b"--explain", b"1 to 64", b"1,048,576"]:
+                 b"--explain", b"--at-once <n>", b"1 to 64", b"1,048,576"]:
         checks.true(f"help of serve names {word.decode()}", word in b" ".join(text.lower().split()), text)
     absent = "open: No such file or directory (os error 2)\n"
     for name, journal, client, why in [

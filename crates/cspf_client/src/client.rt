@@ -10,15 +10,19 @@ ghost use Rattle.cspf_client.specs.ClientRuns.{IsClientRun, IsClientStopped};
 ghost use Rattle.cspf_client.specs.SessionStates.{HasGoneForward};
 ghost use Rattle.cspf_client.specs.ServingStates.{IsReady, HasMet};
 
+use crate::entrance::{Entrance, NotedRequests};
 use crate::session::Session;
-use crate::{ClientError, EndOfRequests, Replies};
+use crate::{ClientError, EndOfRequests, Permits, Replies};
 use cspf_publish::{Asker, Known, SeenSteps, Told};
 use cspf_rows::open_records;
 use cspf_stream::answer_rows;
 use csv::Reader;
 use std::alloc::Global;
+use std::cell::Cell;
 use std::io::Read;
 use std::marker::Model;
+use std::sync::Wait;
+use std::sync::ledger::Ledger;
 
 /// The streams of a client.
 #[derive(Drop)]
@@ -73,7 +77,8 @@ pub struct ServedClient<V> {
 }
 
 /// Answers all rows that the reader still has.
-fn answer_all<Q: Read + Drop, V: Replies>(
+fn answer_all<Q: Read + Drop, V: Replies, R: Wait, L: Ledger>(
+    entrance: &Entrance<'_, R, L>,
     alloc: Global,
     requests: &mut Reader<Q>,
     replies: &mut V,
@@ -86,7 +91,7 @@ fn answer_all<Q: Read + Drop, V: Replies>(
     ensures stopped { IfErr result (λ why. IsClientStopped why (rows_left Q.remaining requests.old)
         session.old session.new (V.contents replies.old) (V.contents replies.new)) }
 {
-    match answer_rows(&(), alloc, requests, replies, session) {
+    match answer_rows(entrance, alloc, requests, replies, session) {
         Ok(()) => Ok(()),
         Err(stop) => Err(ClientError::of(stop)),
     }
@@ -114,9 +119,10 @@ impl<Q: Read + Drop, V: Replies> ServingClient<Q, V> {
     /// Answers all rows of the stream of requests, one by one. For an `ask` row, the client reads the
     /// count of published batches, and then answers at a version that is at least this count. Any
     /// other row is refused with a line. Each line is flushed before the next row is read. The client
-    /// waits only for its own streams. At the end it drops the reader of the requests, and then calls
-    /// `end` of the replies' writer.
-    pub fn run(&mut self, alloc: Global)
+    /// waits for its own streams. If it sends requests ahead, it waits for a permit before each
+    /// search, and has no permit while it reads or writes. At the end it drops the reader of the
+    /// requests, and then calls `end` of the replies' writer.
+    pub fn run<'a, R: Wait, L: Ledger>(&mut self, alloc: Global, permits: &'a Permits<'a, R, L>)
         requires { IsReady self.old }
         ensures run { IsClientRun Q.remaining V.contents self.old self.new }
         ensures forward { HasGoneForward self.old.state self.new.state }
@@ -128,8 +134,22 @@ impl<Q: Read + Drop, V: Replies> ServingClient<Q, V> {
             // This can't happen: a client that hasn't run yet still has its stream of requests.
             return;
         };
-        let mut rows = open_records(alloc, requests);
-        self.end = answer_all(alloc, &mut rows, &mut self.replies, &mut self.session);
+        let entrance = Entrance {
+            permits,
+            was_read: Cell::new(false),
+        };
+        let noted = NotedRequests {
+            requests,
+            was_read: &entrance.was_read,
+        };
+        let mut rows = open_records(alloc, noted);
+        self.end = answer_all(
+            &entrance,
+            alloc,
+            &mut rows,
+            &mut self.replies,
+            &mut self.session,
+        );
         self.replies.end(EndOfRequests::drop_reader(rows));
     }
 

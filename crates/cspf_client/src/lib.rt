@@ -1,5 +1,7 @@
 //! Clients of a publisher. Each client has a stream of requests. An asker answers these requests
-//! one by one, in the client's thread, without waiting for other clients.
+//! one by one, in the client's thread. A client that sends requests ahead (before it has the lines of
+//! earlier ones) waits for a permit before each search, in order with the other such clients
+//! (`permits.rt`). So at most a given number of them search at once.
 //!
 //! Before each reply, a client reads the count of published batches, in a step of the journal. The
 //! version of the reply is at least this count. `specs/ClientRows.antt` defines how a row of a
@@ -10,12 +12,15 @@
 #![tactic(auto)]
 
 mod client;
+mod entrance;
 mod error;
 mod laws;
+mod permits;
 mod replies;
 mod session;
 
 pub use client::{Client, ServedClient, ServingClient};
 pub use error::ClientError;
 pub use laws::{clients_go_forward, replies_are_fresh};
+pub use permits::Permits;
 pub use replies::{EndOfRequests, Replies};

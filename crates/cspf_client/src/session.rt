@@ -8,6 +8,7 @@ ghost use Rattle.cspf_publish.specs.AskerStates.{known_of};
 ghost use Rattle.cspf_publish.specs.KnownBatches.{AreFirstOf};
 ghost use Rattle.cspf_client.specs.ClientRows.{IsClientRowAnswered, IsClientRowUnanswered, IsRefusedRow, IsRefusalMissing, IsRequestAnswered, IsRequestUnanswered};
 
+use crate::entrance::Entrance;
 use cspf_ero::reply_line;
 use cspf_model::Request;
 use cspf_publish::{Answer, AskError, Asker, Known, RowOfReader, SeenSteps, Told};
@@ -16,6 +17,8 @@ use cspf_stream::{Answering, refused_row};
 use csv::ByteRecord;
 use std::alloc::Global;
 use std::marker::Model;
+use std::sync::Wait;
+use std::sync::ledger::Ledger;
 
 /// The state of a client between two rows of its requests.
 #[derive(Drop)]
@@ -133,6 +136,29 @@ impl Session {
         line_of(alloc, answer)
     }
 
+    /// As `ask`. If the row was already there before the client's last line was written, first waits
+    /// for a permit, and gives it back before the line is returned.
+    fn ask_in_turn<R: Wait, L: Ledger>(
+        &mut self,
+        entrance: &Entrance<'_, R, L>,
+        alloc: Global,
+        place: u64,
+        request: &Request,
+    ) -> Result<Vec<u8>, AskError>
+        ensures answered { IfOk result (λ line.
+            IsRequestAnswered place request.now self.old line.items self.new) }
+        ensures failed { IfErr result (λ why. IsRequestUnanswered place why self.old self.new) }
+        ensures refused { self.new.refused ≡ self.old.refused }
+    {
+        if entrance.was_read.replace(false) {
+            return self.ask(alloc, place, request);
+        }
+        let permit = entrance.permits.take();
+        let line = self.ask(alloc, place, request);
+        entrance.permits.give_back(permit);
+        line
+    }
+
     /// Refuses row `place`, and returns the line of the refusal.
     fn refuse(&mut self, alloc: Global, place: u64, why: RowError) -> Result<Vec<u8>, AskError>
         requires { self.old.refused < place }
@@ -147,7 +173,13 @@ impl Session {
     }
 
     /// Answers row `place`, whose fields were read as `row`.
-    fn answer_read(&mut self, alloc: Global, place: u64, row: &Row) -> Result<Vec<u8>, AskError>
+    fn answer_read<R: Wait, L: Ledger>(
+        &mut self,
+        entrance: &Entrance<'_, R, L>,
+        alloc: Global,
+        place: u64,
+        row: &Row,
+    ) -> Result<Vec<u8>, AskError>
         requires { self.old.refused < place }
         ensures answered { IfOk result (λ line.
             IsClientRowAnswered place self.old (Ok row.now) line.items self.new) }
@@ -156,7 +188,7 @@ impl Session {
         ensures refused { self.new.refused ≤ self.old.refused + 1 }
     {
         match row {
-            Row::Ask(request) => self.ask(alloc, place, request),
+            Row::Ask(request) => self.ask_in_turn(entrance, alloc, place, request),
             Row::Put(_) => self.refuse(alloc, place, RowError::Kind),
             Row::Remove { .. } => self.refuse(alloc, place, RowError::Kind),
             Row::Node { .. } => self.refuse(alloc, place, RowError::Kind),
@@ -165,7 +197,7 @@ impl Session {
     }
 }
 
-impl Answering<()> for Session {
+impl<'a, R: Wait, L: Ledger> Answering<Entrance<'a, R, L>> for Session {
     type Fault = AskError;
 
     ghost use Rattle.std.specs.Prelude.{◌<◌};
@@ -179,13 +211,13 @@ impl Answering<()> for Session {
 
     fn answer(
         &mut self,
-        _: &(),
+        entrance: &Entrance<'a, R, L>,
         alloc: Global,
         place: u64,
         fields: &ByteRecord,
     ) -> Result<Vec<u8>, AskError> {
         match Row::read(fields) {
-            Ok(row) => self.answer_read(alloc, place, &row),
+            Ok(row) => self.answer_read(entrance, alloc, place, &row),
             Err(why) => self.refuse(alloc, place, why),
         }
     }

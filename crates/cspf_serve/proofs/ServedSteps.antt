@@ -22,8 +22,8 @@ use Rattle.cspf_rows.specs.Records.{rows_of}
 use Rattle.cspf_serve.specs.declared.serving.served_run.Served.{Served}
 use Rattle.std.specs.Option.{option_map}
 use Rattle.cspf_serve.specs.NumberedPairs.{AreNumberedPairs}
-use Rattle.cspf_serve.specs.ServedSteps.{IsSeat, AreNumberedSeats, IsAnswered, IsOfSource, IsServedEnd, IsClosedRun}
-use Rattle.cspf_serve.specs.declared.serving.served_run.ClientSeat.{ClientSeat}
+use Rattle.cspf_serve.specs.ClientSeats.{SeatState, IsSeat, AreNumberedSeats}
+use Rattle.cspf_serve.specs.ServedSteps.{IsAnswered, IsOfSource, IsServedEnd, IsClosedRun}
 use Rattle.cspf_serve.specs.Updates.{UpdatesState, no_updates}
 use Rattle.cspf_stream.specs.OpenChanges.{AreOpen}
 use Rattle.cspf_serve.specs.UpdatesStates.{KeptUpdates, KeepsUpdates, IsFresh}
@@ -35,7 +35,7 @@ Rows = List (List (List ℕ))
 module _ {Q V : Type 0} (bytes : Q → Option (List ℕ)) (contents : V → Option (List ℕ)) (source : Book) where
   -- if there are as many seats as clients, each client has a seat, which has all that the client's
   -- thread needs
-  pub ready_of : (seats : List ClientSeat) (clients : List (Client Q V)) → length seats ≡ length clients → AllZip (λ (s : ClientSeat) (c : Client Q V). Unit {0}) seats clients
+  pub ready_of : (seats : List SeatState) (clients : List (Client Q V)) → length seats ≡ length clients → AllZip (λ (s : SeatState) (c : Client Q V). Unit {0}) seats clients
   ready_of [] [] long = tt
   ready_of (s ∷ seats) (c ∷ clients) long = (tt, ready_of seats clients (omega (arith, long)))
   ready_of seats clients long = absurd (omega (arith, long))
@@ -43,8 +43,8 @@ module _ {Q V : Type 0} (bytes : Q → Option (List ℕ)) (contents : V → Opti
   -- Each client was answered from its seat, which has all that the client's thread needs. The seats
   -- have askers of one publisher, and are numbered from `n` on. Then each client was answered by an
   -- asker of this publisher, and the client's number is the number of its seat.
-  pub answered_of : (n : ℕ) (seats : List ClientSeat) (clients : List (Client Q V)) (ran : List (ServingState Q V)) → All (IsSeat source) seats → AreNumberedSeats n seats
-      → AreDone (λ (s : ClientSeat) (client : Client Q V) (c : ServingState Q V). IsAnswered bytes contents s.asker.source s.number client c) seats clients ran
+  pub answered_of : (n : ℕ) (seats : List SeatState) (clients : List (Client Q V)) (ran : List (ServingState Q V)) → All (IsSeat source) seats → AreNumberedSeats n seats
+      → AreDone (λ (s : SeatState) (client : Client Q V) (c : ServingState Q V). IsAnswered bytes contents s.asker.source s.number client c) seats clients ran
       → AreNumberedPairs (IsAnswered bytes contents source) n clients ran
   answered_of n [] [] [] each numbers done = tt
   answered_of n (s ∷ seats) (c ∷ clients) (r ∷ ran) each numbers done = (
@@ -121,7 +121,7 @@ closed_of published told knew old met served batches was others known has left =
 
 -- if the seats of clients are numbered from `n` on, and a seat with the next number is added at the
 -- end, all seats are numbered from `n` on
-pub seats_more : (n : ℕ) (seats : List ClientSeat) (seat : ClientSeat) → AreNumberedSeats n seats → seat.number ≡ length seats + n → AreNumberedSeats n (seats ++ seat ∷ [])
+pub seats_more : (n : ℕ) (seats : List SeatState) (seat : SeatState) → AreNumberedSeats n seats → seat.number ≡ length seats + n → AreNumberedSeats n (seats ++ seat ∷ [])
 seats_more n [] seat all is = (omega (arith, is), tt)
 seats_more n (s ∷ seats) seat all is = (all.0, seats_more (suc n) seats seat all.1 (omega (arith, is)))
 

@@ -1,4 +1,5 @@
 -- The definitions that this crate's contracts cite.
+pub mod ClientSeats
 pub mod ErrorNames
 pub mod BatchRun
 pub mod BatchLaws

@@ -15,27 +15,17 @@ use Rattle.cspf_client.specs.ServingStates.{ServingState, IsReady}
 use Rattle.cspf_client.specs.ClientRuns.{IsClientRun}
 use Rattle.cspf_client.specs.SessionStates.{AreFirstSteps, HasGoneForward}
 use Rattle.cspf_stream.specs.declared.error.StreamError.{StreamError}
+use Rattle.cspf_serve.specs.ClientSeats.{IsSeat, AreNumberedSeats}
 use Rattle.cspf_serve.specs.ServedRun.{IsServedStatus, IsUpdatesRun}
 use Rattle.cspf_serve.specs.Updates.{UpdatesState, no_updates}
 use Rattle.cspf_serve.specs.UpdatesStates.{AreAllCounted, KeptUpdates, KeepsUpdates}
-use Rattle.cspf_serve.specs.declared.serving.served_run.ClientSeat.{ClientSeat}
 use Rattle.cspf_serve.specs.declared.serving.served_run.Seats.{Seats}
 use Rattle.cspf_serve.specs.declared.serving.served_run.Served.{Served}
-
--- A seat has all that the thread of one client needs. The asker of this seat reads the journal with
--- the identity `source`.
-abbrev pub IsSeat : Book → ClientSeat → Type 0
-IsSeat source seat = seat.asker.source ≡ source
-
--- the seats of the clients are numbered from `n` on, in the order of the list
-abbrev pub AreNumberedSeats : ℕ → List ClientSeat → Type 0
-AreNumberedSeats n [] = ⊤
-AreNumberedSeats n (seat ∷ seats) = (seat.number ≡ n) × AreNumberedSeats (suc n) seats
 
 -- There are `count` seats, numbered from 1. A seat has all that the thread of one client needs. The
 -- seats have askers of one publisher, which answer requests. The lists for the states and the
 -- results of the clients are empty, and have capacity for `count` clients.
-pub record AreSeats {Q V : Type 0} (source : Book) (count : ℕ) (made : Seats Q V) : Type 0 where
+pub record AreSeats {Q V T L : Type 0} (source : Book) (count : ℕ) (made : Seats Q V T L) : Type 0 where
   pub seats : All (IsSeat source) made.seats.items
   pub numbers : AreNumberedSeats 1 made.seats.items
   pub many : vec_len made.seats ≡ count

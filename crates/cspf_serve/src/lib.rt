@@ -37,5 +37,7 @@ pub use cspf_work::{
 };
 pub use judging::{run_audit, run_snapshot};
 pub use live::{run_live_rows, run_live_rows_with};
-pub use serving::{Served, ServedError, no_reply_is_behind, run_serve, served_replies_are_fresh};
+pub use serving::{
+    Served, ServedError, ServedOptions, no_reply_is_behind, run_serve, served_replies_are_fresh,
+};
 pub use streams::RunError;

@@ -5,4 +5,4 @@ mod served_run;
 mod updates;
 
 pub use laws::{no_reply_is_behind, served_replies_are_fresh};
-pub use served_run::{Served, ServedError, run_serve};
+pub use served_run::{Served, ServedError, ServedOptions, run_serve};

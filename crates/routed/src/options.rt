@@ -5,6 +5,8 @@ ghost use Rattle.cspf_publish.specs.declared.limits.TheConstants.{MOST_ASKERS};
 use clap::{Arg, ArgAction, ArgMatches, Command, value_parser};
 use cspf_serve::{MOST_ASKERS, MOST_TREE_MEGABYTES, RunOptions, TREE_MEGABYTES, trees_in};
 use std::alloc::{AllocError, Global};
+use std::thread;
+use std::thread::Threads;
 
 /// The option that gives the journal's path. `live` and `serve` make this file.
 pub const JOURNAL: &str = "journal";
@@ -40,6 +42,9 @@ const WORKERS: &str = "workers";
 /// of 2^20 bytes.
 const TREES: &str = "trees";
 
+/// The option that gives the most rows that clients sent ahead and that are answered at once.
+const AT_ONCE: &str = "at-once";
+
 /// An option of a command.
 #[derive(Clone, Copy)]
 pub enum CommandOption {
@@ -63,6 +68,8 @@ pub enum CommandOption {
     Workers,
     /// The most megabytes of memory that the trees of the search may use.
     Trees,
+    /// The most rows that clients sent ahead and that are answered at once.
+    AtOnce,
     /// Whether to skip the rows after the last whole batch of a journal.
     AcceptTorn,
     /// Whether the run writes why it stops.
@@ -82,6 +89,7 @@ impl CommandOption {
             CommandOption::ClientsFrom => CLIENTS_FROM,
             CommandOption::Workers => WORKERS,
             CommandOption::Trees => TREES,
+            CommandOption::AtOnce => AT_ONCE,
             CommandOption::AcceptTorn => ACCEPT_TORN,
             CommandOption::Explain => EXPLAIN,
         }
@@ -103,6 +111,9 @@ impl CommandOption {
             CommandOption::Workers => "How many workers answer, 1 to 64",
             CommandOption::Trees => {
                 "The megabytes that trees of the search may take, 0 to 1024; no answer depends on them"
+            }
+            CommandOption::AtOnce => {
+                "How many rows that clients sent ahead are answered at once, 1 to 64; by default the processors"
             }
             CommandOption::AcceptTorn => "Leave out the rows after the last whole batch",
             CommandOption::Explain => {
@@ -127,6 +138,7 @@ impl CommandOption {
             CommandOption::ClientsFrom | CommandOption::Keep => arg.value_name("FILE"),
             CommandOption::Workers => workers(arg),
             CommandOption::Trees => trees(arg),
+            CommandOption::AtOnce => at_once(arg),
             CommandOption::AcceptTorn | CommandOption::Explain => arg.action(ArgAction::SetTrue),
             _ => required(arg, "FILE"),
         }
@@ -155,6 +167,12 @@ fn trees<'a>(arg: Arg<'a>) -> Arg<'a> {
     arg.value_name("MB")
         .value_parser(value_parser!(u16).range(0..=MOST_TREE_MEGABYTES as i64))
         .default_value("64")
+}
+
+/// Makes the option take a number of rows.
+fn at_once<'a>(arg: Arg<'a>) -> Arg<'a> {
+    arg.value_name("N")
+        .value_parser(value_parser!(u8).range(1..=MOST_ASKERS as i64))
 }
 
 /// The command that a command line names.
@@ -229,6 +247,18 @@ impl<'m, 'a> Call<'m, 'a> {
     /// The most trees of the search that the run may keep.
     pub(crate) fn trees(&self) -> usize {
         trees_in(self.words.get_one::<u16>(TREES).unwrap_or(TREE_MEGABYTES))
+    }
+
+    /// The most rows that clients sent ahead and that are answered at once. By default there is one
+    /// for each processor that the program may use.
+    pub(crate) fn at_once<T: Threads>(&self, handle: &T) -> usize {
+        match self.words.get_one::<u8>(AT_ONCE) {
+            Some(count) => count as usize,
+            None => match thread::available_parallelism(handle) {
+                Ok(processors) => processors.get(),
+                Err(_) => 1,
+            },
+        }
     }
 
     /// The options of the run: the most trees of the search that it may keep.

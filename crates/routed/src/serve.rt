@@ -10,7 +10,9 @@ use crate::noted::Noted;
 use crate::options::{Asked, CLIENT, Call, CommandOption, CommandText, EXPLAIN, JOURNAL};
 use crate::stack::grow_stack;
 use crate::stopped::{Ran, Stopped};
-use cspf_serve::{ClientError, MOST_ASKERS, Served, ServedClient, StreamError, run_serve};
+use cspf_serve::{
+    ClientError, MOST_ASKERS, Served, ServedClient, ServedOptions, StreamError, run_serve,
+};
 use std::sync::Wait;
 use std::thread::Threads;
 use std::{fmt, io};
@@ -26,6 +28,7 @@ pub const COMMAND: CommandText = CommandText {
         CommandOption::Clients,
         CommandOption::ClientsFrom,
         CommandOption::Trees,
+        CommandOption::AtOnce,
         CommandOption::Explain,
     ],
 };
@@ -36,9 +39,11 @@ Standard input has put, drop, node, end and ask rows as in solve, and any number
 written whole to the new journal, then it takes effect, and then its line is written. There are 1 to
 64 clients. --client IN=OUT reads the ask rows of one from IN, and writes the line of each to OUT
 before the next row is read. Each line of --clients-from FILE is an IN=OUT too, and a blank line is
-refused. FILE is read to its end first, and its clients come after those of --client. No client waits
-for another, nor for a batch. Once a program has read version V on standard output, every request
-that it sends after that is answered at V or later, by any client.
+refused. FILE is read to its end first, and its clients come after those of --client. Once a program
+has read version V on standard output, every request that it sends after that is answered at V or
+later, by any client. No client waits for a batch. A client that sends each row after it has read the
+line of the row before waits for no other client. Of the rows that clients send ahead, at most N
+(--at-once) are answered at once, and these clients take turns. So they don't hold up the batches.
 
 Lines of standard output, as in solve, and of a client's OUT:
   version V                  a batch is in effect
@@ -114,7 +119,10 @@ fn run<T: Threads + Wait + Sync>(
         &mut said,
         journal,
         clients,
-        call.trees(),
+        ServedOptions {
+            trees: call.trees(),
+            at_once: call.at_once(handle),
+        },
     );
     match ran {
         Ok(served) => {

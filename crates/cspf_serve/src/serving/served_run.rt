@@ -21,7 +21,7 @@ ghost use Rattle.cspf_serve.specs.UpdatesStates.{AreAllCounted, IsFresh, KeepsUp
 use crate::RunError;
 use crate::serving::updates::Updates;
 use crate::streams::opening::open_for;
-use cspf_client::{Client, Replies, ServedClient, ServingClient};
+use cspf_client::{Client, Permits, Replies, ServedClient, ServingClient};
 use cspf_jobs::{Doer, Go, Meanwhile, NoThread, run_all};
 use cspf_publish::{Asker, MOST_ASKERS, Publisher, SeenSteps};
 use cspf_rows::open_records;
@@ -29,9 +29,21 @@ use cspf_stream::{StreamError, answer_rows, put_line};
 use csv::Reader;
 use std::alloc::{AllocError, Global};
 use std::io::{Read, Write};
+use std::marker::{Brand, Model};
 use std::sync::Wait;
+use std::sync::ledger::{Blank, Ledger};
 use std::thread::Threads;
 use thiserror::Error;
+
+/// The options of a run over updates and clients.
+#[derive(Clone, Copy, Debug)]
+pub struct ServedOptions {
+    /// The most trees of lower bounds that the publisher and the askers together keep.
+    pub trees: usize,
+    /// The most requests that clients sent ahead (before they had the lines of earlier requests) and
+    /// that are answered at once. 0 counts as 1.
+    pub at_once: usize,
+}
 
 /// Why no run over updates and clients began.
 #[derive(Clone, Copy, Debug, PartialEq, Eq, Error)]
@@ -68,14 +80,25 @@ pub struct Served<W, J, V> {
 
 /// A client's seat: all that the thread of the client needs to answer the client's requests.
 #[derive(Drop)]
-struct ClientSeat {
+struct ClientSeat<'a, T, L: Ledger> {
+    /// The permits of the run. The client takes one for each request that it sent ahead.
+    permits: &'a Permits<'a, T, L>,
     alloc: Global,
     asker: Asker,
     /// The number of the client; clients count from 1.
     number: usize,
 }
 
-impl<Q: Read + Drop, V: Replies> Doer<Client<Q, V>> for ClientSeat {
+impl<'a, T, L: Ledger> Model for ClientSeat<'a, T, L> {
+    ghost use Rattle.cspf_serve.specs.ClientSeats.{SeatState};
+
+    ghost Value = { SeatState };
+
+    ghost view = { λ s. record { asker = s.asker; number = s.number } };
+}
+
+impl<'a, Q: Read + Drop, V: Replies, T: Wait, L: Ledger> Doer<Client<Q, V>>
+    for ClientSeat<'a, T, L> {
     type Output = ServingClient<Q, V>;
 
     ghost ready = { λ _ _ _. Unit {0} };
@@ -84,12 +107,13 @@ impl<Q: Read + Drop, V: Replies> Doer<Client<Q, V>> for ClientSeat {
 
     fn work(self, _go: &Go, client: Client<Q, V>) -> ServingClient<Q, V> {
         let ClientSeat {
+            permits,
             alloc,
             asker,
             number,
         } = self;
         let mut client = ServingClient::new(asker, number as u64, client);
-        client.run(alloc);
+        client.run(alloc, permits);
         client
     }
 }
@@ -97,15 +121,19 @@ impl<Q: Read + Drop, V: Replies> Doer<Client<Q, V>> for ClientSeat {
 /// The memory that is allocated before any client starts: a seat for each client (all that its
 /// thread needs), and capacity for the states and the results of the clients.
 #[derive(Drop)]
-struct Seats<Q, V> {
-    seats: Vec<ClientSeat>,
+struct Seats<'a, Q, V, T, L: Ledger> {
+    seats: Vec<ClientSeat<'a, T, L>>,
     serving: Vec<ServingClient<Q, V>>,
     served: Vec<ServedClient<V>>,
 }
 
 /// Makes a seat for each asker. A seat has all that the thread of one client needs, and the asker
 /// answers the client's requests. The seats are numbered from 1.
-fn seat_all<Q: Drop, V: Drop>(alloc: Global, askers: Vec<Asker>) -> Result<Seats<Q, V>, AllocError>
+fn seat_all<'a, Q: Drop, V: Drop, T, L: Ledger>(
+    alloc: Global,
+    permits: &'a Permits<'a, T, L>,
+    askers: Vec<Asker>,
+) -> Result<Seats<'a, Q, V, T, L>, AllocError>
     ensures { IfOk result (λ made. (source : Book) → All (λ a. a.source ≡ source) askers.items
         → AreSeats source (vec_len askers) made) }
 {
@@ -116,6 +144,7 @@ fn seat_all<Q: Drop, V: Drop>(alloc: Global, askers: Vec<Asker>) -> Result<Seats
     for asker in askers {
         let number = seats.len() + 1;
         seats.push(ClientSeat {
+            permits,
             alloc,
             asker,
             number,
@@ -253,13 +282,14 @@ fn answer_updates<R: Read, W: Write, J: Write, T: Wait>(
 /// Opens a publisher over a journal, and makes a seat for each client, with all that the client's
 /// thread needs. The publisher and the clients' askers (which answer requests) together keep at
 /// most `trees` trees of lower bounds.
-fn open_seats<J: Write, Q: Drop, V: Drop, T: Wait>(
+fn open_seats<'a, J: Write, Q: Drop, V: Drop, T: Wait, L: Ledger>(
     rt: &T,
     alloc: Global,
+    permits: &'a Permits<'a, T, L>,
     journal: J,
     clients: usize,
     trees: usize,
-) -> Result<(Publisher<J>, Seats<Q, V>), (RunError, J)>
+) -> Result<(Publisher<J>, Seats<'a, Q, V, T, L>), (RunError, J)>
     requires { (0 < clients) × (clients ≤ MOST_ASKERS) }
     ensures publisher { IfOk result (λ made.
         (made.0.batches ≡ []) × (made.0.stopped ≡ false) × (made.0.journal ≡ journal)) }
@@ -268,7 +298,7 @@ fn open_seats<J: Write, Q: Drop, V: Drop, T: Wait>(
     ensures journal { IfErr result (λ e. e.1 ≡ journal) }
 {
     match open_for(rt, alloc, journal, clients, trees) {
-        Ok((publisher, askers)) => match seat_all(alloc, askers) {
+        Ok((publisher, askers)) => match seat_all(alloc, permits, askers) {
             Ok(seats) => Ok((publisher, seats)),
             Err(_) => Err((RunError::Memory, publisher.close(rt))),
         },
@@ -303,22 +333,19 @@ fn close_run<W, J: Write, Q: Read + Drop, V: Replies + Drop, T: Wait>(
     }
 }
 
-/// Publishes updates as they come in, and writes each batch to the journal first. Each client has
-/// its own asker and thread, which answer its requests. No client waits for another client or for
-/// the publisher. The publisher and the askers together keep at most `trees` trees of lower bounds.
-/// The run ends when the updates and all clients have ended: `IsServedRun`.
-///
-/// If an error is returned, nothing was read. The error returns all inputs except the updates.
-pub fn run_serve<
+/// As `run_serve`, but the caller passes the permits.
+fn serve_under<
     R: Read + Drop,
     W: Write,
     J: Write,
     Q: Read + Drop + Send,
     V: Replies + Drop + Send,
     T: Threads + Wait + Sync,
+    L: Ledger + Send + Sync,
 >(
     rt: &T,
     alloc: Global,
+    permits: &Permits<'_, T, L>,
     updates: R,
     said: W,
     journal: J,
@@ -331,7 +358,7 @@ pub fn run_serve<
     ensures error { IfErr result (λ e. IsServedFault (vec_len clients) e.0) }
     ensures back { IfErr result (λ e. (e.1 ≡ said) × (e.2 ≡ journal) × (e.3 ≡ clients)) }
 {
-    let (publisher, seats) = match open_seats(rt, alloc, journal, clients.len(), trees) {
+    let (publisher, seats) = match open_seats(rt, alloc, permits, journal, clients.len(), trees) {
         Ok(opened) => opened,
         Err((error, journal)) => return Err((ServedError::Run(error), said, journal, clients)),
     };
@@ -362,4 +389,87 @@ pub fn run_serve<
             Err((error, said, updates.close(rt), clients))
         }
     }
+}
+
+/// As `run_serve`, but the type `L` is the ledger of the permits, and `blank` has the parts of this
+/// ledger: one for each of `at_once` permits.
+fn serve_with<
+    R: Read + Drop,
+    W: Write,
+    J: Write,
+    Q: Read + Drop + Send,
+    V: Replies + Drop + Send,
+    T: Threads + Wait + Sync,
+    L: Ledger + Send + Sync,
+>(
+    rt: &T,
+    alloc: Global,
+    updates: R,
+    said: W,
+    journal: J,
+    clients: Vec<Client<Q, V>>,
+    trees: usize,
+    at_once: u64,
+    blank: Blank,
+) -> Result<Served<W, J, V>, (ServedError, W, J, Vec<Client<Q, V>>)>
+    requires clients { (0 < vec_len clients) × (vec_len clients ≤ MOST_ASKERS) }
+    requires name { blank.name ≡ L.name }
+    requires parts { (at_once ≡ blank.parts) × (at_once ≡ L.parts) }
+    ensures served { IfOk result (IsServedRun (R.remaining updates) W.contents J.contents
+        Q.remaining V.contents said journal clients.items) }
+    ensures error { IfErr result (λ e. IsServedFault (vec_len clients) e.0) }
+    ensures back { IfErr result (λ e. (e.1 ≡ said) × (e.2 ≡ journal) × (e.3 ≡ clients)) }
+{
+    match Permits::<T, L>::new(rt, alloc, clients.len(), at_once, blank) {
+        Ok(permits) => serve_under(rt, alloc, &permits, updates, said, journal, clients, trees),
+        Err(_) => {
+            let error = ServedError::Run(RunError::Memory);
+            Err((error, said, journal, clients))
+        }
+    }
+}
+
+/// Publishes updates as they come in, and writes each batch to the journal first. Each client has
+/// its own asker and thread, which answer its requests. No client waits for the publisher. A client
+/// that sends each request after it has the line of the one before waits for no other client. Of
+/// the requests that clients send ahead, at most `options.at_once` are answered at once, and the
+/// clients take turns. The publisher and the askers together keep at most `options.trees` trees of
+/// lower bounds.
+/// The run ends when the updates and all clients have ended: `IsServedRun`.
+///
+/// If an error is returned, nothing was read. The error returns all inputs except the updates.
+pub fn run_serve<
+    R: Read + Drop,
+    W: Write,
+    J: Write,
+    Q: Read + Drop + Send,
+    V: Replies + Drop + Send,
+    T: Threads + Wait + Sync,
+>(
+    rt: &T,
+    alloc: Global,
+    updates: R,
+    said: W,
+    journal: J,
+    clients: Vec<Client<Q, V>>,
+    options: ServedOptions,
+) -> Result<Served<W, J, V>, (ServedError, W, J, Vec<Client<Q, V>>)>
+    requires { (0 < vec_len clients) × (vec_len clients ≤ MOST_ASKERS) }
+    ensures served { IfOk result (IsServedRun (R.remaining updates) W.contents J.contents
+        Q.remaining V.contents said journal clients.items) }
+    ensures error { IfErr result (λ e. IsServedFault (vec_len clients) e.0) }
+    ensures back { IfErr result (λ e. (e.1 ≡ said) × (e.2 ≡ journal) × (e.3 ≡ clients)) }
+{
+    let at_once = options.at_once.max(1) as u64;
+    serve_with::<_, _, _, _, _, _, Brand>(
+        rt,
+        alloc,
+        updates,
+        said,
+        journal,
+        clients,
+        options.trees,
+        at_once,
+        Blank::new(at_once),
+    )
 }

@@ -7,16 +7,21 @@ mod threads;
 
 ghost use Rattle.std.specs.Prelude.{◌≡◌};
 ghost use Rattle.cspf_client.specs.ServingStates.{IsReady};
+ghost use Rattle.cspf_client.specs.SessionStates.{HasGoneForward};
 
 use cspf_addr::{Addr, Mask};
-use cspf_client::{Client, ClientError, EndOfRequests, Replies, ServedClient, ServingClient};
+use cspf_client::{
+    Client, ClientError, EndOfRequests, Permits, Replies, ServedClient, ServingClient,
+};
 use cspf_model::{Batch, Change, Link};
 use cspf_publish::{Publisher, open};
 use std::alloc::Global;
 use std::io;
 use std::io::{ErrorKind, Write};
+use std::marker::Brand;
 use std::process::Abort;
 use std::sync::Wait;
+use std::sync::ledger::{Blank, Ledger};
 use std::test::Fail;
 
 /// A batch with this number. It sets a link of metric 10 from 1.1.1.1 to 2.2.2.2, with 1,000 bytes
@@ -57,6 +62,32 @@ fn seated<'a, R: Wait + Abort>(
         },
         Err(_) => panic!(rt; "no publisher"),
     }
+}
+
+/// Runs a client with one permit. The type `L` is the ledger of the permit.
+fn run_with<R: Wait + Abort, L: Ledger>(
+    rt: &R,
+    alloc: Global,
+    blank: Blank,
+    serving: &mut ServingClient<&[u8], Narrow>,
+)
+    requires ready { IsReady serving.old }
+    requires name { blank.name ≡ L.name }
+    requires parts { (blank.parts ≡ 1) × (L.parts ≡ 1) }
+    ensures { HasGoneForward serving.old.state serving.new.state }
+{
+    match Permits::<R, L>::new(rt, alloc, 1, 1, blank) {
+        Ok(permits) => serving.run(alloc, &permits),
+        Err(_) => panic!(rt; "no permits"),
+    }
+}
+
+/// Runs a client with one permit.
+fn run<R: Wait + Abort>(rt: &R, alloc: Global, serving: &mut ServingClient<&[u8], Narrow>)
+    requires { IsReady serving.old }
+    ensures { HasGoneForward serving.old.state serving.new.state }
+{
+    run_with::<R, Brand>(rt, alloc, Blank::new(1), serving)
 }
 
 /// A writer that accepts bytes until it has `most` bytes, and then fails.
@@ -106,7 +137,7 @@ fn served<R: Wait + Abort>(
 ) -> ServedClient<Narrow> {
     let (mut publisher, mut serving) = seated(rt, alloc, requests, most);
     let _ = publisher.apply(rt, alloc, first);
-    serving.run(alloc);
+    run(rt, alloc, &mut serving);
     let known = serving.known().copy();
     serving.meet(publisher.tell());
     publisher.close(rt);

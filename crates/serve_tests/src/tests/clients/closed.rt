@@ -1,6 +1,6 @@
 //! Tests a client that sends a request after its publisher was closed.
 
-use super::{Narrow, is_left, link_batch, seated};
+use super::{Narrow, is_left, link_batch, run, seated};
 use cspf_client::{ClientError, ServedClient};
 use cspf_model::Batch;
 use std::alloc::Global;
@@ -16,7 +16,7 @@ fn left_closed<R: Wait + Abort>(rt: &R, alloc: Global, first: &Batch) -> ServedC
     let _ = publisher.apply(rt, alloc, first);
     let told = publisher.tell();
     publisher.close(rt);
-    serving.run(alloc);
+    run(rt, alloc, &mut serving);
     let known = serving.known().copy();
     serving.meet(told);
     serving.close(known)

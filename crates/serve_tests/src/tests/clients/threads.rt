@@ -4,7 +4,7 @@ ghost use Rattle.std.specs.Prelude.{◌≡◌};
 ghost use Rattle.cspf_client.specs.ServingStates.{IsReady};
 ghost use Rattle.cspf_client.specs.SessionStates.{HasGoneForward};
 
-use super::{Narrow, is_left, link_batch, seated};
+use super::{Narrow, is_left, link_batch, run, seated};
 use cspf_client::{ServedClient, ServingClient};
 use cspf_model::Batch;
 use cspf_publish::Publisher;
@@ -16,7 +16,7 @@ use std::thread;
 use std::thread::Threads;
 
 /// Runs a client in another thread while the calling thread publishes a batch.
-fn run_beside<R: Threads + Wait + Sync>(
+fn run_beside<R: Threads + Wait + Abort + Sync>(
     rt: &R,
     alloc: Global,
     first: &Batch,
@@ -30,7 +30,7 @@ fn run_beside<R: Threads + Wait + Sync>(
     let mut answer = ||
         requires { IsReady serving.now }
         ensures { HasGoneForward serving.entry.now.state serving.exit.now.state }
-    { serving.run(alloc) };
+    { run(rt, alloc, serving) };
     let mut publish = ||
         ensures { publisher.exit.now.source ≡ publisher.entry.now.source }
     {

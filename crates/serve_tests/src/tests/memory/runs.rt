@@ -5,7 +5,7 @@
 
 use cspf_serve::{
     Client, ClientError, NoGate, RunError, ServeError, Served, ServedClient, ServedError,
-    SolveError, StreamError, Summary, run_batch, run_serve, run_snapshot, run_solve,
+    ServedOptions, SolveError, StreamError, Summary, run_batch, run_serve, run_snapshot, run_solve,
 };
 use std::alloc::Global;
 use std::sync::Wait;
@@ -196,7 +196,11 @@ fn serves<T: Threads + Wait + Sync>(
     if clients.len() != 1 {
         return false;
     }
-    match run_serve(rt, alloc, UPDATES, said, journal, clients, 64) {
+    let options = ServedOptions {
+        trees: 64,
+        at_once: 1,
+    };
+    match run_serve(rt, alloc, UPDATES, said, journal, clients, options) {
         Ok(served) => is_served(served),
         Err((error, said, journal, clients)) => {
             is_refused(error) && said.is_empty() && journal.is_empty() && clients.len() == 1

@@ -2,7 +2,7 @@ use Rattle.std.proofs.Common.{◌≡◌, ◌+◌, ◌∷◌, [], All, length, ve
 use Rattle.std.specs.Vec.Iter.{into_iter_items}
 use Rattle.std.proofs.lemmas.List.Elements.{All-push}
 use Rattle.cspf_publish.specs.AskerStates.{AskerState}
-use Rattle.cspf_serve.specs.ServedSteps.{IsSeat, AreNumberedSeats}
+use Rattle.cspf_serve.specs.ClientSeats.{IsSeat, AreNumberedSeats}
 use Rattle.cspf_work.proofs.Filling.{left_none, left_step, left_next}
 use Rattle.cspf_serve.proofs.ServedSteps.{seats_more}
 use Rattle.cspf_serve.proofs.serving.served_run.seat_all.Goals as goal
@@ -12,16 +12,16 @@ loop-asker-preserved g c = record {
   left = left_step _ _ _ _ _ c.loop-asker.invariant.left c.in-Some.ensures.steps.0;
   seats = λ source each.
       subst (All (IsSeat source)) (sym c.in_ok-push.ensures.items)
-      (All-push (IsSeat source) c.loop-asker.seats.items (record { alloc = c.args.alloc; asker = c.in-Some.asker; number = c.len-number.result + 1 }) (c.loop-asker.invariant.seats source each)
+      (All-push (IsSeat source) c.loop-asker.seats.items (record { asker = c.in-Some.asker; number = c.len-number.result + 1 }) (c.loop-asker.invariant.seats source each)
       (left_next (λ (a : AskerState). a.source ≡ source) c.loop-asker.yielded c.in-Some.asker (into_iter_items c.loop-asker.asker-iterator) (into_iter_items c.next.new.self)
       c.args.askers.items c.loop-asker.invariant.left c.in-Some.ensures.steps.0 each));
   numbers =
       subst (AreNumberedSeats 1) (sym c.in_ok-push.ensures.items)
-      (seats_more 1 c.loop-asker.seats.items (record { alloc = c.args.alloc; asker = c.in-Some.asker; number = c.len-number.result + 1 }) c.loop-asker.invariant.numbers (let is = c.len-number.ensures in omega arith));
+      (seats_more 1 c.loop-asker.seats.items (record { asker = c.in-Some.asker; number = c.len-number.result + 1 }) c.loop-asker.invariant.numbers (let is = c.len-number.ensures in omega arith));
   many = (
       let more = ap length c.in_ok-push.ensures.items in
       let was = c.loop-asker.invariant.many in
-      let pushed = length-append c.loop-asker.seats.items ((record { alloc = c.args.alloc; asker = c.in-Some.asker; number = c.len-number.result + 1 }) ∷ []) in
+      let pushed = length-append c.loop-asker.seats.items ((record { asker = c.in-Some.asker; number = c.len-number.result + 1 }) ∷ []) in
       let one = length-append c.loop-asker.yielded (c.in-Some.asker ∷ []) in omega arith
       );
 }

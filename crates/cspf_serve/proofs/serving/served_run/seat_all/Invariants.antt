@@ -1,7 +1,7 @@
 use Rattle.std.proofs.Common.{◌≡◌, ◌++◌, All, length}
 use Rattle.std.specs.Vec.Iter.{into_iter_items}
 use Rattle.logbook.specs.Pages.{Book}
-use Rattle.cspf_serve.specs.ServedSteps.{IsSeat, AreNumberedSeats}
+use Rattle.cspf_serve.specs.ClientSeats.{IsSeat, AreNumberedSeats}
 use Rattle.cspf_serve.proofs.serving.served_run.seat_all.Given as goal
 
 abbrev pub invariant-loop-asker : goal.invariant-loop-asker

@@ -3,7 +3,7 @@ use Rattle.cspf_serve.specs.ServedRun.{IsServedRun}
 use Rattle.cspf_serve.specs.ServedSteps.{IsAnswered}
 use Rattle.cspf_serve.proofs.Pairs.{length_numbered}
 use Rattle.cspf_serve.proofs.ServedSteps.{ready_of, answered_of, sources_of_run, served_run, begins}
-use Rattle.cspf_serve.proofs.serving.served_run.run_serve.Goals as goal
+use Rattle.cspf_serve.proofs.serving.served_run.serve_under.Goals as goal
 
 pub run_all-ran-requires-clause-ready : goal.run_all-ran-requires-clause-ready
 run_all-ran-requires-clause-ready g c = λ κs bounds.
