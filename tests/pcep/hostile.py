@@ -4,7 +4,6 @@ By hand more of them: `MESSAGES=100000 LSPS=20000 tests/run --only hostile`."""
 import contextlib
 import os
 import random
-import select
 import socket
 import struct
 import tempfile
@@ -12,7 +11,7 @@ import time
 
 from pcep.beside import Client, Run, addresses, begun, wait
 from pcep.played import NORTH, SOUTH, bandwidth, hop, ip, lspa, metric, report, request, rows
-from program.serving import PATIENCE
+from program.serving import PATIENCE, has_come
 
 from routed.pcep import wire
 from routed.pcep.wire import pack, tlv
@@ -83,7 +82,7 @@ def broken(draw, messages):
 
 def read_some(client):
     """Reads what has come, without waiting. Whether the connection goes on."""
-    while select.select([client.socket], [], [], 0)[0]:
+    while has_come(client.socket, 0):
         try:
             if not client.socket.recv(1 << 18):
                 return False

@@ -12,6 +12,13 @@ MOMENT, PATIENCE = 0.01, 60  # seconds: between batches and before a kill at mos
 AT = re.compile(r"ask \d+ v(\d+) ")
 
 
+def has_come(file, seconds):
+    """Whether something can be read of a file within so many seconds. Its number may be any, which `select` doesn't allow."""
+    waiting = select.poll()
+    waiting.register(file, select.POLLIN)
+    return bool(waiting.poll(seconds * 1000))
+
+
 class Lines:
     """The lines of a stream, each awaited."""
 
@@ -21,7 +28,7 @@ class Lines:
     def next(self):
         """The next line, or what stands behind the last one, '' at the end."""
         while b"\n" not in self.left:
-            if not select.select([self.file], [], [], PATIENCE)[0]:
+            if not has_come(self.file, PATIENCE):
                 raise TimeoutError(f"no line in {PATIENCE} s")
             more = os.read(self.file, 1 << 16)
             if not more:

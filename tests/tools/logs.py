@@ -1,9 +1,8 @@
 """The log of `routed-tools listen`: the lines of each level, their priorities, and a log that nobody takes."""
 import os
 import re
-import select
 
-from program.serving import PATIENCE
+from program.serving import PATIENCE, has_come
 from tools.fronts import Connection, Front, busy
 from tools.reading import ASKS, PAIR, eventually, figures_of, seen
 
@@ -77,7 +76,7 @@ def blocked(program, checks, room):
             checks.same("an ask beside a log that blocks", taken.talk(ASKS["route"]), "ask 1 v0 unknown-from\n")
             taken.leave()
         eventually(checks, "dropped lines are counted", lambda: figures_of(room).get(("routed_log_dropped_total", None)), 10)
-        while select.select([reading], [], [], 0)[0]:
+        while has_come(reading, 0):
             os.read(reading, 1 << 16)
         taken = Connection(front.ask)
         taken.talk(ASKS["route"])

@@ -4,7 +4,6 @@ import http.client
 import json
 import os
 import re
-import select
 import socket
 import subprocess
 import tempfile
@@ -12,7 +11,7 @@ import time
 import types
 
 from checks import TOOLS, TOP
-from program.serving import PATIENCE, Lines
+from program.serving import PATIENCE, Lines, has_come
 from tools.fronts import Connection, Front
 
 PLACES = os.path.join(TOP, "examples/germany.places")
@@ -148,7 +147,7 @@ class Events:
                     name, data = text.decode().split("\n")
                     return name.removeprefix("event: "), json.loads(data.removeprefix("data: "))
                 continue
-            if not select.select([self.socket], [], [], max(0, end - time.monotonic()))[0]:
+            if not has_come(self.socket, max(0, end - time.monotonic())):
                 return None
             more = self.socket.recv(1 << 20)
             if not more:

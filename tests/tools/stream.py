@@ -2,11 +2,11 @@
 import contextlib
 import errno
 import os
-import select
 import selectors
 import socket
 import tempfile
 
+from program.serving import has_come
 from tools import fronts
 
 from routed.net.loop import READ, WRITE, Loop
@@ -251,7 +251,7 @@ def filled(checks, name, pair, _):
         stream.write(bytes(sent))
         stream.wait(True)
         found = bytearray()
-        while len(found) < len(sent) and select.select([peer.source], [], [], 1)[0]:
+        while len(found) < len(sent) and has_come(peer.source, 1):
             found += peer.hear()
             settle(loop)
         checks.true(f"{name}: where the other side has ended its own", stream.is_ended and found == sent, (len(found), len(sent)))
