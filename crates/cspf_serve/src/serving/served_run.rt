@@ -392,7 +392,7 @@ fn serve_under<
 }
 
 /// As `run_serve`, but the type `L` is the ledger of the permits, and `blank` has the parts of this
-/// ledger: one for each of `at_once` permits.
+/// ledger: one for each of `options.at_once` permits.
 fn serve_with<
     R: Read + Drop,
     W: Write,
@@ -408,18 +408,18 @@ fn serve_with<
     said: W,
     journal: J,
     clients: Vec<Client<Q, V>>,
-    trees: usize,
-    at_once: u64,
+    options: ServedOptions,
     blank: Blank,
 ) -> Result<Served<W, J, V>, (ServedError, W, J, Vec<Client<Q, V>>)>
     requires clients { (0 < vec_len clients) × (vec_len clients ≤ MOST_ASKERS) }
     requires name { blank.name ≡ L.name }
-    requires parts { (at_once ≡ blank.parts) × (at_once ≡ L.parts) }
+    requires parts { (options.at_once ≡ blank.parts) × (options.at_once ≡ L.parts) }
     ensures served { IfOk result (IsServedRun (R.remaining updates) W.contents J.contents
         Q.remaining V.contents said journal clients.items) }
     ensures error { IfErr result (λ e. IsServedFault (vec_len clients) e.0) }
     ensures back { IfErr result (λ e. (e.1 ≡ said) × (e.2 ≡ journal) × (e.3 ≡ clients)) }
 {
+    let (trees, at_once) = (options.trees, options.at_once as u64);
     match Permits::<T, L>::new(rt, alloc, clients.len(), at_once, blank) {
         Ok(permits) => serve_under(rt, alloc, &permits, updates, said, journal, clients, trees),
         Err(_) => {
@@ -460,16 +460,12 @@ pub fn run_serve<
     ensures error { IfErr result (λ e. IsServedFault (vec_len clients) e.0) }
     ensures back { IfErr result (λ e. (e.1 ≡ said) × (e.2 ≡ journal) × (e.3 ≡ clients)) }
 {
-    let at_once = options.at_once.max(1) as u64;
+    let options = ServedOptions {
+        trees: options.trees,
+        at_once: options.at_once.max(1),
+    };
+    let blank = Blank::new(options.at_once as u64);
     serve_with::<_, _, _, _, _, _, Brand>(
-        rt,
-        alloc,
-        updates,
-        said,
-        journal,
-        clients,
-        options.trees,
-        at_once,
-        Blank::new(at_once),
+        rt, alloc, updates, said, journal, clients, options, blank,
     )
 }
