@@ -5,3 +5,4 @@ pub mod RoutesWithoutHops
 pub mod FieldRecords
 pub mod ExampleRoutes
 pub mod Twice
+pub mod SortedRouters

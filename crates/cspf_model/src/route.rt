@@ -3,10 +3,12 @@
 ghost use Rattle.cspf_model.specs.declared.limits.TheConstants.{MOST_ROUTE_LINKS};
 ghost use Rattle.std.specs.Prelude.{◌≡◌, ◌<◌, ◌≤◌, ◌^◌, ◌↔◌, IsTrue, length, map, nat_eq};
 ghost use Rattle.std.specs.List.{list_any, IsDistinct};
+ghost use Rattle.std.specs.List.Sorted.{IsNonDecreasing};
 ghost use Rattle.cspf_model.specs.Walks.{cost_of};
 ghost use Rattle.cspf_model.specs.RouteLinks.{AreLinked, IsKept, VisitsTwice};
 
 use crate::Link;
+use crate::limits::MOST_ROUTE_LINKS;
 use cspf_addr::Addr;
 use std::marker::Model;
 
@@ -76,8 +78,13 @@ fn ends_at(links: &[Link], router: Addr) -> bool
     links.iter().any(|link| router == link.to)
 }
 
-/// Whether two links end at the same router.
-fn ends_meet(links: &[Link]) -> bool
+/// If there are at most this many links, `ends_meet` compares all pairs of links, and doesn't sort
+/// their ends.
+const FEW: usize = 24;
+
+/// Whether two links end at the same router. The call compares all pairs of links, so its time is
+/// quadratic.
+fn any_pair_meets(links: &[Link]) -> bool
     ensures { IsTrue result ↔ (¬ IsDistinct nat_eq (map (λ l. l.to) links.now)) }
 {
     for (i, link) in links.iter().enumerate() {
@@ -86,4 +93,51 @@ fn ends_meet(links: &[Link]) -> bool
         }
     }
     false
+}
+
+/// Writes the router at which each link ends into `ends`.
+fn list_ends(ends: &mut [Addr], links: &[Link])
+    requires { length ends.old ≡ length links.now }
+    ensures { ends.new ≡ map (λ l. l.to) links.now }
+{
+    for (at, link) in links.iter().enumerate() {
+        ends[at] = link.to;
+    }
+}
+
+/// Whether the sorted list has some router twice.
+fn repeats(sorted: &[Addr]) -> bool
+    requires { IsNonDecreasing sorted.now }
+    ensures { IsTrue result ↔ (¬ IsDistinct nat_eq sorted.now) }
+{
+    for at in 1..sorted.len() {
+        if sorted[at - 1] == sorted[at] {
+            return true;
+        }
+    }
+    false
+}
+
+/// Whether two links end at the same router. The call uses the slice `ends` to sort the routers at
+/// which the links end.
+fn ends_meet_in(ends: &mut [Addr], links: &[Link]) -> bool
+    requires { length ends.old ≡ length links.now }
+    ensures { IsTrue result ↔ (¬ IsDistinct nat_eq (map (λ l. l.to) links.now)) }
+{
+    list_ends(ends, links);
+    ends.sort_unstable();
+    repeats(ends)
+}
+
+/// Whether two links end at the same router. For more than `FEW` links the call sorts the routers
+/// at which the links end, which is faster than comparing all pairs. It takes no memory.
+fn ends_meet(links: &[Link]) -> bool
+    requires { length links.now ≤ MOST_ROUTE_LINKS }
+    ensures { IsTrue result ↔ (¬ IsDistinct nat_eq (map (λ l. l.to) links.now)) }
+{
+    if links.len() <= FEW {
+        return any_pair_meets(links);
+    }
+    let mut ends = [Addr::new(0); MOST_ROUTE_LINKS];
+    ends_meet_in(&mut ends[..links.len()], links)
 }

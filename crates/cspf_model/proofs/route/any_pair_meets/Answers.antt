@@ -3,7 +3,7 @@ use Rattle.std.specs.List.{IsDistinct}
 use Rattle.std.proofs.lemmas.List.{take_rest, drop_all}
 use Rattle.std.proofs.lemmas.Bool.{false≢true}
 use Rattle.cspf_model.proofs.Routes.Twice.{passed, shared}
-use Rattle.cspf_model.proofs.route.ends_meet.Goals as goal
+use Rattle.cspf_model.proofs.route.any_pair_meets.Goals as goal
 
 pub returns-then-ends_at : goal.returns-then-ends_at
 returns-then-ends_at c =
