@@ -98,6 +98,14 @@ Contains-router_list d keyed router = (
   λ is. Contains-from_any (λ x y e. nat_cmp-IsAntisymmetric x y ((Equal-is (nat_cmp x y)).0 e)) router (router_list d) (any-router_list d router ∙ (routers_counted d keyed router).1 is),
 )
 
+-- each router at which a row (a link) begins or ends is in the list of routers
+pub listed_from_ends : (rows : List Link) (routers : List ℕ) (router : ℕ) → AreByKey rows → routers ≡ router_list (database_of rows) → set.contains (set.from_list {R = nat_cmp} (ends_of rows)) router ≡ true → Contains routers router
+listed_from_ends rows routers router by_key all there =
+    let d : Database = database_of rows in
+    let counted : set.contains (all_routers d) router ≡ true = ap (λ links. set.contains (set.from_list {R = nat_cmp} (ends_of links)) router) (links_of-database_of rows by_key) ∙ there in
+    subst (λ list. Contains list router) (sym all)
+    (Contains-from_any (λ x y e. nat_cmp-IsAntisymmetric x y ((Equal-is (nat_cmp x y)).0 e)) router (router_list d) (any-router_list d router ∙ counted))
+
 -- if the routers below the index `at` are lower than `router`, and the routers from `at` on are
 -- higher, the list doesn't have `router`
 pub apart_from_gap : (routers : List ℕ) (router at : ℕ) → IsPartitionPoint (λ y. nat_cmp y router ≡ Less) (λ y. nat_cmp y router ≡ Greater) routers at → Contains routers router → ⊥

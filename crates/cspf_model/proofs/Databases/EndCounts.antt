@@ -284,6 +284,22 @@ module _ (rows : List Link) (cs : List Change) (apart : HaveOwnKeys rows) (once 
       omega
       (arith, within, len-without grown g there, brings all inside, ap router_count (database-rows_after rows cs once), router_count-database_of (rows_after rows cs) (apart-rows_after rows cs apart once), router_count-database_of rows apart)
 
+  -- The set `seed` has each router at which a link in `rows` begins or ends. After the changes, the
+  -- database has at most as many routers as `seed` has after the routers of the links that the
+  -- changes put are added to it.
+  pub router_count-within : (seed : set.FinSet nat_cmp) → ((q : ℕ) → set.contains (set.from_list {R = nat_cmp} (ends_of rows)) q ≡ true → set.contains seed q ≡ true)
+      → router_count (all_relinked (database_of rows) cs) ≤ set.len (with_ends seed (links_put cs))
+  router_count-within seed inside =
+      let all : set.FinSet nat_cmp = set.from_list (ends_of rows) in
+      let within : set.len (set.from_list {R = nat_cmp} (ends_of (rows_after rows cs))) ≤ set.len (with_ends seed (links_put cs)) =
+      len-within (ends_of (rows_after rows cs)) (with_ends seed (links_put cs)) (λ q is.
+      contains-with_ends seed (links_put cs) q
+      ∙ or_split (set.contains all q) (list_any (eq_by_cmp nat_cmp q) (ends_of (links_put cs))) (sym (contains-with_ends all (links_put cs) q) ∙ in_grown q is)
+      (λ there. ap (λ b. b || list_any (eq_by_cmp nat_cmp q) (ends_of (links_put cs))) (inside q there))
+      (λ put. or_right (set.contains seed q) _ put)) in
+      omega
+      (arith, within, ap router_count (database-rows_after rows cs once), router_count-database_of (rows_after rows cs) (apart-rows_after rows cs apart once))
+
 -- Adding a router makes a set larger by at most one.
 len-insert-most : (s : set.FinSet nat_cmp) (k : ℕ) → set.len (set.insert s k) ≤ set.len s + 1
 len-insert-most s k =

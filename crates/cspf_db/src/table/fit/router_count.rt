@@ -1,5 +1,5 @@
 //! Whether there are more than 1,024 routers after the changes of a batch.
-ghost use Rattle.std.specs.Prelude.{◌≡◌, ◌+◌, ◌*◌, ◌<◌, ◌≤◌, ◌↔◌, true, length, IsTrue};
+ghost use Rattle.std.specs.Prelude.{◌≡◌, ◌+◌, ◌*◌, ◌<◌, ◌≤◌, ◌↔◌, true, All, length, IsTrue};
 ghost use Rattle.std.specs.Bool.{OnTrue, OnFalse};
 ghost use Rattle.std.specs.FinSet as set;
 ghost use Rattle.cspf_model.specs.Database.{router_count};
@@ -16,6 +16,7 @@ use crate::table::fit::leaving::any_goes;
 use crate::table::fit::repeats::FEW;
 use crate::table::fit::router_set::Routers;
 use crate::table::fit::tally::count_brought;
+use cspf_addr::Addr;
 use cspf_columns::Columns;
 use cspf_model::{Change, Link, MOST_ROUTERS};
 
@@ -73,6 +74,51 @@ fn fit_by_one(columns: &Columns, changes: &[Change]) -> bool
     many <= MOST_ROUTERS || many == MOST_ROUTERS + 1 && any_goes(columns, changes)
 }
 
+/// Adds the routers of the list to the set. Returns false if the set would have more than 1,024
+/// routers.
+fn add_routers(routers: &mut Routers, list: &[Addr]) -> bool
+    requires { set.len routers.old ≤ MOST_ROUTERS }
+    ensures added { OnTrue result (All (λ r. set.contains routers.new r ≡ true) list.now) }
+    ensures few { OnTrue result (set.len routers.new ≤ MOST_ROUTERS) }
+{
+    for router in list {
+        if !routers.add(router.number()) {
+            return false;
+        }
+    }
+    true
+}
+
+/// Whether there are at most 1,024 routers among these: the routers before the changes, and those
+/// at which a link that the changes put begins or ends. If so, there are at most 1,024 routers after
+/// the changes. The call looks at each router and at each change once, and at no row (a link).
+fn fit_together(columns: &Columns, changes: &[Change]) -> bool
+    requires columns { AreColumns columns.now }
+    requires short { length changes.now ≤ MOST_CHANGES }
+    requires once { AreOnceEach changes.now }
+    ensures { result ≡ true
+        → router_count (all_relinked (database_of columns.now.rows.items) changes.now) ≤ MOST_ROUTERS }
+{
+    let mut found = Routers::new();
+    add_routers(&mut found, &columns.routers) && add_puts(&mut found, changes)
+}
+
+/// Whether a quick count shows that there are at most 1,024 routers after the changes. For at most
+/// `FEW` changes, `fit_by_one` makes this count, and for more changes `fit_together`.
+fn fit_by_count(columns: &Columns, changes: &[Change]) -> bool
+    requires columns { AreColumns columns.now }
+    requires short { length changes.now ≤ MOST_CHANGES }
+    requires once { AreOnceEach changes.now }
+    ensures { result ≡ true
+        → router_count (all_relinked (database_of columns.now.rows.items) changes.now) ≤ MOST_ROUTERS }
+{
+    if changes.len() <= FEW {
+        fit_by_one(columns, changes)
+    } else {
+        fit_together(columns, changes)
+    }
+}
+
 /// Whether there are more than 1,024 routers after the changes. `brought` is at least the number of
 /// new routers. The call first tries one or two quick counts. If they don't show that there are at
 /// most 1,024 routers, the call counts the routers of all links.
@@ -88,7 +134,7 @@ pub(super) fn has_too_many_routers(columns: &Columns, changes: &[Change], brough
     if columns.routers.len() + brought <= MOST_ROUTERS {
         return false;
     }
-    if changes.len() <= FEW && fit_by_one(columns, changes) {
+    if fit_by_count(columns, changes) {
         return false;
     }
     let mut found = Routers::new();

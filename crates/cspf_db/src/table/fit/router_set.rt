@@ -87,7 +87,7 @@ impl Routers {
 
     /// Adds the router with the address `router`. Returns false if the set would have more than
     /// 1,024 routers.
-    fn add(&mut self, router: u32) -> bool
+    pub(super) fn add(&mut self, router: u32) -> bool
         ensures added { OnTrue result (self.new ≡ set.insert self.old router) }
         ensures full { OnFalse result (MOST_ROUTERS < set.len (set.insert self.old router)) }
         ensures few { OnTrue result (set.len self.new ≤ MOST_ROUTERS) }
