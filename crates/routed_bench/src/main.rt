@@ -1,6 +1,8 @@
 //! `routed_bench JOURNAL REQUESTS LOAD` times requests in a table without trees of lower bounds,
 //! and then a publisher and its askers. `routed_bench JOURNAL REQUESTS LOAD ROUNDS` times two
-//! searches, `best` and the search by rounds, and then the changes of a table.
+//! searches, `best` and the search by rounds, and then the changes of a table. `routed_bench JOURNAL
+//! REQUESTS LOAD SEARCH` answers the requests several times by one search, so that its instructions
+//! can be counted: `best`, `trees` (a table with trees that may have no tree) or `nothing`.
 //!
 //! The first LOAD batches of the journal make the network. `runs.rt` and `searches.rt` describe the
 //! measurements. `bench/run` makes the files, and reads the printed lines.
@@ -15,7 +17,7 @@ use cspf_db::Table;
 use cspf_model::{Batch, Request};
 use cspf_rows::{read_journal, read_requests};
 use runs::time_publisher;
-use searches::{time_batches, time_plain, time_searches};
+use searches::{OneSearch, run_one, time_batches, time_plain, time_searches};
 use std::alloc::{AllocError, Global};
 use std::fs::File;
 use std::io::ErrorKind;
@@ -77,12 +79,32 @@ fn number(word: &str) -> io::Result<usize> {
     word.parse().map_err(|_| refused())
 }
 
-/// Reads the last arguments, LOAD and perhaps ROUNDS: the number of batches that make the network,
-/// and the number of requests that the search by rounds answers.
-fn numbers(words: &[String]) -> io::Result<(usize, Option<usize>)> {
+/// What a run does with the requests.
+#[derive(Clone, Copy)]
+enum Task {
+    /// It times what `time` times, with this number of rounds.
+    Times(Option<usize>),
+    /// It answers the requests by one search.
+    One(OneSearch),
+}
+
+/// Reads an argument as the name of one search, or else as the number of requests that the search
+/// by rounds answers.
+fn task_of(word: &str) -> io::Result<Task> {
+    match word {
+        "nothing" => Ok(Task::One(OneSearch::Nothing)),
+        "best" => Ok(Task::One(OneSearch::Best)),
+        "trees" => Ok(Task::One(OneSearch::Trees)),
+        _ => Ok(Task::Times(Some(number(word)?))),
+    }
+}
+
+/// Reads the last arguments, LOAD and perhaps ROUNDS or SEARCH: the number of batches that make the
+/// network, and the task.
+fn last_arguments(words: &[String]) -> io::Result<(usize, Task)> {
     match words {
-        [load] => Ok((number(load.as_str())?, None)),
-        [load, rounds] => Ok((number(load.as_str())?, Some(number(rounds.as_str())?))),
+        [load] => Ok((number(load.as_str())?, Task::Times(None))),
+        [load, task] => Ok((number(load.as_str())?, task_of(task.as_str())?)),
         _ => Err(refused()),
     }
 }
@@ -92,10 +114,13 @@ fn main(rt: HostRuntime) -> io::Result<()> {
     let [_, journal, requests, more @ ..] = words.as_slice() else {
         return Err(refused());
     };
-    let (load, rounds) = numbers(more)?;
+    let (load, task) = last_arguments(more)?;
     let (batches, requests) = read(&rt, journal.as_str(), requests.as_str())?;
     match (batches.get(..load), batches.get(load..)) {
-        (Some(first), Some(more)) => time(&rt, (first, more), &requests, rounds),
+        (Some(first), Some(more)) => match task {
+            Task::Times(rounds) => time(&rt, (first, more), &requests, rounds),
+            Task::One(search) => run_one(&rt, first, &requests, search),
+        },
         _ => Err(refused()),
     }
 }

@@ -5,10 +5,15 @@
 //! `rounds ANSWERS COST MICROSECONDS`. `agreed ANSWERS` is the number of these requests on which
 //! both searches agree. Then each batch after the batches of the network is checked, absorbed and
 //! timed: `absorb CHANGES MICROSECONDS`.
+//!
+//! A run of one search answers all requests several times by this search, and prints `one ANSWERS
+//! COST`. `bench/run --instructions` counts the instructions of such a run, and of a run that
+//! answers no request.
 
 use cspf_db::Table;
 use cspf_model::{Batch, Outcome, Request};
 use cspf_search::{best, best_by_rounds};
+use cspf_trees::TreeTable;
 use std::alloc::{AllocError, Global};
 use std::io;
 use std::io::ErrorKind;
@@ -17,6 +22,17 @@ use std::time::Instant;
 
 /// The number of times that `best` answers all requests.
 const TIMES: usize = 5;
+
+/// What a run of one search answers all requests with.
+#[derive(Clone, Copy)]
+pub(crate) enum OneSearch {
+    /// Nothing: the run answers no request.
+    Nothing,
+    /// The function `best`, by a table.
+    Best,
+    /// A table with trees that may have no tree.
+    Trees,
+}
 
 /// The cost of the route, or 0 if there is no route.
 fn cost(outcome: &Outcome) -> u64 {
@@ -120,6 +136,52 @@ pub(crate) fn time_searches<R: AllocGlobal + Clock + Print>(
         .iter()
         .filter(|request| is_agreed(rt.alloc(), table, request));
     println!(rt; "agreed {}", agreed.count())
+}
+
+/// Answers each request by a table with trees. Returns the number of answered requests, and the sum
+/// of the routes' costs.
+fn answer_by_trees(alloc: Global, table: &mut TreeTable, requests: &[Request]) -> (usize, u64) {
+    let (mut answers, mut sum) = (0usize, 0u64);
+    for request in requests {
+        if let Ok(outcome) = table.best(alloc, request) {
+            answers = answers.saturating_add(1);
+            sum = sum.saturating_add(cost(&outcome));
+        }
+    }
+    (answers, sum)
+}
+
+/// Answers all requests once by one search.
+fn answer_once(
+    alloc: Global,
+    table: &mut TreeTable,
+    requests: &[Request],
+    search: OneSearch,
+) -> (usize, u64) {
+    match search {
+        OneSearch::Nothing => (0, 0),
+        OneSearch::Best => answer_each(alloc, table.table(), requests, false),
+        OneSearch::Trees => answer_by_trees(alloc, table, requests),
+    }
+}
+
+/// Makes the network of the batches `load`, answers all requests `TIMES` times by one search, and
+/// prints `one ANSWERS COST`.
+pub(crate) fn run_one<R: AllocGlobal + Print>(
+    rt: &R,
+    load: &[Batch],
+    requests: &[Request],
+    search: OneSearch,
+) -> io::Result<()> {
+    let mut table = TreeTable::with_trees(rt.alloc(), 0)?;
+    for batch in load {
+        let _ = table.try_absorb(batch);
+    }
+    let mut found = (0, 0);
+    for _time in 0..TIMES {
+        found = answer_once(rt.alloc(), &mut table, requests, search);
+    }
+    println!(rt; "one {} {}", found.0, found.1)
 }
 
 /// Times each batch: the check whether it fits, and its changes in the table.
