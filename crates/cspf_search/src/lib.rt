@@ -2,8 +2,9 @@
 //! router that is marked as without transit, but it passes through no such router.
 //!
 //! `best` searches with a heap. `best_by_tree` searches with a heap, and with a tree that many
-//! requests share. `best_by_rounds` searches round by round. The answer of each of these functions
-//! meets `IsBestAnswer` of `cspf_model`.
+//! requests share. `best_by_walk` searches nothing, and answers only what follows from such a tree.
+//! `best_by_rounds` searches round by round. The answer of each of these functions meets
+//! `IsBestAnswer` of `cspf_model`.
 #![tactic(auto)]
 
 mod arena;
@@ -30,5 +31,5 @@ mod walk;
 
 pub use cspf_model::{MOST_ROUTE_LINKS, Outcome, Route};
 pub use laws::trees_are_shared;
-pub use search::{best, best_by_rounds, best_by_tree};
+pub use search::{best, best_by_rounds, best_by_tree, best_by_walk};
 pub use tree::Tree;

@@ -241,8 +241,7 @@ fn searched<'a>(
     }
 }
 
-/// The best answer to a request in the table's database. If a tree is given, and the route follows
-/// from the tree alone, nothing is searched. Otherwise the answer comes from the search by rounds
+/// The best answer to a request in the table's database. The answer comes from the search by rounds
 /// if `by_rounds` is true, and else from the search with a heap, which uses the tree if one is
 /// given.
 fn best_by(
@@ -263,9 +262,6 @@ fn best_by(
     let Some(to) = table.place_of(request.to) else {
         return Ok(Outcome::UnknownTo);
     };
-    if let Some(route) = walk_by_tree(alloc, table, request, tree, from, to)? {
-        return Ok(Outcome::Route(route));
-    }
     let roles = find_roles(alloc, table, request, from, to)?;
     let query = Query {
         table,
@@ -292,6 +288,33 @@ pub fn best(alloc: Global, table: &Table, request: &Request) -> Result<Outcome, 
     best_by(alloc, table, request, false, None)
 }
 
+/// The answer of `best`, if it follows from a tree without a search. `Tree::grow` makes the tree for
+/// the request's tail-end and affinities in the same database. The result is `None` if the answer
+/// doesn't follow from the tree, as where the request has hops, or where a link of the tree lacks
+/// the request's bandwidth.
+pub fn best_by_walk(
+    alloc: Global,
+    table: &Table,
+    request: &Request,
+    tree: &Tree,
+) -> Result<Option<Outcome>, AllocError>
+    requires { IsTree table.now request.now tree.now }
+    ensures { IfOk result (λ found. IfSome found (λ outcome.
+        IsBestAnswer table.now request.now (answer_of outcome))) }
+{
+    listed(table);
+    let Some(head_end) = table.place_of(request.from) else {
+        return Ok(Some(Outcome::UnknownFrom));
+    };
+    let Some(tail_end) = table.place_of(request.to) else {
+        return Ok(Some(Outcome::UnknownTo));
+    };
+    let Some(route) = walk_by_tree(alloc, table, request, tree, head_end, tail_end)? else {
+        return Ok(None);
+    };
+    Ok(Some(Outcome::Route(route)))
+}
+
 /// The answer of `best`, computed with a tree. `Tree::grow` makes the tree for the request's
 /// tail-end and affinities in the same database. If the request has no hops, the least route may
 /// follow from the tree alone, and then nothing is searched. Otherwise the search uses the tree's
@@ -306,7 +329,10 @@ pub fn best_by_tree(
     ensures { IfOk result (λ outcome.
         IsBestAnswer table.now request.now (answer_of outcome)) }
 {
-    best_by(alloc, table, request, false, Some(tree))
+    match best_by_walk(alloc, table, request, tree)? {
+        Some(outcome) => Ok(outcome),
+        None => best_by(alloc, table, request, false, Some(tree)),
+    }
 }
 
 /// The answer of `best`, computed by a slower and simpler search. Each round settles one state: the

@@ -126,26 +126,26 @@ fn follow(
 }
 
 /// The least route of a request without hops, if it follows from a tree for the request's tail-end
-/// and affinities. The result is `None` if it doesn't follow, if the request has hops, or if there
-/// is no tree. `from` and `to` are the indexes of the head-end and the tail-end in the list of
-/// routers.
+/// and affinities. The result is `None` if it doesn't follow, or if the request has hops. `from` and
+/// `to` are the indexes of the head-end and the tail-end in the list of routers.
 pub(crate) fn walk_by_tree(
     alloc: Global,
     table: &Table,
     request: &Request,
-    tree: Option<&Tree>,
+    tree: &Tree,
     from: usize,
     to: usize,
 ) -> Result<Option<Route>, AllocError>
     requires listed { AreListed table.now }
     requires links { AreLinksOf table.now (links_of table.now) }
-    requires tree { IfSome tree (λ tree. IsTree table.now request.now tree.now) }
+    requires tree { IsTree table.now request.now tree.now }
     requires from { IsIndexOf table.now request.now.from from }
     requires to { IsIndexOf table.now request.now.to to }
     ensures { IfOk result (λ found. IfSome found (IsBestRoute table.now request.now)) }
 {
-    match tree {
-        Some(tree) if request.hops.is_empty() => follow(alloc, table, request, tree, from, to),
-        _ => Ok(None),
+    if request.hops.is_empty() {
+        follow(alloc, table, request, tree, from, to)
+    } else {
+        Ok(None)
     }
 }

@@ -17,12 +17,3 @@ answer-requires-clause-ends c = record {
 
 pub answer-requires-clause-searched : goal.answer-requires-clause-searched
 answer-requires-clause-searched c = rw c.deref-3.ensures.value c.in_ok-nodes.ensures
-
-pub returns-in-Some-2 : goal.returns-in-Some-2
-returns-in-Some-2 c = (
-  record {
-    from = c.listed.ensures.known c.args.request.now.from c.in-Some.from (record { within = c.in-Some.ensures.bound; is = c.in-Some.ensures.some });
-    to = c.listed.ensures.known c.args.request.now.to c.in-Some-place_of.to (record { within = c.in-Some-place_of.ensures.bound; is = c.in-Some-place_of.ensures.some });
-  },
-  rw c.in-Some-2.is at c.in_ok-route.ensures,
-)
