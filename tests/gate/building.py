@@ -12,8 +12,9 @@ from checks import TOP
 sys.path.insert(1, os.path.join(TOP, "tools"))
 from kit import Kit, asked, kit_of
 
-# The program doesn't need `alone`.
-LINES = "low: csv # below both arms\nleft: low\nalone: low\nright: low csv\nrouted: left right clap\n"
+# The program doesn't need `alone`, and the program of `solve` needs `left` alone.
+SOLVE = "routed_solve: left\n"
+LINES = f"low: csv # below both arms\nleft: low\nalone: low\nright: low csv\n{SOLVE}routed: left right clap\n"
 USAGE = """usage: rt new FOLDER   makes a crate from a template
        rt check|verdict|lib|run|test [NAME] [rattle's flags] [-- the program's arguments]
        rt try [NAME] [--test] [-- the program's arguments]
@@ -52,7 +53,11 @@ HELPS = [
 # What the run over all crates of the program notes.
 WHOLE = ["ci", "./HANDLES", "./crates.txt",
          *(f"./crates/{name}/src/{path}" for name in ("left", "low", "right", "routed") for path in ("lib.rt", "out/kept.rt")),
-         *LINES.replace("alone: low\n", "").splitlines()]
+         *LINES.replace("alone: low\n", "").replace(SOLVE, "").splitlines()]
+# The same with --solve.
+LITTLE = ["ci", "./HANDLES", "./crates.txt",
+          *(f"./crates/{name}/src/{path}" for name in ("left", "low", "routed_solve") for path in ("lib.rt", "out/kept.rt")),
+          "low: csv # below both arms", "left: low", SOLVE.strip()]
 # `rt ci NAME` prints the usage in a kit without names.
 RT = """#!/bin/sh
 echo "$*" >>"$NOTES"
@@ -63,7 +68,7 @@ echo "what rt prints of ${2:-all}"
 [ -z "$HANGS" ] || { trap 'kill $!; exit 1' TERM; sh -c 'echo $$ >"$NOTES.child"; exec sleep 60' & wait; }
 [ "$FAILS" != "${2:-all}" ] || exit 3
 [ -n "$FORGETS" ] || echo "$2 and the crates below passed, and that is kept. This is not the gate"
-[ $# -gt 1 ] || { mkdir -p crates/routed/out && echo proved >crates/routed/out/routed; }
+[ $# -gt 1 ] || for name in crates/routed*; do mkdir -p "$name/out" && echo "proved ${name#*/}" >"$name/out/${name#*/}"; done
 """
 
 
@@ -72,7 +77,8 @@ class Tree:
 
     def __init__(self, room, tools=("tools/build",), rt=RT):
         self.room, self.notes, self.program = room, os.path.join(room, "notes"), os.path.join(room, "crates/routed/out/routed")
-        for name in "low", "left", "alone", "right", "routed":
+        self.solve = os.path.join(room, "crates/routed_solve/out/routed_solve")
+        for name in "low", "left", "alone", "right", "routed", "routed_solve":
             for path in "src/lib.rt", "src/out/kept.rt", "must-fail/wrong.edit", "out/rlib/made":
                 self.write(f"crates/{name}/{path}", "text\n")
         for path in (*tools, "tools/crates.py", "tools/kit.py"):
@@ -96,7 +102,7 @@ class Tree:
                                 stdout=subprocess.PIPE, stderr=subprocess.STDOUT, text=True)
 
     def run(self, *words, **names):
-        for path in (self.notes, self.program):
+        for path in (self.notes, self.program, self.solve):
             if os.path.exists(path):
                 os.remove(path)
         ran = self.begun(*words, **names)
@@ -120,6 +126,7 @@ def building(checks):
         tree = Tree(room)
         failed(tree, checks)
         built(tree, checks)
+        solving(tree, checks)
         forgotten(tree, checks)
         interrupted(tree, checks)
         refused_names(tree, checks)
@@ -160,11 +167,27 @@ def built(tree, checks):
     status, said = tree.run()
     checks.same("tools/build: its status", status, 0)
     checks.true("the last line says that it is built", said[-1].startswith("built in "), said)
-    checks.same("the program that rt ci built takes its place", read(tree.program), "proved\n")
+    checks.same("the program that rt ci built takes its place", read(tree.program), "proved routed\n")
+    checks.true("the program of solve isn't built", not os.path.exists(tree.solve))
     found = tree.noted()
     checks.same("rt's help is asked once, and then each crate is proved once, the lower one first",
                 (found[:2], sorted(found[2:4])), (["help", "ci low"], ["ci left", "ci right"]))
     checks.same("the last run finds what the program needs, and no wrong bodies", found[4:], WHOLE)
+
+
+def solving(tree, checks):
+    """With --solve the program of `solve` is built, and only what it needs is proved."""
+    status, said = tree.run("tools/build", "--solve")
+    checks.same("tools/build --solve: its status and last line", (status, said[-1].partition(" in ")[0]), (0, "built"))
+    checks.same("the program of solve takes its place", read(tree.solve), "proved routed_solve\n")
+    checks.true("routed isn't built", not os.path.exists(tree.program))
+    found = tree.noted()
+    checks.same("only the crates below it are proved, each once", (found[:3], found[3:]), (["help", "ci low", "ci left"], LITTLE))
+    status, said = tree.run("tools/build", "--solve", FAILS="all")
+    checks.same("its status where the last run fails", (status, said[-1].partition(" in ")[0]), (3, "FAILED"))
+    checks.true("there is no program then", not os.path.exists(tree.solve))
+    status, said = tree.run("tools/build", "solve")
+    checks.true("another word is refused, and nothing is proved", status == 2 and not os.path.exists(tree.notes), (status, said))
 
 
 def forgotten(tree, checks):
@@ -191,6 +214,8 @@ def nameless(tree, checks):
     checks.true("it says at last that it built the program", said[-1].startswith("built in ") and not any("usage" in line for line in said),
                 said)
     checks.true("the program of that run takes its place", os.path.exists(tree.program))
+    status, said = tree.run("tools/build", "--solve", NAMELESS="1", FORGETS="1")
+    checks.same("with --solve one run proves what that program needs", (status, tree.noted()), (0, ["help", *LITTLE]))
     status, said = tree.run(NAMELESS="1", FORGETS="1", FAILS="all")
     checks.same("its status is that of the run", (status, said[-1].partition(" in ")[0]), (3, "FAILED"))
 
