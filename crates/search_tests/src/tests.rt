@@ -11,6 +11,7 @@ mod strict;
 
 use cspf_addr::{Addr, Hops, Mask, parse_hops};
 use cspf_db::Table;
+use cspf_meet::best_from_both_ends;
 use cspf_model::{Batch, Change, Link, Outcome, Request};
 use cspf_search::{Tree, best, best_by_rounds, best_by_tree};
 use std::alloc::{AllocError, Global};
@@ -171,13 +172,17 @@ fn by_tree(alloc: Global, table: &Table, request: &Request) -> Result<Option<Out
     }
 }
 
-// The answer of `best`. Fails if the search by rounds or the search with a tree gives another
-// answer.
+// The answer of `best`. Fails if the search by rounds, the search with a tree, or for a request
+// without hops the search from both ends gives another answer.
 fn answered(alloc: Global, table: &Table, request: &Request) -> Result<Outcome, Fail> {
     let outcome = best(alloc, table, request)?;
     check_same(&outcome, &best_by_rounds(alloc, table, request)?)?;
     if let Some(other) = by_tree(alloc, table, request)? {
         check_same(&outcome, &other)?;
+    }
+    if request.hops.is_empty() {
+        let other = best_from_both_ends(alloc, table, request)?;
+        check_same(&outcome, &other.ok_or("left open")?)?;
     }
     Ok(outcome)
 }

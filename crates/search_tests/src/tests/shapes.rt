@@ -1,11 +1,13 @@
 //! Networks of seven shapes, drawn at random. Requests are answered with trees of lower bounds,
-//! which are grown at the first request. They must get the answers of the search by rounds.
+//! which are grown at the first request, and by the search from both ends. They must get the answers
+//! of the search by rounds.
 
 ghost use Rattle.cspf_trees.specs.Trees.{AreTreesOf};
 
 use super::{draw, is_same, request, table_of, without_hops};
 use cspf_addr::{Addr, Mask};
 use cspf_db::Table;
+use cspf_meet::best_from_both_ends;
 use cspf_model::{Change, Link, Request};
 use cspf_search::best_by_rounds;
 use cspf_trees::{MOST_TREES, Trees};
@@ -129,6 +131,7 @@ fn shaped_request(seed: &mut u32) -> Result<Request, Fail> {
 }
 
 // Whether the trees give the same answer to a request as the search by rounds. If the request has
+// no hops, the search from both ends must find this answer, too. If the request has
 // hops, it is first answered without its hops, so that there is a tree for its tail-end and
 // affinities.
 fn agree(alloc: Global, table: &Table, request: &Request, trees: &mut Trees) -> Result<bool, Fail>
@@ -139,7 +142,12 @@ fn agree(alloc: Global, table: &Table, request: &Request, trees: &mut Trees) -> 
         trees.best(alloc, table, &without_hops(request))?;
     }
     let found = trees.best(alloc, table, request)?;
-    Ok(is_same(&found, &best_by_rounds(alloc, table, request)?))
+    let wanted = best_by_rounds(alloc, table, request)?;
+    let met = match best_from_both_ends(alloc, table, request)? {
+        Some(outcome) => is_same(&outcome, &wanted),
+        None => !request.hops.is_empty(),
+    };
+    Ok(met && is_same(&found, &wanted))
 }
 
 // The number of those among 200 requests to which the trees of the table and the search by rounds
@@ -179,7 +187,8 @@ fn agreed(
 }
 
 // Requests that are answered with trees of lower bounds, grown at the first request, get the
-// answers of the search by rounds. The test checks 100,800 requests in 504 networks.
+// answers of the search by rounds. So do requests without hops in the search from both ends, which
+// leaves no request open. The test checks 100,800 requests in 504 networks.
 #[test]
 fn shapes(rt: HostRuntime) -> Result<(), Fail> {
     let mut seed = 2463534242;

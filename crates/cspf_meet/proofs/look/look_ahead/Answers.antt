@@ -1,0 +1,34 @@
+use Rattle.std.proofs.Common.{List, slice_get, slice_index, sym, ap, subst, ◌∙◌, arith, below_more}
+use Rattle.cspf_model.specs.declared.link.Link.{Link}
+use Rattle.cspf_meet.specs.Labels.{IsWaiting, rank_at}
+use Rattle.cspf_meet.specs.Looks.{IsPassed, IsStepPassed, MayReach}
+use Rattle.cspf_meet.proofs.Falling.{falls_on, passed_still}
+use Rattle.cspf_meet.proofs.Looked.{steps_ahead}
+use Rattle.cspf_meet.proofs.look.look_ahead.Goals as goal
+
+pub returns-clause-passed : goal.returns-clause-passed
+returns-clause-passed c =
+    steps_ahead c.args.query.table.now c.requires.query.listed c.args.query.request.now c.requires.query.links c.args.place c.ends_at-ends.result.now c.reverses_at-reverses.result.now
+    c.ends_at-ends.ensures.within c.ends_at-ends.ensures.each c.reverses_at-reverses.ensures.each c.args.query.to c.requires.query.to
+    (λ w step. IsStepPassed (rank_at c.loop-row.labels.ranks.items w) c.loop-row.least c.args.turn.rank step)
+    (λ k low l here some admitted reach.
+    c.loop-row.invariant.passed k (omega (arith, low, c.loop-row-test.false)) l (ap (λ (ls : List Link). slice_get ls k) c.requires.links ∙ here) some admitted
+    (subst (λ g. MayReach c.args.query.table.now g (slice_index c.ends_at-ends.result.now k)) (sym c.requires.goal) reach))
+
+pub loop-row-preserved : goal.loop-row-preserved
+loop-row-preserved c =
+    let before = c.loop-row.invariant in
+    let said = c.in_ok-least.ensures in
+    record {
+      falls =
+          falls_on c.args.labels.now.ranks.items c.loop-row.labels.ranks.items c.pass.new.labels.ranks.items (IsWaiting c.args.labels.now) (IsWaiting c.loop-row.labels) (IsWaiting c.pass.new.labels)
+          before.falls said.falls;
+      least = omega (arith, before.least, said.least);
+      passed =
+          below_more (λ k. IsPassed c.args.query.table.now c.args.query.request.now c.args.turn.links.now c.args.turn.rank c.args.turn.goal k (slice_index c.ends_at-ends.result.now k)
+          (slice_index c.reverses_at-reverses.result.now k) c.pass.new.labels.ranks.items c.in_ok-least.least) c.loop-row.row
+          (λ k low l here some admitted reach.
+          passed_still (rank_at c.loop-row.labels.ranks.items (slice_index c.ends_at-ends.result.now k)) (rank_at c.pass.new.labels.ranks.items (slice_index c.ends_at-ends.result.now k)) c.loop-row.least
+          c.in_ok-least.least c.args.turn.rank _ (said.falls.lower (slice_index c.ends_at-ends.result.now k)) said.least (before.passed k low l here some admitted reach))
+          said.passed;
+    }

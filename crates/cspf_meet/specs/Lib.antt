@@ -1,0 +1,7 @@
+pub mod Ways
+pub mod Labels
+pub mod Looks
+pub mod Bounds
+pub mod Corridors
+pub mod Meetings
+pub mod TightWalks

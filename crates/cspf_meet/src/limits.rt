@@ -1,0 +1,26 @@
+//! The weights of cost and links in the rank of a way, and the limits of the two searches.
+
+/// The weight of one unit of cost in the rank of a way, which packs the way's cost and its number
+/// of links into one number. Each link adds 1 to the rank.
+pub(crate) const COST_WEIGHT: u64 = 1024;
+
+/// The rank that stands for no way.
+pub(crate) const NO_WAY: u64 = 9_007_199_254_740_992;
+
+/// The greatest rank that a search gives a router. A way to this router may have a greater rank.
+pub(crate) const FARTHEST: u64 = 9_007_199_254_740_991;
+
+/// The number of keys that a heap has room for at the start.
+pub(crate) const ROOM_FOR_WAITING: usize = 512;
+
+/// The number of routers that a list of routers has room for at the start.
+pub(crate) const ROOM_FOR_PLACES: usize = 64;
+
+/// The number of waiting routers up to which only the search from the tail-end goes on.
+pub(crate) const FEW: usize = 12;
+
+/// The greatest number of keys that both searches take from their heaps.
+pub(crate) const MOST_TURNS: usize = 65_536;
+
+/// The number of links for which a walk reserves room at the start.
+pub(crate) const ROOM_FOR_LINKS: usize = 16;

@@ -1,0 +1,23 @@
+ghost use Rattle.std.specs.Prelude.{◌≡◌, ◌<◌, ◌^◌, length};
+ghost use Rattle.cspf_model.specs.declared.limits.TheConstants.{MOST_ROUTERS};
+
+use cspf_model::Link;
+
+/// A router that a search looks at.
+#[derive(Clone, Copy)]
+pub(crate) struct Turn<'a> {
+    /// The links among which are those of the router.
+    pub(crate) links: &'a [Link],
+    /// For each router, its rank in the other search.
+    pub(crate) others: &'a [u64],
+    /// The rank of the router.
+    pub(crate) rank: u64,
+    /// The least rank that waits in the other search.
+    pub(crate) beyond: u64,
+    /// The index of the router where the other search begins. A way may reach this router even if
+    /// it has no transit.
+    pub(crate) goal: usize,
+    ghost small: { rank < 2 ^ 54 },
+    ghost low: { beyond < 2 ^ 54 },
+    ghost many: { length others.now ≡ MOST_ROUTERS },
+}
