@@ -9,9 +9,9 @@ use Rattle.cspf_meet.specs.declared.bounds.HeadBounds.{HeadBounds}
 use Rattle.cspf_meet.specs.declared.corridor.Corridor.{Corridor}
 use Rattle.cspf_meet.specs.declared.labels.Labels.{Labels}
 use Rattle.cspf_meet.specs.Bounds.{head_bound}
-use Rattle.cspf_meet.specs.Corridors.{AreNarrowed, ArePast, IsCorridor, IsPast, IsToDo}
-use Rattle.cspf_meet.specs.Labels.{key_of, rank_at}
-use Rattle.cspf_meet.specs.Looks.{AreLooked, ArePassed}
+use Rattle.cspf_meet.specs.Corridors.{AreNarrowed, NoneNeedsLook, IsCorridor, NeedsNoLook, IsToDo}
+use Rattle.cspf_meet.specs.Labels.{waiting_key, rank_at}
+use Rattle.cspf_meet.specs.Looks.{AreLookedAt, AreStepsPassed}
 use Rattle.cspf_meet.specs.Ways.{LeadsBack}
 use Rattle.cspf_meet.proofs.Waiting.{key_place, key_rank}
 
@@ -31,7 +31,7 @@ first_or_left place left all is v has =
 
 module _ (d : Database) (q : Request) (head : HeadBounds) where
   -- What the search from the tail-end has found holds in the corridor.
-  narrowed_of : (ranks : List ℕ) (rank v : ℕ) → ArePassed (LeadsBack d q) ranks head.most rank v → AreNarrowed d q head ranks rank v
+  narrowed_of : (ranks : List ℕ) (rank v : ℕ) → AreStepsPassed (LeadsBack d q) ranks head.most rank v → AreNarrowed d q head ranks rank v
   narrowed_of ranks rank v passed u step leads =
       elim (passed u step leads) [
         | inl known ↦ inl known.low
@@ -42,16 +42,16 @@ module _ (d : Database) (q : Request) (head : HeadBounds) where
   pub corridor_begun : (back : Labels) (corridor : Corridor) → corridor.near ≡ back.ranks
       → All (λ (key : Reverse ℕ). (head.most < key.0 / 1024 + head_bound head (key.0 % 1024)) ⊎ IsToDo corridor (key.0 % 1024)) (heap_items back.heap)
       → All (λ place. (head.most < rank_at back.ranks.items place + head_bound head place) ⊎ IsToDo corridor place) back.skipped.items
-      → AreLooked (LeadsBack d q) back head.most → IsCorridor d q head corridor
+      → AreLookedAt (LeadsBack d q) back head.most → IsCorridor d q head corridor
   corridor_begun back corridor near keys places looked v low =
       let same : rank_at corridor.near.items v ≡ rank_at back.ranks.items v = ap (λ rs. rank_at rs.items v) near in
-      let far : head.most < rank_at back.ranks.items v + head_bound head v → IsPast d q head corridor.near.items v = λ high. inr (subst (λ r. head.most < r + head_bound head v) (sym same) high) in
+      let far : head.most < rank_at back.ranks.items v + head_bound head v → NeedsNoLook d q head corridor.near.items v = λ high. inr (subst (λ r. head.most < r + head_bound head v) (sym same) high) in
       elim (looked v low) [
         | inl passed ↦ inl (inl (rw near (narrowed_of back.ranks.items (rank_at back.ranks.items v) v passed)))
         | inr (inl key) ↦
             let place = key_place (rank_at back.ranks.items v) v low in
             let rank = key_rank (rank_at back.ranks.items v) v low in
-            elim (All-contains (λ (k : Reverse ℕ). (head.most < k.0 / 1024 + head_bound head (k.0 % 1024)) ⊎ IsToDo corridor (k.0 % 1024)) (heap_items back.heap) (key_of (rank_at back.ranks.items v) v) keys key) [
+            elim (All-contains (λ (k : Reverse ℕ). (head.most < k.0 / 1024 + head_bound head (k.0 % 1024)) ⊎ IsToDo corridor (k.0 % 1024)) (heap_items back.heap) (waiting_key (rank_at back.ranks.items v) v) keys key) [
               | inl high ↦ inl (far (subst (λ p. head.most < rank_at back.ranks.items v + head_bound head p) place (subst (λ r. head.most < r + head_bound head ((rank_at back.ranks.items v * 1024 + v) % 1024)) rank high)))
               | inr waits ↦ inr (subst (IsToDo corridor) place waits)
             ]
@@ -62,7 +62,7 @@ module _ (d : Database) (q : Request) (head : HeadBounds) where
       ]
 
   -- If no router waits, each router needs no look.
-  pub all_past : (corridor : Corridor) → corridor.todo.items ≡ [] → IsCorridor d q head corridor → ArePast d q head corridor.near.items
+  pub all_past : (corridor : Corridor) → corridor.todo.items ≡ [] → IsCorridor d q head corridor → NoneNeedsLook d q head corridor.near.items
   all_past corridor none before v low =
       elim (before v low) [
         | inl past ↦ past

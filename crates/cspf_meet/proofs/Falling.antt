@@ -10,11 +10,11 @@ use Rattle.cspf_meet.specs.declared.bounds.HeadBounds.{HeadBounds}
 use Rattle.cspf_meet.specs.declared.corridor.Corridor.{Corridor}
 use Rattle.cspf_meet.specs.declared.labels.Labels.{Labels}
 use Rattle.cspf_meet.specs.Bounds.{head_bound}
-use Rattle.cspf_meet.specs.Corridors.{AreNarrowed, CorridorFalls, IsCorridor, IsPast, IsToDo}
-use Rattle.cspf_meet.specs.Labels.{Falls, IsNext, IsWaiting, LabelsFall, rank_at}
-use Rattle.cspf_meet.specs.Looks.{AreLooked, ArePassed, IsStepPassed}
+use Rattle.cspf_meet.specs.Corridors.{AreNarrowed, CorridorFalls, IsCorridor, NeedsNoLook, IsToDo}
+use Rattle.cspf_meet.specs.Labels.{RanksFall, IsNextWaiting, IsWaiting, LabelsFall, rank_at}
+use Rattle.cspf_meet.specs.Looks.{AreLookedAt, AreStepsPassed, IsStepPassed}
 
-pub falls_on : (a b c : List ℕ) (A B C : ℕ → Type 0) → Falls a b A B → Falls b c B C → Falls a c A C
+pub falls_on : (a b c : List ℕ) (A B C : ℕ → Type 0) → RanksFall a b A B → RanksFall b c B C → RanksFall a c A C
 falls_on a b c A B C first next = record {
   lower = λ v. omega (arith, first.lower v, next.lower v);
   kept = λ v.
@@ -27,7 +27,7 @@ falls_on a b c A B C first next = record {
       ];
 }
 
-pub falls_none : (a : List ℕ) (A B : ℕ → Type 0) → ((v : ℕ) → A v → B v) → Falls a a A B
+pub falls_none : (a : List ℕ) (A B : ℕ → Type 0) → ((v : ℕ) → A v → B v) → RanksFall a a A B
 falls_none a A B kept = record { lower = λ v. omega arith; kept = λ v. inr (refl, kept v) }
 
 -- A step stays passed after ranks have fallen.
@@ -39,13 +39,13 @@ passed_still old new most least rank step lower less passed =
     ]
 
 module _ (Steps : ℕ → ℕ → ℕ → Type 0) where
-  -- `ArePassed` still holds after ranks have fallen.
-  pub passed_on : (old new : List ℕ) (most least rank v : ℕ) → ((w : ℕ) → rank_at new w ≤ rank_at old w) → least ≤ most → ArePassed Steps old most rank v → ArePassed Steps new least rank v
+  -- `AreStepsPassed` still holds after ranks have fallen.
+  pub passed_on : (old new : List ℕ) (most least rank v : ℕ) → ((w : ℕ) → rank_at new w ≤ rank_at old w) → least ≤ most → AreStepsPassed Steps old most rank v → AreStepsPassed Steps new least rank v
   passed_on old new most least rank v lower less before w step leads = passed_still (rank_at old w) (rank_at new w) most least rank step (lower w) less (before w step leads)
 
-  -- After the search has looked at one more router, `AreLooked` still holds.
-  pub looked_on : (old mid new : Labels) (place rank most least : ℕ) → mid.ranks ≡ old.ranks → IsNext old mid place rank → LabelsFall mid new → least ≤ most
-      → ArePassed Steps new.ranks.items least rank place → AreLooked Steps old most → AreLooked Steps new least
+  -- After the search has looked at one more router, `AreLookedAt` still holds.
+  pub looked_on : (old mid new : Labels) (place rank most least : ℕ) → mid.ranks ≡ old.ranks → IsNextWaiting old mid place rank → LabelsFall mid new → least ≤ most
+      → AreStepsPassed Steps new.ranks.items least rank place → AreLookedAt Steps old most → AreLookedAt Steps new least
   looked_on old mid new place rank most least ranks next falls less passed before v low =
       let kept : (w : ℕ) → rank_at mid.ranks.items w ≡ rank_at old.ranks.items w = λ w. ap (λ rs. rank_at rs.items w) ranks in
       elim (falls.kept v) [
@@ -53,35 +53,35 @@ module _ (Steps : ℕ → ℕ → ℕ → Type 0) where
         | inr same ↦
             let is : rank_at new.ranks.items v ≡ rank_at old.ranks.items v = same.0 ∙ kept v in
             elim (before v low) [
-              | inl looked ↦ inl (subst (λ r. ArePassed Steps new.ranks.items least r v) (sym is)
+              | inl looked ↦ inl (subst (λ r. AreStepsPassed Steps new.ranks.items least r v) (sym is)
                   (passed_on old.ranks.items new.ranks.items most least (rank_at old.ranks.items v) v (λ w. omega (arith, falls.lower w, kept w)) less looked))
               | inr waits ↦ elim (next.left v low waits) [
                 | inl here ↦
                     let there : rank ≡ rank_at new.ranks.items v = sym next.same ∙ ap (rank_at old.ranks.items) (sym here) ∙ sym is in
-                    inl (subst (λ r. ArePassed Steps new.ranks.items least r v) there (subst (ArePassed Steps new.ranks.items least rank) (sym here) passed))
+                    inl (subst (λ r. AreStepsPassed Steps new.ranks.items least r v) there (subst (AreStepsPassed Steps new.ranks.items least rank) (sym here) passed))
                 | inr still ↦ inr (same.1 still)
               ]
             ]
       ]
 
-  -- If no key of the heap counts, `AreLooked` still holds after the heap is emptied.
-  pub looked_same : (old new : Labels) (most : ℕ) → new.ranks ≡ old.ranks → ((v : ℕ) → v < 1024 → IsWaiting old v → IsWaiting new v) → AreLooked Steps old most → AreLooked Steps new most
+  -- If no key of the heap counts, `AreLookedAt` still holds after the heap is emptied.
+  pub looked_same : (old new : Labels) (most : ℕ) → new.ranks ≡ old.ranks → ((v : ℕ) → v < 1024 → IsWaiting old v → IsWaiting new v) → AreLookedAt Steps old most → AreLookedAt Steps new most
   looked_same old new most ranks kept before v low =
       elim (before v low) [
         | inl looked ↦ inl (rw ranks looked)
         | inr waits ↦ inr (kept v low waits)
       ]
 
-  -- Before any router is looked at, `AreLooked` holds.
+  -- Before any router is looked at, `AreLookedAt` holds.
   pub looked_begun : (labels : Labels) (place most : ℕ) → IsWaiting labels place → ((v : ℕ) → v < 1024 → v ≢ place → rank_at labels.ranks.items v ≡ 9007199254740992)
-      → ((v : ℕ) → rank_at labels.ranks.items v ≤ 9007199254740992) → AreLooked Steps labels most
+      → ((v : ℕ) → rank_at labels.ranks.items v ≤ 9007199254740992) → AreLookedAt Steps labels most
   looked_begun labels place most waits others small v low =
       elim (same_or_not v place) [
         | inl here ↦ inr (subst (IsWaiting labels) (sym here) waits)
         | inr ne ↦ inl (λ w step leads. inl (record { low = omega (arith, small w, others v low ne); some = λ far. omega (arith, far, others v low ne) }))
       ]
 
-  pub looked_less : (labels : Labels) (most least : ℕ) → least ≤ most → AreLooked Steps labels most → AreLooked Steps labels least
+  pub looked_less : (labels : Labels) (most least : ℕ) → least ≤ most → AreLookedAt Steps labels most → AreLookedAt Steps labels least
   looked_less labels most least less before v low =
       elim (before v low) [
         | inl looked ↦ inl (passed_on labels.ranks.items labels.ranks.items most least (rank_at labels.ranks.items v) v (λ w. omega arith) less looked)
@@ -96,7 +96,7 @@ module _ (d : Database) (q : Request) (head : HeadBounds) where
         | inr h ↦ inr h
       ]
 
-  past_on : (old new : List ℕ) (v : ℕ) → ((w : ℕ) → rank_at new w ≤ rank_at old w) → rank_at new v ≡ rank_at old v → IsPast d q head old v → IsPast d q head new v
+  past_on : (old new : List ℕ) (v : ℕ) → ((w : ℕ) → rank_at new w ≤ rank_at old w) → rank_at new v ≡ rank_at old v → NeedsNoLook d q head old v → NeedsNoLook d q head new v
   past_on old new v lower same past =
       elim past [
         | inl looked ↦ inl (subst (λ r. AreNarrowed d q head new r v) (sym same) (narrowed_on old new (rank_at old v) v lower looked))
@@ -105,7 +105,7 @@ module _ (d : Database) (q : Request) (head : HeadBounds) where
 
   -- After the search has looked at one more router of the corridor, `IsCorridor` still holds.
   pub corridor_on : (old mid new : Corridor) (place : ℕ) → mid.near ≡ old.near → ((v : ℕ) → IsToDo old v → (v ≡ place) ⊎ IsToDo mid v) → CorridorFalls mid new
-      → (rank_at new.near.items place ≡ rank_at old.near.items place → IsPast d q head new.near.items place)
+      → (rank_at new.near.items place ≡ rank_at old.near.items place → NeedsNoLook d q head new.near.items place)
       → IsCorridor d q head old → IsCorridor d q head new
   corridor_on old mid new place near left falls passed before v low =
       let kept : (w : ℕ) → rank_at mid.near.items w ≡ rank_at old.near.items w = λ w. ap (λ rs. rank_at rs.items w) near in
@@ -116,7 +116,7 @@ module _ (d : Database) (q : Request) (head : HeadBounds) where
             elim (before v low) [
               | inl past ↦ inl (past_on old.near.items new.near.items v (λ w. omega (arith, falls.lower w, kept w)) is past)
               | inr waits ↦ elim (left v waits) [
-                | inl here ↦ inl (subst (IsPast d q head new.near.items) (sym here) (passed (subst (λ w. rank_at new.near.items w ≡ rank_at old.near.items w) here is)))
+                | inl here ↦ inl (subst (NeedsNoLook d q head new.near.items) (sym here) (passed (subst (λ w. rank_at new.near.items w ≡ rank_at old.near.items w) here is)))
                 | inr still ↦ inr (same.1 still)
               ]
             ]

@@ -11,7 +11,7 @@ use Rattle.cspf_db.specs.Index.{links_from_index, links_of, router_list, IsRever
 use Rattle.cspf_graph.specs.Lists.{AreListed, IsIndexOf}
 use Rattle.cspf_graph.proofs.RouterIndexes.{one_place}
 use Rattle.cspf_meet.specs.Looks.{MayReach}
-use Rattle.cspf_meet.specs.Ways.{Leads, LeadsBack, step_of}
+use Rattle.cspf_meet.specs.Ways.{Leads, LeadsBack, link_step}
 use Rattle.cspf_meet.proofs.LinkRows.{as_many, end_of_row, found_back, kept_from, reverse_of_row, some_at}
 
 -- If a list is read at the index of a link, the result is this link.
@@ -31,7 +31,7 @@ module _ (d : Database) (listed : AreListed d) where
     -- What holds for each link from the router, if the request admits it and a way may reach the
     -- router at its end, holds for each step ahead.
     pub steps_ahead : IsIndexOf d q.to goal → (P : ℕ → ℕ → Type 0)
-        → ((k : ℕ) → k < length ends → (l : Link) → slice_get (links_from_index d place) k ≡ Some l → slice_index reverses k ≢ NO_LINK → IsAdmitted q l → MayReach d goal (slice_index ends k) → P (slice_index ends k) (step_of l))
+        → ((k : ℕ) → k < length ends → (l : Link) → slice_get (links_from_index d place) k ≡ Some l → slice_index reverses k ≢ NO_LINK → IsAdmitted q l → MayReach d goal (slice_index ends k) → P (slice_index ends k) (link_step l))
         → (w step : ℕ) → Leads d q place w step → P w step
     steps_ahead is P passed w step leads =
         let l = leads.link in
@@ -42,23 +42,23 @@ module _ (d : Database) (listed : AreListed d) where
         let back = reverse_of_row d place reverses beside at.0 leads.link read in
         let reach = reach_at goal q.to leads.link.to (slice_index ends at.0) is row_end leads.is.over in
         let many = as_many d place ends each in
-        let done : P (slice_index ends at.0) (step_of leads.link) =
+        let done : P (slice_index ends at.0) (link_step leads.link) =
         passed at.0 (omega (arith, at.1, many)) leads.link read (λ none. back.none none leads.is.admissible.usable.reverse) leads.is.admissible.usable.admitted reach in
-        subst (P w) leads.same (subst (λ e. P e (step_of leads.link)) here done)
+        subst (P w) leads.same (subst (λ e. P e (link_step leads.link)) here done)
 
     -- What holds for each link to the router, if the request admits it and a way may reach the
     -- router at its start, holds for each step back.
     pub steps_back : IsIndexOf d q.from goal → (P : ℕ → ℕ → Type 0)
-        → ((k : ℕ) → k < length ends → (l : Link) → slice_get (links_of d) (slice_index reverses k) ≡ Some l → slice_index reverses k ≢ NO_LINK → IsAdmitted q l → MayReach d goal (slice_index ends k) → P (slice_index ends k) (step_of l))
+        → ((k : ℕ) → k < length ends → (l : Link) → slice_get (links_of d) (slice_index reverses k) ≡ Some l → slice_index reverses k ≢ NO_LINK → IsAdmitted q l → MayReach d goal (slice_index ends k) → P (slice_index ends k) (link_step l))
         → (u step : ℕ) → LeadsBack d q place u step → P u step
     steps_back is P passed u step leads =
         let x = found_back d of listed place ends reverses within each beside leads.link leads.is.admissible.link leads.is.admissible.usable.reverse u leads.from leads.to in
         let low = slice_get_within (links_of d) (slice_index reverses x.0) leads.link x.3 in
         let many = as_many d place ends each in
         let reach : MayReach d goal (slice_index ends x.0) = subst (MayReach d goal) (sym x.2) (reach_at goal q.from leads.link.from u is leads.from leads.is.left) in
-        let done : P (slice_index ends x.0) (step_of leads.link) =
+        let done : P (slice_index ends x.0) (link_step leads.link) =
         passed x.0 (omega (arith, x.1, many)) leads.link x.3 (λ none. omega (arith, low, none, listed.room)) leads.is.admissible.usable.admitted reach in
-        subst (P u) leads.same (subst (λ e. P e (step_of leads.link)) x.2 done)
+        subst (P u) leads.same (subst (λ e. P e (link_step leads.link)) x.2 done)
 
     -- The index of the reverse of a link from the router is an index of the table's links.
     pub reverse_within : (row : ℕ) → row < length ends → slice_index reverses row ≢ NO_LINK → slice_index reverses row < length (links_of d)

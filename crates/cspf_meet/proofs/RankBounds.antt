@@ -7,15 +7,15 @@ use Rattle.cspf_graph.proofs.RouterIndexes.{one_place}
 use Rattle.cspf_meet.specs.declared.bounds.HeadBounds.{HeadBounds}
 use Rattle.cspf_meet.specs.declared.labels.Labels.{Labels}
 use Rattle.cspf_meet.specs.Bounds.{AreHeadBounds, IsRankBound, head_bound}
-use Rattle.cspf_meet.specs.Corridors.{ArePast}
+use Rattle.cspf_meet.specs.Corridors.{NoneNeedsLook}
 use Rattle.cspf_meet.specs.Labels.{IsWaiting, rank_at}
-use Rattle.cspf_meet.specs.Looks.{AreLooked}
+use Rattle.cspf_meet.specs.Looks.{AreLookedAt}
 use Rattle.cspf_meet.specs.Ways.{Leads}
 
 module _ (d : Database) (q : Request) (listed : AreListed d) where
   -- The labels of the search from the head-end give bounds that are consistent. The edge must be at
   -- most one more than the rank of each router that waits.
-  pub heads_of : (labels : Labels) (ahead : List ℕ) (edge most : ℕ) → ahead ≡ labels.ranks.items → edge ≤ most → AreLooked (Leads d q) labels most
+  pub heads_of : (labels : Labels) (ahead : List ℕ) (edge most : ℕ) → ahead ≡ labels.ranks.items → edge ≤ most → AreLookedAt (Leads d q) labels most
       → ((v : ℕ) → v < 1024 → IsWaiting labels v → edge ≤ rank_at labels.ranks.items v + 1)
       → (u w step : ℕ) → Leads d q u w step → min (rank_at ahead w) edge ≤ min (rank_at ahead u) edge + step
   heads_of labels ahead edge most same below looked low_edge u w step leads =
@@ -33,7 +33,7 @@ module _ (d : Database) (q : Request) (listed : AreListed d) where
 
   -- The bounds to the tail-end are lower bounds, if each router of the corridor needs no further
   -- look.
-  pub bound_of : (head : HeadBounds) (near : List ℕ) → AreHeadBounds d q head → ArePast d q head near → (to : ℕ) → IsIndexOf d q.to to → rank_at near to ≡ 0
+  pub bound_of : (head : HeadBounds) (near : List ℕ) → AreHeadBounds d q head → NoneNeedsLook d q head near → (to : ℕ) → IsIndexOf d q.to to → rank_at near to ≡ 0
       → IsRankBound d q (λ v. min (rank_at near v) ((head.most + 1) - head_bound head v))
   bound_of head near heads past to end zero = record {
     links = λ u w step leads.

@@ -10,7 +10,7 @@ use Rattle.cspf_model.specs.declared.request.Request.{Request}
 use Rattle.cspf_model.specs.Database.{Database, IsRouterOf}
 use Rattle.cspf_model.specs.Walks.{cost_of, routers_of}
 use Rattle.cspf_graph.proofs.RouterIndexes.{same_or_not}
-use Rattle.cspf_meet.specs.TightWalks.{IsWayOn}
+use Rattle.cspf_meet.specs.TightWalks.{IsWayToEnd}
 use Rattle.cspf_meet.specs.Ways.{IsWayLink}
 
 -- The cost of a link followed by further links is the link's metric plus the cost of the further
@@ -27,30 +27,30 @@ alone x = (tt, tt)
 
 module _ (d : Database) (q : Request) where
   -- the way without its first link
-  pub rest_of : (router : ℕ) (l : Link) (links : List Link) → IsWayOn d q router (l ∷ links) → IsWayOn d q l.to links
+  pub rest_of : (router : ℕ) (l : Link) (links : List Link) → IsWayToEnd d q router (l ∷ links) → IsWayToEnd d q l.to links
   rest_of router l links way = record { links = way.links.1; joined = way.joined.1; end = way.end }
 
   -- The way from `router` visits no router twice and costs at most `most`.
   pub record IsShort (router most : ℕ) : Type 0 where
     pub links : List Link
-    pub way : IsWayOn d q router links
+    pub way : IsWayToEnd d q router links
     pub apart : IsDistinct nat_eq (routers_of router links)
     pub cost : cost_of links ≤ most
 
   -- A way that visits no router twice doesn't visit the router `r`, or its links from there on are
   -- such a way from `r`.
-  met_at : (r x : ℕ) (links : List Link) → IsWayOn d q x links → IsDistinct nat_eq (routers_of x links)
+  met_at : (r x : ℕ) (links : List Link) → IsWayToEnd d q x links → IsDistinct nat_eq (routers_of x links)
       → AllByRecursion (λ y. nat_eq r y ≡ false) (routers_of x links) ⊎ IsShort r (cost_of links)
   met_at r x [] way apart =
       elim (same_or_not r x) [
-        | inl same ↦ inr (record { links = []; way = subst (λ k. IsWayOn d q k []) (sym same) way; apart = alone r; cost = omega arith })
+        | inl same ↦ inr (record { links = []; way = subst (λ k. IsWayToEnd d q k []) (sym same) way; apart = alone r; cost = omega arith })
         | inr ne ↦ inl (told_apart r x ne, tt)
       ]
   met_at r x (l ∷ ls) way apart =
       elim (same_or_not r x) [
         | inl same ↦ inr (record {
           links = l ∷ ls;
-          way = subst (λ k. IsWayOn d q k (l ∷ ls)) (sym same) way;
+          way = subst (λ k. IsWayToEnd d q k (l ∷ ls)) (sym same) way;
           apart = subst (λ k. IsDistinct nat_eq (routers_of k (l ∷ ls))) (sym same) apart;
           cost = omega arith;
         })
@@ -60,7 +60,7 @@ module _ (d : Database) (q : Request) where
         ]
       ]
 
-  pub shorter : (x : ℕ) (links : List Link) → IsWayOn d q x links → IsShort x (cost_of links)
+  pub shorter : (x : ℕ) (links : List Link) → IsWayToEnd d q x links → IsShort x (cost_of links)
   shorter x [] way = record { links = []; way = way; apart = alone x; cost = omega arith }
   shorter x (l ∷ ls) way =
       let short = shorter l.to ls (rest_of x l ls way) in
@@ -80,5 +80,5 @@ module _ (d : Database) (q : Request) where
 
   -- A way that visits no router twice has at most 1,023 links.
   pub few_links : ((routers : List ℕ) → IsDistinct nat_eq routers → AllByRecursion (IsRouterOf d) routers → length routers ≤ 1024)
-      → (x : ℕ) → IsRouterOf d x → (links : List Link) → IsWayOn d q x links → IsDistinct nat_eq (routers_of x links) → length links ≤ 1023
+      → (x : ℕ) → IsRouterOf d x → (links : List Link) → IsWayToEnd d q x links → IsDistinct nat_eq (routers_of x links) → length links ≤ 1023
   few_links few x here links way apart = omega (arith, few (routers_of x links) apart (here, known links way.links), length-map links (λ (l : Link). l.to))

@@ -30,11 +30,11 @@ use Rattle.cspf_db.specs.Index.{links_from_index, links_of, router_list}
 use Rattle.cspf_graph.specs.Lists.{AreListed, IsIndexOf, router_at}
 use Rattle.cspf_graph.specs.Roles.{MayBeLeft}
 use Rattle.cspf_graph.proofs.RouterIndexes.{one_place}
-use Rattle.cspf_meet.specs.declared.walk.Edge.{Edge}
+use Rattle.cspf_meet.specs.declared.walk.LinkRow.{LinkRow}
 use Rattle.cspf_meet.specs.Bounds.{IsRankBound}
 use Rattle.cspf_meet.specs.Looks.{MayReach}
-use Rattle.cspf_meet.specs.TightWalks.{GoesOn, IsEdge, IsNextTight, IsTight, IsTightWalk, IsWayOn, LeavesLater}
-use Rattle.cspf_meet.specs.Ways.{IsWayLink, Leads, rank_of, step_of}
+use Rattle.cspf_meet.specs.TightWalks.{GoesOnBy, IsLinkRow, IsNextTightBy, IsTightBy, IsTightWalkBy, IsWayToEnd, LeavesByGreater}
+use Rattle.cspf_meet.specs.Ways.{IsWayLink, Leads, rank_of, link_step}
 use Rattle.cspf_meet.proofs.LinkRows.{has_reverse, kept_from, kept_of, runs_from}
 use Rattle.cspf_meet.proofs.RowLocals.{locals_rise}
 use Rattle.cspf_meet.proofs.ShorterWays.{cost_of-cons, few_links, rest_of, shorter}
@@ -71,12 +71,12 @@ parts_greater (k ∷ front) m l rest on later =
 
 -- If a route leaves a walk by a link with a greater local address, it comes after the walk in the
 -- order of local addresses.
-later_greater : (walk route : List Link) → LeavesLater walk route → locals_cmp route walk ≡ Greater
+later_greater : (walk route : List Link) → LeavesByGreater walk route → locals_cmp route walk ≡ Greater
 later_greater walk route b = (λ t. locals_cmp (b.is_route t) (b.is_walk t)) ∙ parts_greater b.front b.other b.taken b.rest b.on b.later
 
 -- If a route leaves a walk by a link with a greater local address, it leaves the walk in the same
 -- way after one more link is appended to the walk.
-leaves_longer : (walk route : List Link) (l : Link) → LeavesLater walk route → LeavesLater (walk ++ (l ∷ [])) route
+leaves_longer : (walk route : List Link) (l : Link) → LeavesByGreater walk route → LeavesByGreater (walk ++ (l ∷ [])) route
 leaves_longer walk route l b = record {
   front = b.front;
   taken = b.taken;
@@ -142,7 +142,7 @@ module _ (d : Database) (q : Request) where
 
 module _ (d : Database) (q : Request) (routes : AreRoutesWithoutHops) (loose : q.hops ≡ []) where
   -- A route is a way from the head-end to the tail-end.
-  pub route_way : (route : List Link) → IsRoute d q route → IsWayOn d q q.from route
+  pub route_way : (route : List Link) → IsRoute d q route → IsWayToEnd d q q.from route
   route_way route is_route =
       let walk = (routes d q route loose).0 is_route in
       record {
@@ -160,32 +160,32 @@ linked : (a : ℕ) (w : List Link) → AreJoined a w → AreLinked w
 linked a w joined = search rules
 
 module _ (d : Database) (q : Request) (bound : ℕ → ℕ) (listed : AreListed d) (is : IsRankBound d q bound) where
-  pub leads_by : (l : Link) → IsWayLink d q l → (u w : ℕ) → IsIndexOf d l.from u → IsIndexOf d l.to w → Leads d q u w (step_of l)
+  pub leads_by : (l : Link) → IsWayLink d q l → (u w : ℕ) → IsIndexOf d l.from u → IsIndexOf d l.to w → Leads d q u w (link_step l)
   leads_by l way u w from to = record { link = l; is = way; from = from; to = to; same = refl }
 
   -- A way to the tail-end has at least the rank that the bound gives for the router where the way
   -- begins.
-  at_least : (router place : ℕ) → IsIndexOf d router place → (links : List Link) → IsWayOn d q router links → bound place ≤ rank_of links
+  at_least : (router place : ℕ) → IsIndexOf d router place → (links : List Link) → IsWayToEnd d q router links → bound place ≤ rank_of links
   at_least router place at [] way = omega (arith, is.end place (subst (λ r. IsIndexOf d r place) way.end at))
   at_least router place at (l ∷ links) way =
       let to = to_place d q listed l way.links.0.admissible in
       let from : IsIndexOf d l.from place = subst (λ r. IsIndexOf d r place) (sym way.joined.0) at in
       let rest = at_least l.to to.0 to.1 links (rest_of d q router l links way) in
-      let within = is.links place to.0 (step_of l) (leads_by l way.links.0 place to.0 from to.1) in
+      let within = is.links place to.0 (link_step l) (leads_by l way.links.0 place to.0 from to.1) in
       omega (arith, rest, within, cost_of-cons l links)
 
   -- Lemmas on a way from a router to the tail-end that has exactly the rank that the bound gives for
   -- the router. The first link of this way is tight, and so are the other links.
-  module _ (router place : ℕ) (at : IsIndexOf d router place) (l : Link) (links : List Link) (way : IsWayOn d q router (l ∷ links))
+  module _ (router place : ℕ) (at : IsIndexOf d router place) (l : Link) (links : List Link) (way : IsWayToEnd d q router (l ∷ links))
       (rank : rank_of (l ∷ links) ≡ bound place) where
     rank_after : (end : ℕ) → IsIndexOf d l.to end → rank_of links ≡ bound end
     rank_after end to =
         let from : IsIndexOf d l.from place = subst (λ r. IsIndexOf d r place) (sym way.joined.0) at in
         let low = at_least l.to end to links (rest_of d q router l links way) in
-        let within = is.links place end (step_of l) (leads_by l way.links.0 place end from to) in
+        let within = is.links place end (link_step l) (leads_by l way.links.0 place end from to) in
         omega (arith, low, within, rank, cost_of-cons l links)
 
-    first_tight : IsTight d q bound place l
+    first_tight : IsTightBy d q bound place l
     first_tight = record {
       usable = way.links.0.admissible.usable;
       over = way.links.0.over;
@@ -193,8 +193,8 @@ module _ (d : Database) (q : Request) (bound : ℕ → ℕ) (listed : AreListed 
     }
 
   module _ (routes : AreRoutesWithoutHops) (loose : q.hops ≡ []) (from : ℕ) (there : IsIndexOf d q.from from) where
-    -- The walk without links meets `IsTightWalk`: it leads from the head-end to itself.
-    pub tight_none : IsTightWalk d q bound from [] from
+    -- The walk without links meets `IsTightWalkBy`: it leads from the head-end to itself.
+    pub tight_none : IsTightWalkBy d q bound from [] from
     tight_none = record {
       within = there.within;
       is_walk = record { links = tt; joined = tt; transit = tt };
@@ -206,7 +206,7 @@ module _ (d : Database) (q : Request) (bound : ℕ → ℕ) (listed : AreListed 
 
     -- Lemmas on a tight walk to which the first tight link from its last router is appended.
     module _ (of : AreLinksOf d (links_of d)) (keyed : AreAtTheirKeys d) (to : ℕ) (end : IsIndexOf d q.to to) (walk : List Link) (place : ℕ)
-        (before : IsTightWalk d q bound from walk place) (on : place ≢ to) (edge : Edge) (next : IsNextTight d q bound place edge) where
+        (before : IsTightWalkBy d q bound from walk place) (on : place ≢ to) (edge : LinkRow) (next : IsNextTightBy d q bound place edge) where
       abbrev l : Link
       l = edge.link.now
 
@@ -241,8 +241,8 @@ module _ (d : Database) (q : Request) (bound : ℕ → ℕ) (listed : AreListed 
       -- A route begins with the tight walk. The rest of the route has the rank that the bound gives
       -- for the walk's last router. Then this rest begins with the link `l`, or with a link with a
       -- greater local address.
-      goes_on : (rest : List Link) → IsWayOn d q (router_at d place) rest → rank_of rest ≡ bound place → (route : List Link) → route ≡ walk ++ rest
-          → GoesOn d q bound (walk ++ (l ∷ [])) edge.end route ⊎ LeavesLater (walk ++ (l ∷ [])) route
+      goes_on : (rest : List Link) → IsWayToEnd d q (router_at d place) rest → rank_of rest ≡ bound place → (route : List Link) → route ≡ walk ++ rest
+          → GoesOnBy d q bound (walk ++ (l ∷ [])) edge.end route ⊎ LeavesByGreater (walk ++ (l ∷ [])) route
       goes_on [] way rank route whole = absurd (not_end way.end)
       goes_on (m ∷ rest) way rank route whole =
           let tight = first_tight (router_at d place) place here m rest way rank in
@@ -266,17 +266,17 @@ module _ (d : Database) (q : Request) (bound : ℕ → ℕ) (listed : AreListed 
                   let row : at.0 ≡ edge.row = omega (arith, ge, le) in
                   let same : m ≡ l = same_Some m l (sym read ∙ ap (slice_get (links_from_index d place)) row ∙ next.is_edge.row) in
                   let there_on : m.to ≡ router_at d edge.end = ap (λ (k : Link). k.to) same ∙ sym next.is_edge.end.is in
-                  let way_on : IsWayOn d q m.to rest = rest_of d q (router_at d place) m rest way in
+                  let way_on : IsWayToEnd d q m.to rest = rest_of d q (router_at d place) m rest way in
                   inl (record {
                     rest = rest;
                     whole = whole ∙ ap (λ (k : Link). walk ++ (k ∷ rest)) same ∙ sym (append_assoc walk (l ∷ []) rest);
-                    way = subst (λ r. IsWayOn d q r rest) there_on way_on;
+                    way = subst (λ r. IsWayToEnd d q r rest) there_on way_on;
                     rank = after edge.end (record { within = next.is_edge.end.within; is = sym there_on });
                   })
             ]
           ]
 
-      pub tight_more : IsTightWalk d q bound from (walk ++ (l ∷ [])) edge.end
+      pub tight_more : IsTightWalkBy d q bound from (walk ++ (l ∷ [])) edge.end
       tight_more = record {
         within = next.is_edge.end.within;
         is_walk = walk_on;
@@ -292,7 +292,7 @@ module _ (d : Database) (q : Request) (bound : ℕ → ℕ) (listed : AreListed 
 
     -- Lemmas on a tight walk that has reached the tail-end. Its rank is the bound of the head-end.
     module _ (few : (routers : List ℕ) → IsDistinct nat_eq routers → AllByRecursion (IsRouterOf d) routers → length routers ≤ 1024) (known : IsRouterOf d q.from)
-        (to : ℕ) (end : IsIndexOf d q.to to) (walk : List Link) (at : IsTightWalk d q bound from walk to) where
+        (to : ℕ) (end : IsIndexOf d q.to to) (walk : List Link) (at : IsTightWalkBy d q bound from walk to) where
       is_route : IsRoute d q walk
       is_route = (routes d q walk loose).1 (record { is_walk = at.is_walk; arrives = at.ends ∙ end.is })
 
@@ -352,8 +352,8 @@ module _ (d : Database) (q : Request) (bound : ℕ → ℕ) (listed : AreListed 
 -- Lemmas on a link from a router. The first one concludes from the columns of the table that the
 -- link is tight. The second one says that a way to the tail-end may lead over the router at the end
 -- of a tight link.
-module _ (d : Database) (q : Request) (bound : ℕ → ℕ) (listed : AreListed d) (of : AreLinksOf d (links_of d)) (to : ℕ) (end : IsIndexOf d q.to to) (place : ℕ) (edge : Edge) (is : IsEdge d place edge) where
-  pub tight_is : bound place ≡ step_of edge.link.now + bound edge.end → edge.reverse ≢ NO_LINK → IsAdmitted q edge.link.now → MayReach d to edge.end → IsTight d q bound place edge.link.now
+module _ (d : Database) (q : Request) (bound : ℕ → ℕ) (listed : AreListed d) (of : AreLinksOf d (links_of d)) (to : ℕ) (end : IsIndexOf d q.to to) (place : ℕ) (edge : LinkRow) (is : IsLinkRow d place edge) where
+  pub tight_is : bound place ≡ link_step edge.link.now + bound edge.end → edge.reverse ≢ NO_LINK → IsAdmitted q edge.link.now → MayReach d to edge.end → IsTightBy d q bound place edge.link.now
   tight_is falls back admitted over = record {
     usable = record { admitted = admitted; reverse = has_reverse d of edge.link.now edge.reverse is.reverse back };
     over = elim over [
@@ -363,7 +363,7 @@ module _ (d : Database) (q : Request) (bound : ℕ → ℕ) (listed : AreListed 
     falls = λ last at. omega (arith, falls, ap bound (one_place d listed edge.link.now.to last edge.end at is.end));
   }
 
-  pub tight_over : IsTight d q bound place edge.link.now → MayReach d to edge.end
+  pub tight_over : IsTightBy d q bound place edge.link.now → MayReach d to edge.end
   tight_over tight =
       elim tight.over [
         | inl transit ↦ inl (subst (HasTransit d) (sym is.end.is) transit)

@@ -8,12 +8,12 @@ use Rattle.std.proofs.lemmas.List.{get_or_past, get_or-replicate, get_or-set_sam
 use Rattle.std.proofs.lemmas.List.Elements.{Contains-append_cases, Contains-append_right}
 use Rattle.std.proofs.lemmas.List.Sorted.{Contains-permutation}
 use Rattle.cspf_graph.proofs.RouterIndexes.{same_or_not}
-use Rattle.cspf_meet.specs.Labels.{Falls, key_of, rank_at}
+use Rattle.cspf_meet.specs.Labels.{RanksFall, waiting_key, rank_at}
 
 -- The ranks fall if one rank is lowered, its router waits afterwards, and all others that waited
 -- still wait.
 pub falls_at : (old new : List ℕ) (Before After : ℕ → Type 0) (at rank : ℕ) → at < length old → new ≡ set old at rank → rank ≤ rank_at old at → After at
-    → ((v : ℕ) → v ≢ at → rank_at new v ≡ rank_at old v → Before v → After v) → Falls old new Before After
+    → ((v : ℕ) → v ≢ at → rank_at new v ≡ rank_at old v → Before v → After v) → RanksFall old new Before After
 falls_at old new Before After at rank within is less waits others =
     let same : (v : ℕ) → v ≢ at → rank_at new v ≡ rank_at old v = λ v ne. ap (λ rs. rank_at rs v) is ∙ get_or-set_other old at v rank 0 ne in
     record {
@@ -56,7 +56,7 @@ key_place rank v low = omega (arith, low)
 pub key_rank : (rank v : ℕ) → v < 1024 → (rank * 1024 + v) / 1024 ≡ rank
 key_rank rank v low = omega (arith, low)
 
-pub same_key : (x : Reverse ℕ) (rank v : ℕ) → x ≡ key_of rank v → v < 1024 → (x.0 % 1024 ≡ v) × (x.0 / 1024 ≡ rank)
+pub same_key : (x : Reverse ℕ) (rank v : ℕ) → x ≡ waiting_key rank v → v < 1024 → (x.0 % 1024 ≡ v) × (x.0 / 1024 ≡ rank)
 same_key x rank v is low =
     let number : x.0 ≡ rank * 1024 + v = ap (λ (k : Reverse ℕ). k.0) is in (
       omega (arith, number, low),

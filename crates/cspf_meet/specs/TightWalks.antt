@@ -9,13 +9,13 @@ use Rattle.cspf_model.specs.Admissible.{IsUsable}
 use Rattle.cspf_model.specs.Walks.{AreJoined, IsWalk, end_of}
 use Rattle.cspf_model.specs.Routes.{IsRoute}
 use Rattle.cspf_db.specs.Index.{links_from_index, router_list, IsReverseAt}
-use Rattle.cspf_meet.specs.declared.walk.Edge.{Edge}
+use Rattle.cspf_meet.specs.declared.walk.LinkRow.{LinkRow}
 use Rattle.cspf_graph.specs.Lists.{IsIndexOf, router_at}
-use Rattle.cspf_meet.specs.Ways.{IsWayLink, MayLeadOver, rank_of, step_of}
+use Rattle.cspf_meet.specs.Ways.{IsWayLink, MayLeadThrough, rank_of, link_step}
 
 -- `edge` is a link from the router at the index `place`, with the index of the router at its end
 -- and the index of its reverse.
-pub record IsEdge (d : Database) (place : ℕ) (edge : Edge) : Type 0 where
+pub record IsLinkRow (d : Database) (place : ℕ) (edge : LinkRow) : Type 0 where
   pub row : slice_get (links_from_index d place) edge.row ≡ Some edge.link.now
   pub end : IsIndexOf d edge.link.now.to edge.end
   pub reverse : IsReverseAt d edge.link.now edge.reverse
@@ -23,39 +23,39 @@ pub record IsEdge (d : Database) (place : ℕ) (edge : Edge) : Type 0 where
 -- The link `l` from the router at the index `place` is tight, and the request may use it. A way to
 -- the tail-end may lead over the router at its end. The bound at the link's start is the link's step
 -- plus the bound at its end.
-pub record IsTight (d : Database) (q : Request) (bound : ℕ → ℕ) (place : ℕ) (l : Link) : Type 0 where
+pub record IsTightBy (d : Database) (q : Request) (bound : ℕ → ℕ) (place : ℕ) (l : Link) : Type 0 where
   pub usable : IsUsable d q l
-  pub over : MayLeadOver d q l.to
-  pub falls : (end : ℕ) → IsIndexOf d l.to end → bound place ≡ step_of l + bound end
+  pub over : MayLeadThrough d q l.to
+  pub falls : (end : ℕ) → IsIndexOf d l.to end → bound place ≡ link_step l + bound end
 
 -- None of the first `before` links from the router at the index `place` is tight.
-abbrev pub AreSlack : Database → Request → (ℕ → ℕ) → ℕ → ℕ → Type 0
-AreSlack d q bound place before =
-    (row : ℕ) (l : Link) → row < before → slice_get (links_from_index d place) row ≡ Some l → ¬ IsTight d q bound place l
+abbrev pub AreSlackBy : Database → Request → (ℕ → ℕ) → ℕ → ℕ → Type 0
+AreSlackBy d q bound place before =
+    (row : ℕ) (l : Link) → row < before → slice_get (links_from_index d place) row ≡ Some l → ¬ IsTightBy d q bound place l
 
 -- `edge` is the first tight link from the router at the index `place`.
-pub record IsNextTight (d : Database) (q : Request) (bound : ℕ → ℕ) (place : ℕ) (edge : Edge) : Type 0 where
-  pub is_edge : IsEdge d place edge
-  pub tight : IsTight d q bound place edge.link.now
-  pub slack : AreSlack d q bound place edge.row
+pub record IsNextTightBy (d : Database) (q : Request) (bound : ℕ → ℕ) (place : ℕ) (edge : LinkRow) : Type 0 where
+  pub is_edge : IsLinkRow d place edge
+  pub tight : IsTightBy d q bound place edge.link.now
+  pub slack : AreSlackBy d q bound place edge.row
 
 -- The links of `way` lead from the router to the tail-end, and a route may use each of them.
-pub record IsWayOn (d : Database) (q : Request) (router : ℕ) (way : List Link) : Type 0 where
+pub record IsWayToEnd (d : Database) (q : Request) (router : ℕ) (way : List Link) : Type 0 where
   pub links : AllByRecursion (IsWayLink d q) way
   pub joined : AreJoined router way
   pub end : end_of router way ≡ q.to
 
 -- The route begins with the links of `walk`, which end at the router at the index `place`. The rest
 -- of the route has the rank that the bound gives for this router.
-pub record GoesOn (d : Database) (q : Request) (bound : ℕ → ℕ) (walk : List Link) (place : ℕ) (route : List Link) : Type 0 where
+pub record GoesOnBy (d : Database) (q : Request) (bound : ℕ → ℕ) (walk : List Link) (place : ℕ) (route : List Link) : Type 0 where
   pub rest : List Link
   pub whole : route ≡ walk ++ rest
-  pub way : IsWayOn d q (router_at d place) rest
+  pub way : IsWayToEnd d q (router_at d place) rest
   pub rank : rank_of rest ≡ bound place
 
 -- The route and the walk begin with the same links. At the first difference, the route's link has
 -- the greater local address.
-pub record LeavesLater (walk route : List Link) : Type 0 where
+pub record LeavesByGreater (walk route : List Link) : Type 0 where
   pub front : List Link
   pub taken : Link
   pub other : Link
@@ -70,11 +70,11 @@ pub record LeavesLater (walk route : List Link) : Type 0 where
 --
 -- Each route with the rank that the bound gives for the head-end begins with the walk, or leaves the
 -- walk by a link with a greater local address.
-pub record IsTightWalk (d : Database) (q : Request) (bound : ℕ → ℕ) (from : ℕ) (walk : List Link) (place : ℕ) : Type 0 where
+pub record IsTightWalkBy (d : Database) (q : Request) (bound : ℕ → ℕ) (from : ℕ) (walk : List Link) (place : ℕ) : Type 0 where
   pub within : place < length (router_list d)
   pub is_walk : IsWalk d q walk
   pub ends : end_of q.from walk ≡ router_at d place
   pub leaves : (HasTransit d (router_at d place) ⊎ (length walk ≡ 0)) ⊎ (router_at d place ≡ q.to)
   pub rank : rank_of walk + bound place ≡ bound from
   pub first : (route : List Link) → IsRoute d q route → rank_of route ≡ bound from
-      → GoesOn d q bound walk place route ⊎ LeavesLater walk route
+      → GoesOnBy d q bound walk place route ⊎ LeavesByGreater walk route

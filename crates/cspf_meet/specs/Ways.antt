@@ -11,11 +11,11 @@ use Rattle.cspf_db.specs.Index.{links_of}
 use Rattle.cspf_graph.specs.Lists.{AreListed, IsIndexOf}
 use Rattle.cspf_graph.specs.Roles.{MayBeLeft}
 use Rattle.cspf_meet.specs.declared.limits.TheConstants.{COST_WEIGHT}
-use Rattle.cspf_meet.specs.declared.query.Query.{Query}
+use Rattle.cspf_meet.specs.declared.located_request.LocatedRequest.{LocatedRequest}
 
 -- How much a link adds to the rank of a way.
-abbrev pub step_of : Link → ℕ
-step_of l = l.metric * COST_WEIGHT + 1
+abbrev pub link_step : Link → ℕ
+link_step l = l.metric * COST_WEIGHT + 1
 
 -- The rank of a way: its cost times `COST_WEIGHT`, plus its number of links.
 abbrev pub rank_of : List Link → ℕ
@@ -23,8 +23,8 @@ rank_of links = cost_of links * COST_WEIGHT + length links
 
 -- A way to the tail-end may lead over the router, because the router has transit, or it may end
 -- there, because the router is the tail-end.
-abbrev pub MayLeadOver : Database → Request → ℕ → Type 0
-MayLeadOver d q router = HasTransit d router ⊎ (router ≡ q.to)
+abbrev pub MayLeadThrough : Database → Request → ℕ → Type 0
+MayLeadThrough d q router = HasTransit d router ⊎ (router ≡ q.to)
 
 -- A route of a request without hops may use the link: the link is admissible, some walk may leave
 -- the router where the link begins, and a way to the tail-end may lead over the router where the
@@ -32,7 +32,7 @@ MayLeadOver d q router = HasTransit d router ⊎ (router ≡ q.to)
 pub record IsWayLink (d : Database) (q : Request) (l : Link) : Type 0 where
   pub admissible : IsAdmissible d q l
   pub left : MayBeLeft d q l.from
-  pub over : MayLeadOver d q l.to
+  pub over : MayLeadThrough d q l.to
 
 -- A link that a route may use leads from the router at the index `u` to the router at the index
 -- `w`, and adds `step` to the rank of a way.
@@ -41,7 +41,7 @@ pub record Leads (d : Database) (q : Request) (u w step : ℕ) : Type 0 where
   pub is : IsWayLink d q link
   pub from : IsIndexOf d link.from u
   pub to : IsIndexOf d link.to w
-  pub same : step_of link ≡ step
+  pub same : link_step link ≡ step
 
 -- A link that a route may use leads to the router at the index `w` from the router at the index
 -- `u`, and adds `step` to the rank of a way.
@@ -50,7 +50,7 @@ LeadsBack d q w u step = Leads d q u w step
 
 -- The fields of the query agree with each other, and the request has no hops. The table lists the
 -- routers and links of the database.
-pub record IsQuery (query : Query) : Type 0 where
+pub record IsLocatedRequest (query : LocatedRequest) : Type 0 where
   pub listed : AreListed query.table.now
   pub links : AreLinksOf query.table.now (links_of query.table.now)
   pub few : (routers : List ℕ) → IsDistinct nat_eq routers → AllByRecursion (IsRouterOf query.table.now) routers

@@ -29,7 +29,7 @@ impl Corridor {
     ghost use Rattle.cspf_meet.specs.Bounds.{head_bound};
     ghost use Rattle.cspf_meet.specs.Corridors.{CorridorFalls, IsCorridor, IsToDo};
     ghost use Rattle.cspf_meet.specs.Labels.{rank_at};
-    ghost use Rattle.cspf_meet.specs.Looks.{AreLooked};
+    ghost use Rattle.cspf_meet.specs.Looks.{AreLookedAt};
     ghost use Rattle.cspf_meet.specs.Ways.{LeadsBack};
 
     /// Lets the router at the index `place` wait, if a way over this router may have the least
@@ -85,7 +85,7 @@ impl Corridor {
     ) -> Result<Corridor, AllocError>
         ensures near { IfOk result (λ corridor. corridor.near ≡ back.ranks) }
         ensures waits { IfOk result (λ corridor. (d : Database) (q : Asked)
-            → AreLooked (LeadsBack d q) back head.entry.most → IsCorridor d q head.entry corridor) }
+            → AreLookedAt (LeadsBack d q) back head.entry.most → IsCorridor d q head.entry corridor) }
     {
         let Labels {
             ranks,

@@ -7,7 +7,7 @@ ghost use Rattle.cspf_model.specs.Database.{Database};
 ghost use Rattle.cspf_meet.specs.declared.limits.TheConstants.{NO_WAY};
 ghost use Rattle.cspf_meet.specs.Bounds.{AreHeadBounds};
 ghost use Rattle.cspf_meet.specs.Labels.{rank_at};
-ghost use Rattle.cspf_meet.specs.Looks.{AreLooked};
+ghost use Rattle.cspf_meet.specs.Looks.{AreLookedAt};
 ghost use Rattle.cspf_meet.specs.Ways.{Leads};
 ghost use Rattle.cspf_graph.specs.Lists.{AreListed};
 
@@ -46,7 +46,7 @@ pub(crate) fn head_bounds(ahead: &Labels, most: u64) -> HeadBounds<'_>
     requires { most ≤ NO_WAY }
     ensures most { result.most ≡ most }
     ensures bounds { (d : Database) (q : Asked) → AreListed d
-        → AreLooked (Leads d q) ahead.now most → AreHeadBounds d q result }
+        → AreLookedAt (Leads d q) ahead.now most → AreHeadBounds d q result }
 {
     let waiting = least_of_keys(ahead.heap.as_slice());
     let skipped = least_of_places(&ahead.ranks, &ahead.skipped);

@@ -55,8 +55,8 @@ pub(crate) struct Labels {
 }
 
 impl Labels {
-    ghost use Rattle.cspf_meet.specs.Looks.{IsDone};
-    ghost use Rattle.cspf_meet.specs.Labels.{IsNext, IsWaiting, LabelsFall, rank_at};
+    ghost use Rattle.cspf_meet.specs.Looks.{HasNoneWaiting};
+    ghost use Rattle.cspf_meet.specs.Labels.{IsNextWaiting, IsWaiting, LabelsFall, rank_at};
 
     /// The labels of a search that begins at the router with the index `place`. This router waits,
     /// and its rank is 0. All other routers have the rank `NO_WAY`.
@@ -88,7 +88,7 @@ impl Labels {
 
     /// Whether no router waits.
     pub(crate) fn is_done(&self) -> bool
-        ensures { result ≡ true → IsDone self.now }
+        ensures { result ≡ true → HasNoneWaiting self.now }
     {
         self.heap.is_empty() && self.skipped.is_empty()
     }
@@ -102,7 +102,7 @@ impl Labels {
     /// the router's rank.
     pub(crate) fn next(&mut self) -> Option<(u16, u64)>
         ensures ranks { self.new.ranks ≡ self.old.ranks }
-        ensures next { IfSome result (λ next. IsNext self.old self.new next.0 next.1) }
+        ensures next { IfSome result (λ next. IsNextWaiting self.old self.new next.0 next.1) }
         ensures none { IfNone result ((v : ℕ) → v < MOST_ROUTERS
             → IsWaiting self.old v → IsWaiting self.new v) }
     {

@@ -6,13 +6,13 @@ ghost use Rattle.std.specs.Prelude.{◌≡◌, ◌≢◌, ◌+◌, ◌<◌, ◌�
 ghost use Rattle.cspf_columns.specs.declared.limits.TheConstants.{NO_LINK};
 ghost use Rattle.cspf_meet.specs.declared.limits.TheConstants.{NO_WAY};
 ghost use Rattle.cspf_db.specs.Index.{links_from_index, links_of, router_list};
-ghost use Rattle.cspf_meet.specs.Ways.{IsQuery, Leads, LeadsBack, step_of};
+ghost use Rattle.cspf_meet.specs.Ways.{IsLocatedRequest, Leads, LeadsBack, link_step};
 ghost use Rattle.cspf_meet.specs.Labels.{LabelsFall, rank_at};
-ghost use Rattle.cspf_meet.specs.Looks.{AreLooked, ArePassed, IsPassed, MayReach};
+ghost use Rattle.cspf_meet.specs.Looks.{AreLookedAt, AreStepsPassed, IsLinkOffered, MayReach};
 
 use crate::labels::Labels;
 use crate::limits::{COST_WEIGHT, FARTHEST};
-use crate::query::Query;
+use crate::located_request::LocatedRequest;
 use crate::turn::Turn;
 use cspf_db::{NO_LINK, Table};
 use cspf_graph::accepts;
@@ -21,7 +21,7 @@ use std::alloc::AllocError;
 
 /// How much a link adds to the rank of a way.
 pub(crate) fn step(link: &Link) -> u64
-    ensures value { result ≡ step_of link.now }
+    ensures value { result ≡ link_step link.now }
     ensures small { result < 2 ^ 43 }
 {
     u64::from(link.metric) * COST_WEIGHT + 1
@@ -41,7 +41,7 @@ pub(crate) fn may_reach(table: &Table, goal: usize, place: usize) -> bool
 /// higher rank than `most`. Returns the least rank found so far of a way from the head-end to the
 /// tail-end: `most`, or the rank of the way over this link.
 fn pass(
-    query: Query<'_>,
+    query: LocatedRequest<'_>,
     turn: Turn<'_>,
     at: usize,
     place: u16,
@@ -49,13 +49,13 @@ fn pass(
     most: u64,
     labels: &mut Labels,
 ) -> Result<u64, AllocError>
-    requires query { IsQuery query }
+    requires query { IsLocatedRequest query }
     requires within { reverse ≢ NO_LINK → at < length turn.links.now }
     requires place { place < length (router_list query.table.now) }
     requires small { most ≤ NO_WAY }
     ensures falls { OnOk result (LabelsFall labels.old labels.new) }
     ensures least { IfOk result (λ least. least ≤ most) }
-    ensures passed { IfOk result (IsPassed query.entry.table.now query.entry.request.now
+    ensures passed { IfOk result (IsLinkOffered query.entry.table.now query.entry.request.now
         turn.entry.links.now turn.entry.rank turn.entry.goal at place reverse
         labels.new.ranks.items) }
 {
@@ -80,13 +80,13 @@ fn pass(
 /// rank found so far of a way from the head-end to the tail-end. Before the call it is `most`.
 /// `beyond` is the least rank that waits in the other search, whose labels are `others`.
 fn look_ahead(
-    query: Query<'_>,
+    query: LocatedRequest<'_>,
     place: usize,
     turn: Turn<'_>,
     most: u64,
     labels: &mut Labels,
 ) -> Result<u64, AllocError>
-    requires query { IsQuery query }
+    requires query { IsLocatedRequest query }
     requires small { most ≤ NO_WAY }
     requires within { place < length (router_list query.table.now) }
     requires links { turn.links.now ≡ links_from_index query.table.now place }
@@ -94,7 +94,7 @@ fn look_ahead(
     ensures falls { OnOk result (LabelsFall labels.old labels.new) }
     ensures least { IfOk result (λ least. least ≤ most) }
     ensures passed { IfOk result (λ least.
-        ArePassed (Leads query.entry.table.now query.entry.request.now)
+        AreStepsPassed (Leads query.entry.table.now query.entry.request.now)
         labels.new.ranks.items least turn.entry.rank place) }
 {
     let ends = query.table.ends_at(place);
@@ -110,13 +110,13 @@ fn look_ahead(
 /// the links from this router. Returns the least rank found so far of a way from the head-end to
 /// the tail-end. Before the call it is `most`.
 fn look_back(
-    query: Query<'_>,
+    query: LocatedRequest<'_>,
     place: usize,
     turn: Turn<'_>,
     most: u64,
     labels: &mut Labels,
 ) -> Result<u64, AllocError>
-    requires query { IsQuery query }
+    requires query { IsLocatedRequest query }
     requires small { most ≤ NO_WAY }
     requires within { place < length (router_list query.table.now) }
     requires links { turn.links.now ≡ links_of query.table.now }
@@ -124,7 +124,7 @@ fn look_back(
     ensures falls { OnOk result (LabelsFall labels.old labels.new) }
     ensures least { IfOk result (λ least. least ≤ most) }
     ensures passed { IfOk result (λ least.
-        ArePassed (LeadsBack query.entry.table.now query.entry.request.now)
+        AreStepsPassed (LeadsBack query.entry.table.now query.entry.request.now)
         labels.new.ranks.items least turn.entry.rank place) }
 {
     let ends = query.table.ends_at(place);
@@ -149,18 +149,18 @@ fn look_back(
 /// least rank found so far of a way from the head-end to the tail-end. Before the call it is
 /// `most`. `beyond` is the least rank that waits in the other search, whose labels are `others`.
 pub(crate) fn turn_ahead(
-    query: Query<'_>,
+    query: LocatedRequest<'_>,
     beyond: u64,
     most: u64,
     others: &Labels,
     labels: &mut Labels,
 ) -> Result<u64, AllocError>
-    requires query { IsQuery query }
+    requires query { IsLocatedRequest query }
     requires low { beyond < 2 ^ 54 }
     requires small { most ≤ NO_WAY }
-    requires looked { AreLooked (Leads query.table.now query.request.now) labels.old most }
+    requires looked { AreLookedAt (Leads query.table.now query.request.now) labels.old most }
     ensures least { IfOk result (λ least. least ≤ most) }
-    ensures looked { IfOk result (AreLooked
+    ensures looked { IfOk result (AreLookedAt
         (Leads query.entry.table.now query.entry.request.now) labels.new) }
     ensures lower { OnOk result ((v : ℕ)
         → rank_at labels.new.ranks.items v ≤ rank_at labels.old.ranks.items v) }
@@ -187,18 +187,18 @@ pub(crate) fn turn_ahead(
 /// least rank found so far of a way from the head-end to the tail-end. Before the call it is
 /// `most`. `beyond` is the least rank that waits in the other search, whose labels are `others`.
 pub(crate) fn turn_back(
-    query: Query<'_>,
+    query: LocatedRequest<'_>,
     beyond: u64,
     most: u64,
     others: &Labels,
     labels: &mut Labels,
 ) -> Result<u64, AllocError>
-    requires query { IsQuery query }
+    requires query { IsLocatedRequest query }
     requires low { beyond < 2 ^ 54 }
     requires small { most ≤ NO_WAY }
-    requires looked { AreLooked (LeadsBack query.table.now query.request.now) labels.old most }
+    requires looked { AreLookedAt (LeadsBack query.table.now query.request.now) labels.old most }
     ensures least { IfOk result (λ least. least ≤ most) }
-    ensures looked { IfOk result (AreLooked
+    ensures looked { IfOk result (AreLookedAt
         (LeadsBack query.entry.table.now query.entry.request.now) labels.new) }
     ensures lower { OnOk result ((v : ℕ)
         → rank_at labels.new.ranks.items v ≤ rank_at labels.old.ranks.items v) }

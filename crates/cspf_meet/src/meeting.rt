@@ -5,8 +5,8 @@ ghost use Rattle.cspf_meet.specs.declared.limits.TheConstants.{NO_WAY};
 
 use crate::labels::Labels;
 use crate::limits::{FEW, MOST_TURNS, NO_WAY};
+use crate::located_request::LocatedRequest;
 use crate::look::{turn_ahead, turn_back};
-use crate::query::Query;
 use std::alloc::{AllocError, Global};
 
 /// The state of the two searches.
@@ -24,11 +24,11 @@ pub(crate) struct Meeting {
 impl Meeting {
     ghost use Rattle.std.specs.Prelude.{◌<◌, ◌^◌, IfOk, OnOk};
     ghost use Rattle.cspf_meet.specs.Meetings.{IsMeeting};
-    ghost use Rattle.cspf_meet.specs.Ways.{IsQuery};
+    ghost use Rattle.cspf_meet.specs.Ways.{IsLocatedRequest};
 
     /// The state before any link is looked at. Only the two ends wait.
-    pub(crate) fn begin(alloc: Global, query: Query<'_>) -> Result<Meeting, AllocError>
-        requires { IsQuery query }
+    pub(crate) fn begin(alloc: Global, query: LocatedRequest<'_>) -> Result<Meeting, AllocError>
+        requires { IsLocatedRequest query }
         ensures { IfOk result (IsMeeting query.entry) }
     {
         Ok(Meeting {
@@ -41,8 +41,8 @@ impl Meeting {
     /// Looks at one router, in the search with fewer waiting routers. If only a few routers wait in
     /// the search from the tail-end, this search goes on. `ahead` and `back` are the least ranks that
     /// wait in the two searches.
-    fn turn(&mut self, query: Query<'_>, ahead: u64, back: u64) -> Result<(), AllocError>
-        requires query { IsQuery query }
+    fn turn(&mut self, query: LocatedRequest<'_>, ahead: u64, back: u64) -> Result<(), AllocError>
+        requires query { IsLocatedRequest query }
         requires ahead { ahead < 2 ^ 54 }
         requires back { back < 2 ^ 54 }
         requires meeting { IsMeeting query self.old }
@@ -58,8 +58,8 @@ impl Meeting {
     }
 
     /// Goes on until no way of a lower rank can be found, or for `MOST_TURNS` routers.
-    pub(crate) fn meet(&mut self, query: Query<'_>) -> Result<(), AllocError>
-        requires query { IsQuery query }
+    pub(crate) fn meet(&mut self, query: LocatedRequest<'_>) -> Result<(), AllocError>
+        requires query { IsLocatedRequest query }
         requires meeting { IsMeeting query self.old }
         ensures { OnOk result (IsMeeting query.entry self.new) }
     {

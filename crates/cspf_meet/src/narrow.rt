@@ -4,15 +4,15 @@ ghost use Rattle.std.specs.Prelude.{◌≡◌, ◌≢◌, ◌+◌, ◌<◌, ◌�
 ghost use Rattle.cspf_columns.specs.declared.limits.TheConstants.{NO_LINK};
 ghost use Rattle.cspf_model.specs.declared.limits.TheConstants.{MOST_ROUTERS};
 ghost use Rattle.cspf_db.specs.Index.{links_of, router_list};
-ghost use Rattle.cspf_meet.specs.Corridors.{AreNarrowed, ArePast, CorridorFalls, IsCorridor, IsLinkNarrowed};
+ghost use Rattle.cspf_meet.specs.Corridors.{AreNarrowed, NoneNeedsLook, CorridorFalls, IsCorridor, IsLinkNarrowed};
 ghost use Rattle.cspf_meet.specs.Labels.{rank_at};
-ghost use Rattle.cspf_meet.specs.Ways.{IsQuery};
+ghost use Rattle.cspf_meet.specs.Ways.{IsLocatedRequest};
 
 use crate::bounds::HeadBounds;
 use crate::corridor::Corridor;
 use crate::limits::MOST_TURNS;
+use crate::located_request::LocatedRequest;
 use crate::look::{may_reach, step};
-use crate::query::Query;
 use cspf_db::NO_LINK;
 use cspf_graph::accepts;
 use std::alloc::AllocError;
@@ -23,14 +23,14 @@ use std::alloc::AllocError;
 /// request may use the link, the router gets this rank and waits. If `reverse` is `NO_LINK`,
 /// nothing changes.
 fn pass(
-    query: Query<'_>,
+    query: LocatedRequest<'_>,
     head: HeadBounds<'_>,
     place: u16,
     reverse: u16,
     base: u64,
     corridor: &mut Corridor,
 ) -> Result<(), AllocError>
-    requires query { IsQuery query }
+    requires query { IsLocatedRequest query }
     requires place { place < length (router_list query.table.now) }
     requires within { reverse ≢ NO_LINK → reverse < length (links_of query.table.now) }
     requires base { base ≤ head.most }
@@ -60,13 +60,13 @@ fn pass(
 /// Looks at the links to the router at the index `place`, whose rank is `base`, and finds these
 /// links as the reverses of the links from this router.
 fn look(
-    query: Query<'_>,
+    query: LocatedRequest<'_>,
     head: HeadBounds<'_>,
     place: usize,
     base: u64,
     corridor: &mut Corridor,
 ) -> Result<(), AllocError>
-    requires query { IsQuery query }
+    requires query { IsLocatedRequest query }
     requires within { place < length (router_list query.table.now) }
     requires base { base ≤ head.most }
     ensures falls { OnOk result (CorridorFalls corridor.old corridor.new) }
@@ -82,13 +82,17 @@ fn look(
 }
 
 /// Looks at the first router that waits in the corridor. Returns whether no router waits.
-fn turn(query: Query<'_>, head: HeadBounds<'_>, corridor: &mut Corridor) -> Result<bool, AllocError>
-    requires query { IsQuery query }
+fn turn(
+    query: LocatedRequest<'_>,
+    head: HeadBounds<'_>,
+    corridor: &mut Corridor,
+) -> Result<bool, AllocError>
+    requires query { IsLocatedRequest query }
     requires corridor { IsCorridor query.table.now query.request.now head corridor.old }
     ensures corridor { OnOk result (IsCorridor query.entry.table.now query.entry.request.now
         head.entry corridor.new) }
     ensures past { IfOk result (λ done. done ≡ true
-        → ArePast query.entry.table.now query.entry.request.now head.entry corridor.new.near.items) }
+        → NoneNeedsLook query.entry.table.now query.entry.request.now head.entry corridor.new.near.items) }
     ensures lower { OnOk result ((v : ℕ)
         → rank_at corridor.new.near.items v ≤ rank_at corridor.old.near.items v) }
 {
@@ -107,14 +111,14 @@ fn turn(query: Query<'_>, head: HeadBounds<'_>, corridor: &mut Corridor) -> Resu
 /// Looks at routers of the corridor until no router waits, or `MOST_TURNS` times. Returns whether
 /// no router waits.
 pub(crate) fn narrow(
-    query: Query<'_>,
+    query: LocatedRequest<'_>,
     head: HeadBounds<'_>,
     corridor: &mut Corridor,
 ) -> Result<bool, AllocError>
-    requires query { IsQuery query }
+    requires query { IsLocatedRequest query }
     requires corridor { IsCorridor query.table.now query.request.now head corridor.old }
     ensures past { IfOk result (λ done. done ≡ true
-        → ArePast query.entry.table.now query.entry.request.now head.entry corridor.new.near.items) }
+        → NoneNeedsLook query.entry.table.now query.entry.request.now head.entry corridor.new.near.items) }
     ensures lower { OnOk result ((v : ℕ)
         → rank_at corridor.new.near.items v ≤ rank_at corridor.old.near.items v) }
 {

@@ -8,18 +8,18 @@ ghost use Rattle.cspf_model.specs.Outcome.{answer_of};
 ghost use Rattle.cspf_model.specs.Routes.{IsRoute};
 ghost use Rattle.cspf_meet.specs.declared.limits.TheConstants.{NO_WAY};
 ghost use Rattle.cspf_meet.specs.Labels.{rank_at};
-ghost use Rattle.cspf_meet.specs.Looks.{IsDone};
+ghost use Rattle.cspf_meet.specs.Looks.{HasNoneWaiting};
 ghost use Rattle.cspf_meet.specs.Meetings.{IsMeeting};
-ghost use Rattle.cspf_meet.specs.Ways.{IsQuery};
+ghost use Rattle.cspf_meet.specs.Ways.{IsLocatedRequest};
 
 use crate::bounds::RankBounds;
 use crate::corridor::Corridor;
 use crate::edge::head_bounds;
 use crate::labels::Labels;
 use crate::limits::NO_WAY;
+use crate::located_request::LocatedRequest;
 use crate::meeting::Meeting;
 use crate::narrow::narrow;
-use crate::query::Query;
 use crate::walk::follow;
 use cspf_db::Table;
 use cspf_graph::listed;
@@ -30,7 +30,7 @@ use std::alloc::{AllocError, Global};
 /// isn't one of them.
 fn is_cut(labels: &Labels, end: usize) -> bool
     requires { end < MOST_ROUTERS }
-    ensures done { result ≡ true → IsDone labels.now }
+    ensures done { result ≡ true → HasNoneWaiting labels.now }
     ensures end { result ≡ true → rank_at labels.now.ranks.items end ≡ NO_WAY }
 {
     labels.is_done() && labels.ranks[end] == NO_WAY
@@ -38,8 +38,8 @@ fn is_cut(labels: &Labels, end: usize) -> bool
 
 /// Whether no way leads from the head-end to the tail-end, since one of the two searches has found
 /// all routers that it can reach, and the other end isn't one of them.
-fn is_apart(query: Query<'_>, meeting: &Meeting) -> bool
-    requires query { IsQuery query }
+fn is_apart(query: LocatedRequest<'_>, meeting: &Meeting) -> bool
+    requires query { IsLocatedRequest query }
     requires meeting { IsMeeting query meeting.now }
     ensures { result ≡ true → (route : List Linked)
         → ¬ IsRoute query.entry.table.now query.entry.request.now route }
@@ -56,8 +56,12 @@ fn is_apart(query: Query<'_>, meeting: &Meeting) -> bool
 }
 
 /// The least route, if it follows from what the two searches and the search in the corridor find.
-fn route_of(alloc: Global, query: Query<'_>, meeting: Meeting) -> Result<Option<Route>, AllocError>
-    requires query { IsQuery query }
+fn route_of(
+    alloc: Global,
+    query: LocatedRequest<'_>,
+    meeting: Meeting,
+) -> Result<Option<Route>, AllocError>
+    requires query { IsLocatedRequest query }
     requires meeting { IsMeeting query meeting }
     ensures { IfOk result (λ found. IfSome found
         (IsBestRoute query.entry.table.now query.entry.request.now)) }
@@ -76,8 +80,8 @@ fn route_of(alloc: Global, query: Query<'_>, meeting: Meeting) -> Result<Option<
 }
 
 /// The best outcome, if it follows from what the searches find.
-fn answer(alloc: Global, query: Query<'_>) -> Result<Option<Outcome>, AllocError>
-    requires query { IsQuery query }
+fn answer(alloc: Global, query: LocatedRequest<'_>) -> Result<Option<Outcome>, AllocError>
+    requires query { IsLocatedRequest query }
     requires ends { HasEnds query.table.now query.request.now }
     ensures { IfOk result (λ found. IfSome found (λ outcome.
         IsBestAnswer query.entry.table.now query.entry.request.now (answer_of outcome))) }
@@ -114,7 +118,7 @@ pub fn best_from_both_ends(
     let Some(to) = table.place_of(request.to) else {
         return Ok(Some(Outcome::UnknownTo));
     };
-    let query = Query {
+    let query = LocatedRequest {
         table,
         request,
         from,

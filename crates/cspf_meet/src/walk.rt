@@ -11,13 +11,13 @@ ghost use Rattle.cspf_model.specs.declared.limits.TheConstants.{MOST_ROUTERS};
 ghost use Rattle.cspf_model.specs.Best.{IsBestRoute};
 ghost use Rattle.cspf_db.specs.Index.{router_list};
 ghost use Rattle.cspf_meet.specs.Bounds.{IsRankBound, rank_bound};
-ghost use Rattle.cspf_meet.specs.TightWalks.{IsEdge, IsNextTight, IsTight};
-ghost use Rattle.cspf_meet.specs.Ways.{IsQuery};
+ghost use Rattle.cspf_meet.specs.TightWalks.{IsLinkRow, IsNextTightBy, IsTightBy};
+ghost use Rattle.cspf_meet.specs.Ways.{IsLocatedRequest};
 
 use crate::bounds::RankBounds;
 use crate::limits::{COST_WEIGHT, ROOM_FOR_LINKS};
+use crate::located_request::LocatedRequest;
 use crate::look::{may_reach, step};
-use crate::query::Query;
 use cspf_db::NO_LINK;
 use cspf_graph::accepts;
 use cspf_model::{Link, Route, route_without_hops};
@@ -25,7 +25,7 @@ use std::alloc::{AllocError, Global};
 
 /// A link, with the index of the router that it leads to and the index of its reverse.
 #[derive(Clone, Copy)]
-pub(crate) struct Edge<'a> {
+pub(crate) struct LinkRow<'a> {
     /// The index of the link among the links from the same router.
     pub(crate) row: usize,
     /// The link.
@@ -39,17 +39,17 @@ pub(crate) struct Edge<'a> {
 /// Whether a link from the router at the index `place` is tight for the request. The bound of this
 /// router is `left`.
 fn is_tight(
-    query: Query<'_>,
+    query: LocatedRequest<'_>,
     bounds: RankBounds<'_>,
     place: usize,
     left: u64,
-    edge: Edge<'_>,
+    edge: LinkRow<'_>,
 ) -> bool
-    requires query { IsQuery query }
+    requires query { IsLocatedRequest query }
     requires within { place < length (router_list query.table.now) }
     requires left { left ≡ rank_bound bounds place }
-    requires edge { IsEdge query.table.now place edge }
-    ensures { IsTrue result ↔ IsTight query.entry.table.now query.entry.request.now
+    requires edge { IsLinkRow query.table.now place edge }
+    ensures { IsTrue result ↔ IsTightBy query.entry.table.now query.entry.request.now
         (rank_bound bounds.entry) place edge.entry.link.now }
 {
     if step(edge.link) + bounds.bound(edge.end) != left || edge.reverse == NO_LINK {
@@ -59,10 +59,14 @@ fn is_tight(
 }
 
 /// The first tight link from the router at the index `place`, if there is one.
-fn tight_from<'a>(query: Query<'a>, bounds: RankBounds<'_>, place: usize) -> Option<Edge<'a>>
-    requires query { IsQuery query }
+fn tight_from<'a>(
+    query: LocatedRequest<'a>,
+    bounds: RankBounds<'_>,
+    place: usize,
+) -> Option<LinkRow<'a>>
+    requires query { IsLocatedRequest query }
     requires within { place < length (router_list query.table.now) }
-    ensures { IfSome result (IsNextTight query.entry.table.now query.entry.request.now
+    ensures { IfSome result (IsNextTightBy query.entry.table.now query.entry.request.now
         (rank_bound bounds.entry) place) }
 {
     let left = bounds.bound(place);
@@ -73,7 +77,7 @@ fn tight_from<'a>(query: Query<'a>, bounds: RankBounds<'_>, place: usize) -> Opt
         let link = &links[row];
         let end = ends[row];
         let reverse = reverses[row];
-        let edge = Edge {
+        let edge = LinkRow {
             row,
             link,
             end: usize::from(end),
@@ -90,10 +94,10 @@ fn tight_from<'a>(query: Query<'a>, bounds: RankBounds<'_>, place: usize) -> Opt
 /// result is `None` if these links don't lead to the tail-end.
 pub(crate) fn follow(
     alloc: Global,
-    query: Query<'_>,
+    query: LocatedRequest<'_>,
     bounds: RankBounds<'_>,
 ) -> Result<Option<Route>, AllocError>
-    requires query { IsQuery query }
+    requires query { IsLocatedRequest query }
     requires bounds { IsRankBound query.table.now query.request.now (rank_bound bounds) }
     ensures { IfOk result (λ found. IfSome found
         (IsBestRoute query.entry.table.now query.entry.request.now)) }

@@ -1,7 +1,7 @@
 //! Answers many requests in one database. `Trees` keep a tree for each pair of a tail-end and
-//! affinities that is requested often. If a tree is kept for a request, `best_by_tree` of
-//! `cspf_search` answers the request. Each answer meets the contract of `best`, whichever trees are
-//! kept.
+//! affinities that is requested often. If a tree is kept for a request, a walk by the tree may answer
+//! the request. The search from both ends of `cspf_meet` answers other requests without hops. Each
+//! answer meets the contract of `best`, whichever trees are kept.
 //!
 //! If all hops of a request are loose, and the prefix of each hop has only one owner, the legs are
 //! answered one after the other. The owner of a prefix is kept for later hops with the same prefix.
@@ -16,6 +16,7 @@ mod legs;
 mod limits;
 mod owner_row;
 mod owners;
+mod searches;
 mod tree_row;
 mod tree_table;
 mod trees;

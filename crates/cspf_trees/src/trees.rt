@@ -7,11 +7,11 @@ use crate::class::{class_of, first_row};
 use crate::laws::trees_outlast_bandwidth;
 use crate::limits::{ASKS_FOR_A_TREE, MOST_ASKS, MOST_TREES};
 use crate::owners::Owners;
+use crate::searches::{best_with_tree, best_without_tree};
 use crate::tree_row::{TreeRow, ask, empty_rows, find, trees_of};
 use cspf_addr::{Addr, Prefix};
 use cspf_db::Table;
 use cspf_model::{Batch, Outcome, Request};
-use cspf_search::{best, best_by_tree};
 use std::alloc::{AllocError, Global};
 
 /// Trees of one database. There are at most `MOST_TREES` trees, and no more than the limit that was
@@ -185,11 +185,11 @@ impl Trees {
             IsBestAnswer table.now request.now (answer_of outcome)) }
     {
         let Some(at) = self.ask_row(alloc, table, request) else {
-            return best(alloc, table, request);
+            return best_without_tree(alloc, table, request);
         };
         match &self.rows[at].tree {
-            Some(tree) => best_by_tree(alloc, table, request, tree),
-            None => best(alloc, table, request),
+            Some(tree) => best_with_tree(alloc, table, request, tree),
+            None => best_without_tree(alloc, table, request),
         }
     }
 

@@ -1,7 +1,7 @@
 use Rattle.std.proofs.Common.{List, length, slice_get, slice_index, sym, ap, subst, ◌∙◌, arith, below_more}
 use Rattle.cspf_model.specs.declared.link.Link.{Link}
 use Rattle.cspf_meet.specs.Labels.{IsWaiting, rank_at}
-use Rattle.cspf_meet.specs.Looks.{IsPassed, IsStepPassed, MayReach}
+use Rattle.cspf_meet.specs.Looks.{IsLinkOffered, IsStepPassed, MayReach}
 use Rattle.cspf_meet.proofs.Falling.{falls_on, passed_still}
 use Rattle.cspf_meet.proofs.Looked.{reverse_within, steps_back}
 use Rattle.cspf_meet.proofs.look.look_back.Goals as goal
@@ -25,12 +25,12 @@ loop-row-preserved c =
           before.falls said.falls;
       least = omega (arith, before.least, said.least);
       passed =
-          below_more (λ k. IsPassed c.args.query.table.now c.args.query.request.now c.args.turn.links.now c.args.turn.rank c.args.turn.goal (slice_index c.reverses_at-reverses.result.now k) (slice_index c.ends_at-ends.result.now k)
+          below_more (λ k. IsLinkOffered c.args.query.table.now c.args.query.request.now c.args.turn.links.now c.args.turn.rank c.args.turn.goal (slice_index c.reverses_at-reverses.result.now k) (slice_index c.ends_at-ends.result.now k)
           (slice_index c.reverses_at-reverses.result.now k) c.pass.new.labels.ranks.items c.in_ok-least.least) c.loop-row.row
           (λ k low l here some admitted reach.
           passed_still (rank_at c.loop-row.labels.ranks.items (slice_index c.ends_at-ends.result.now k)) (rank_at c.pass.new.labels.ranks.items (slice_index c.ends_at-ends.result.now k)) c.loop-row.least
           c.in_ok-least.least c.args.turn.rank _ (said.falls.lower (slice_index c.ends_at-ends.result.now k)) said.least (before.passed k low l here some admitted reach))
-          (subst (λ at. IsPassed c.args.query.table.now c.args.query.request.now c.args.turn.links.now c.args.turn.rank c.args.turn.goal at (slice_index c.ends_at-ends.result.now c.loop-row.row) (slice_index c.reverses_at-reverses.result.now c.loop-row.row) c.pass.new.labels.ranks.items c.in_ok-least.least) c.from.ensures said.passed);
+          (subst (λ at. IsLinkOffered c.args.query.table.now c.args.query.request.now c.args.turn.links.now c.args.turn.rank c.args.turn.goal at (slice_index c.ends_at-ends.result.now c.loop-row.row) (slice_index c.reverses_at-reverses.result.now c.loop-row.row) c.pass.new.labels.ranks.items c.in_ok-least.least) c.from.ensures said.passed);
     }
 
 pub pass-requires-clause-within : goal.pass-requires-clause-within

@@ -1,6 +1,6 @@
 use Rattle.std.proofs.Common.{length, ap, subst, arith}
 use Rattle.cspf_meet.specs.Labels.{IsWaiting}
-use Rattle.cspf_meet.specs.Looks.{ArePassed}
+use Rattle.cspf_meet.specs.Looks.{AreStepsPassed}
 use Rattle.cspf_meet.specs.Ways.{LeadsBack}
 use Rattle.cspf_meet.proofs.Falling.{falls_none, looked_on, looked_same}
 use Rattle.cspf_meet.proofs.look.turn_back.Goals as goal
@@ -19,4 +19,4 @@ pub returns-clause-looked : goal.returns-clause-looked
 returns-clause-looked c =
     looked_on (LeadsBack c.args.query.table.now c.args.query.request.now) c.args.labels.now c.next.new.self c.look_back.new.labels _ _ c.args.most c.in_ok-least.least c.next.ensures.ranks c.in-Some.ensures.next
     c.in_ok-least.ensures.falls c.in_ok-least.ensures.least
-    (subst (ArePassed (LeadsBack c.args.query.table.now c.args.query.request.now) c.look_back.new.labels.ranks.items c.in_ok-least.least c.in-Some.rank) c.from-place.ensures c.in_ok-least.ensures.passed) c.requires.looked
+    (subst (AreStepsPassed (LeadsBack c.args.query.table.now c.args.query.request.now) c.look_back.new.labels.ranks.items c.in_ok-least.least c.in-Some.rank) c.from-place.ensures c.in_ok-least.ensures.passed) c.requires.looked

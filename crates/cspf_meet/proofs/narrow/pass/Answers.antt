@@ -2,7 +2,7 @@ use Rattle.std.proofs.Common.{inl, sym, ap, subst, ◌∙◌, arith}
 use Rattle.std.proofs.lemmas.Bool.{false≢true}
 use Rattle.cspf_model.specs.Admissible.{IsAdmitted}
 use Rattle.cspf_meet.specs.Looks.{MayReach}
-use Rattle.cspf_meet.specs.Ways.{step_of}
+use Rattle.cspf_meet.specs.Ways.{link_step}
 use Rattle.cspf_meet.proofs.Looked.{link_read}
 use Rattle.cspf_meet.proofs.narrow.pass.Goals as goal
 
@@ -18,4 +18,4 @@ returns-then-not-may_reach-clause-passed c l here some admitted reach =
 pub returns-clause-passed : goal.returns-clause-passed
 returns-clause-passed c l here some admitted reach =
     let same = link_read _ _ _ _ c.index-links-from.result l c.index-links-from.is c.links.ensures.sorted c.from.ensures here in
-    inl (omega (arith, c.in_ok-lower.ensures.rank, ap step_of same, c.step.ensures.value))
+    inl (omega (arith, c.in_ok-lower.ensures.rank, ap link_step same, c.step.ensures.value))

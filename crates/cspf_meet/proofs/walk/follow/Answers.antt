@@ -2,7 +2,7 @@ use Rattle.std.proofs.Common.{◌≡◌, List, [], ◌∷◌, ◌++◌, length, 
 use Rattle.std.proofs.lemmas.List.{length_push}
 use Rattle.cspf_model.specs.declared.link.Link.{Link}
 use Rattle.cspf_meet.specs.Bounds.{rank_bound}
-use Rattle.cspf_meet.specs.TightWalks.{IsTightWalk}
+use Rattle.cspf_meet.specs.TightWalks.{IsTightWalkBy}
 use Rattle.cspf_meet.proofs.LinkRows.{no_elements}
 use Rattle.cspf_meet.proofs.TightWalks.{known_at, tight_best, tight_more, tight_none}
 use Rattle.cspf_meet.proofs.walk.follow.Goals as goal
@@ -38,7 +38,7 @@ returns-then-place-query c =
     let d = c.args.query.table.now in
     let q = c.args.query.request.now in
     let there =
-    subst (λ p. IsTightWalk c.args.query.table.now c.args.query.request.now (rank_bound c.args.bounds) c.args.query.from c.loop-taken.links.items p) c.if-place-query.true c.loop-taken.invariant.walk in
+    subst (λ p. IsTightWalkBy c.args.query.table.now c.args.query.request.now (rank_bound c.args.bounds) c.args.query.from c.loop-taken.links.items p) c.if-place-query.true c.loop-taken.invariant.walk in
     let same : c.in_ok-kept.kept.items ≡ c.loop-taken.links.items = c.in_ok-kept.ensures.items ∙ c.as_slice.ensures.value in
     rw (c.new.ensures, same)
     (tight_best d q (rank_bound c.args.bounds) c.requires.query.listed c.requires.bounds c.route_without_hops.ensures (no_elements q.hops c.requires.query.hops) c.args.query.from c.requires.query.from

@@ -3,7 +3,7 @@ use Rattle.std.proofs.lemmas.Bool.{cases_lt, false≢true}
 use Rattle.std.proofs.lemmas.Option.{same_Some}
 use Rattle.cspf_db.specs.Index.{links_from_index}
 use Rattle.cspf_meet.specs.Bounds.{rank_bound}
-use Rattle.cspf_meet.specs.TightWalks.{IsTight}
+use Rattle.cspf_meet.specs.TightWalks.{IsTightBy}
 use Rattle.cspf_meet.proofs.LinkRows.{beside_row}
 use Rattle.cspf_meet.proofs.walk.tight_from.Goals as goal
 
@@ -32,5 +32,5 @@ loop-row-preserved c row l lt here tight =
           let at : row ≡ c.loop-row.row = omega (arith, lt, ge) in
           let same : l ≡ c.index-links-row.result =
           same_Some l c.index-links-row.result (sym here ∙ ap (slice_get (links_from_index c.args.query.table.now c.args.place)) at ∙ x.0) in
-          absurd (false≢true (c.if-is_tight.ensures.1 (subst (IsTight c.args.query.table.now c.args.query.request.now (rank_bound c.args.bounds) c.args.place) same tight)))
+          absurd (false≢true (c.if-is_tight.ensures.1 (subst (IsTightBy c.args.query.table.now c.args.query.request.now (rank_bound c.args.bounds) c.args.place) same tight)))
     ]

@@ -2,7 +2,7 @@ use Rattle.std.proofs.Common.{◌≡◌, ◌≤◌, ◌+◌, ◌*◌, ◌<◌, i
 use Rattle.std.specs.declared.cmp.Reverse.{Reverse}
 use Rattle.std.proofs.lemmas.List.{get_or-set_same}
 use Rattle.std.proofs.lemmas.List.Elements.{Contains-append_left, Contains-push}
-use Rattle.cspf_meet.specs.Labels.{IsWaiting, key_of, rank_at}
+use Rattle.cspf_meet.specs.Labels.{IsWaiting, waiting_key, rank_at}
 use Rattle.cspf_meet.proofs.Waiting.{falls_at, key_there, keys_there}
 use Rattle.cspf_meet.proofs.labels.Labels.lower.Goals as goal
 
@@ -19,7 +19,7 @@ returns-in_ok-push-clause-falls c =
     falls_at ranks (set ranks at c.args.rank) (IsWaiting c.args.self.now) _ at c.args.rank within refl less
     (inl (subst (Contains (heap_items c.push.new.self)) is (key_there _ _ _ moved)))
     (λ v ne kept before. elim before [
-      | inl key ↦ inl (subst (λ r. Contains (heap_items c.push.new.self) (key_of r v)) (sym kept) (keys_there _ _ _ moved _ key))
+      | inl key ↦ inl (subst (λ r. Contains (heap_items c.push.new.self) (waiting_key r v)) (sym kept) (keys_there _ _ _ moved _ key))
       | inr skipped ↦ inr skipped
     ])
 
@@ -33,6 +33,6 @@ returns-in_ok-push-2-clause-falls c =
     falls_at ranks (set ranks at c.args.rank) (IsWaiting c.args.self.now) _ at c.args.rank within refl less
     (inr (rw items (subst (Contains _) (sym c.from.ensures) (Contains-push c.args.self.now.skipped.items c.args.place))))
     (λ v ne kept before. elim before [
-      | inl key ↦ inl (subst (λ r. Contains (heap_items c.args.self.now.heap) (key_of r v)) (sym kept) key)
+      | inl key ↦ inl (subst (λ r. Contains (heap_items c.args.self.now.heap) (waiting_key r v)) (sym kept) key)
       | inr skipped ↦ inr (rw items (Contains-append_left c.args.self.now.skipped.items _ v skipped))
     ])
