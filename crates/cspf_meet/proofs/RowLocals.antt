@@ -7,7 +7,7 @@ use Rattle.std.specs.FinMap.Entries.{below_all}
 use Rattle.std.proofs.lemmas.Bool.Decides.{nat_tests}
 use Rattle.std.proofs.lemmas.Option.{get_or_from_slice_get, slice_get_within}
 use Rattle.cspf_model.specs.declared.link.Link.{Link}
-use Rattle.cspf_model.specs.Database.{Database, Key, waiting_key, key_cmp, AreAtTheirKeys}
+use Rattle.cspf_model.specs.Database.{Database, Key, key_of, key_cmp, AreAtTheirKeys}
 use Rattle.cspf_model.specs.Lemmas.LinkRows.{entry_of, AreByKey}
 use Rattle.cspf_model.proofs.Databases.Keys.{key_itself, keys_same, keys_total}
 use Rattle.cspf_db.specs.Index.{links_of, links_from_index, router_list}
@@ -34,10 +34,10 @@ found_behind k l e es below found =
 
 -- A sorted list of keys and links is made from its links alone, if the key of each entry is the key
 -- of its link.
-entries_keyed : (es : List (Key × Link)) → T (is_sorted key_cmp es) → ((k : Key) (l : Link) → find key_cmp k es ≡ Some l → waiting_key l ≡ k) → es ≡ map entry_of (map (λ e. e.1) es)
+entries_keyed : (es : List (Key × Link)) → T (is_sorted key_cmp es) → ((k : Key) (l : Link) → find key_cmp k es ≡ Some l → key_of l ≡ k) → es ≡ map entry_of (map (λ e. e.1) es)
 entries_keyed [] sorted keyed = refl
 entries_keyed (e ∷ es) sorted keyed =
-    let head : waiting_key e.1 ≡ e.0 = keyed e.0 e.1 (ap (λ b. cond b (Some e.1) (find key_cmp e.0 es)) (key_itself e.0)) in
+    let head : key_of e.1 ≡ e.0 = keyed e.0 e.1 (ap (λ b. cond b (Some e.1) (find key_cmp e.0 es)) (key_itself e.0)) in
     let rest : es ≡ map entry_of (map (λ e. e.1) es) =
     entries_keyed es (both_second _ _ sorted) (λ k l found. keyed k l (found_behind k l e es (both_first _ _ sorted) found)) in
     λ i. (sym head i, e.1) ∷ rest i
@@ -60,5 +60,5 @@ locals_rise d keyed place i j l m here there less =
     let up = rises keys_total entry_of rows (test_from_true _ by_key) i j l less within in
     let first : slice_index_or (links_from_index d place) i l ≡ l = get_or_from_slice_get rows i l l here in
     let second : slice_index_or (links_from_index d place) j l ≡ m = get_or_from_slice_get rows j m l there in
-    let keys : key_cmp (waiting_key l) (waiting_key m) ≡ Less = subst (λ (n : Link). key_cmp (waiting_key l) (waiting_key n) ≡ Less) second (subst (λ (n : Link). key_cmp (waiting_key n) (waiting_key (slice_index_or rows j l)) ≡ Less) first up) in
+    let keys : key_cmp (key_of l) (key_of m) ≡ Less = subst (λ (n : Link). key_cmp (key_of l) (key_of n) ≡ Less) second (subst (λ (n : Link). key_cmp (key_of n) (key_of (slice_index_or rows j l)) ≡ Less) first up) in
     less_local l.from m.from l.local m.local (runs_from d place i l here ∙ sym (runs_from d place j m there)) keys
