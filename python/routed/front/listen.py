@@ -4,13 +4,23 @@ PLACE is the path of a UNIX socket, a port of 127.0.0.1, ADDRESS:PORT, or [ADDRE
 needs a slash. There is no sign-on: at a path its mode and its folder say who may connect, at a port everybody may who
 reaches it. With port 0 the system chooses one, and a line before `ready` has it, as `updates 127.0.0.1:43211`.
 
-A connection sends rows and reads their lines (docs/run/FORMATS.md). Where no place is free for it, it reads the line `busy`
-and its end. It may shut its sending side and read on, until it is answered to its last whole line; what no line feed
-ends is dropped, and so is a byte order mark at its beginning. A line of more than 65,536 bytes or with a quotation mark
-(no row needs one, and left open it would swallow the rows of others) ends it by the line `refused`, behind the lines of
-its earlier rows. Where updates come in, so does a line whose first field isn't put, drop, node, end or ask: an HTTP
-request publishes nothing. A connection that doesn't read keeps its place and delays nobody else. An asking connection
-that neither sends nor reads for the time of --idle is ended.
+A connection sends rows and reads their lines (docs/run/FORMATS.md). Where no place is free for it, it reads the line
+`busy` and its end. It may shut its sending side and read on, until it is answered to its last whole line; what no
+line feed ends is dropped, and so is a byte order mark at its beginning. A line of more than 65,536 bytes or with a
+quotation mark, which no row needs, ends it by the line `refused`, behind the lines of its earlier rows. Where updates
+come in, so does a line whose first field isn't put, drop, node, end or ask: an HTTP request publishes nothing. A
+connection that doesn't read keeps its place and delays nobody else. An asking connection that neither sends nor reads
+for the time of --idle is ended.
+
+With --direct there is a place for programs of this machine, at a path. On a connection to it comes one message, the
+line `direct 1`, and with it two open files (SCM_RIGHTS): the end of a pipe to which the program writes its rows, and
+the end of a pipe from which it reads their lines. This front passes nothing on then. A program ends its rows by
+shutting its sending side of the connection: it is answered to its last whole line, and reads the end of its lines. A
+line of more than 1,048,576 bytes or with a quotation mark ends the connection without a word. Once the connection has
+ended, both ends are of no use, whoever still has them. A byte order mark isn't skipped there. If anything is sent on
+the connection itself, it ends by the line `refused`. Direct connections count among --clients and --each, and read
+`busy` where no place is free. --idle ends none of them. `routed-tools ask`, `pcep` and `page` and the client for
+Python connect directly where the path of --direct is that of --ask with `.direct` behind it.
 
 Where updates come in, the line `snapshot` asks for the database as it is. Behind the lines of earlier rows come
 `version V`, with --run `run N`, the rows of `routed snapshot` on the journal, which are batches from 1 on, and
@@ -22,14 +32,16 @@ where updates come in, at the newest version. Nothing else is taken there: any o
 
 With --begin the batches of a file, as `routed snapshot` makes them, are published before any connection is taken.
 
-The server outlives connections: what one has published is there for the next, and N in `row N refused` counts rows of
-earlier ones and of this front too. Changes that a connection leaves open are dropped.
+The server outlives connections: what one has published is there for the next. N in `row N refused` counts the rows of a
+connection that asks; where updates come in it counts those of earlier connections and of this front, too. Changes that a
+connection leaves open are dropped.
 
-`ready` is printed once rows are taken, behind `run N` with --run, and standard error has what `routed serve --explain` says.
-SIGTERM or SIGINT ends the server and this front. The status is the server's (128 and the signal's number where one ended it), 2
-where a word of the command line is refused, 3 where a socket or the program can't be had, and after --renew. Where this front
-is killed the server ends by itself. The journal has whole batches then, and after a signal to the server maybe a beginning of
-one more.
+`ready` is printed once rows are taken, behind `run N` with --run, and standard error has what `routed serve
+--explain` says. SIGTERM or SIGINT ends the server and this front. The status is the server's (128 and the signal's
+number where one ended it), 2 where a word of the command line is refused, 3 where a socket or the program can't be
+had, and after --renew. Where this front is killed the server ends by itself, once programs that are connected
+directly have closed their ends. The journal has whole batches then, and after a signal to the server maybe a
+beginning of one more.
 
 A unit of systemd may have Type=notify and WatchdogSec=. That of the package is started by
 `systemctl enable --now routed-serve` (docs/run/OPERATORS.md).
@@ -261,7 +273,7 @@ def main(given: list[str] | None = None) -> int:
     words.add_argument("--ask-mode", type=mode, metavar="MODE", help="those of the socket where clients ask (that of --mode)")
     words.add_argument("--updates-mode", type=mode, metavar="MODE", help="those of the socket where updates come in (that of --mode)")
     words.add_argument("--each", type=int, choices=range(0, 65), default=0, metavar="N",
-                       help="how many asking connections one user has at once at a path, or one address at a port, 0 for any number (0)")
+                       help="how many asking connections one user has at once at paths, or one address at a port, 0 for any number (0)")
     words.add_argument("--direct", type=Endpoint, metavar="PLACE", help="where clients of this machine get the ends of their own pipes")
     words.add_argument("--direct-mode", type=mode, metavar="MODE", help="that of the socket of --direct (that of --ask-mode)")
     words.add_argument("--watch", type=Endpoint, metavar="PLACE", help="where the line of each version is read")
@@ -269,8 +281,9 @@ def main(given: list[str] | None = None) -> int:
     words.add_argument("--show-mode", type=mode, metavar="MODE", help="that of the socket of --show (that of --ask-mode)")
     words.add_argument("--metrics", type=Endpoint, metavar="PLACE", help="where figures are read, by HTTP at /metrics")
     words.add_argument("--log-level", choices=LEVELS, default="warning", help="which lines of the log are written (warning)")
-    words.add_argument("--idle", type=seconds, metavar="SECONDS", help=f"after which an idle asking connection is ended, 0 for never "
-                                                                      f"({IDLE} at a port, never at a path)")
+    words.add_argument("--idle", type=seconds, metavar="SECONDS",
+                       help=f"after which an idle connection at the place of --ask is ended, 0 for never ({IDLE} at a port, never at a "
+                            "path); direct ones never are")
     program.add_option(words)
     options = words.parse_args(given)
     if options.direct and not options.direct.path:
