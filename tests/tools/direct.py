@@ -16,7 +16,7 @@ from program.serving import BATCHES, PATIENCE, ROUTERS, batches_of
 from reference import changes
 from reference.versions import Versions
 from tools.directed import IDS, PROGRAMS, ROW, Busy, Direct, Judge, files_of, fronted, run, soon
-from tools.flooded import TOGETHER, beside, floods, marked
+from tools.flooded import TOGETHER, beside, counted, floods, lineless, marked
 from tools.fronts import Connection, Front
 from tools.reading import PAIR, eventually, figures_of
 
@@ -35,7 +35,7 @@ def direct(program, checks):
     asks = [f"ask,{at},10.0.0.{at},10.0.0.{(at * 5 + 1) % ROUTERS},{at % 8},{draw.choice([0, 5])},0x0,0x0,0x0," for at in range(ROUTERS)]
     versions = Versions(updates, asks)
     with tempfile.TemporaryDirectory() as room:
-        checks.parts_in(room, (ends, modes, refusals, shares, tallied, clients, in_c, floods, beside, marked,
+        checks.parts_in(room, (ends, modes, refusals, shares, tallied, clients, in_c, floods, beside, marked, counted, lineless,
                                in_turn), program, checks, versions)
     print(f"direct: {TURNS} connections in turn, {TOGETHER} that flood, {time.monotonic() - start:.0f} s")
 

@@ -38,6 +38,7 @@ class Channel:
         self.state = FREE
         self.waited: tuple[object, ...] | None = None
         self.unread, self.last, self.moved = b"", b"", 0.0  # of the connection: rows, its last line, and when it sent or took anything
+        self.to_server, self.waiting = b"", 0  # rows that aren't passed on yet, and how many these are
 
     def named(self) -> str:
         return f"{self.place} {self.use.number}"
@@ -58,24 +59,31 @@ class Channel:
         connection, server = self.connection, self.server
         if connection and connection.waiting and connection.flush():
             self.moved = time.monotonic()
-        if server.waiting:
-            server.flush()
-        is_full = connection is not None and connection.is_full
-        if self.state is OVER and not (connection and connection.waiting):
+        is_held = bool(connection and connection.waiting)
+        is_full = bool(connection and connection.is_full)
+        if self.state is OVER and not is_held:
             self.release()
+        if self.to_server or server.waiting:
+            self.pass_on(is_held)
         # what is waited for hangs on these alone, and is the same most of the time
-        before, self.waited = self.waited, (self.connection, self.state, server.is_ended, not server.waiting, is_full,
-                                            not (connection and connection.waiting))
+        before, self.waited = self.waited, (self.connection, self.state, server.is_ended, not self.to_server, not server.waiting,
+                                            is_held, is_full)
         if self.waited == before:
             return
         server.wait(not is_full)
         if self.connection:
-            self.connection.wait(self.state <= TAKING and not server.waiting)
+            self.connection.wait(self.state <= TAKING and not self.to_server and not server.waiting)
+
+    def pass_on(self, is_held: bool) -> None:
+        """Passes on the rows that the server may have now. It is held where lines wait for the connection."""
+        self.server.waiting += self.to_server
+        self.to_server, self.waiting = b"", 0
+        self.server.flush()
 
     def read_rows(self, events: int) -> None:
         """Reads once from the connection."""
         connection = self.connection
-        if connection and events & READ and self.state <= TAKING and not self.server.waiting:
+        if connection and events & READ and self.state <= TAKING and not self.to_server and not self.server.waiting:
             data = connection.read(LONGEST - len(self.unread))
             if data or connection.is_ended:
                 self.moved = time.monotonic()
@@ -94,8 +102,8 @@ class Channel:
             end = self.unread.rfind(b"\n") + 1
         passed = self.passed(end)
         if passed:
-            self.account.rows(self.use, self.unread[:passed])
-        self.server.waiting += self.unread[:passed]
+            self.waiting += self.account.rows(self.use, self.unread[:passed])
+        self.to_server += self.unread[:passed]
         self.unread = self.unread[passed:]
         if passed < end:
             self.meet(self.unread[:self.unread.index(b"\n") + 1])
@@ -120,6 +128,7 @@ class Channel:
             said = self.server.text()
             if self.server.is_ended:  # the stream alone, or the server
                 self.server.waiting.clear()
+                self.to_server, self.waiting = b"", 0
                 self.finish()
             elif said:
                 self.pass_lines(said)

@@ -136,7 +136,7 @@ class Front:
             self.server = subprocess.Popen(words, stdin=self.theirs[0], stdout=self.theirs[1])
         for file in self.theirs:
             os.close(file)
-        self.updates.server.waiting += "".join(batches).encode()
+        self.updates.to_server = "".join(batches).encode()
         self.updates.ask(lambda version: self.loop.after(0, lambda: self.begun(version, len(batches), clients)))
         self.updates.settle()
 

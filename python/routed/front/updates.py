@@ -62,7 +62,7 @@ class Updates(Channel):
     def ask(self, answered: Callable[[int], object]) -> None:
         """Sends our own request, and calls this with the version of its reply."""
         number = secrets.randbits(64)
-        self.server.waiting += f"ask,{number},0.0.0.0,0.0.0.1,0,0,0x0,0x0,0x0,\n".encode()
+        self.to_server += f"ask,{number},0.0.0.0,0.0.0.1,0,0,0x0,0x0,0x0,\n".encode()
         self.awaited = f"ask {number} v".encode(), answered
 
     def passed(self, end: int) -> int:
@@ -89,7 +89,7 @@ class Updates(Channel):
         if version > self.account.version:  # an exception has swallowed its line
             self.account.published(version)
         self.state = DROPPING
-        self.server.waiting += b"end,0,0\n"
+        self.to_server += b"end,0,0\n"
         self.ask(lambda version: self.finish())
 
     def release(self) -> None:
