@@ -10,7 +10,7 @@ import tempfile
 import threading
 import time
 
-from checks import TOP
+from checks import TOOLS, TOP
 from program.refusal import COMPILER
 from program.serving import BATCHES, PATIENCE, ROUTERS, batches_of
 from reference import changes
@@ -21,7 +21,10 @@ from tools.fronts import Connection, Front
 from tools.reading import PAIR, eventually, figures_of
 
 from routed import Client, Refused, Request
+from routed.follow import asks
 from routed.net import direct as client_side
+from routed.net.endpoints import Endpoint
+from routed.net.loop import Loop
 
 TURNS = int(os.environ.get("TURNS", "500"))  # connections in turn; the gate has few
 LATE, SHARE = 0.1, 0.01  # seconds in which another client is answered, and the share of its asks that the machine may delay
@@ -32,10 +35,10 @@ def direct(program, checks):
     start = time.monotonic()
     draw = random.Random(9)
     updates = changes.updates(draw, BATCHES, ROUTERS)
-    asks = [f"ask,{at},10.0.0.{at},10.0.0.{(at * 5 + 1) % ROUTERS},{at % 8},{draw.choice([0, 5])},0x0,0x0,0x0," for at in range(ROUTERS)]
-    versions = Versions(updates, asks)
+    rows = [f"ask,{at},10.0.0.{at},10.0.0.{(at * 5 + 1) % ROUTERS},{at % 8},{draw.choice([0, 5])},0x0,0x0,0x0," for at in range(ROUTERS)]
+    versions = Versions(updates, rows)
     with tempfile.TemporaryDirectory() as room:
-        checks.parts_in(room, (ends, modes, refusals, shares, tallied, clients, in_c, floods, beside, marked, counted, lineless,
+        checks.parts_in(room, (ends, modes, refusals, shares, tallied, clients, shared, in_c, floods, beside, marked, counted, lineless,
                                in_turn), program, checks, versions)
     print(f"direct: {TURNS} connections in turn, {TOGETHER} that flood, {time.monotonic() - start:.0f} s")
 
@@ -177,6 +180,34 @@ def raised_by(call):
         return call()
     except (Refused, OSError) as fault:
         return type(fault), str(fault)
+
+
+def shared(program, checks, versions, room):
+    """The connections that pcep and page share, and `routed-tools ask`, are direct, too."""
+    front, place = fronted(program, room, "--clients", "4")
+    with front:
+        Connection(front.updates).talk(PAIR + "end,1,2\n")
+        made, told, lost = Loop(), [], []
+        asking = asks.Asks(made, Endpoint(front.ask), 3, lambda: lost.append(True))
+        asking.open()
+        for number in range(200):
+            asking.ask("1.1.1.1,2.2.2.2,0,5,0x0,0x0,0x0,", lambda row, line: told.append((row, line)))
+        end = time.monotonic() + PATIENCE
+        while len(told) < 200 and time.monotonic() < end:
+            made.turn(1)
+        checks.same("connections that are shared", [type(one.stream) for one in asking.connections], [client_side.Direct] * 3)
+        checks.same("their asks", sum(line.split(" ", 2)[2].startswith("v1 route cost=10 ") and line.split()[1] == row.split(",")[1]
+                                      for row, line in told), 200)
+        ran = subprocess.run([TOOLS, "ask", front.ask, "1.1.1.1", "2.2.2.2"], capture_output=True, text=True, timeout=PATIENCE)
+        checks.true("routed-tools ask", ran.returncode == 0 and " route cost=10 " in ran.stdout, (ran.stdout, ran.stderr))
+        checks.same("connections", [figures_of(room)[("routed_connections_total", kind)] for kind in ("direct", "ask")], [4, 0])
+        busy = asks.Asks(made, Endpoint(front.ask), 2, lambda: None)
+        busy.open()
+        while not busy.is_busy and time.monotonic() < end:
+            made.turn(1)
+        checks.same("where no place is free", (busy.is_busy, lost), (True, []))
+        busy.close()
+        asking.close()
 
 
 def in_c(program, checks, versions, room):
