@@ -7,6 +7,7 @@ import re
 from .model.database import Database
 from .model.journals import read_snapshot
 from .model.rows import Refused, Reply, Request
+from .net.direct import direct
 from .net.endpoints import Endpoint
 from .net.loop import Loop
 from .net.stream import Lines, Stream
@@ -22,7 +23,7 @@ class Client:
     `TimeoutError`. After that the client is to be closed."""
 
     def __init__(self, ask: str, watch: str | None = None, seconds: float = 60) -> None:
-        self.version, self.asks = 0, connected(ask, seconds)  # the newest version that was told or named
+        self.version, self.asks = 0, asking(ask, seconds)  # the newest version that was told or named
         self.run: int | None = None  # the number of the run, once the place of versions has told it
         self.versions = connected(watch, seconds) if watch is not None else None
 
@@ -65,6 +66,12 @@ class Client:
                 raise Refused(line)
             self.version = max(self.version, int(found[1]))
         return self.version
+
+
+def asking(place: str, seconds: float) -> Lines:
+    """The lines of a place where clients ask: directly, if there is a place for that beside it."""
+    loop, endpoint = Loop(), Endpoint(place)
+    return Lines(loop, direct(loop, endpoint) or Stream(loop, endpoint.connect()), seconds)
 
 
 def connected(place: str, seconds: float) -> Lines:

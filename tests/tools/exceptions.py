@@ -9,8 +9,9 @@ import tempfile
 import time
 
 from program.serving import PATIENCE
+from tools.directed import Busy, Direct, soon
 from tools.ended import of_feed, of_pcep, of_server
-from tools.fronts import Connection, Front, admitted, busy
+from tools.fronts import Connection, Front, admitted
 from tools.plants import ENDED, left, plant, planted
 from tools.reading import ASKS, PAIR, answered, eventually, figures_of, sent
 
@@ -22,7 +23,7 @@ ASK, REPLY = ASKS["route"], re.compile(r"ask 1 v\d+ (?:route .*|unknown-from)\n"
 
 def exceptions(program, checks):
     with tempfile.TemporaryDirectory() as room:
-        checks.parts_in(room, (of_loop, of_door, of_listen, of_streams, of_stream, of_updates, of_idle, of_pcep, of_server, of_feed),
+        checks.parts_in(room, (of_loop, of_door, of_listen, of_streams, of_direct, of_updates, of_idle, of_pcep, of_server, of_feed),
                         program, checks)
 
 
@@ -244,21 +245,14 @@ def of_listen(program, checks, room):
 
 
 def of_streams(program, checks, room):
-    """A stream that fails again without a connection isn't used any more; of the updates it ends the front."""
+    """A seat is free again behind an exception of a connection. The stream of the updates that fails without one ends the front."""
     with Seen(program, room, "--clients", "2") as seen:
-        victim = Connection(seen.front.ask)
-        victim.talk(ASK)
-        seen.plant("Channel.read_lines", "Channel.read_lines")
-        victim.say(ASK)
-        checks.same("a stream that fails again: its connection ends", heard(victim), "")
-        seen.count += 1
-        line = seen.front.errors.next()
-        checks.true("a stream that fails again: a first line", re.fullmatch(rf"listen: ask \d+: {ENDED}\n", line), line)
-        seen.judge(checks, "a stream that fails again", "ask 0", "ask: a stream of the server isn't used again")
-        checks.same("nobody has it any more", [busy(seen.front.ask) for _ in range(2)], ["busy\n"] * 2)
-        seen.honest.leave()
-        seen.honest = admitted(seen.front.ask, ASK)[0]
-        seen.good(checks, "the other stream")
+        for at in range(3):
+            victim = admitted(seen.front.ask, ASK)[0]
+            seen.plant("Channel.read_lines")
+            victim.say(ASK)
+            checks.same(f"connection {at} ends", heard(victim), "")
+            seen.judge(checks, f"connection {at}", r"ask \d+")
         updating = Connection(seen.front.updates)
         seen.publish(updating, PAIR)
         seen.plant("Channel.read_lines", "Channel.read_lines")
@@ -271,38 +265,28 @@ def of_streams(program, checks, room):
             checks.same("the journal then", kept.read().count("end,"), 2)
 
 
-UNASKED = '''#!/usr/bin/env python3
-import sys, threading
-def answer(rows, lines, others):
-    for row in rows:
-        if row.startswith(b"ask,"):
-            lines.write(b"ask %s v0 unknown-from\\n" % row.split(b",")[1])
-        else:
-            others.write(b"a line\\n")
-rows, lines = open(sys.argv[sys.argv.index("--clients-from") + 1]).read().rstrip().split("=")
-rows, lines, own = open(rows, "rb"), open(lines, "wb", buffering=0), open(1, "wb", buffering=0)
-threading.Thread(target=answer, args=(rows, lines, lines), daemon=True).start()
-answer(sys.stdin.buffer, own, lines)
-'''
-
-
-def of_stream(_, checks, room):
-    """A stream that fails while nobody has it, by a program that writes what nobody asked for, is given to nobody."""
-    class Unasked:
-        path = os.path.join(room, "routed")
-
-    with open(Unasked.path, "w", encoding="ascii") as script:
-        script.write(UNASKED)
-    os.chmod(Unasked.path, 0o700)
-    with Front(Unasked, room, "--clients", "1", tool=planted(room, "listen")) as front:
-        taken, updating = Connection(front.ask), Connection(front.updates)
-        checks.same("a stream, once it was used", (taken.talk(ASK), taken.leave()), ("ask 1 v0 unknown-from\n", ""))
-        plant(room, "Channel.read_lines")
-        updating.say("end,1,0\n")
-        lines = [front.errors.next() for _ in range(2)]
-        checks.true("a stream that nobody has: its lines", re.fullmatch(f"listen: ask 0: {ENDED}\n", lines[0])
-                    and lines[1] == "listen: ask: a stream of the server isn't used again\n", lines)
-        checks.same("a stream that nobody has", busy(front.ask), "busy\n")
+def of_direct(program, checks, room):
+    """A direct connection ends, and its seat is free again: there are two, and another connection goes on."""
+    with Seen(program, room, "--clients", "2", "--direct", os.path.join(room, "direct")) as seen:
+        for place in ("Direct.begin", "Direct.begin!", "Direct.read", "Direct.hang_up", "Direct.over", "Direct.finish"):
+            victim = None if "begin" in place else soon(os.path.join(room, "direct"))
+            seen.plant(place)
+            if victim is None:
+                with contextlib.suppress(Busy):
+                    victim = Direct(os.path.join(room, "direct"))
+            elif place in ("Direct.over", "Direct.finish"):
+                victim.say('"')
+            elif place == "Direct.hang_up":
+                victim.hang_up()
+            else:
+                victim.socket.sendall(b"x")
+            seen.judge(checks, place, r"direct \d+")
+            if victim:
+                checks.same(f"{place}: it has no more lines", victim.lines.rest(), [])
+                victim.close()
+            following = soon(os.path.join(room, "direct"))
+            checks.true(f"{place}: the next one", REPLY.fullmatch(following.talk(ASK)))
+            following.close()
 
 
 def of_updates(program, checks, room):
@@ -355,7 +339,7 @@ def dressed_pair():
 def of_idle(program, checks, room):
     """The clock by which idle connections end goes on."""
     with Seen(program, room, "--idle", "0.5") as seen:
-        seen.plant("Channel.end_idle")
+        seen.plant("Relay.end_idle")
         checks.same("one that is ended as idle", heard(seen.honest), "")
         seen.honest = Connection(seen.front.ask)
         seen.judge(checks, "one that is ended as idle", r"ask \d+")

@@ -182,11 +182,15 @@ def stopping(program, checks, versions, room):
 LONG_LINES = '''#!/usr/bin/env python3
 import sys, threading
 def serve(rows, lines):
-    for row in rows:
+    for row in filter(bytes.strip, rows):
         lines.write(b"ask %s v0 %s\\n" % (row.split(b",")[1], b"x" * 100_000))
         lines.flush()
+def sit(rows, lines):
+    while True:
+        with open(rows, "rb") as opened, open(lines, "wb") as written:
+            serve(opened, written)
 pairs = [line.rstrip().split("=") for line in open(sys.argv[sys.argv.index("--clients-from") + 1])]
-threads = [threading.Thread(target=serve, args=(open(rows, "rb"), open(lines, "wb"))) for rows, lines in pairs]
+threads = [threading.Thread(target=sit, args=pair, daemon=True) for pair in pairs]
 for thread in threads:
     thread.start()
 serve(sys.stdin.buffer, sys.stdout.buffer)

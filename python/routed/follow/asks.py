@@ -7,6 +7,7 @@ import time
 from collections.abc import Callable
 from typing import Optional
 
+from ..net.direct import direct
 from ..net.endpoints import CONNECT, Endpoint
 from ..net.loop import READ, WRITE, Loop
 
@@ -103,7 +104,7 @@ class Connection:
     def __init__(self, owner: Asks) -> None:
         self.owner, self.state, self.is_watched = owner, State.NEW, False
         self.asks: collections.deque[Ask] = collections.deque()
-        self.stream = owner.endpoint.begin(owner.loop)
+        self.stream = direct(owner.loop, owner.endpoint) or owner.endpoint.begin(owner.loop)
         self.stream.give(self, self.go_on)
         self.stream.wait(True)
         self.stream.loop.after(AGAIN, self.settle)

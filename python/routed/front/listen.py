@@ -4,13 +4,23 @@ PLACE is the path of a UNIX socket, a port of 127.0.0.1, ADDRESS:PORT, or [ADDRE
 needs a slash. There is no sign-on: at a path its mode and its folder say who may connect, at a port everybody may who
 reaches it. With port 0 the system chooses one, and a line before `ready` has it, as `updates 127.0.0.1:43211`.
 
-A connection sends rows and reads their lines (docs/run/FORMATS.md). Where no place is free for it, it reads the line `busy`
-and its end. It may shut its sending side and read on, until it is answered to its last whole line; what no line feed
-ends is dropped, and so is a byte order mark at its beginning. A line of more than 65,536 bytes or with a quotation mark
-(no row needs one, and left open it would swallow the rows of others) ends it by the line `refused`, behind the lines of
-its earlier rows. Where updates come in, so does a line whose first field isn't put, drop, node, end or ask: an HTTP
-request publishes nothing. A connection that doesn't read keeps its place and delays nobody else. An asking connection
-that neither sends nor reads for the time of --idle is ended.
+A connection sends rows and reads their lines (docs/run/FORMATS.md). Where no place is free for it, it reads the line
+`busy` and its end. It may shut its sending side and read on, until it is answered to its last whole line; what no
+line feed ends is dropped, and so is a byte order mark at its beginning. A line of more than 65,536 bytes or with a
+quotation mark, which no row needs, ends it by the line `refused`, behind the lines of its earlier rows. Where updates
+come in, so does a line whose first field isn't put, drop, node, end or ask: an HTTP request publishes nothing. A
+connection that doesn't read keeps its place and delays nobody else. An asking connection that neither sends nor reads
+for the time of --idle is ended.
+
+With --direct there is a place for programs of this machine, at a path. On a connection to it comes one message, the
+line `direct 1`, and with it two open files (SCM_RIGHTS): the end of a pipe to which the program writes its rows, and
+the end of a pipe from which it reads their lines. This front passes nothing on then. A program ends its rows by
+shutting its sending side of the connection: it is answered to its last whole line, and reads the end of its lines. A
+line of more than 1,048,576 bytes or with a quotation mark ends the connection without a word. Once the connection has
+ended, both ends are of no use, whoever still has them. A byte order mark isn't skipped there. If anything is sent on
+the connection itself, it ends by the line `refused`. Direct connections count among --clients and --each, and read
+`busy` where no place is free. --idle ends none of them. `routed-tools ask`, `pcep` and `page` and the client for
+Python connect directly where the path of --direct is that of --ask with `.direct` behind it.
 
 Where updates come in, the line `snapshot` asks for the database as it is. Behind the lines of earlier rows come
 `version V`, with --run `run N`, the rows of `routed snapshot` on the journal, which are batches from 1 on, and
@@ -22,14 +32,16 @@ where updates come in, at the newest version. Nothing else is taken there: any o
 
 With --begin the batches of a file, as `routed snapshot` makes them, are published before any connection is taken.
 
-The server outlives connections: what one has published is there for the next, and N in `row N refused` counts rows of
-earlier ones and of this front too. Changes that a connection leaves open are dropped.
+The server outlives connections: what one has published is there for the next. N in `row N refused` counts the rows of a
+connection that asks; where updates come in it counts those of earlier connections and of this front, too. Changes that a
+connection leaves open are dropped.
 
-`ready` is printed once rows are taken, behind `run N` with --run, and standard error has what `routed serve --explain` says.
-SIGTERM or SIGINT ends the server and this front. The status is the server's (128 and the signal's number where one ended it), 2
-where a word of the command line is refused, 3 where a socket or the program can't be had, and after --renew. Where this front
-is killed the server ends by itself. The journal has whole batches then, and after a signal to the server maybe a beginning of
-one more.
+`ready` is printed once rows are taken, behind `run N` with --run, and standard error has what `routed serve
+--explain` says. SIGTERM or SIGINT ends the server and this front. The status is the server's (128 and the signal's
+number where one ended it), 2 where a word of the command line is refused, 3 where a socket or the program can't be
+had, and after --renew. Where this front is killed the server ends by itself, once programs that are connected
+directly have closed their ends. The journal has whole batches then, and after a signal to the server maybe a
+beginning of one more.
 
 A unit of systemd may have Type=notify and WatchdogSec=. That of the package is started by
 `systemctl enable --now routed-serve` (docs/run/OPERATORS.md).
@@ -53,16 +65,21 @@ from ..net.log import LEVELS, Log
 from ..net.loop import Loop, Stopped
 from ..net.notify import Supervised
 from ..net.signals import take_signals
+from ..net.stream import Stream
 from . import processes
 from .accounts import Account
-from .channels import Channel, Listener, Updates
+from .channels import Channel
+from .direct import Directs
+from .relays import Relays
 from .renewal import Renewal
+from .seats import Seats
 from .showing import Showing
 from .snapshots import Snapshots
-from .turns import Turns
+from .updates import Updates
 from .watch import Watch
 
 IDLE = 300  # seconds, at a port
+SOON = 0.005  # seconds from one look at the seats to the next
 MOST_RUNS = 999_999  # the greatest number of a run
 
 
@@ -73,13 +90,16 @@ class Front:
         self.log = Log("listen", options.log_level)
         self.account = Account(self.log, options.journal, options.run)
         self.loop, self.options, self.is_stopped = Loop(self.account.failed), options, False
-        self.snapshots, self.turns = Snapshots(self.loop, options.program, self.account), Turns(len(os.sched_getaffinity(0)))
+        self.snapshots = Snapshots(self.loop, options.program, self.account)
         self.listeners: dict[str, socket.socket] = {}
         self.server: subprocess.Popen[bytes] | None = None
         self.status: int | None = None  # of the server, once it has ended
         self.is_renewed = False  # it ends for a run that can be written
-        self.channels: list[Channel] = []  # that of the updates first
-        self.theirs: list[int] = []  # the server's ends of their pipes
+        self.seats = Seats(self.loop, options.clients, options.each, self.account)
+        (rows, rows_in), (lines_out, lines) = os.pipe(), os.pipe()
+        self.updates = Updates(self.loop, Stream(self.loop, lines_out, rows_in), self.account, self.snapshots)
+        self.theirs = rows, lines  # the server's ends of the pipes of updates
+        self.relays: Relays | None = None
         program.build_info(self.account.figures, options.program)
         processes.add(self.account.figures, self.processes)
         self.supervised = Supervised(self.loop, self.told)
@@ -108,32 +128,35 @@ class Front:
     def begin(self) -> None:
         """Starts the server, and brings what it begins with. Rows are taken once it has answered one: all files are open then."""
         batches = beginning(self.options.begin)
-        words, clients = [self.options.program, "serve", "--explain", "--journal", self.options.journal], []
-        for number in range(self.options.clients + 1):
-            (rows_out, rows_in), (lines_out, lines_in) = os.pipe(), os.pipe()
-            ours = self.loop, rows_in, lines_out, self.account, self.turns
-            self.channels.append(Channel(*ours) if number else Updates(*ours, self.snapshots))
-            self.theirs += [rows_out, lines_in]
-            if number:  # inherited, an end of a pipe would stay open in the server whatever it closes: it opens its own
-                clients.append("=".join(f"/proc/{os.getpid()}/fd/{end}" for end in self.theirs[-2:]))
-        self.theirs.append(pipe_of("".join(f"{client}\n" for client in clients)))
-        words += ["--clients-from", f"/proc/{os.getpid()}/fd/{self.theirs[-1]}"]
+        ours = f"/proc/{os.getpid()}/fd"  # inherited, an end of a pipe would stay open in the server whatever it closes: it opens its own
+        clients = pipe_of("".join(f"{ours}/{rows}={ours}/{lines}\n" for rows, lines in (seat.place for seat in self.seats.all)))
+        words = [self.options.program, "serve", "--explain", "--journal", self.options.journal, "--clients-from", f"{ours}/{clients}",
+                 "--reopen", "--figures", self.account.tallies.path]
         with tried(self.options.program, program.hint(self.options.program)):
             self.server = subprocess.Popen(words, stdin=self.theirs[0], stdout=self.theirs[1])
-        os.close(self.theirs.pop(1))
-        self.channels[0].to_server = "".join(batches).encode()
-        self.channels[0].ask(lambda version: self.loop.after(0, lambda: self.ready(version, len(batches))))  # which is the front's own
-        self.channels[0].settle()
+        for file in self.theirs:
+            os.close(file)
+        self.updates.to_server = "".join(batches).encode()
+        self.updates.ask(lambda version: self.loop.after(0, lambda: self.begun(version, len(batches), clients)))
+        self.updates.settle()
 
-    def close_theirs(self) -> None:
-        while self.theirs:
-            os.close(self.theirs.pop())
-
-    def ready(self, version: int, wanted: int) -> None:
-        self.close_theirs()
+    def begun(self, version: int, wanted: int, clients: int) -> None:
+        """The server has answered a row, so it has read the names of its clients' files."""
+        os.close(clients)
         if version != wanted:
             raise Stopped(f"{self.options.begin}: batch {version + 1} wasn't published")
-        self.account.version, told = version, []
+        self.account.version = version
+        self.await_seats()
+
+    def await_seats(self) -> None:
+        """Rows are taken once all sessions have begun."""
+        if self.seats.are_free:
+            self.ready()
+        else:
+            self.loop.after(SOON, self.await_seats)
+
+    def ready(self) -> None:
+        told = []
         for kind, listener in self.listeners.items():
             self.serve(kind, listener)
             place = getattr(self.options, kind)
@@ -153,9 +176,11 @@ class Front:
         elif kind == "show":
             Showing(self.loop, listener, self.account, self.snapshots)
         elif kind == "updates":
-            Listener(self.loop, listener, self.channels[:1], 0)
+            self.updates.listen(self.loop, listener)
+        elif kind == "direct":
+            Directs(self.loop, listener, self.seats, self.account)
         else:
-            Listener(self.loop, listener, self.channels[1:], idle_of(self.options), self.options.each)
+            self.relays = Relays(self.loop, listener, self.seats, self.account, idle_of(self.options))
 
     def signalled(self, numbers: bytes) -> None:
         if not self.server:
@@ -165,7 +190,7 @@ class Front:
                 self.log.say("info", f"stopped by {number.name}")
                 self.server.terminate()
                 self.is_stopped = True
-        self.channels[0].loop.call(self.snapshots.look)
+        self.updates.loop.call(self.snapshots.look)
         self.status = self.server.poll()
 
     def run(self) -> int:
@@ -173,8 +198,8 @@ class Front:
         self.begin()
         while (status := self.status) is None:
             self.loop.turn()
-        self.close_theirs()
-        for channel in self.channels:
+        channels: list[Channel] = [self.updates, *(self.relays.all if self.relays else ())]
+        for channel in channels:
             if channel.connection:
                 channel.loop.call(channel.read_rest)
         if status and not self.is_stopped:
@@ -248,20 +273,26 @@ def main(given: list[str] | None = None) -> int:
     words.add_argument("--ask-mode", type=mode, metavar="MODE", help="those of the socket where clients ask (that of --mode)")
     words.add_argument("--updates-mode", type=mode, metavar="MODE", help="those of the socket where updates come in (that of --mode)")
     words.add_argument("--each", type=int, choices=range(0, 65), default=0, metavar="N",
-                       help="how many asking connections one user has at once at a path, or one address at a port, 0 for any number (0)")
+                       help="how many asking connections one user has at once at paths, or one address at a port, 0 for any number (0)")
+    words.add_argument("--direct", type=Endpoint, metavar="PLACE", help="where clients of this machine get the ends of their own pipes")
+    words.add_argument("--direct-mode", type=mode, metavar="MODE", help="that of the socket of --direct (that of --ask-mode)")
     words.add_argument("--watch", type=Endpoint, metavar="PLACE", help="where the line of each version is read")
     words.add_argument("--show", type=Endpoint, metavar="PLACE", help="where the line `snapshot` shows the network, and no line changes it")
     words.add_argument("--show-mode", type=mode, metavar="MODE", help="that of the socket of --show (that of --ask-mode)")
     words.add_argument("--metrics", type=Endpoint, metavar="PLACE", help="where figures are read, by HTTP at /metrics")
     words.add_argument("--log-level", choices=LEVELS, default="warning", help="which lines of the log are written (warning)")
-    words.add_argument("--idle", type=seconds, metavar="SECONDS", help=f"after which an idle asking connection is ended, 0 for never "
-                                                                      f"({IDLE} at a port, never at a path)")
+    words.add_argument("--idle", type=seconds, metavar="SECONDS",
+                       help=f"after which an idle connection at the place of --ask is ended, 0 for never ({IDLE} at a port, never at a "
+                            "path); direct ones never are")
     program.add_option(words)
     options = words.parse_args(given)
+    if options.direct and not options.direct.path:
+        words.error("argument --direct: files are passed at the path of a UNIX socket alone")
     options.program = program.find(options.program)
     front = Front(options)
     try:
         modes = {"updates": options.updates_mode, "ask": options.ask_mode, "watch": options.ask_mode, "metrics": None,
+                 "direct": options.ask_mode if options.direct_mode is None else options.direct_mode,
                  "show": options.ask_mode if options.show_mode is None else options.show_mode}
         for kind, given in modes.items():
             if place := getattr(options, kind):

@@ -1,7 +1,7 @@
-"""Turns of the streams that have many rows for `routed serve`.
+"""Turns of the relays that have many rows for `routed serve`.
 
-The server publishes a batch once none of its threads is inside an answer. If more threads than processors answer without a pause,
-each batch waits until all of them have run. So only as many streams as there are processors have more than one row at the server."""
+If all of them had rows at the server, listen would pass on rows and lines without a pause. It would wait for a processor then, as others do
+that use theirs up, and updates with it. So only as many relays as there are processors have more than one row at the server."""
 from __future__ import annotations
 
 import re
@@ -10,10 +10,10 @@ from typing import TYPE_CHECKING
 from .accounts import ROW
 
 if TYPE_CHECKING:
-    from .channels import Channel
+    from .relays import Relay
 
 ROWS = 16  # of a stream that the server has at once, and of a turn
-SILENCE = 1  # seconds without a line after which the server is asked whether it has unanswered rows at all
+SILENCE = 1  # seconds without a line after which no more of them are waited for
 FIRST = re.compile(rb"[\r\n]*(?:[^\r\n]+[\r\n]+){0,%d}+" % ROWS)
 
 
@@ -25,26 +25,26 @@ def first_rows(data: bytes) -> tuple[int, int]:
 
 
 class Turns:
-    """The streams that have a turn, and those that wait for one, in the order in which they came."""
+    """The relays that have a turn, and those that wait for one, in the order in which they came."""
 
     def __init__(self, most: int) -> None:
         self.most = most
-        self.taken: set[Channel] = set()
-        self.queue: dict[Channel, bool] = {}
-        self.watched: set[Channel] = set()  # streams whose lines are waited for
+        self.taken: set[Relay] = set()
+        self.queue: dict[Relay, bool] = {}
 
-    def take(self, stream: Channel) -> bool:
-        """Whether the stream has a turn. Otherwise it waits for one, and is told when that begins."""
-        if stream not in self.taken:
+    def take(self, relay: Relay) -> bool:
+        """Whether the relay has a turn. Otherwise it waits for one, and is told when that begins."""
+        if relay not in self.taken:
             if len(self.taken) >= self.most:
-                self.queue[stream] = True
+                self.queue[relay] = True
                 return False
-            self.taken.add(stream)
+            self.taken.add(relay)
         return True
 
-    def give_back(self, stream: Channel) -> None:
-        """The stream has no turn any more: those that wait may have one."""
-        self.taken.discard(stream)
+    def give_back(self, relay: Relay) -> None:
+        """The relay has no turn any more: those that wait may have one."""
+        self.taken.discard(relay)
+        self.queue.pop(relay, None)
         while self.queue and len(self.taken) < self.most:
             following = next(iter(self.queue))
             del self.queue[following]

@@ -7,11 +7,11 @@ One that has ended its sending side may still read. At a path its close is notic
 port such a connection gives way where the place is full."""
 from __future__ import annotations
 
-import select
 import socket
 import time
 
 from ..net.endpoints import Door
+from ..net.ends import Ends
 from ..net.loop import READ, WRITE, Loop
 from ..net.stream import Stream
 from .accounts import Account
@@ -24,34 +24,24 @@ class Watch:
     """The connections. The account knows the newest version, and tells of each."""
 
     def __init__(self, loop: Loop, listener: socket.socket, account: Account) -> None:
-        self.account = account
+        self.account, self.ends = account, Ends(loop)
         self.watchers: set[Watcher] = set()
-        self.silent: dict[int, Watcher] = {}  # by their files, those that have ended their sending side
-        self.ends = select.epoll()  # which tells of the end of both sides alone
-        loop.want(self.ends.fileno(), READ, self.look)
+        self.silent: dict[Watcher, bool] = {}  # those that have ended their sending side
         account.told.append(self.tell)
         Door(loop, listener, self.take)
 
-    def look(self, _: int) -> None:
-        """Some that have ended their sending side are gone."""
-        for file, _ in self.ends.poll(0):
-            watcher = self.silent[file]
-            watcher.stream.loop.call(watcher.close)
-
     def fall_silent(self, watcher: Watcher) -> None:
-        file = watcher.stream.source
-        if file not in self.silent:
-            self.silent[file] = watcher
-            self.ends.register(file, 0)
+        self.silent[watcher] = True
+        self.ends.watch(watcher.stream, watcher.close)
 
     def leave(self, watcher: Watcher) -> None:
         self.watchers.remove(watcher)
-        if self.silent.pop(watcher.stream.source, None):
-            self.ends.unregister(watcher.stream.source)
+        self.silent.pop(watcher, None)
+        self.ends.forget(watcher.stream)
 
     def make_room(self) -> None:
         """The first connection of TCP that has ended its sending side gives way."""
-        for watcher in self.silent.values():
+        for watcher in self.silent:
             if watcher.stream.socket and watcher.stream.socket.family != socket.AF_UNIX:
                 watcher.close()
                 return

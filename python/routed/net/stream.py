@@ -8,7 +8,7 @@ import select
 import socket
 import struct
 import time
-from collections.abc import Callable
+from collections.abc import Callable, Sequence
 
 from .loop import READ, WRITE, Loop, Owned, Owner
 
@@ -70,6 +70,18 @@ class Stream:
             self.is_ended = True
         return data
 
+    def read_files(self, most: int) -> tuple[bytes, list[int]]:
+        """The same of a UNIX socket, with the open files that came with it, at most so many."""
+        assert self.socket
+        try:
+            data, files, _, _ = socket.recv_fds(self.socket, LONGEST, most, socket.MSG_CMSG_CLOEXEC)
+        except BlockingIOError:
+            return b"", []
+        except OSError as fault:
+            self.fault, data, files = fault, b"", []
+        self.is_ended = not data
+        return data, files
+
     def text(self) -> bytes:
         """The whole lines of what has come."""
         data = self.read()
@@ -90,6 +102,14 @@ class Stream:
         self.waiting += data
         if not has_waited:
             self.flush()
+
+    def write_files(self, data: bytes, files: Sequence[int]) -> None:
+        """Sends a short text and open files over a UNIX socket to which nothing was written before."""
+        assert self.socket
+        try:
+            socket.send_fds(self.socket, [data], files)
+        except OSError as fault:
+            self.fault = fault
 
     def flush(self) -> int:
         """Writes what is taken now of what waits. How many bytes that are."""
