@@ -23,6 +23,7 @@ from program.sent_ahead import sent_ahead
 from program.served_bytes import streams
 from program.serving import AT, BATCHES, CLIENTS, MOMENT, PATIENCE, ROUTERS, Serving, ask_on, batches_of, circuit_at, judged, reply_at
 from program.serving import wait_for
+from program.sessions import sessions
 from reference import changes
 from reference.versions import Versions
 
@@ -61,6 +62,7 @@ def served(program, checks):
         streams(program, checks, folder("streams"), draw)
         refusals(program, checks, folder("refusals"))
         listed(program, checks, folder("listed"))
+        sessions(program, checks, os.path.join(room, "sessions"))
         kills(program, checks, folder("kills"), versions, draw)
     print(f"served: {CLIENTS} clients, {KILLS} kills, {time.monotonic() - start:.0f} s")
 

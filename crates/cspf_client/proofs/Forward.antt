@@ -22,21 +22,22 @@ use Rattle.cspf_client.specs.SessionStates.{SessionState, AreFirstSteps, HasGone
 use Rattle.cspf_client.proofs.Prefixes.{HasGoneForward-self, HasGoneForward-trans, HasGoneForward-count}
 
 -- a client that still knows the same batches and has seen the same steps has gone forward
-forward_same : (s t : SessionState) → t.known ≡ s.known → t.steps ≡ s.steps → HasGoneForward s t
-forward_same s t known steps =
+forward_same : (s t : SessionState) → t.client ≡ s.client → t.known ≡ s.known → t.steps ≡ s.steps → HasGoneForward s t
+forward_same s t client known steps =
     let self = HasGoneForward-self s in record {
+      client = client;
       known = subst (λ (k : KnownBatches). AreFirstOf k s.known) (sym known) self.known;
       steps = subst (λ (k : KnownSteps). AreFirstSteps k s.steps) (sym steps) self.steps;
     }
 
 forward_equal : (s t : SessionState) → t ≡ s → HasGoneForward s t
-forward_equal s t is = forward_same s t (ap (λ (x : SessionState). x.known) is) (ap (λ (x : SessionState). x.steps) is)
+forward_equal s t is = forward_same s t (ap (λ (x : SessionState). x.client) is) (ap (λ (x : SessionState). x.known) is) (ap (λ (x : SessionState). x.steps) is)
 
 forward_refused : (place : ℕ) (why : RowError) (s t : SessionState) (line : List ℕ) → IsRefusedRow place why s line t → HasGoneForward s t
 forward_refused place why s t line refused =
-    forward_same s t (ap (λ (x : SessionState). x.known) refused.after) (ap (λ (x : SessionState). x.steps) refused.after)
+    forward_same s t (ap (λ (x : SessionState). x.client) refused.after) (ap (λ (x : SessionState). x.known) refused.after) (ap (λ (x : SessionState). x.steps) refused.after)
 
-forward_row : (place : ℕ) (s t : SessionState) (r : Result Row RowError) (line : List ℕ) → IsClientRowAnswered place s r line t → HasGoneForward s t
+pub forward_row : (place : ℕ) (s t : SessionState) (r : Result Row RowError) (line : List ℕ) → IsClientRowAnswered place s r line t → HasGoneForward s t
 forward_row place s t (Err why) line a = forward_refused place why s t line a
 forward_row place s t (Ok (row.Ask q)) line a = HasGoneForward-count place s t a.reads
 forward_row place s t (Ok other) line a = forward_refused place row_error.Kind s t line a

@@ -14,7 +14,7 @@ pub BeginsWith-trans : (a b c : List NumberedChanges) → BeginsWith b a → Beg
 BeginsWith-trans a b c p q =
     (p.0 ++ q.0, q.1 ∙ ap (λ (x : List NumberedChanges). x ++ q.0) p.1 ∙ append_assoc a p.0 q.0)
 
-AreFirstOf-self : (k : KnownBatches) → AreFirstOf k k
+pub AreFirstOf-self : (k : KnownBatches) → AreFirstOf k k
 AreFirstOf-self k = record { source = refl; begins = ([], sym (append-nil k.batches)) }
 
 pub AreFirstOf-trans : (a b c : KnownBatches) → AreFirstOf b a → AreFirstOf c b → AreFirstOf c a
@@ -41,10 +41,11 @@ AreFirstSteps-trans a b c p q = record {
 }
 
 pub HasGoneForward-self : (s : SessionState) → HasGoneForward s s
-HasGoneForward-self s = record { known = AreFirstOf-self s.known; steps = AreFirstSteps-self s.steps }
+HasGoneForward-self s = record { client = refl; known = AreFirstOf-self s.known; steps = AreFirstSteps-self s.steps }
 
 pub HasGoneForward-trans : (s t u : SessionState) → HasGoneForward s t → HasGoneForward t u → HasGoneForward s u
 HasGoneForward-trans s t u p q = record {
+  client = q.client ∙ p.client;
   known = AreFirstOf-trans s.known t.known u.known p.known q.known;
   steps = AreFirstSteps-trans s.steps t.steps u.steps p.steps q.steps;
 }
@@ -53,6 +54,7 @@ HasGoneForward-trans s t u p q = record {
 pub HasGoneForward-count : (place : ℕ) (s t : SessionState) → ReadsCount place s t → HasGoneForward s t
 HasGoneForward-count place s t reads =
     let up = reads.caught_up in record {
+      client = reads.client;
       known = AreFirstOf-trans s.known reads.mid t.known (record { source = sym up.source; begins = up.later }) reads.later;
       steps = record {
         source = sym up.journal;

@@ -3,3 +3,4 @@ pub mod SessionStates
 pub mod ClientRows
 pub mod ServingStates
 pub mod ClientRuns
+pub mod Sessions

@@ -8,14 +8,16 @@ use Rattle.cspf_client.specs.declared.error.ClientError.{ClientError}
 use Rattle.cspf_client.specs.declared.error.ClientError.TheVariants as error
 
 -- A client: its state between two rows, its stream of requests, the writer of its replies, and how
--- the stream ended. `requests` is `None` once the stream is opened for reading.
+-- the stream ended. `requests` is `None` once the stream is opened for reading. `refused_before` is
+-- the count of rows that were refused in earlier sessions, but at most 2^64 - 1.
 pub record ServingState (Q V : Type 0) : Type 0 where
   pub state : SessionState
   pub requests : Option Q
   pub replies : V
   pub end : Result (Unit {0}) ClientError
+  pub refused_before : ℕ
 
--- the client has read no row yet
+-- the client has read no row of its session yet
 pub record IsReady {Q V : Type 0} (c : ServingState Q V) : Type 0 where
   pub unread : Q
   pub held : c.requests ≡ Some unread

@@ -20,7 +20,8 @@ pub record AreFirstSteps (all first : KnownSteps) : Type 0 where
 
 -- The batches that the client knew in the state `old` are a prefix of the batches that it knows in
 -- the state `new`. The steps that it had seen in `old` are a prefix of the steps that it has seen
--- in `new`.
+-- in `new`. Both states have the number of the same client.
 pub record HasGoneForward (old new : SessionState) : Type 0 where
+  pub client : new.client ≡ old.client
   pub known : AreFirstOf new.known old.known
   pub steps : AreFirstSteps new.steps old.steps

@@ -16,6 +16,7 @@ mod entrance;
 mod error;
 mod laws;
 mod permits;
+mod reopens;
 mod replies;
 mod session;
 
@@ -23,4 +24,5 @@ pub use client::{Client, ServedClient, ServingClient};
 pub use error::ClientError;
 pub use laws::{clients_go_forward, replies_are_fresh};
 pub use permits::Permits;
+pub use reopens::Reopens;
 pub use replies::{EndOfRequests, Replies};

@@ -143,6 +143,11 @@ impl<'a, R: Wait, L: Ledger> Permits<'a, R, L> {
         })
     }
 
+    /// The handle with which clients wait.
+    pub(crate) fn handle(&self) -> &R {
+        self.rt
+    }
+
     /// Waits until a permit is free and every client that came earlier has got one.
     pub(crate) fn take(&self) -> Permit<L> {
         let mut queue = self.queue.lock(self.rt);

@@ -80,6 +80,16 @@ impl Session {
         }
     }
 
+    /// The state before the first row of the next session. The client knows the same batches as
+    /// before, and has seen the same steps.
+    pub(crate) fn reopened(self) -> Session
+        ensures { result ≡ record self { refused = 0 } }
+    {
+        let mut session = self;
+        session.refused = 0;
+        session
+    }
+
     /// The steps of the journal that the client has seen. In such a step, a batch is recorded or
     /// counted as published, or the count of published batches is read.
     pub(crate) fn steps(&self) -> &SeenSteps

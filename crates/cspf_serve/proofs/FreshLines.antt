@@ -1,7 +1,7 @@
 -- Each reply to a client has at least the version that was published before the request's row was
 -- read. This is seen from one list of the journal's steps: batches recorded, batches counted as
 -- published, and clients' readings of that count.
-use Rattle.std.proofs.Common.{◌≡◌, ℕ, suc, ◌+◌, ◌^◌, ◌<◌, ◌≤◌, ◌⊎◌, Bool, List, [], ◌∷◌, ◌++◌, length, length-append, append_assoc, append-nil, codes, Option, Some, IfSome, Result, Ok, MatchResult, inl, inr, refl, sym, ap, subst, ◌∙◌, arith, ⊎_elim, rules}
+use Rattle.std.proofs.Common.{◌≡◌, ℕ, suc, ◌+◌, ◌-◌, ◌^◌, ◌<◌, min, All, ◌≤◌, ◌⊎◌, Bool, List, [], ◌∷◌, ◌++◌, length, length-append, append_assoc, append-nil, codes, Option, Some, IfSome, Result, Ok, Err, MatchResult, inl, inr, refl, sym, ap, subst, ◌∙◌, arith, ⊎_elim, rules}
 use Rattle.std.proofs.lemmas.Grind.{common_steps}
 use Rattle.cspf_model.specs.declared.request.Request.{Request}
 use Rattle.cspf_model.specs.Best.{Answer}
@@ -22,20 +22,28 @@ use Rattle.cspf_publish.specs.KnownBatches.{KnownBatches}
 use Rattle.cspf_publish.specs.declared.errors.AskError.{AskError}
 use Rattle.cspf_publish.specs.Histories.{BeginsWith}
 use Rattle.cspf_stream.specs.RowAnswers.{AreAnswered, AreAllAnswered}
-use Rattle.cspf_stream.specs.StreamStops.{FailsOf, StopsBetween, StopsInRow, IsRowStopped, HasStopped, IsStreamStopped, stream_error_of}
+use Rattle.cspf_stream.specs.StreamStops.{FailsOf, NeverFails, HasMoreThan, StopsBetween, StopsInRow, IsRowStopped, HasStopped, IsStreamStopped, stream_error_of}
 use Rattle.cspf_stream.specs.declared.error.StreamError.{StreamError}
 use Rattle.cspf_stream.specs.declared.error.StreamStop.{StreamStop}
 use Rattle.cspf_client.specs.ClientRows.{ReadsCount, IsRequestAnswered, IsClientRowAnswered, IsClientAnswered, IsClientUnanswered}
 use Rattle.cspf_client.specs.ClientRuns.{IsClientStopped}
 use Rattle.cspf_client.specs.SessionStates.{SessionState, AreFirstSteps, HasGoneForward}
+use Rattle.cspf_client.specs.Sessions.{ReopensOf, ClientSession, CameBefore, refused_in}
+use Rattle.cspf_rows.specs.Records.{rows_of}
+use Rattle.std.specs.Option.{option_map}
+use Rattle.std.proofs.lemmas.List.Elements.{All-head, All-weaker}
+use mathlib.Core.List.{IsPrefix}
+use Rattle.cspf_stream.specs.declared.limits.TheConstants.{MOST_STREAM_ROWS}
+use Rattle.cspf_stream.specs.declared.error.StreamError.TheVariants as stream_error
+use Rattle.cspf_stream.specs.declared.error.StreamStop.TheVariants as stop
 use Rattle.cspf_client.specs.ServingStates.{ServingState, unread_rows}
 use Rattle.cspf_client.specs.declared.client.Client.{Client}
 use Rattle.cspf_client.specs.declared.client.ServedClient.{ServedClient}
 use Rattle.cspf_client.specs.declared.error.ClientError.{ClientError}
-use Rattle.cspf_client.proofs.Forward.{forward, FailsForward, never_forward, unanswered_forward, forward_row_stopped}
-use Rattle.cspf_client.proofs.Prefixes.{AreFirstSteps-trans}
-use Rattle.cspf_serve.specs.ServedRun.{IsServedClient}
-use Rattle.cspf_serve.specs.ServedLaws.{IsReadBefore, IsFreshLine, IsAnsweredFresh, HasFreshLines, ServedRepliesAreFresh, NoReplyIsBehind, read_behind_a_batch}
+use Rattle.cspf_client.proofs.Forward.{forward, forward_row, FailsForward, never_forward, unanswered_forward, forward_row_stopped}
+use Rattle.cspf_client.proofs.Prefixes.{AreFirstSteps-trans, IsPrefix-trans}
+use Rattle.cspf_serve.specs.ServedRun.{IsServedClient, IsServedSession, IsServedSeat}
+use Rattle.cspf_serve.specs.ServedLaws.{SessionSteps, IsReadBefore, IsFreshLine, IsAnsweredFresh, HasFreshLines, HasFreshSessions, ServedRepliesAreFresh, SeatsHaveOneSession, steps_of_session, NoReplyIsBehind, read_behind_a_batch}
 use Rattle.cspf_serve.proofs.Pairs.{numbered_weaker}
 
 abbrev Rows : Type 0
@@ -45,87 +53,207 @@ Rows = List (List (List ℕ))
 abbrev Nothing : ℕ → Unit {0} → List (List ℕ) → Unit {0} → Type 0
 Nothing place s fields t = Unit {0}
 
--- the answer to a row doesn't change the client's number
-client_kept : (place : ℕ) (s t : SessionState) (r : Result Row RowError) (line : List ℕ) → IsClientRowAnswered place s r line t → t.client ≡ s.client
-client_kept place s t r line a = search rules
+-- The client with the number `number` is in the state `s`, and has seen the steps that it had seen
+-- before the session.
+record IsFrom (session : SessionSteps) (number : ℕ) (s : SessionState) : Type 0 where
+  client : s.client ≡ number
+  begun : IsPrefix session.before s.steps.steps
 
-clients_kept : (place : ℕ) (s t : SessionState) (rows : Rows) (lines : List ℕ) → AreAnswered IsClientAnswered place s rows lines t → t.client ≡ s.client
-unfolding AreAnswered
-clients_kept place s t [] lines a = ap (λ (x : SessionState). x.client) a.1
-clients_kept place s t (fields ∷ rows) lines a = clients_kept (suc place) a.1 t rows a.2 a.5 ∙ client_kept place s a.1 (row_of fields) a.0 a.3
+-- The steps of the client in the state `t` are among those that it has seen after the session, and
+-- these are among all steps.
+record IsUpTo (session : SessionSteps) (all : KnownSteps) (t : SessionState) : Type 0 where
+  first : AreFirstSteps all t.steps
+  ended : IsPrefix t.steps.steps session.after
 
-module _ (all : KnownSteps) (number : ℕ) (order : AreOrderedFrom 0 0 all.steps) where
+from_later : (session : SessionSteps) (number : ℕ) (s t : SessionState) → HasGoneForward s t → IsFrom session number s → IsFrom session number t
+from_later session number s t forward from = record {
+  client = forward.client ∙ from.client;
+  begun = IsPrefix-trans session.before s.steps.steps t.steps.steps from.begun forward.steps.begins;
+}
+
+up_to_earlier : (session : SessionSteps) (all : KnownSteps) (s t : SessionState) → HasGoneForward s t → IsUpTo session all t → IsUpTo session all s
+up_to_earlier session all s t forward up = record {
+  first = AreFirstSteps-trans s.steps t.steps all forward.steps up.first;
+  ended = IsPrefix-trans s.steps.steps t.steps.steps session.after forward.steps.begins up.ended;
+}
+
+module _ (all : KnownSteps) (session : SessionSteps) (number : ℕ) (order : AreOrderedFrom 0 0 all.steps) where
   -- Suppose that a client reads the count of published batches before it answers a row. This
-  -- reading is one of the journal's steps. After the row, the client knows at least as many batches
-  -- as the steps before the reading count as published.
-  read_of : (place : ℕ) (s t : SessionState) → s.client ≡ number → AreFirstSteps all t.steps → ReadsCount place s t → IsReadBefore all.steps number place (length t.known.batches)
-  read_of place s t client first reads = search (rules, append_assoc, found_among, length-append)
+  -- reading is one of the journal's steps, and one of the session's steps. After the row, the client
+  -- knows at least as many batches as the steps before the reading count as published.
+  read_of : (place : ℕ) (s t : SessionState) → IsFrom session number s → IsUpTo session all t → ReadsCount place s t → IsReadBefore all.steps session number place (length t.known.batches)
+  read_of place s t from up reads =
+      let others = reads.caught_up.read.0 in
+      let before : List LogStep = s.steps.steps ++ others in
+      let after : List LogStep = up.first.begins.0 in
+      let is : t.steps.steps ≡ before ++ Read number place reads.count ∷ [] = subst (λ (n : ℕ). t.steps.steps ≡ before ++ Read n place reads.count ∷ []) from.client reads.caught_up.read.1 in
+      let whole : all.steps ≡ before ++ Read number place reads.count ∷ after =
+      sym up.first.begins.1 ∙ (ap (λ (l : List LogStep). l ++ after) is ∙ append_assoc before (Read number place reads.count ∷ []) after) in
+      let found : reads.count ≡ count_of before = found_among before after number place reads.count (subst (AreOrderedFrom 0 0) whole order) in
+      record {
+        before = before;
+        count = reads.count;
+        after = after;
+        reading = whole;
+        begun = IsPrefix-trans session.before s.steps.steps before from.begun (others, refl);
+        ended = subst (λ (l : List LogStep). IsPrefix l session.after) is up.ended;
+        fresh = omega (arith, found, reads.caught_up.known, ap length reads.later.begins.1, length-append reads.mid.batches reads.later.begins.0);
+      }
 
-  line_of : (place : ℕ) (s t : SessionState) (r : Result Row RowError) (line : List ℕ) → s.client ≡ number → AreFirstSteps all t.steps → IsClientRowAnswered place s r line t
-      → IsFreshLine all.steps number place r line
-  line_of place s t (Ok (row.Ask q)) line client first a = record {
+  line_of : (place : ℕ) (s t : SessionState) (r : Result Row RowError) (line : List ℕ) → IsFrom session number s → IsUpTo session all t → IsClientRowAnswered place s r line t
+      → IsFreshLine all.steps session number place r line
+  line_of place s t (Ok (row.Ask q)) line from up a = record {
     version = length t.known.batches;
     answer = a.answer;
     reply = a.reply;
-    read = read_of place s t client first a.reads;
+    read = read_of place s t from up a.reads;
   }
-  line_of place s t r line client first a = tt
+  line_of place s t r line from up a = tt
 
-  lines_of : (place : ℕ) (s t : SessionState) (rows : Rows) (lines : List ℕ) → s.client ≡ number → AreFirstSteps all t.steps → AreAnswered IsClientAnswered place s rows lines t
-      → AreAnswered (IsAnsweredFresh all.steps number) place tt rows lines tt
+  lines_of : (place : ℕ) (s t : SessionState) (rows : Rows) (lines : List ℕ) → IsFrom session number s → IsUpTo session all t → AreAnswered IsClientAnswered place s rows lines t
+      → AreAnswered (IsAnsweredFresh all.steps session number) place tt rows lines tt
   unfolding AreAnswered
-  lines_of place s t [] lines client first a = (a.0, refl)
-  lines_of place s t (fields ∷ rows) lines client first a =
+  lines_of place s t [] lines from up a = (a.0, refl)
+  lines_of place s t (fields ∷ rows) lines from up a =
+      let here : HasGoneForward s a.1 = forward_row place s a.1 (row_of fields) a.0 a.3 in
       let later : HasGoneForward a.1 t = forward (suc place) a.1 t rows a.2 a.5 in (
         a.0,
         tt,
         a.2,
-        line_of place s a.1 (row_of fields) a.0 client (AreFirstSteps-trans a.1.steps t.steps all later.steps first) a.3,
+        line_of place s a.1 (row_of fields) a.0 from (up_to_earlier session all a.1 t later up) a.3,
         a.4,
-        lines_of (suc place) a.1 t rows a.2 (client_kept place s a.1 (row_of fields) a.0 a.3 ∙ client) first a.5,
+        lines_of (suc place) a.1 t rows a.2 (from_later session number s a.1 here from) up a.5,
       )
 
-  all_lines : (rows : Option Rows) (s t : SessionState) (old new : Option (List ℕ)) → s.client ≡ number → AreFirstSteps all t.steps → AreAllAnswered IsClientAnswered rows s t old new
-      → AreAllAnswered (IsAnsweredFresh all.steps number) rows tt tt old new
-  all_lines rows s t old new client first a = search (rules, lines_of)
+  all_lines : (rows : Option Rows) (s t : SessionState) (old new : Option (List ℕ)) → IsFrom session number s → IsUpTo session all t → AreAllAnswered IsClientAnswered rows s t old new
+      → AreAllAnswered (IsAnsweredFresh all.steps session number) rows tt tt old new
+  all_lines rows s t old new from up a = record {
+    done = a.done;
+    lines = a.lines;
+    whole = a.whole;
+    answered = lines_of 1 s t a.done a.lines from up a.answered;
+    written = a.written;
+  }
 
-  row_stopped : (fails : FailsOf SessionState) (why : StreamError) (place : ℕ) (fields : List (List ℕ)) (s t : SessionState) (old new : Option (List ℕ)) → s.client ≡ number → AreFirstSteps all t.steps
-      → IsRowStopped IsClientAnswered fails why place fields s t old new → IsRowStopped (IsAnsweredFresh all.steps number) Nothing why place fields tt tt old new
-  row_stopped fails why place fields s t old new client first a = search (rules, line_of)
+  row_stopped : (fails : FailsOf SessionState) (why : StreamError) (place : ℕ) (fields : List (List ℕ)) (s t : SessionState) (old new : Option (List ℕ)) → IsFrom session number s → IsUpTo session all t
+      → IsRowStopped IsClientAnswered fails why place fields s t old new → IsRowStopped (IsAnsweredFresh all.steps session number) Nothing why place fields tt tt old new
+  row_stopped fails why place fields s t old new from up a = search (rules, line_of)
 
-  module _ (rows left : Option Rows) (failed : Bool) (s t : SessionState) (old new : Option (List ℕ)) (client : s.client ≡ number) (first : AreFirstSteps all t.steps) where
-    between : StopsBetween IsClientAnswered rows s t old new → StopsBetween (IsAnsweredFresh all.steps number) rows tt tt old new
-    between a = search (rules, lines_of)
+  module _ (rows left : Option Rows) (failed : Bool) (s t : SessionState) (old new : Option (List ℕ)) (from : IsFrom session number s) (up : IsUpTo session all t) where
+    between : StopsBetween IsClientAnswered rows s t old new → StopsBetween (IsAnsweredFresh all.steps session number) rows tt tt old new
+    between a = record {
+      done = a.done;
+      rest = a.rest;
+      lines = a.lines;
+      split = a.split;
+      answered = lines_of 1 s t a.done a.lines from up a.answered;
+      written = a.written;
+    }
 
-    in_row : (fails : FailsOf SessionState) → FailsForward fails → (why : StreamError) → StopsInRow IsClientAnswered fails why rows left s t old new → StopsInRow (IsAnsweredFresh all.steps number) Nothing why rows left tt tt old new
-    in_row fails known why a = grind (arith, common_steps, AreFirstSteps-trans, clients_kept, forward_row_stopped, lines_of, row_stopped)
+    in_row : (fails : FailsOf SessionState) → FailsForward fails → (why : StreamError) → StopsInRow IsClientAnswered fails why rows left s t old new → StopsInRow (IsAnsweredFresh all.steps session number) Nothing why rows left tt tt old new
+    in_row fails known why a =
+        let here : HasGoneForward s a.before = forward 1 s a.before a.done a.lines a.answered in
+        let later : HasGoneForward a.before t = forward_row_stopped fails known why (suc (length a.done)) a.fields a.before t a.mid new a.stops in record {
+          done = a.done;
+          fields = a.fields;
+          rest = a.rest;
+          lines = a.lines;
+          before = tt;
+          mid = a.mid;
+          split = a.split;
+          answered = lines_of 1 s a.before a.done a.lines from (up_to_earlier session all a.before t later up) a.answered;
+          written = a.written;
+          stops = row_stopped fails why (suc (length a.done)) a.fields a.before t a.mid new (from_later session number s a.before here from) up a.stops;
+        }
+
+    more_than : (limit : ℕ) → HasMoreThan IsClientAnswered limit rows s t old new → HasMoreThan (IsAnsweredFresh all.steps session number) limit rows tt tt old new
+    more_than limit a = record {
+      done = a.done;
+      fields = a.fields;
+      rest = a.rest;
+      lines = a.lines;
+      count = a.count;
+      split = a.split;
+      answered = lines_of 1 s t a.done a.lines from up a.answered;
+      written = a.written;
+    }
 
     stopped : (why : StreamStop AskError) → IsStreamStopped IsClientAnswered IsClientUnanswered why rows left failed s t old new
-        → HasStopped (IsAnsweredFresh all.steps number) Nothing (stream_error_of why) rows left failed tt tt old new
-    stopped why a = search (rules, between, in_row, lines_of, never_forward, unanswered_forward)
+        → HasStopped (IsAnsweredFresh all.steps session number) Nothing (stream_error_of why) rows left failed tt tt old new
+    stopped (stop.Stream stream_error.Memory) (inl a) = inl (a.0, between a.1)
+    stopped (stop.Stream stream_error.Memory) (inr a) = inr (in_row NeverFails never_forward stream_error.Memory a)
+    stopped (stop.Stream stream_error.Read) a = (a.0, between a.1)
+    stopped (stop.Stream stream_error.Write) a = in_row NeverFails never_forward stream_error.Write a
+    stopped (stop.Stream stream_error.Flush) a = in_row NeverFails never_forward stream_error.Flush a
+    stopped (stop.Stream stream_error.TooManyRows) a = more_than MOST_STREAM_ROWS a
+    stopped (stop.Answer fault) a = inr (in_row (IsClientUnanswered fault) (unanswered_forward fault) stream_error.Memory a)
 
   -- All rows, or the rows before the stream stopped, are answered, and their lines are written. The
   -- lines are as `IsFreshLine` says.
   abbrev Lines : Option Rows → Option (List ℕ) → Option (List ℕ) → Type 0
   Lines rows old new =
-      AreAllAnswered (IsAnsweredFresh all.steps number) rows tt tt old new
-      ⊎ ((why : StreamError) × (left : Option Rows) × (failed : Bool) × HasStopped (IsAnsweredFresh all.steps number) Nothing why rows left failed tt tt old new)
+      AreAllAnswered (IsAnsweredFresh all.steps session number) rows tt tt old new
+      ⊎ ((why : StreamError) × (left : Option Rows) × (failed : Bool) × HasStopped (IsAnsweredFresh all.steps session number) Nothing why rows left failed tt tt old new)
 
   module _ {Q V : Type 0} (bytes : Q → Option (List ℕ)) (contents : V → Option (List ℕ)) where
-    run_lines : (old new : ServingState Q V) → old.state.client ≡ number → AreFirstSteps all new.state.steps → (end : Result (Unit {0}) ClientError)
+    run_lines : (old new : ServingState Q V) → IsFrom session number old.state → IsUpTo session all new.state → (end : Result (Unit {0}) ClientError)
         → MatchResult end (λ done. AreAllAnswered IsClientAnswered (unread_rows bytes old.requests) old.state new.state (contents old.replies) (contents new.replies)) (λ why. IsClientStopped why (unread_rows bytes old.requests) old.state new.state (contents old.replies) (contents new.replies))
         → Lines (unread_rows bytes old.requests) (contents old.replies) (contents new.replies)
-    run_lines old new client first end run = search (rules, all_lines, stopped)
+    run_lines old new from up (Ok done) run = inl (all_lines (unread_rows bytes old.requests) old.state new.state (contents old.replies) (contents new.replies) from up run)
+    run_lines old new from up (Err why) run =
+        inr (stream_error_of run.stop, run.left, run.failed, stopped (unread_rows bytes old.requests) run.left run.failed old.state new.state (contents old.replies) (contents new.replies) from up run.stop run.stopped)
 
-    pub served_lines : (published : List NumberedChanges) (client : Client Q V) (served : ServedClient V) → IsServedClient bytes contents published all number client served
-        → HasFreshLines bytes contents all.steps number client served
-    served_lines published client served is = search (rules, run_lines)
+-- the lines of each session are fresh
+session_lines : {Q V : Type 0} (bytes : Q → Option (List ℕ)) (contents : V → Option (List ℕ)) (known : KnownBatches) (all : KnownSteps) (number : ℕ) → AreOrderedFrom 0 0 all.steps
+    → (s : ClientSession Q V) → IsServedSession bytes contents known all number s → HasFreshLines bytes contents all.steps number s
+session_lines {Q} {V} bytes contents known all number order s is =
+    let session : SessionSteps = steps_of_session s in
+    let from : IsFrom session number s.before.state = record { client = is.session.number_is; begun = ([], append-nil s.before.state.steps.steps) } in
+    let up : IsUpTo session all s.after.state = record { first = is.first; ended = ([], append-nil s.after.state.steps.steps) } in
+    let lines = run_lines all session number order bytes contents s.before s.after from up s.after.end is.session.run in
+    subst (λ (w : V). Lines all session number order (option_map rows_of (bytes s.streams.requests)) (contents w) (contents s.after.replies)) is.session.empty
+    (subst (λ (r : Option Q). Lines all session number order (unread_rows bytes r) (contents s.before.replies) (contents s.after.replies)) is.session.requests lines)
 
-pub fresh_runs : (W J Q V : Type 0) → ServedRepliesAreFresh W J Q V
-fresh_runs W J Q V updates said recorded bytes contents writer journal clients served run =
-    numbered_weaker (IsServedClient bytes contents run.state.run.accepted served.steps) (HasFreshLines bytes contents served.steps.steps)
-    (λ n c s is. served_lines served.steps n run.steps_of_run.journal.order bytes contents run.state.run.accepted c s is)
+pub fresh_runs : (W J : Type 0) {Q V : Type 0} (reopens : ReopensOf Q V) → ServedRepliesAreFresh W J reopens
+fresh_runs W J reopens updates said recorded bytes contents writer journal clients served run =
+    numbered_weaker (IsServedSeat bytes contents reopens run.state.run.accepted served.steps) (HasFreshSessions bytes contents reopens run.state.run.accepted served.steps)
+    (λ n c s is. record {
+      seat = is;
+      fresh =
+          All-weaker (IsServedSession bytes contents s.known served.steps n) (HasFreshLines bytes contents served.steps.steps n)
+          (session_lines bytes contents s.known served.steps n run.steps_of_run.journal.order) (is.last ∷ is.earlier) is.each;
+    })
     1 clients served.clients.items run.clients_served
+
+-- what the only session of a client is, if no session follows another
+only : {Q V : Type 0} (reopens : ReopensOf Q V) → ((writer : V) (streams : Client Q V) → ¬ reopens writer (Ok streams)) → (first : ServingState Q V) (last : ClientSession Q V) (earlier : List (ClientSession Q V))
+    → CameBefore reopens first last.streams last.before earlier → (last.before ≡ first) × (refused_in (last ∷ earlier) ≡ last.after.state.refused)
+only reopens never first last [] turn = (turn, omega arith)
+only reopens never first last (s ∷ earlier) turn = absurd (never s.after.replies last.streams turn.0.opened)
+
+refused_once : (total sum last : ℕ) → total ≡ min sum (2 ^ 64 - 1) → sum ≡ last → last < 2 ^ 64 → total ≡ last
+refused_once total sum last all is few = omega (arith, all, is, few)
+
+pub one_session : {Q V : Type 0} (reopens : ReopensOf Q V) → SeatsHaveOneSession reopens
+one_session {Q} {V} reopens never bytes contents published all number client served is =
+    let it = only reopens never is.first is.last is.earlier is.in_turn in
+    let head = All-head (IsServedSession bytes contents served.known all number) is.last is.earlier is.each in
+    record {
+      before = is.last.before;
+      after = is.last.after;
+      ready = head.session.ready;
+      number_is = head.session.number_is;
+      requests = ap (λ (c : ServingState Q V). c.requests) it.0 ∙ is.requests;
+      empty = ap (λ (c : ServingState Q V). c.replies) it.0 ∙ is.empty;
+      run = head.session.run;
+      replies = is.replies;
+      refused = refused_once served.refused (refused_in (is.last ∷ is.earlier)) is.last.after.state.refused is.refused it.1 head.session.few;
+      steps = is.steps;
+      known = is.known;
+      first = subst (λ (k : KnownSteps). AreFirstSteps all k) (sym is.steps) head.first;
+      source = ap (λ (k : KnownBatches). k.source) is.known ∙ head.source;
+      end = is.end;
+    }
 
 -- if a stream has one row, the lines that answer the stream are the line of this row
 one_row : (s t : SessionState) (fields : List (List ℕ)) (lines : List ℕ) → AreAnswered IsClientAnswered 1 s (fields ∷ []) lines t
@@ -164,7 +292,10 @@ not_behind one b all fields q client served answer steps rows asks below empty i
     let answered : IsRequestAnswered 1 q is.before.state row.0 is.after.state = subst (λ (r : Result Row RowError). IsClientRowAnswered 1 is.before.state r row.0 is.after.state) asks row.1 in
     let order : AreOrderedFrom 0 0 all.steps = subst (AreOrderedFrom 0 0) (sym steps) (refl, omega arith, (refl, tt)) in
     let first : AreFirstSteps all is.after.state.steps = subst (λ (k : KnownSteps). AreFirstSteps all k) is.steps is.first in
-    let read = read_of all 1 order 1 is.before.state is.after.state is.number_is first answered.reads in
+    let session : SessionSteps = record { before = is.before.state.steps.steps; after = is.after.state.steps.steps } in
+    let from : IsFrom session 1 is.before.state = record { client = is.number_is; begun = ([], append-nil is.before.state.steps.steps) } in
+    let up : IsUpTo session all is.after.state = record { first = first; ended = ([], append-nil is.after.state.steps.steps) } in
+    let read = read_of all session 1 order 1 is.before.state is.after.state from up answered.reads in
     let version : ℕ = length is.after.state.known.batches in
     let counted : count_of read.before ≡ 1 = behind b read.before read.after read.count (sym steps ∙ read.reading) in
     let few : version ≤ 1 = omega (arith, length-prefix (b ∷ []) served.known.batches end.1, ap (λ (k : KnownBatches). length k.batches) is.known) in

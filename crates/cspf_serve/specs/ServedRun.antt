@@ -1,6 +1,6 @@
 -- Defines the result of a run over updates and clients. There is one list of published batches: the
 -- updates make it, the journal records it, and all clients are answered from it.
-use Rattle.std.specs.Prelude.{◌≡◌, ℕ, ◌+◌, ◌<◌, ◌≤◌, ◌⊎◌, Bool, Option, Some, List, [], length, All, Result, Err, MatchResult}
+use Rattle.std.specs.Prelude.{◌≡◌, ℕ, ◌+◌, ◌-◌, ◌^◌, ◌<◌, ◌≤◌, ◌⊎◌, min, Bool, Option, Some, List, [], ◌∷◌, length, All, Result, Err, MatchResult}
 use Rattle.std.specs.Option.{option_map}
 use Rattle.std.specs.Io.KnownBytes.{Appends, Keeps}
 use mathlib.Core.List.{IsPrefix}
@@ -10,12 +10,14 @@ use Rattle.cspf_rows.specs.Records.{rows_of}
 use Rattle.cspf_rows.specs.Rows.{row_of}
 use Rattle.cspf_publish.specs.Histories.{BeginsWith}
 use Rattle.cspf_publish.specs.JournalSteps.{KnownSteps, AreJournalSteps, batches_of, count_of}
+use Rattle.cspf_publish.specs.KnownBatches.{KnownBatches, AreFirstOf}
 use Rattle.cspf_client.specs.declared.client.Client.{Client}
 use Rattle.cspf_client.specs.declared.client.ServedClient.{ServedClient}
 use Rattle.cspf_client.specs.declared.error.ClientError.TheVariants.{Ahead}
 use Rattle.cspf_client.specs.ServingStates.{ServingState, IsReady}
 use Rattle.cspf_client.specs.SessionStates.{AreFirstSteps}
 use Rattle.cspf_client.specs.ClientRuns.{IsClientRun}
+use Rattle.cspf_client.specs.Sessions.{ReopensOf, ClientSession, IsSession, IsLast, CameBefore, refused_in}
 use Rattle.cspf_stream.specs.RowAnswers.{AnswersOf, AreAllAnswered}
 use Rattle.cspf_stream.specs.StreamStops.{FailsOf, HasStopped, IsLineStopped}
 use Rattle.cspf_stream.specs.declared.error.StreamError.{StreamError}
@@ -76,8 +78,8 @@ IsUpdatesRun ended all t old new =
     (λ done. AreUpdatesAnswered (λ line mid. Appends mid new line) all t old)
     (λ error. AreUpdatesStopped error all t old new)
 
--- The client with this number was answered from its first row on. At the end it learns of all
--- published batches. The client's batches are a prefix of the published batches, so each of its
+-- The client with this number has one session, and was answered from its first row on. At the end
+-- it learns of all published batches. The client's batches are a prefix of the published batches, so each of its
 -- replies is the best answer at a published version. A client that knew more batches than were
 -- published ends with the error `Ahead`. No run has shown this error. The client's steps are a
 -- prefix of all steps of the journal. So the journal's steps have all readings of the count of
@@ -101,11 +103,44 @@ pub record IsServedClient {Q V : Type 0} (bytes : Q → Option (List ℕ)) (cont
       ((served.end ≡ after.end) × BeginsWith published served.known.batches)
       ⊎ ((served.end ≡ Err Ahead) × (length published < length served.known.batches))
 
--- Each client was answered as `IsServedClient` says. The first client of the list has the number
+-- One of the sessions of the client with this number. The client was answered from the session's
+-- first row on. The batches that it knew at the session's end are a prefix of the batches `known`,
+-- which it knew after its last session. Its steps are a prefix of all steps of the journal.
+pub record IsServedSession {Q V : Type 0} (bytes : Q → Option (List ℕ)) (contents : V → Option (List ℕ)) (known : KnownBatches) (all : KnownSteps) (number : ℕ) (s : ClientSession Q V) : Type 0 where
+  pub session : IsSession bytes contents number s
+  pub first : AreFirstSteps all s.after.state.steps
+  pub source : s.after.state.known.source ≡ all.source
+  pub known_first : AreFirstOf known s.after.state.known
+
+-- The seat of the client with this number has a list of sessions: the session `last`, and the
+-- sessions `earlier` before it, the latest first. In each session the client was answered from the
+-- session's first row on, as `IsServedClient` says of a client with one session. The first session
+-- has the streams `client`. Each other session has the streams that `reopen` returned for the
+-- writer of the session before it, and begins with the batches and the steps that the client knew
+-- when that session ended. So along a seat the versions of replies never fall. After the last
+-- session the client learns of all published batches, as in `IsServedClient`.
+pub record IsServedSeat {Q V : Type 0} (bytes : Q → Option (List ℕ)) (contents : V → Option (List ℕ)) (reopens : ReopensOf Q V) (published : List NumberedChanges) (all : KnownSteps) (number : ℕ) (client : Client Q V) (served : ServedClient V) : Type 0 where
+  pub first : ServingState Q V
+  pub last : ClientSession Q V
+  pub earlier : List (ClientSession Q V)
+  pub requests : first.requests ≡ Some client.requests
+  pub empty : first.replies ≡ client.replies
+  pub in_turn : CameBefore reopens first last.streams last.before earlier
+  pub ends : IsLast reopens last
+  pub each : All (IsServedSession bytes contents served.known all number) (last ∷ earlier)
+  pub replies : served.replies ≡ last.after.replies
+  pub refused : served.refused ≡ min (refused_in (last ∷ earlier)) (2 ^ 64 - 1)
+  pub steps : served.steps ≡ last.after.state.steps
+  pub known : served.known ≡ last.after.state.known
+  pub end :
+      ((served.end ≡ last.after.end) × BeginsWith published served.known.batches)
+      ⊎ ((served.end ≡ Err Ahead) × (length published < length served.known.batches))
+
+-- Each client was answered as `IsServedSeat` says. The first client of the list has the number
 -- `number`, the second client has the next number, and so on.
-abbrev pub AreServedFrom : {Q V : Type 0} → (Q → Option (List ℕ)) → (V → Option (List ℕ)) → List NumberedChanges → KnownSteps → ℕ → List (Client Q V) → List (ServedClient V) → Type 0
-AreServedFrom bytes contents published all number clients served =
-    AreNumberedPairs (IsServedClient bytes contents published all) number clients served
+abbrev pub AreServedFrom : {Q V : Type 0} → (Q → Option (List ℕ)) → (V → Option (List ℕ)) → ReopensOf Q V → List NumberedChanges → KnownSteps → ℕ → List (Client Q V) → List (ServedClient V) → Type 0
+AreServedFrom bytes contents reopens published all number clients served =
+    AreNumberedPairs (IsServedSeat bytes contents reopens published all) number clients served
 
 -- `all` has the steps of one journal, from its first step on. These steps record all published
 -- batches, and count them as published. The list `steps` is a prefix of these steps.
@@ -132,12 +167,13 @@ IsServedStatus t clients status =
 -- journal. The answers to each client are computed from prefixes of these batches. The run returns
 -- one list of the journal's steps. These steps record the batches, count them as published, and
 -- have the clients' readings of the count of published batches. The clients are numbered from 1.
-pub record IsServedRun {W J Q V : Type 0} (updates : Option (List ℕ)) (said : W → Option (List ℕ)) (recorded : J → Option (List ℕ)) (bytes : Q → Option (List ℕ)) (contents : V → Option (List ℕ)) (writer : W) (journal : J) (clients : List (Client Q V)) (served : Served W J V) : Type 0 where
+-- `reopens` says which streams of a next session the writer of a client's replies may return.
+pub record IsServedRun {W J Q V : Type 0} (updates : Option (List ℕ)) (said : W → Option (List ℕ)) (recorded : J → Option (List ℕ)) (bytes : Q → Option (List ℕ)) (contents : V → Option (List ℕ)) (reopens : ReopensOf Q V) (writer : W) (journal : J) (clients : List (Client Q V)) (served : Served W J V) : Type 0 where
   pub state : UpdatesState
   pub updates_run : IsUpdatesRun served.updates (option_map rows_of updates) state (said writer) (said served.said)
   pub journal_grown : Appends (recorded journal) (recorded served.journal) state.text
   pub steps_of_run : AreStepsOfRun state.run.accepted state.steps served.steps
-  pub clients_served : AreServedFrom bytes contents state.run.accepted served.steps 1 clients served.clients.items
+  pub clients_served : AreServedFrom bytes contents reopens state.run.accepted served.steps 1 clients served.clients.items
   pub status_is : IsServedStatus state served.clients.items served.status
 
 -- Why no run began: its publisher wasn't opened, or the system had no thread for one of the `count`

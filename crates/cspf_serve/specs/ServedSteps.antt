@@ -1,5 +1,5 @@
 -- Private: the states between the steps of a run over updates and clients.
-use Rattle.std.specs.Prelude.{◌≡◌, ℕ, suc, ⊤, ◌<◌, ◌≤◌, ◌⊎◌, Option, Some, List, [], ◌∷◌, All, Result, Err, length, vec_len}
+use Rattle.std.specs.Prelude.{◌≡◌, ℕ, suc, ⊤, ◌+◌, ◌-◌, ◌^◌, ◌<◌, ◌≤◌, ◌⊎◌, min, Option, Some, List, [], ◌∷◌, All, Result, Err, length, vec_len}
 use Rattle.std.specs.List.{AllZip}
 use Rattle.std.specs.Vec.{vec_capacity}
 use mathlib.Core.List.{IsPrefix}
@@ -11,8 +11,8 @@ use Rattle.cspf_publish.specs.PublisherStates.{PublisherState}
 use Rattle.cspf_client.specs.declared.client.Client.{Client}
 use Rattle.cspf_client.specs.declared.client.ServedClient.{ServedClient}
 use Rattle.cspf_client.specs.declared.error.ClientError.TheVariants.{Ahead}
-use Rattle.cspf_client.specs.ServingStates.{ServingState, IsReady}
-use Rattle.cspf_client.specs.ClientRuns.{IsClientRun}
+use Rattle.cspf_client.specs.ServingStates.{ServingState}
+use Rattle.cspf_client.specs.Sessions.{ReopensOf, HasSessions}
 use Rattle.cspf_client.specs.SessionStates.{AreFirstSteps, HasGoneForward}
 use Rattle.cspf_stream.specs.declared.error.StreamError.{StreamError}
 use Rattle.cspf_serve.specs.ClientSeats.{IsSeat, AreNumberedSeats}
@@ -34,17 +34,16 @@ pub record AreSeats {Q V T L : Type 0} (source : Book) (count : ℕ) (made : Sea
   pub room : count ≤ vec_capacity made.serving
   pub room_left : count ≤ vec_capacity made.served
 
--- The client with this number was answered from its first row on, by an asker of the journal with
--- the identity `source`.
-pub record IsAnswered {Q V : Type 0} (bytes : Q → Option (List ℕ)) (contents : V → Option (List ℕ)) (source : Book) (number : ℕ) (client : Client Q V) (c : ServingState Q V) : Type 0 where
+-- The client with this number was answered in one session after the other, from its first row on,
+-- by an asker of the journal with the identity `source`.
+pub record IsAnswered {Q V : Type 0} (reopens : ReopensOf Q V) (bytes : Q → Option (List ℕ)) (contents : V → Option (List ℕ)) (source : Book) (number : ℕ) (client : Client Q V) (c : ServingState Q V) : Type 0 where
   pub before : ServingState Q V
-  pub ready : IsReady before
   pub number_is : before.state.client ≡ number
   pub source_is : before.state.known.source ≡ source
   pub steps_source : before.state.steps.source ≡ source
   pub requests : before.requests ≡ Some client.requests
   pub replies : before.replies ≡ client.replies
-  pub run : IsClientRun bytes contents before c
+  pub sessions : HasSessions reopens bytes contents before c
   pub forward : HasGoneForward before.state c.state
 
 -- The updates of a run were answered. The publisher of the run may already have published batches
@@ -59,7 +58,7 @@ IsRunOfUpdates {W} {J} said recorded all writer old ended written new =
 -- were published.
 pub record IsServedEnd {Q V : Type 0} (published : List NumberedChanges) (c : ServingState Q V) (served : ServedClient V) : Type 0 where
   pub replies : served.replies ≡ c.replies
-  pub refused : served.refused ≡ c.state.refused
+  pub refused : served.refused ≡ min (c.refused_before + c.state.refused) (2 ^ 64 - 1)
   pub steps : served.steps ≡ c.state.steps
   pub known : served.known ≡ c.state.known
   pub end :

@@ -23,7 +23,7 @@ mod serving;
 mod streams;
 
 pub use batch::{lines_of_a_script, run_batch, run_batch_with};
-pub use cspf_client::{Client, ClientError, EndOfRequests, Replies, ServedClient};
+pub use cspf_client::{Client, ClientError, EndOfRequests, Reopens, Replies, ServedClient};
 pub use cspf_judge::{Audit, AuditError, AuditFault, audit};
 pub use cspf_publish::{MOST_ASKERS, MOST_TREE_MEGABYTES, TREE_MEGABYTES, trees_in};
 pub use cspf_solve::{
@@ -38,6 +38,7 @@ pub use cspf_work::{
 pub use judging::{run_audit, run_snapshot};
 pub use live::{run_live_rows, run_live_rows_with};
 pub use serving::{
-    Served, ServedError, ServedOptions, no_reply_is_behind, run_serve, served_replies_are_fresh,
+    Served, ServedError, ServedOptions, no_reply_is_behind, run_serve, seats_with_one_session,
+    served_replies_are_fresh,
 };
 pub use streams::RunError;

@@ -75,6 +75,21 @@ impl<R: Drop> Bounded<R> {
     }
 }
 
+impl<R: Drop> Bounded<R> {
+    /// As `new`, but uses the memory of the value by which another thread saw why an earlier reader
+    /// stopped.
+    pub(crate) fn again(earlier: &Cause, rows: R) -> Result<(Bounded<R>, Cause), AllocError> {
+        let cause = Arc::try_clone(earlier)?;
+        let bounded = Bounded {
+            rows,
+            length: 0,
+            cause: Arc::try_clone(earlier)?,
+        };
+        cause.store(NO_CAUSE, Ordering::SeqCst);
+        Ok((bounded, cause))
+    }
+}
+
 impl<R> Bounded<R> {
     /// If the byte may be passed on, counts it and returns `NO_CAUSE`. Otherwise returns why the
     /// byte isn't passed on.

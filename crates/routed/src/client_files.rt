@@ -2,16 +2,17 @@
 //! is opened, and the opening of the files.
 ghost use Rattle.std.specs.Prelude.{◌≡◌, ◌<◌, ◌≤◌, length, IfOk, vec_len};
 
-use crate::bounded::{Bounded, Cause};
+use crate::bounded::Bounded;
 use crate::noted::Fault;
-use crate::options::{CLIENT, Call, EXPLAIN, JOURNAL};
+use crate::options::{CLIENT, Call, EXPLAIN, FIGURES, JOURNAL};
+use crate::seats::{Closing, RunSeat, RunSeats};
 use crate::standard_error::{say, say_at, say_of, stop};
 use crate::statuses::REFUSED;
 use crate::stopped::Stopped;
-use cspf_serve::{Client, EndOfRequests, MOST_ASKERS, Replies};
+use cspf_serve::{Client, MOST_ASKERS};
 use std::fs::{File, OpenOptions};
-use std::io::Write;
 use std::os::unix::fs::MetadataExt;
+use std::sync::Wait;
 use std::{fs, io};
 
 /// The name of a client's file of requests in the lines of `--explain`.
@@ -74,6 +75,9 @@ fn check_names(rt: &HostRuntime, words: &[&str]) -> Result<(), Stopped> {
 fn check_shared(call: &Call<'_, '_>, words: &[&str]) -> Result<(), Stopped> {
     let mut all = Vec::new(call.rt.alloc());
     add(call.rt, &mut all, call.value(JOURNAL), true)?;
+    if call.gives(FIGURES) {
+        add(call.rt, &mut all, call.value(FIGURES), true)?;
+    }
     for word in words {
         add_client(call.rt, &mut all, ClientNames::read(word))?;
     }
@@ -215,43 +219,8 @@ fn has_bytes(rt: &HostRuntime, path: &str) -> bool {
     }
 }
 
-/// A file of replies. The file is closed after the client has ended. So the reader of a pipe sees
-/// the end of the file.
-#[derive(Drop)]
-pub struct Closing {
-    file: Option<File>,
-    /// Why no more of the client's requests were read.
-    pub cause: Cause,
-}
-
-impl Write for Closing {
-    fn write(&mut self, buf: &[u8]) -> io::Result<usize> {
-        match &mut self.file {
-            Some(file) => file.write(buf),
-            None => Ok(0),
-        }
-    }
-
-    fn flush(&mut self) -> io::Result<()> {
-        match &mut self.file {
-            Some(file) => file.flush(),
-            None => Ok(()),
-        }
-    }
-}
-
-impl Replies for Closing {
-    ghost use Rattle.std.specs.Prelude.{◌≡◌, None};
-
-    ghost has_ended = { λ closing. closing.file ≡ None };
-
-    fn end(&mut self, _requests: EndOfRequests) {
-        self.file = None;
-    }
-}
-
 /// The two opened files of a client, as `serve` uses them.
-pub type OpenClient = Client<Bounded<File>, Closing>;
+pub type OpenClient<'a, T> = Client<Bounded<File>, Closing<'a, T>>;
 
 /// Returns the opened file of a client, or an error. With `--explain` it first writes the error.
 fn opened(
@@ -276,8 +245,12 @@ fn opened(
     }
 }
 
-/// Opens the files of a client, the file of requests first.
-fn open_client(call: &Call<'_, '_>, names: ClientNames<'_>) -> Result<OpenClient, Stopped> {
+/// Opens the files of a seat, the file of requests first.
+fn open_client<'a, T: Wait>(
+    call: &Call<'_, '_>,
+    seat: RunSeat<'a, T>,
+) -> Result<OpenClient<'a, T>, Stopped> {
+    let names = seat.names;
     let made = File::open(call.rt, names.requests);
     let file = opened(call, REQUESTS, names.requests, made)?;
     let (requests, cause) = Bounded::new(call.rt.alloc(), file)?;
@@ -287,8 +260,7 @@ fn open_client(call: &Call<'_, '_>, names: ClientNames<'_>) -> Result<OpenClient
         .open(call.rt, names.replies);
     match opened(call, REPLIES, names.replies, made) {
         Ok(file) => {
-            let file = Some(file);
-            let replies = Closing { file, cause };
+            let replies = Closing::new(file, cause, seat);
             Ok(Client { requests, replies })
         }
         Err(why) => Err(why),
@@ -296,12 +268,21 @@ fn open_client(call: &Call<'_, '_>, names: ClientNames<'_>) -> Result<OpenClient
 }
 
 /// Opens the files of all clients, one client after the other.
-pub(crate) fn open_clients(call: &Call<'_, '_>, words: &[&str]) -> Result<Vec<OpenClient>, Stopped>
+pub(crate) fn open_clients<'a, T: Wait>(
+    call: &Call<'_, '_>,
+    words: &[&'a str],
+    seats: &'a RunSeats<'a, T>,
+) -> Result<Vec<OpenClient<'a, T>>, Stopped>
     ensures { IfOk result (λ clients. vec_len clients ≡ length words.now) }
 {
     let mut clients = Vec::with_capacity(call.rt.alloc(), words.len())?;
     for word in words {
-        let Ok(()) = clients.push(open_client(call, ClientNames::read(word))?) else {
+        let seat = RunSeat {
+            seats,
+            number: clients.len(),
+            names: ClientNames::read(word),
+        };
+        let Ok(()) = clients.push(open_client(call, seat)?) else {
             return Err(Stopped::Memory);
         };
     }

@@ -45,6 +45,12 @@ const TREES: &str = "trees";
 /// The option that gives the most rows that clients sent ahead and that are answered at once.
 const AT_ONCE: &str = "at-once";
 
+/// The flag with which a client's files are opened again after a session.
+pub const REOPEN: &str = "reopen";
+
+/// The option that gives the path of the file of figures.
+pub const FIGURES: &str = "figures";
+
 /// An option of a command.
 #[derive(Clone, Copy)]
 pub enum CommandOption {
@@ -70,6 +76,10 @@ pub enum CommandOption {
     Trees,
     /// The most rows that clients sent ahead and that are answered at once.
     AtOnce,
+    /// Whether the files of a client are opened again after a session.
+    Reopen,
+    /// The file of figures.
+    Figures,
     /// Whether to skip the rows after the last whole batch of a journal.
     AcceptTorn,
     /// Whether the run writes why it stops.
@@ -90,6 +100,8 @@ impl CommandOption {
             CommandOption::Workers => WORKERS,
             CommandOption::Trees => TREES,
             CommandOption::AtOnce => AT_ONCE,
+            CommandOption::Reopen => REOPEN,
+            CommandOption::Figures => FIGURES,
             CommandOption::AcceptTorn => ACCEPT_TORN,
             CommandOption::Explain => EXPLAIN,
         }
@@ -115,6 +127,12 @@ impl CommandOption {
             CommandOption::AtOnce => {
                 "How many rows that clients sent ahead are answered at once, 1 to 64; by default the processors"
             }
+            CommandOption::Reopen => {
+                "When a client's rows end, open its files again, for another session"
+            }
+            CommandOption::Figures => {
+                "A file that gets what each client did, after each batch and each session"
+            }
             CommandOption::AcceptTorn => "Leave out the rows after the last whole batch",
             CommandOption::Explain => {
                 "Say on standard error why a run stops, or which row a file is refused for"
@@ -135,11 +153,15 @@ impl CommandOption {
         let arg = named(alloc, self.name(), self.help());
         match self {
             CommandOption::Clients => arg.value_name("IN=OUT").action(ArgAction::Append),
-            CommandOption::ClientsFrom | CommandOption::Keep => arg.value_name("FILE"),
+            CommandOption::ClientsFrom | CommandOption::Keep | CommandOption::Figures => {
+                arg.value_name("FILE")
+            }
             CommandOption::Workers => workers(arg),
             CommandOption::Trees => trees(arg),
             CommandOption::AtOnce => at_once(arg),
-            CommandOption::AcceptTorn | CommandOption::Explain => arg.action(ArgAction::SetTrue),
+            CommandOption::Reopen | CommandOption::AcceptTorn | CommandOption::Explain => {
+                arg.action(ArgAction::SetTrue)
+            }
             _ => required(arg, "FILE"),
         }
     }

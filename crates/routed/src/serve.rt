@@ -3,17 +3,23 @@
 ghost use Rattle.std.specs.Prelude.{◌<◌, ◌≤◌, length, vec_len};
 
 use crate::bounded::unfit_of;
-use crate::client_files::{ClientNames, Closing, OpenClient, check_clients, open_clients};
+use crate::client_files::{ClientNames, OpenClient, check_clients, open_clients};
 use crate::client_list::{client_words, list_bytes, list_text};
 use crate::devices::{INPUT, NewFile, OUTPUT, created, flushed, held_places};
-use crate::noted::Noted;
-use crate::options::{Asked, CLIENT, Call, CommandOption, CommandText, EXPLAIN, JOURNAL};
+use crate::figures::Figures;
+use crate::noted::{Fault, Noted};
+use crate::options::{
+    Asked, CLIENT, Call, CommandOption, CommandText, EXPLAIN, FIGURES, JOURNAL, REOPEN,
+};
+use crate::seats::{Closing, RunSeats, Saying, UpdatesRows};
 use crate::stack::grow_stack;
+use crate::standard_error::say_at;
 use crate::stopped::{Ran, Stopped};
 use cspf_serve::{
     ClientError, MOST_ASKERS, Served, ServedClient, ServedOptions, StreamError, run_serve,
 };
 use std::sync::Wait;
+use std::sync::atomic::AtomicBool;
 use std::thread::Threads;
 use std::{fmt, io};
 
@@ -29,6 +35,8 @@ pub const COMMAND: CommandText = CommandText {
         CommandOption::ClientsFrom,
         CommandOption::Trees,
         CommandOption::AtOnce,
+        CommandOption::Reopen,
+        CommandOption::Figures,
         CommandOption::Explain,
     ],
 };
@@ -62,6 +70,23 @@ line of more than 1,048,576 bytes or a quotation mark, which disturbs nobody els
 closed then, but the other end of a /dev/fd/N sees that only when the run ends. The run ends when
 standard input and all clients have ended.
 
+With --reopen a client has one session after the other. When its rows end, or it ends early as above,
+its IN and OUT are closed, and then opened again by their names, IN before OUT. Rows are numbered from
+1 in each session. The versions of its replies never fall, also not from one session to the next. A
+client has no further session once standard input has ended, if IN or OUT can't be opened, or if one
+of them is neither a pipe nor a device. A client that waits for the other end of a pipe when standard
+input ends waits on: the run ends only after a program has opened both pipes and ended its rows.
+
+--figures FILE makes a file with a line for each client, its seat, and writes it again over the same
+bytes after each batch and each session:
+  figures N version V seats K
+  seat S sessions E open 0 rows R route A none B unknown-from C unknown-to D refused F version V
+  end N
+E sessions have ended, and open is 1 during a session. R = A + B + C + D + F. V is the last published
+version, and the version of the last reply. Numbers have spaces before them. The first and the last
+line have the same N, unless the file was written while it was read. If FILE can't be made or written,
+the run goes on, and with --explain a line says so.
+
 Status:
   0  everything was accepted
   1  the command line was refused
@@ -86,25 +111,62 @@ pub(crate) fn answer<T: Threads + Wait + Sync>(call: &Call<'_, '_>, handle: &T) 
     serve(call, handle, words)
 }
 
+/// Opens the file of figures, if the call gives one. If it can't be opened, the run goes on without
+/// it, and with `--explain` a line says so.
+fn open_figures(call: &Call<'_, '_>, seats: usize) -> Result<Option<Figures>, Stopped> {
+    if !call.gives(FIGURES) {
+        return Ok(None);
+    }
+    match Figures::open(call.rt, call.rt.alloc(), call.value(FIGURES), seats)? {
+        Ok(figures) => Ok(Some(figures)),
+        Err(fault) => {
+            explain_figures(call, &fault);
+            Ok(None)
+        }
+    }
+}
+
+/// With `--explain`, writes which call on the file of figures failed.
+fn explain_figures(call: &Call<'_, '_>, fault: &Fault) {
+    if call.has(EXPLAIN) {
+        say_at(call.rt, FIGURES, call.value(FIGURES), fault);
+    }
+}
+
 /// Publishes the updates of standard input, and answers the clients meanwhile. Each batch is first
 /// written to the new journal. All files are opened before the first row is read. The journal is
 /// opened last.
 fn serve<T: Threads + Wait + Sync>(call: &Call<'_, '_>, handle: &T, words: &[&str]) -> Ran
     requires { (0 < length words.now) × (length words.now ≤ MOST_ASKERS) }
 {
-    let clients = open_clients(call, words)?;
+    let seats = RunSeats {
+        rt: call.rt,
+        handle,
+        reopens: call.has(REOPEN),
+        has_ended: AtomicBool::new(false),
+        figures: open_figures(call, words.len())?,
+    };
+    if let Some(figures) = &seats.figures {
+        figures.write(handle);
+    }
+    let clients = open_clients(call, words, &seats)?;
     let mut journal = created(call, JOURNAL)?;
-    let ran = run(call, handle, &mut journal, clients, words);
+    let ran = run(call, &seats, &mut journal, clients, words);
+    if let Some(figures) = &seats.figures {
+        if let Some(fault) = figures.fault(handle) {
+            explain_figures(call, &fault);
+        }
+    }
     flushed(&mut journal, ran)
 }
 
 /// Reads the updates and serves the clients. With `--explain` it also writes which clients ended
 /// before their rows ended.
-fn run<T: Threads + Wait + Sync>(
+fn run<'a, T: Threads + Wait + Sync>(
     call: &Call<'_, '_>,
-    handle: &T,
+    seats: &'a RunSeats<'a, T>,
     journal: &mut NewFile,
-    clients: Vec<OpenClient>,
+    clients: Vec<OpenClient<'a, T>>,
     words: &[&str],
 ) -> Ran
     requires { (0 < vec_len clients) × (vec_len clients ≤ MOST_ASKERS) }
@@ -113,15 +175,15 @@ fn run<T: Threads + Wait + Sync>(
     let mut updates = Noted::new(INPUT, rt.reader());
     let mut said = Noted::new(OUTPUT, io::writer(rt));
     let ran = run_serve(
-        handle,
+        seats.handle,
         rt.alloc(),
-        &mut updates,
-        &mut said,
+        UpdatesRows::new(&mut updates, &seats.has_ended),
+        Saying::new(&mut said, seats),
         journal,
         clients,
         ServedOptions {
             trees: call.trees(),
-            at_once: call.at_once(handle),
+            at_once: call.at_once(seats.handle),
         },
     );
     match ran {
@@ -147,7 +209,7 @@ fn run<T: Threads + Wait + Sync>(
 }
 
 /// Writes which clients ended before their rows ended, and why.
-fn explain_ends(rt: &HostRuntime, words: &[&str], clients: &[ServedClient<Closing>]) {
+fn explain_ends<T>(rt: &HostRuntime, words: &[&str], clients: &[ServedClient<Closing<'_, T>>]) {
     for index in 0..words.len() {
         if let Some(client) = clients.get(index) {
             explain_end(rt, index.saturating_add(1), words[index], client);
@@ -157,7 +219,12 @@ fn explain_ends(rt: &HostRuntime, words: &[&str], clients: &[ServedClient<Closin
 
 /// If a client ended before its rows ended, writes why. A line was too long, a row had a quotation
 /// mark, or there was an error. An error of a file is written with the file's path.
-fn explain_end(rt: &HostRuntime, number: usize, word: &str, client: &ServedClient<Closing>) {
+fn explain_end<T>(
+    rt: &HostRuntime,
+    number: usize,
+    word: &str,
+    client: &ServedClient<Closing<'_, T>>,
+) {
     let Err(error) = client.end else {
         return;
     };

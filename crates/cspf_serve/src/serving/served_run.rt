@@ -1,7 +1,7 @@
 //! The run of `serve`: the calling thread answers the updates, and each client has a thread that
 //! answers its requests.
 
-ghost use Rattle.std.specs.Prelude.{◌≡◌, ◌≤◌, ◌<◌, ◌↔◌, [], false, All, IfOk, IfErr, IsTrue, List, vec_len, vec_capacity};
+ghost use Rattle.std.specs.Prelude.{◌≡◌, ◌≤◌, ◌<◌, ◌↔◌, [], false, All, IfOk, IfErr, IfSome, IsSome, IsTrue, List, vec_len, vec_capacity};
 ghost use Rattle.std.specs.List.{AllZip};
 ghost use mathlib.Core.List.{IsPrefix};
 ghost use Rattle.logbook.specs.Pages.{Book};
@@ -21,7 +21,7 @@ ghost use Rattle.cspf_serve.specs.UpdatesStates.{AreAllCounted, IsFresh, KeepsUp
 use crate::RunError;
 use crate::serving::updates::Updates;
 use crate::streams::opening::open_for;
-use cspf_client::{Client, Permits, Replies, ServedClient, ServingClient};
+use cspf_client::{Client, Permits, Reopens, Replies, ServedClient, ServingClient};
 use cspf_jobs::{Doer, Go, Meanwhile, NoThread, run_all};
 use cspf_publish::{Asker, MOST_ASKERS, Publisher, SeenSteps};
 use cspf_rows::open_records;
@@ -70,7 +70,7 @@ pub struct Served<W, J, V> {
     pub said: W,
     /// The writer of the journal.
     pub journal: J,
-    /// The results of the clients, in the order of the clients.
+    /// The results of the clients after their last sessions, in the order of the clients.
     pub clients: Vec<ServedClient<V>>,
     /// The steps of the journal that the publisher and all clients have seen. A step records a
     /// batch, counts a batch as published, or reads that count. These steps use no memory when the
@@ -78,7 +78,7 @@ pub struct Served<W, J, V> {
     pub steps: SeenSteps,
 }
 
-/// A client's seat: all that the thread of the client needs to answer the client's requests.
+/// A client's seat: all that the thread of the client needs to serve the client's sessions.
 #[derive(Drop)]
 struct ClientSeat<'a, T, L: Ledger> {
     /// The permits of the run. The client takes one for each request that it sent ahead.
@@ -97,13 +97,13 @@ impl<'a, T, L: Ledger> Model for ClientSeat<'a, T, L> {
     ghost view = { λ s. record { asker = s.asker; number = s.number } };
 }
 
-impl<'a, Q: Read + Drop, V: Replies, T: Wait, L: Ledger> Doer<Client<Q, V>>
+impl<'a, Q: Read + Drop, V: Reopens<Q>, T: Wait, L: Ledger> Doer<Client<Q, V>>
     for ClientSeat<'a, T, L> {
     type Output = ServingClient<Q, V>;
 
     ghost ready = { λ _ _ _. Unit {0} };
 
-    ghost done = { λ s client c. IsAnswered Q.remaining V.contents s.asker.source s.number client c };
+    ghost done = { λ s client c. IsAnswered V.reopens Q.remaining V.contents s.asker.source s.number client c };
 
     fn work(self, _go: &Go, client: Client<Q, V>) -> ServingClient<Q, V> {
         let ClientSeat {
@@ -112,9 +112,7 @@ impl<'a, Q: Read + Drop, V: Replies, T: Wait, L: Ledger> Doer<Client<Q, V>>
             asker,
             number,
         } = self;
-        let mut client = ServingClient::new(asker, number as u64, client);
-        client.run(alloc, permits);
-        client
+        ServingClient::new(asker, number as u64, client).serve(alloc, permits)
     }
 }
 
@@ -236,23 +234,29 @@ fn say_last<W: Write, J: Write>(
 struct Publishing<'a, R, W, J, T> {
     rt: &'a T,
     alloc: Global,
-    rows: Reader<R>,
+    /// The stream of updates, until it has ended. Then the stream is dropped, while clients may
+    /// still ask.
+    rows: Option<Reader<R>>,
     said: W,
     updates: Updates<J>,
 }
 
-impl<'a, R: Read, W: Write, J: Write, T: Wait> Meanwhile for Publishing<'a, R, W, J, T> {
+impl<'a, R: Read + Drop, W: Write, J: Write, T: Wait> Meanwhile for Publishing<'a, R, W, J, T> {
     type Output = Result<(), StreamError>;
 
-    ghost ready = { λ _ p. IsPlain p.rows × IsFresh p.updates };
+    ghost ready = { λ _ p. IsSome p.rows × IfSome p.rows IsPlain × IsFresh p.updates };
 
-    ghost ran = { λ p ended q. IsRunOfUpdates W.contents J.contents (rows_left R.remaining p.rows) p.said p.updates ended q.said q.updates };
+    ghost ran = { λ p ended q. IfSome p.rows (λ rows. IsRunOfUpdates W.contents J.contents (rows_left R.remaining rows) p.said p.updates ended q.said q.updates) };
 
     fn run(&mut self, _go: &Go) -> Result<(), StreamError> {
+        let Some(mut rows) = self.rows.take() else {
+            // This can't happen: the stream of updates is there until the run.
+            return Ok(());
+        };
         answer_updates(
             self.rt,
             self.alloc,
-            &mut self.rows,
+            &mut rows,
             &mut self.said,
             &mut self.updates,
         )
@@ -339,7 +343,7 @@ fn serve_under<
     W: Write,
     J: Write,
     Q: Read + Drop + Send,
-    V: Replies + Drop + Send,
+    V: Reopens<Q> + Drop + Send,
     T: Threads + Wait + Sync,
     L: Ledger + Send + Sync,
 >(
@@ -354,7 +358,7 @@ fn serve_under<
 ) -> Result<Served<W, J, V>, (ServedError, W, J, Vec<Client<Q, V>>)>
     requires { (0 < vec_len clients) × (vec_len clients ≤ MOST_ASKERS) }
     ensures served { IfOk result (IsServedRun (R.remaining updates) W.contents J.contents
-        Q.remaining V.contents said journal clients.items) }
+        Q.remaining V.contents V.reopens said journal clients.items) }
     ensures error { IfErr result (λ e. IsServedFault (vec_len clients) e.0) }
     ensures back { IfErr result (λ e. (e.1 ≡ said) × (e.2 ≡ journal) × (e.3 ≡ clients)) }
 {
@@ -370,7 +374,7 @@ fn serve_under<
     let mut own = Publishing {
         rt,
         alloc,
-        rows: open_records(alloc, updates),
+        rows: Some(open_records(alloc, updates)),
         said,
         updates: Updates::new(alloc, publisher),
     };
@@ -398,7 +402,7 @@ fn serve_with<
     W: Write,
     J: Write,
     Q: Read + Drop + Send,
-    V: Replies + Drop + Send,
+    V: Reopens<Q> + Drop + Send,
     T: Threads + Wait + Sync,
     L: Ledger + Send + Sync,
 >(
@@ -415,7 +419,7 @@ fn serve_with<
     requires name { blank.name ≡ L.name }
     requires parts { (options.at_once ≡ blank.parts) × (options.at_once ≡ L.parts) }
     ensures served { IfOk result (IsServedRun (R.remaining updates) W.contents J.contents
-        Q.remaining V.contents said journal clients.items) }
+        Q.remaining V.contents V.reopens said journal clients.items) }
     ensures error { IfErr result (λ e. IsServedFault (vec_len clients) e.0) }
     ensures back { IfErr result (λ e. (e.1 ≡ said) × (e.2 ≡ journal) × (e.3 ≡ clients)) }
 {
@@ -430,7 +434,9 @@ fn serve_with<
 }
 
 /// Publishes updates as they come in, and writes each batch to the journal first. Each client has
-/// its own asker and thread, which answer its requests. No client waits for the publisher. A client
+/// its own asker and thread, which answer its requests in one session after the other: after each
+/// session, `reopen` of the writer of its replies returns the streams of the next session. When the
+/// updates have ended, their reader is dropped. No client waits for the publisher. A client
 /// that sends each request after it has the line of the one before waits for no other client. Of
 /// the requests that clients send ahead, at most `options.at_once` are answered at once, and the
 /// clients take turns. The publisher and the askers together keep at most `options.trees` trees of
@@ -443,7 +449,7 @@ pub fn run_serve<
     W: Write,
     J: Write,
     Q: Read + Drop + Send,
-    V: Replies + Drop + Send,
+    V: Reopens<Q> + Drop + Send,
     T: Threads + Wait + Sync,
 >(
     rt: &T,
@@ -456,7 +462,7 @@ pub fn run_serve<
 ) -> Result<Served<W, J, V>, (ServedError, W, J, Vec<Client<Q, V>>)>
     requires { (0 < vec_len clients) × (vec_len clients ≤ MOST_ASKERS) }
     ensures served { IfOk result (IsServedRun (R.remaining updates) W.contents J.contents
-        Q.remaining V.contents said journal clients.items) }
+        Q.remaining V.contents V.reopens said journal clients.items) }
     ensures error { IfErr result (λ e. IsServedFault (vec_len clients) e.0) }
     ensures back { IfErr result (λ e. (e.1 ≡ said) × (e.2 ≡ journal) × (e.3 ≡ clients)) }
 {

@@ -3,6 +3,7 @@
 
 mod closed;
 mod dialogues;
+mod sessions;
 mod threads;
 
 ghost use Rattle.std.specs.Prelude.{◌≡◌};

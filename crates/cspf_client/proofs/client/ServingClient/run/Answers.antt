@@ -13,12 +13,14 @@ returns-clause-run g c =
       requests = c.self.inside.requests;
       replies = c.self.inside.replies;
       end = c.self.inside.end;
+      refused_before = c.self.inside.refused_before;
     } in
     let after : ServingState g.row.Q.Denot g.row.V.Denot = record {
       state = c.answer_all-self-inside.new.session;
       requests = c.take.new.self;
       replies = c.end.new.self;
       end = c.answer_all-self-inside.result;
+      refused_before = c.self.inside.refused_before;
     } in
     subst (λ (s : ServingState g.row.Q.Denot g.row.V.Denot). IsClientRun g.Q.Read.remaining g.V.Write.contents s after) c.self.view_is
     (run_of g.Q.Read.remaining g.V.Write.contents before after c.in-Some.requests (sym c.in-Some.ensures.value) c.answer_all-self-inside.result
