@@ -27,6 +27,7 @@ from routed.net.endpoints import Endpoint
 from routed.net.loop import Loop
 
 TURNS = int(os.environ.get("TURNS", "500"))  # connections in turn; the gate has few
+SOON = 3  # seconds until the place of a program that has hung up is another's
 LATE, SHARE = 0.1, 0.01  # seconds in which another client is answered, and the share of its asks that the machine may delay
 WARNINGS = ["-std=c11", "-Wall", "-Wextra", "-Werror", "-pedantic"]
 
@@ -38,8 +39,8 @@ def direct(program, checks):
     rows = [f"ask,{at},10.0.0.{at},10.0.0.{(at * 5 + 1) % ROUTERS},{at % 8},{draw.choice([0, 5])},0x0,0x0,0x0," for at in range(ROUTERS)]
     versions = Versions(updates, rows)
     with tempfile.TemporaryDirectory() as room:
-        checks.parts_in(room, (ends, modes, refusals, shares, tallied, clients, shared, in_c, floods, beside, marked, counted, lineless,
-                               in_turn), program, checks, versions)
+        checks.parts_in(room, (ends, modes, refusals, heirs, shares, tallied, clients, shared, in_c, floods, beside, marked, counted,
+                               lineless, in_turn), program, checks, versions)
     print(f"direct: {TURNS} connections in turn, {TOGETHER} that flood, {time.monotonic() - start:.0f} s")
 
 
@@ -96,6 +97,41 @@ def refusals(program, checks, versions, room):
         checks.same("an idle one isn't ended", made.talk(ROW % 1), "ask 1 v0 unknown-from\n")
         os.kill(front.server(), signal.SIGKILL)
         checks.same("where the server is killed", (made.lines.rest(), made.socket.recv(100)), ([], b""))
+
+
+def heirs(program, checks, versions, room):
+    """A child keeps the ends of a connection that has ended, and writes rows without a pause: the place is another's while it does."""
+    front, place = fronted(program, room, "--clients", "1")
+    with front:
+        for count, is_blocking in ((0, True), (1, True), (1000, True), (1, False), (1000, False), (30_000, False)):
+            made, name = soon(place), f"{count} rows at once, {'blocking' if is_blocking else 'not blocking'}"
+            process = os.fork()
+            if not process:
+                made.hang_up()
+                pour(made, count, is_blocking)
+            time.sleep(0.2)
+            made.close()
+            start = time.monotonic()
+            following = soon(place)
+            took = time.monotonic() - start
+            checks.same(f"the next one, {name}", following.talk(ROW % 7), "ask 7 v0 unknown-from\n")
+            checks.true(f"its place is free soon, {name}", took < SOON, took)
+            checks.same(f"the child is still there, {name}", os.waitpid(process, os.WNOHANG), (0, 0))
+            os.kill(process, signal.SIGKILL)
+            os.waitpid(process, 0)
+            checks.same(f"its lines, {name}", following.leave(), ("", b""))
+
+
+def pour(made, count, is_blocking):
+    """Writes so many rows at once, again and again, as long as anybody reads them."""
+    rows = (ROW % 5).encode() * count
+    os.set_blocking(made.ends[0], is_blocking)
+    with contextlib.suppress(BrokenPipeError):
+        while rows:
+            with contextlib.suppress(BlockingIOError):
+                os.write(made.ends[0], rows)
+    time.sleep(PATIENCE)
+    os._exit(0)
 
 
 def shares(program, checks, versions, room):
