@@ -133,7 +133,7 @@ class Front:
         words = [self.options.program, "serve", "--explain", "--journal", self.options.journal, "--clients-from", f"{ours}/{clients}",
                  "--reopen", "--figures", self.account.tallies.path]
         with tried(self.options.program, program.hint(self.options.program)):
-            self.server = subprocess.Popen(words, stdin=self.theirs[0], stdout=self.theirs[1])
+            self.server = subprocess.Popen(words, stdin=self.theirs[0], stdout=self.theirs[1], preexec_fn=outlive_limits)
         for file in self.theirs:
             os.close(file)
         self.updates.to_server = "".join(batches).encode()
@@ -206,6 +206,11 @@ class Front:
             what = f"ended with status {status}" if status > 0 else f"was ended by signal {-status}"
             self.log.say("error", f"{self.options.program} {what}")
         return 3 if self.is_renewed else status if status >= 0 else 128 - status
+
+
+def outlive_limits() -> None:
+    """A file that may not grow further, as that of figures, doesn't end the program by a signal. Its write fails."""
+    signal.signal(signal.SIGXFSZ, signal.SIG_IGN)
 
 
 def pipe_of(text: str) -> int:

@@ -17,7 +17,7 @@ from ..net.stream import Stream
 from .accounts import Account
 
 PAUSE = 0.1  # seconds until pipes are made again, where there are none
-LATE = 5  # seconds in which the server begins the next session of a seat
+LATE = 10  # seconds in which the server begins the next session of a seat
 PAGE = os.sysconf("SC_PAGE_SIZE")
 
 
