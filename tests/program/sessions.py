@@ -42,7 +42,7 @@ class Sessions:
                 os.mkfifo(self.name(kind, number))
             words += ["--client", f"{self.name('rows', number)}={self.name('lines', number)}"]
         self.child = subprocess.Popen(words, stdin=subprocess.PIPE, stderr=subprocess.PIPE, bufsize=0, **{"stdout": subprocess.PIPE, **how})
-        self.said = Lines(self.child.stdout) if self.child.stdout else None
+        self.said = Lines(self.child.stdout.fileno()) if self.child.stdout else None
         self.clients = clients
 
     def __enter__(self):
@@ -67,6 +67,12 @@ class Sessions:
         """The first sessions of all clients, which are opened in order before anything is read."""
         return [self.opened(number) for number in range(1, self.clients + 1)]
 
+    def renew(self, number):
+        """Puts new pipes in the places of a client's, so that the next session can't have the ends of this one."""
+        for kind in ("rows", "lines"):
+            os.mkfifo(self.name("new", number))
+            os.rename(self.name("new", number), self.name(kind, number))
+
     def session(self, number, rows):
         """All lines of a session with these rows."""
         return spoken(self.opened(number), rows)
@@ -76,21 +82,20 @@ class Sessions:
         return self.said.next()
 
     def read(self):
-        """The figures: of all, and of each seat, by name."""
-        end = time.monotonic() + PATIENCE
-        while time.monotonic() < end:
-            with open(self.figures, encoding="ascii") as file:
-                lines = file.read().split("\n")
-            words = [line.split() for line in lines]
-            if len(words) > 2 and words[-1] == [] and words[-2][:1] == ["end"] and words[-2][1] == words[0][1]:
-                named = [{key: int(value) for key, value in zip(line[::2], line[1::2])} for line in words[:-2]]
-                return named[0], named[1:], lines
-        raise TimeoutError("figures that are never whole")
+        return whole(self.figures)
 
-    def end(self):
-        self.child.stdin.close()
-        said = "".join(self.said.rest())
-        return said, self.child.wait(PATIENCE), self.child.stderr.read().decode()
+
+def whole(figures):
+    """The figures of a file that isn't being written: of all, and of each seat, by name; and the file's lines."""
+    end = time.monotonic() + PATIENCE
+    while time.monotonic() < end:
+        with open(figures, encoding="ascii") as file:
+            lines = file.read().split("\n")
+        words = [line.split() for line in lines]
+        if len(words) > 2 and words[-1] == [] and words[-2][:1] == ["end"] and words[-2][1] == words[0][1]:
+            named = [{key: int(value) for key, value in zip(line[::2], line[1::2])} for line in words[:-2]]
+            return named[0], named[1:], lines
+    raise TimeoutError("figures that are never whole")
 
 
 def spoken(ends, rows, half_close=True):
@@ -139,10 +144,14 @@ def ends(program, checks, room):
             lines = ROW.format(1, "kind") + reply_at(version, version) + ROW.format(3, "kind")
             if rows == "ask,9":
                 lines += ROW.format(4, "fields")
-            checks.same(f"a session before {name}", spoken(run.opened(1), said + rows, closes), lines)
+            ends_of = run.opened(1)
+            if not closes:
+                run.renew(1)
+            checks.same(f"a session before {name}", spoken(ends_of, said + rows, closes), lines)
             checks.same(f"a session after {name}", run.session(1, "y\n" + ASK.format(7)), ROW.format(1, "kind") + reply_at(7, version))
         checks.same("a client beside them", spoken(first[1], ASK.format(2)), reply_at(2, version))
         rows, lines = run.opened(2)
+        run.renew(2)
         os.close(lines.file)  # a session whose lines can't be written
         os.write(rows, ASK.format(1).encode())
         os.close(rows)
@@ -225,6 +234,8 @@ def beside(program, checks, room):
                 count = draw.randrange(6)
                 tail = draw.choice(["", "ask,1,1.", '"', "x"])
                 ended = first[number - 1] if turn == 0 else run.opened(number)
+                if tail == '"':
+                    run.renew(number)
                 said = spoken(ended, "".join(ASK.format(at) for at in range(count)) + tail, tail != '"').splitlines(keepends=True)
                 behind = {"": [], '"': [], "x": [ROW.format(count + 1, "kind")], "ask,1,1.": [ROW.format(count + 1, "fields")]}[tail]
                 found = [int(AT.match(line)[1]) for line in said[:count] if AT.match(line)]
@@ -275,7 +286,8 @@ def other_names(program, checks, room):
     with subprocess.Popen([sys.executable, "-c", HOLDER], stdin=subprocess.PIPE, stdout=subprocess.PIPE, bufsize=0) as holder:
         pid, *held = holder.stdout.readline().split()
         names = [f"/proc/{pid.decode()}/fd/{number.decode()}" for number in held]
-        child = subprocess.Popen([program.path, "serve", "--journal", os.path.join(room, "journal"), "--reopen",
+        figures = os.path.join(room, "figures")
+        child = subprocess.Popen([program.path, "serve", "--journal", os.path.join(room, "journal"), "--reopen", "--figures", figures,
                                   "--client", f"{names[0]}={names[3]}"], stdin=subprocess.PIPE, stdout=subprocess.PIPE, bufsize=0)
         for turn in range(3):
             rows, lines = os.open(names[1], os.O_WRONLY), Lines(os.open(names[2], os.O_RDONLY))
@@ -285,6 +297,7 @@ def other_names(program, checks, room):
             os.write(rows, b'"')  # the holder has a write end, too
             os.close(rows)
             os.close(lines.file)
+            wait_for(lambda: whole(figures)[1][0]["sessions"] > turn)
         holder.kill()
         holder.wait()
         checks.same("the updates after the names have gone", update(child, "end,1,0\n"), b"version 1\n")
