@@ -7,6 +7,7 @@ import contextlib
 import itertools
 import os
 import random
+import resource
 import subprocess
 import sys
 import threading
@@ -18,6 +19,7 @@ ASK, ROW = "ask,{},1.1.1.1,2.2.2.2,0,5,0x0,0x0,0x0,\n", "row {} refused: {}\n"
 LONGEST = 1 << 20  # the most bytes of a client's line
 TURNS, CLIENTS = 30, 4  # sessions of each client beside batches, and these clients
 ENDED = 0.5  # seconds in which a run has seen the end of its updates
+SMALL = 600  # bytes of a file at most, fewer than the figures of one client take
 KEPT = 300  # sessions after which memory is compared
 # opens two pipes, and says its process and their ends
 HOLDER = """
@@ -321,15 +323,16 @@ def failures(program, checks, room):
         checks.same("a session after a fault of the updates", spoken(ends_of, ASK.format(1)), "ask 1 v1 unknown-from\n")
         checks.same("the end after a fault of the updates", (run.child.wait(PATIENCE), run.child.stderr.read()), (3, b"routed: stopped\n"))
 
-    def plain(name, *more, rows="x\n", before=None):
+    def plain(name, *more, before=None, most=None):
         inner = os.path.join(room, name)
         os.mkdir(inner)
         if before is not None:
             before(os.path.join(inner, "figures"))
         with open(os.path.join(inner, "rows"), "w", encoding="ascii") as file:
-            file.write(rows)
+            file.write("x\n")
         ran = subprocess.run([program.path, "serve", "--journal", "journal", "--client", "rows=lines", *more], input=b"end,1,0\n",
-                             cwd=inner, capture_output=True, timeout=PATIENCE)
+                             cwd=inner, capture_output=True, timeout=PATIENCE,
+                             preexec_fn=most and (lambda: resource.setrlimit(resource.RLIMIT_FSIZE, (most, most))))
         with open(os.path.join(inner, "lines"), encoding="ascii") as file:
             return ran.returncode, ran.stdout.decode(), ran.stderr.decode(), file.read()
 
@@ -346,6 +349,9 @@ def failures(program, checks, room):
         checks.same(f"a run whose figures are a {name}", (status, said, lines), (right[0], right[1], right[3]))
         checks.true(f"its line about them, {name}", fault.startswith(f"routed: figures figures: {why}: ") and fault.count("\n") == 1, fault)
         checks.same(f"without --explain, {name}", plain(f"quiet {name}", "--figures", "figures", before=make), right)
+    status, said, fault, lines = plain("limited", "--figures", "figures", "--explain", most=SMALL)
+    checks.same("a run whose figures are too large", (status, said, lines), (right[0], right[1], right[3]))
+    checks.true("its line about them", fault.startswith("routed: figures figures: open: ") and fault.count("\n") == 1, fault)
     twice = subprocess.run([program.path, "serve", "--journal", "journal", "--client", "rows=lines", "--figures", "lines"], cwd=room,
                            capture_output=True, timeout=PATIENCE, stdin=subprocess.DEVNULL)
     checks.same("figures in a file of lines", (twice.returncode, twice.stderr), (1, b"routed: a file is named twice: lines\n"))

@@ -1,6 +1,7 @@
 //! The file of `--figures`: what each seat of `serve` has done so far. The seats count without locks,
 //! and the file is written after each published batch and at the end of each session.
 
+use crate::limited::most_bytes;
 use crate::noted::Fault;
 use crate::options::FIGURES;
 use std::alloc::{AllocError, Global};
@@ -237,8 +238,14 @@ pub struct Figures {
     page: Mutex<Page>,
 }
 
-/// Opens the file for writing, and removes the bytes that it had.
-fn open_page(rt: &HostRuntime, path: &str) -> io::Result<File> {
+/// Opens the file for writing, and removes the bytes that it had. It has to be a plain file, and
+/// `size` bytes have to fit it: beyond the process's limit of file size a signal would end the run.
+fn open_page(rt: &HostRuntime, path: &str, size: usize) -> io::Result<File> {
+    if let Some(most) = most_bytes(rt) {
+        if most < size as u64 {
+            return Err(io::Error::from(io::ErrorKind::FileTooLarge));
+        }
+    }
     if let Ok(found) = fs::metadata(rt, path) {
         if !found.is_file() {
             return Err(io::Error::from(io::ErrorKind::InvalidInput));
@@ -263,8 +270,9 @@ impl Figures {
         for _ in 0..count {
             seats.push(SeatFigures::new())?;
         }
-        let text = Vec::with_capacity(alloc, count.saturating_add(2).saturating_mul(LINE_BYTES))?;
-        match open_page(rt, path) {
+        let size = count.saturating_add(2).saturating_mul(LINE_BYTES);
+        let text = Vec::with_capacity(alloc, size)?;
+        match open_page(rt, path, size) {
             Ok(file) => Ok(Ok(Figures {
                 seats,
                 version: AtomicU64::new(0),

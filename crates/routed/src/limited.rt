@@ -13,7 +13,7 @@ const LIMITS: &str = "/proc/self/limits";
 const FILE_SIZE: &str = "Max file size";
 
 /// The most bytes that a file of this process may have, or `None` if the system doesn't tell.
-fn most_bytes(rt: &HostRuntime) -> Option<u64> {
+pub(crate) fn most_bytes(rt: &HostRuntime) -> Option<u64> {
     match fs::read_to_string(rt, LIMITS) {
         Ok(limits) => limit_in(limits.as_str()),
         Err(_) => None,
