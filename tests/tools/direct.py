@@ -28,7 +28,8 @@ from routed.net.loop import Loop
 
 TURNS = int(os.environ.get("TURNS", "500"))  # connections in turn; the gate has few
 SOON = 3  # seconds until the place of a program that has hung up is another's
-LATE, SHARE = 0.1, 0.01  # seconds in which another client is answered, and the share of its asks that the machine may delay
+LATE = 0.1  # seconds in which another client is answered
+SHARES = 0.01, 0.1  # of its asks that a busy machine may delay: directly, and by the relay, which needs a processor, too
 WARNINGS = ["-std=c11", "-Wall", "-Wextra", "-Werror", "-pedantic"]
 
 
@@ -326,11 +327,11 @@ def in_turn(program, checks, versions, room):
         found = len(heard), sum(heard), killed
         checks.true("programs that read lines, their lines, and programs that were killed",
                     all(map(int.__gt__, found, (TURNS // 4, TURNS, TURNS // 20))), found)
-        for name, other in zip(("direct", "relayed"), others):
+        for name, share, other in zip(("direct", "relayed"), SHARES, others):
             late = sum(time > LATE for time in other.times)
             checks.same(f"another client, {name}: its lines", other.faults[:5], [])
             found = late, len(other.times), max(other.times)
-            checks.true(f"another client, {name}, is answered soon", late <= len(other.times) * SHARE, found)
+            checks.true(f"another client, {name}, is answered soon", late <= len(other.times) * share, found)
             print(f"direct: beside them another client, {name}: {len(other.times)} asks, {max(other.times) * 1000:.1f} ms at most")
         eventually(checks, "all have ended", lambda: figures_of(room).get(("routed_connections", "direct")), 0)
         together = [soon(place) for _ in range(64)]
