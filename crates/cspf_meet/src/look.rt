@@ -40,6 +40,7 @@ pub(crate) fn may_reach(table: &Table, goal: usize, place: usize) -> bool
 /// router gets this rank and waits. Nothing changes if `reverse` is `NO_LINK`, or if the way has a
 /// higher rank than `most`. Returns the least rank found so far of a way from the head-end to the
 /// tail-end: `most`, or the rank of the way over this link.
+#[inline(always)]
 fn pass(
     query: LocatedRequest<'_>,
     turn: Turn<'_>,
