@@ -6,7 +6,7 @@ import signal
 import socket
 import time
 
-from program.serving import Lines, has_come
+from program.serving import PATIENCE, Lines, has_come
 from tools.fronts import Front
 
 WORD = b"direct 1\n"
@@ -195,6 +195,8 @@ def run(place, kind, versions, number, draw, told):
             if fault:
                 os.write(told, f"{kind.__name__} {number}: {fault}"[:2000].encode() + b"\n")
         os.write(told, b"%d\n" % judge.heard)
+        if draw.random() < 0.1:
+            time.sleep(PATIENCE)  # it stays until it is killed, however fast the machine is
         if draw.random() < 0.5:
             made.close()
     except BaseException as fault:  # it may say so, and no more
