@@ -16,7 +16,6 @@ LOADED, LAST = 4, 40  # versions: of the network, and of the last empty batch
 ROOM = 1 << 17  # bytes of a pipe
 PAUSE = 0.02  # seconds between two batches
 LONGEST = 1  # seconds in which each batch is published
-TRIES = 3  # runs in which it may be seen that clients take turns: a busy machine leaves a thread out for longer than others take
 READ = 1 << 13  # bytes that a client may have ahead of the others: the first row of each read takes no turn
 
 
@@ -24,31 +23,22 @@ def sent_ahead(program, checks, room):
     rows, asks = full_network()
     replies = [AT.sub("", line) for line in runs.solve(rows + asks)[1][-2:]]
     for name, more in (("one at once", ("--at-once", "1")), ("one for each processor", ())):
-        for attempt in range(TRIES):
-            inner = os.path.join(room, f"{name} {attempt}")
-            os.mkdir(inner)
-            sizes, said = ahead(program, checks, inner, rows, asks, replies, name, more)
-            if not more or is_fair(got := gained(sizes, [len(text) for text in said])):
-                break
-        if more:
-            checks.true("clients that send ahead take turns", is_fair(got), sorted(got))
-
-
-def ahead(program, checks, inner, rows, asks, replies, name, more):
-    """One run: how many bytes of lines each client has after each batch, and its lines."""
-    with Serving(program, inner, CLIENTS, *more) as run:
-        run.say(0, rows)
-        checks.same(f"the network, {name}", [run.hear(0) for _ in range(LOADED)], [f"version {at}\n" for at in range(1, LOADED + 1)])
-        begin(run, asks * TIMES)
-        sizes = published(checks, run, name)
-        said = [run.leave(number) for number in range(1, CLIENTS + 1)]
-        checks.same(f"the lines of clients that send ahead, {name}", {AT.sub("", text) for text in said},
-                    {"".join(f"{line}\n" for line in replies) * TIMES})
-        named = [[int(version) for version in re.findall(f"^{AT.pattern}", text, re.MULTILINE)] for text in said]
-        checks.true(f"their versions don't fall, {name}",
-                    all(at == sorted(at) and LOADED <= at[0] and at[-1] <= LAST for at in named), named)
-        checks.same(f"the end of clients that send ahead, {name}", run.end(), ([""] * (CLIENTS + 1), 0, ""))
-    return sizes, said
+        inner = os.path.join(room, name)
+        os.mkdir(inner)
+        with Serving(program, inner, CLIENTS, *more) as run:
+            run.say(0, rows)
+            checks.same(f"the network, {name}", [run.hear(0) for _ in range(LOADED)], [f"version {at}\n" for at in range(1, LOADED + 1)])
+            begin(run, asks * TIMES)
+            sizes = published(checks, run, name)
+            said = [run.leave(number) for number in range(1, CLIENTS + 1)]
+            checks.same(f"the lines of clients that send ahead, {name}", {AT.sub("", text) for text in said},
+                        {"".join(f"{line}\n" for line in replies) * TIMES})
+            named = [[int(version) for version in re.findall(f"^{AT.pattern}", text, re.MULTILINE)] for text in said]
+            checks.true(f"their versions don't fall, {name}",
+                        all(at == sorted(at) and LOADED <= at[0] and at[-1] <= LAST for at in named), named)
+            if more:
+                takes_turns(checks, sizes, [len(text) for text in said])
+            checks.same(f"the end of clients that send ahead, {name}", run.end(), ([""] * (CLIENTS + 1), 0, ""))
 
 
 def begin(run, rows):
@@ -77,12 +67,9 @@ def published(checks, run, name):
     return sizes
 
 
-def gained(sizes, whole):
-    """How many bytes of lines each client gets while all of them wait for turns; none where that isn't seen twice."""
+def takes_turns(checks, sizes, whole):
+    """While all clients wait for turns, none gets more than twice as many as another one."""
     amid = [at for at in sizes if min(at) > 0 and all(size < most for size, most in zip(at, whole))]
-    return [last - first for first, last in zip(amid[0], amid[-1])] if len(amid) > 1 else []
-
-
-def is_fair(got):
-    """No client gets more than twice as many as another one."""
-    return bool(got) and max(got) <= 2 * min(got) + READ
+    checks.true("clients that send ahead are looked at twice", len(amid) > 1, (sizes[:1], sizes[-1:], whole))
+    got = [last - first for first, last in zip(amid[0], amid[-1])] if amid else [0]
+    checks.true("clients that send ahead take turns", max(got) <= 2 * min(got) + READ, sorted(got))

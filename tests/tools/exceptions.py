@@ -276,9 +276,7 @@ def of_direct(program, checks, room):
                     victim = Direct(os.path.join(room, "direct"))
             elif place in ("Direct.over", "Direct.finish"):
                 victim.say('"')
-            elif place == "Direct.hang_up":
-                victim.hang_up()
-            else:
+            else:  # what is read there ends it; a session may end before a client's own end is seen
                 victim.socket.sendall(b"x")
             seen.judge(checks, place, r"direct \d+")
             if victim:
