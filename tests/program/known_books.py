@@ -121,7 +121,34 @@ def known():
     behind = BASE + "foo\n" + "drop,1.1.1.1,10.0.0.1\n" * 999_997
     yield "too many rows behind a batch", behind, "base 1 v1\nrow 4 refused: kind\ntoo many rows\n"
     yield "a count of 999,999", "drop,1.1.1.1,10.0.0.1\n" * 999_999 + "end,1,5\n", "batch 1 refused: counted 999999\n"
+    yield "a route of 2,048 links, and one more", *longest()
     yield from known_batches()
+
+
+def longest():
+    """A line of the most routers, and circuits beside it that are too expensive for any route unless hops ask for them. A route goes to the
+    end of the line, comes back, and takes two or three of these circuits."""
+    rows, count = [], 1024
+
+    def circuit(near, far, local, metric):
+        ends = [(address(1, near), address(local, near)), (address(1, far), address(local + 1, far))]
+        for (start, mine), (end, other) in (ends, ends[::-1]):
+            rows.append(f"put,{start},{mine},{end},{other},{metric},0x1,{FREE}\n")
+
+    for near in range(count - 1):
+        circuit(near, near + 1, 11, 1)
+    for near in (0, 2, 4):
+        circuit(near, near + 2, 21, 100_000)
+    rows.append(f"end,1,{len(rows)}\n")
+    passed = [(11, near) for near in range(count - 1)]
+    remotes = [*(address(12, near + 1) for _, near in passed), *(address(11, near) for _, near in passed[::-1])]
+    there = f"{address(1, count - 1)}/32l {address(1, 0)}/32l {address(1, 2)}/32s {address(1, 4)}/32s"
+    ero = "".join(f"0108{''.join(f'{int(part):02x}' for part in it.split('.'))}2000" for it in [*remotes, address(22, 2), address(22, 4)])
+    ends = [f"{address(1, 0)},{address(1, at)}" for at in (4, 6)]
+    placed = place(1, ends=ends[0], hops=there) + place(1, ends=ends[1], hops=f"{there} {address(1, 6)}/32s") + "release,1\n"
+    cost, length = 2 * (count - 1) + 2 * 100_000, len(ero) // 2 + 4
+    return "".join(rows) + placed, (
+        f"base 1 v1\nplace 1 v2 route cost={cost} hops=2048 again=yes ero={length:04x}1401{ero}\nplace 1 refused: long\nreleased 1 v3\n")
 
 
 def address(top, number):
@@ -153,7 +180,7 @@ def known_batches():
 
 def lowered(module):
     """The lines of a reference whose limits are low, where they are met and passed."""
-    kept = module.MOST_PLACEMENTS, module.MOST_ROUTES_LINKS, module.MOST_VERSIONS
+    kept = module.MOST_PLACEMENTS, module.MOST_ROUTES_LINKS, module.MOST_VERSIONS, module.MOST_PLACED_LINKS
     found = []
     try:
         module.MOST_PLACEMENTS = 2
@@ -169,8 +196,11 @@ def lowered(module):
         module.MOST_ROUTES_LINKS, module.MOST_VERSIONS = 9, 3
         found.append(module.book(BASE + place(1) + "release,2\n" + place(2) + place(3) + place(3, ends="8.8.8.8,9.9.9.9")
                                  + f"release,1\nrelease,9\nend,1,0\nask,1,1.1.1.1,2.2.2.2,7,0,{MASKS},\n"))
+        module.MOST_ROUTES_LINKS, module.MOST_VERSIONS, module.MOST_PLACED_LINKS = 1, 9, 1
+        found.append(module.book(line + "end,1,4\n" + place(1, ends=far) + place(1) + place(2) + place(1, ends=far)
+                                 + place(3, bandwidth=0, hops="3.3.3.3/32l 1.1.1.1/32l")))
     finally:
-        module.MOST_PLACEMENTS, module.MOST_ROUTES_LINKS, module.MOST_VERSIONS = kept
+        module.MOST_PLACEMENTS, module.MOST_ROUTES_LINKS, module.MOST_VERSIONS, module.MOST_PLACED_LINKS = kept
     return found
 
 
@@ -184,4 +214,6 @@ LOWERED = [
     (2, ["base 1 v1", f"place 1 v2 {DIRECT}", "release 2 refused: absent", f"place 2 v3 {DIRECT}", "place 3 refused: exhausted",
          "place 3 refused: exhausted",
          "release 1 refused: exhausted", "release 9 refused: exhausted", "batch 1 refused: exhausted", f"ask 1 v3 {DIRECT}"]),
+    (2, ["base 1 v1", "place 1 refused: long", f"place 1 v2 {DIRECT}", "place 2 refused: links", "place 1 refused: long",
+         "place 3 refused: twice"]),
 ]

@@ -1,7 +1,7 @@
 """The tools' test whether a route may take a link (`Database.why_not`), on drawn links, against tests/reference/formats.py."""
 import random
 
-from reference import formats
+from reference import excepts, formats
 
 from routed.model import Batch, Database, Request
 from routed.model.journals import records
@@ -32,8 +32,26 @@ def ask_row(draw):
     return f"ask,1,{head},{tail},{draw.randrange(8)},{draw.choice((0, 0, 1, 1000, 2**64 - 1))},{masks},"
 
 
-def word(network, link, asked, is_onward):
-    """The first reason in the order of docs/run/FORMATS.md. Each is the reference's, asked of a request that has that one constraint."""
+def question_row(draw):
+    """An `ask` row, or an `except` row."""
+    row = ask_row(draw)
+    if draw.random() < 0.6:
+        return row
+    parts = [f"{draw.choice(ROUTERS + INTERFACES)}/{draw.choice((32, 32, 31, 30, 29))}{draw.choice('ir')}" for _ in range(2)]
+    return f"except{row.removeprefix('ask')},{' '.join(parts[draw.randrange(2):])}"
+
+
+def read(row):
+    """The request of a row, and the parts that it excludes."""
+    fields = row.split(",")
+    return excepts.question(fields) if fields[0] == "except" else (formats.row(fields)[1], [])
+
+
+def word(network, link, asked, is_onward, parts=()):
+    """What is excluded comes first, and then the first reason in the order of docs/run/FORMATS.md. Each is the reference's, asked of a
+    request that has that one constraint."""
+    if link not in excepts.without(network, parts).links.values():
+        return "excluded"
     nothing = {"exclude_any": 0, "include_any": 0, "include_all": 0, "bandwidth": 0, "setup": asked["setup"]}
     for name in ("exclude_any", "include_any", "include_all", "bandwidth"):
         if not formats.accepts(link, {**nothing, name: asked[name]}):
@@ -52,13 +70,15 @@ def admission(checks):
         network = network.after([formats.row(row.split(",")) for row in rows[:-1]])
         database.apply(Batch.parse(list(records("\n".join(rows).encode()))))
         for link, wanted in zip(database.links(), (network.links[key] for key in sorted(network.links))):
-            row, is_onward = ask_row(draw), draw.random() < 0.5
-            asked = formats.row(row.split(","))[1]
-            found, told = database.why_not(link, Request.parse(row.split(",")), is_onward), word(network, wanted, asked, is_onward)
-            admits = formats.admissible(network, wanted, asked) and formats.may_leave(network, wanted["from"], int(is_onward))
+            row, is_onward = question_row(draw), draw.random() < 0.5
+            asked, parts = read(row)
+            found, told = database.why_not(link, Request.parse(row.split(",")), is_onward), word(network, wanted, asked, is_onward, parts)
+            left = excepts.without(network, parts)
+            admits = wanted in left.links.values() and formats.admissible(left, wanted, asked)
+            admits = admits and formats.may_leave(network, wanted["from"], int(is_onward))
             if found != told or (found is None) != admits:
                 faults.append((link.text(), row, is_onward, found, told))
             seen.add(told)
             count += 1
     checks.same("links of which the tools say another word than the reference", faults[:3], [])
-    checks.same("the words that were seen", seen, WORDS)
+    checks.same("the words that were seen", seen, WORDS | {"excluded"})

@@ -13,6 +13,7 @@ PRIORITIES = range(8)  # 0 is the most important
 NOTHING = [0] * len(PRIORITIES)
 SETUP = 7  # the priority at which a place row is asked
 MOST_PLACEMENTS = 65_536
+MOST_PLACED_LINKS = 2_048
 MOST_ROUTES_LINKS = 1_048_576
 
 
@@ -154,6 +155,8 @@ class Book:
         if not isinstance(outcome, str):
             if len({key_of(link) for link in outcome}) < len(outcome):
                 raise Refused("twice")
+            if len(outcome) > MOST_PLACED_LINKS:
+                raise Refused("long")
             if sum(len(it.route) for it in others) + len(outcome) > MOST_ROUTES_LINKS:
                 raise Refused("links")
             self.placements, self.version = [*others, Placement(request, outcome)], self.version + 1

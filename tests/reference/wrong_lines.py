@@ -313,6 +313,35 @@ def takes_one_link_of_routes_too_few(it):
     it.Book.place = place
 
 
+def takes_a_route_one_link_too_long(it):
+    right = it.Book.place
+
+    def place(book, request):
+        it.MOST_PLACED_LINKS += 1
+        try:
+            return right(book, request)
+        finally:
+            it.MOST_PLACED_LINKS -= 1
+    it.Book.place = place
+
+
+def looks_at_the_length_of_a_route_last(it):
+    right = it.Book.place
+
+    def place(book, request):
+        most, it.MOST_PLACED_LINKS = it.MOST_PLACED_LINKS, 2 ** 64
+        kept = book.placements, book.version
+        try:
+            line = right(book, request)
+        finally:
+            it.MOST_PLACED_LINKS = most
+        if book.version > kept[1] and len(book.placements[-1].route) > most:
+            book.placements, book.version = kept
+            raise it.Refused("long")
+        return line
+    it.Book.place = place
+
+
 def ends_well_after_refused_places(it):
     right = it.book
 

@@ -1,6 +1,6 @@
 -- Covered links stay covered. A link is covered at a priority if the placements count at most the
 -- link's unreserved bandwidth in the base at this priority.
-use Rattle.std.proofs.Common.{◌≡◌, ℕ, ◌+◌, ◌-◌, ◌≤◌, ◌||◌, ◌&&◌, Bool, true, false, not, cond, Option, Some, None, List, [], ◌∷◌, ◌++◌, nat_eq, nat_le, slice_index, lit<, refl, sym, ap, subst, ◌∙◌, arith}
+use Rattle.std.proofs.Common.{◌≡◌, ℕ, ◌+◌, ◌-◌, ◌≤◌, ◌||◌, ◌&&◌, Bool, true, false, not, cond, Option, Some, None, List, [], ◌∷◌, ◌++◌, map, nat_eq, nat_le, slice_index, lit<, refl, sym, ap, subst, ◌∙◌, arith}
 use Rattle.std.specs.List.{AllByRecursion}
 use Rattle.std.specs.Option.{option_map}
 use Rattle.std.proofs.lemmas.List.Sums.{sum_by-cons, sum_by_push}
@@ -10,7 +10,7 @@ use Rattle.cspf_model.specs.Database.{Database, Key, key_of, link_at}
 use Rattle.cspf_model.specs.Admissible.{IsAdmissible}
 use Rattle.cspf_model.proofs.Databases.Keys.{keys_same}
 use Rattle.cspf_book.specs.declared.placement.Placement.{Placement}
-use Rattle.cspf_book.specs.Placements.{has_key, bandwidth_on, id_of, others, counted}
+use Rattle.cspf_book.specs.Placements.{passed_of, has_key, bandwidth_on, id_of, others, counted}
 use Rattle.cspf_book.specs.Effective.{figure, effective_link, effective}
 use Rattle.cspf_book.specs.Laws.{PlacingKeepsCovered, ReleasingKeepsCovered}
 use Rattle.cspf_book.proofs.EffectiveLinks.{effective_at}
@@ -42,11 +42,11 @@ link_behind placements None m e = absurd (cc)
 -- If a walk in the effective database uses the base's link `l`, the effective bandwidth of `l` is
 -- at least the request's bandwidth.
 room_on : (base : Database) (placements : List Placement) (q : Request) (k : Key) (walk : List Link)
-    → AllByRecursion (IsAdmissible (effective base placements) q) walk → has_key walk k ≡ true
+    → AllByRecursion (IsAdmissible (effective base placements) q) walk → has_key (map passed_of walk) k ≡ true
     → (l : Link) → link_at base k ≡ Some l → q.bandwidth ≤ slice_index (effective_link placements l).free q.setup
 room_on base placements q k [] all has l is = absurd (cc)
 room_on base placements q k (m ∷ walk) all has l is =
-    elim (nat_eq m.from k.0 && nat_eq m.local k.1) as (λ b. (nat_eq m.from k.0 && nat_eq m.local k.1) ≡ b → (b || has_key walk k) ≡ true → q.bandwidth ≤ slice_index (effective_link placements l).free q.setup) [
+    elim (nat_eq m.from k.0 && nat_eq m.local k.1) as (λ b. (nat_eq m.from k.0 && nat_eq m.local k.1) ≡ b → (b || has_key (map passed_of walk) k) ≡ true → q.bandwidth ≤ slice_index (effective_link placements l).free q.setup) [
       | true ↦ λ here _.
           let key : k ≡ key_of m = keys_same k (key_of m) (same_key_test k (key_of m) ∙ here) in
           let behind = link_behind placements (link_at base (key_of m)) m (sym (effective_at base placements (key_of m)) ∙ all.0.link) in
@@ -67,10 +67,10 @@ within false has bandwidth figure free held all sum room le less covered e = ome
 
 -- If a link is covered at a priority, it is still covered after a request is placed.
 pub placing_covered : PlacingKeepsCovered
-placing_covered base placements p seven walk l priority is small covered =
+placing_covered base placements p along seven path walk l priority is small covered =
     let rest : List Placement = others (id_of p) placements in
     let room : has_key p.route (key_of l) ≡ true → p.request.bandwidth ≤ figure l.free (counted rest (key_of l)) priority = λ has.
-    let at_setup = room_on base rest p.request (key_of l) p.route walk.links has l is in
+    let at_setup = room_on base rest p.request (key_of l) along walk.links (ap (λ ls. has_key ls (key_of l)) (sym path) ∙ has) l is in
     let at_seven : p.request.bandwidth ≤ slice_index (effective_link rest l).free 7 = subst (λ s. p.request.bandwidth ≤ slice_index (effective_link rest l).free s) seven at_setup in
     let is_seventh = free-effective_link rest l 7 (lit< tt) in
     let falls = figure-le l.free (counted rest (key_of l)) priority (7 - priority) 7 (omega arith) in

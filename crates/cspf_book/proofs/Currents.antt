@@ -11,6 +11,7 @@ use Rattle.std.specs.FinMap.Entries.{below_all}
 use Rattle.std.proofs.lemmas.List.{at_drop_more, length-map}
 use Rattle.std.proofs.lemmas.List.Sums.{sum_by-remove, sum_by_push}
 use Rattle.cspf_model.specs.declared.link.Link.{Link}
+use Rattle.cspf_book.specs.declared.path.Passed.{Passed}
 use Rattle.cspf_model.specs.declared.batch.Change.{Change}
 use Rattle.cspf_model.specs.declared.batch.Change.TheVariants.{Put, Remove, Node}
 use Rattle.cspf_model.specs.Database.{Database, Key, key_of, key_cmp, link_at, AreAtTheirKeys}
@@ -18,7 +19,7 @@ use Rattle.cspf_model.specs.Changes.{no_links, after_change, after_changes}
 use Rattle.cspf_model.proofs.Databases.Keys.{keys_total, keys_antisymmetric}
 use Rattle.cspf_model.proofs.Databases.OneChange.{same_database}
 use Rattle.cspf_book.specs.declared.placement.Placement.{Placement}
-use Rattle.cspf_book.specs.Placements.{ends_of_link, has_key, bandwidth_on, counted}
+use Rattle.cspf_book.specs.Placements.{ends_of_link, key_passed, has_key, bandwidth_on, counted}
 use Rattle.cspf_book.specs.Effective.{figures, with_free, effective_link, effective}
 use Rattle.cspf_book.specs.Alike.{AreAlike, IsCurrentAt, IsCurrentBut, IsCurrentButPut, puts_key}
 use Rattle.cspf_book.proofs.EffectiveLinks.{effective_at}
@@ -144,7 +145,7 @@ module _ (base : Database) (placements : List Placement) (old new : Database) (k
   -- Let `key` be the key of the link at index i. Let `old` agree with the effective database,
   -- except at the keys of the links from index i on. Then `new` agrees with the effective database,
   -- except at the keys of the links from index i + 1 on.
-  pub current_step : (links : List Link) (i : ℕ) (d : Link) → i < length links → key_of (get_or links i d) ≡ key → IsCurrentBut base placements old (drop i links)
+  pub current_step : (links : List Passed) (i : ℕ) (d : Passed) → i < length links → key_passed (get_or links i d) ≡ key → IsCurrentBut base placements old (drop i links)
       → IsCurrentBut base placements new (drop (i + 1) links)
   current_step links i d within is current k off =
       current_there k (λ apart. current k (at_drop_more (λ ls. has_key ls k) links i d within ∙ neither_holds _ _ (ap (λ (j : Key). nat_eq j.0 k.0 && nat_eq j.1 k.1) is ∙ apart) off))

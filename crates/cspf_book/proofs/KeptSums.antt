@@ -5,26 +5,26 @@ use Rattle.std.specs.Ordering.{eq_by_cmp}
 use Rattle.std.proofs.lemmas.List.{take_more}
 use Rattle.std.proofs.lemmas.List.Folds.{list_any-append}
 use Rattle.std.proofs.lemmas.List.Sums.{sum_by-cons, sum_by-remove, sum_by_push}
-use Rattle.cspf_model.specs.declared.link.Link.{Link}
-use Rattle.cspf_model.specs.Database.{Key, key_of, key_cmp}
+use Rattle.cspf_book.specs.declared.path.Passed.{Passed}
+use Rattle.cspf_model.specs.Database.{Key, key_cmp}
 use Rattle.std.proofs.lemmas.Cmp.{eq_by_cmp_equiv}
 use Rattle.std.proofs.lemmas.Bool.Decides.{nat_tests}
 use Rattle.cspf_model.proofs.Databases.Keys.{keys_total, keys_same}
 use Rattle.cspf_book.specs.declared.counts.Counts.{Counts}
 use Rattle.cspf_book.specs.declared.placement.Placement.{Placement}
-use Rattle.cspf_book.specs.Placements.{has_key, bandwidth_on, counted, others}
+use Rattle.cspf_book.specs.Placements.{key_passed, has_key, bandwidth_on, counted, others}
 use Rattle.cspf_book.specs.Kept.{no_sums, sums_at, sum_at, HasKeys, KeepsKeys, IsCountOf, IsWithinSums, AreSmall, HasSameSums, HasSumsAt, HasMoreAt, HasMoreAlong}
 use Rattle.cspf_book.proofs.Covered.{counted-others}
 use Rattle.cspf_book.proofs.KeyTests.{same_tests, same_key_test}
 
 -- One of the first i + 1 links has a key exactly if one of the first i links or the link at index i
 -- has this key.
-has_key-more : (links : List Link) (i : ℕ) (d : Link) (k : Key) → i < length links
-    → has_key (take (i + 1) links) k ≡ (has_key (take i links) k || eq_by_cmp key_cmp (key_of (get_or links i d)) k)
+has_key-more : (links : List Passed) (i : ℕ) (d : Passed) (k : Key) → i < length links
+    → has_key (take (i + 1) links) k ≡ (has_key (take i links) k || eq_by_cmp key_cmp (key_passed (get_or links i d)) k)
 has_key-more links i d k within =
     ap (λ ls. has_key ls k) (take_more links i d within)
     ∙ list_any-append (λ l. nat_eq l.from k.0 && nat_eq l.local k.1) (take i links) (get_or links i d ∷ [])
-    ∙ ap (λ b. has_key (take i links) k || b) (or_false _ ∙ turned (key_of (get_or links i d)))
+    ∙ ap (λ b. has_key (take i links) k || b) (or_false _ ∙ turned (key_passed (get_or links i d)))
   where
     or_false : (a : Bool) → (a || false) ≡ a
     or_false true = refl
@@ -44,7 +44,7 @@ at_either false a b n apart = refl
 
 -- In this module, `key` is the key of the link at index i. A bandwidth is first counted on the
 -- first i links, and then on this link.
-module _ (links : List Link) (i : ℕ) (l : Link) (key : Key) (hold bandwidth : ℕ) (within : i < length links) (its : key_of (get_or links i l) ≡ key) where
+module _ (links : List Passed) (i : ℕ) (l : Passed) (key : Key) (hold bandwidth : ℕ) (within : i < length links) (its : key_passed (get_or links i l) ≡ key) where
   more_at : (k : Key) → has_key (take (i + 1) links) k ≡ (has_key (take i links) k || eq_by_cmp key_cmp key k)
   more_at k = has_key-more links i l k within ∙ ap (λ j. has_key (take i links) k || eq_by_cmp key_cmp j k) its
 
@@ -101,16 +101,16 @@ keeps_keys_on c d e first second = record { at = λ k h. second.at k (first.at k
 
 -- Let the first i links have entries of sums in `c`. If `d` keeps these entries and has an entry
 -- for the link at index i, the first i + 1 links have entries in `d`.
-pub keys_more : (c d : Counts) (links : List Link) (i : ℕ) (l : Link) → i < length links → HasKeys c (take i links) → KeepsKeys c d
-    → IsSome (get key_cmp d.sums (key_of (get_or links i l))) → HasKeys d (take (i + 1) links)
+pub keys_more : (c d : Counts) (links : List Passed) (i : ℕ) (l : Passed) → i < length links → HasKeys c (take i links) → KeepsKeys c d
+    → IsSome (get key_cmp d.sums (key_passed (get_or links i l))) → HasKeys d (take (i + 1) links)
 keys_more c d links i l within keys keeps there = record {
-  at = λ k has. which k (has_key (take i links) k) (eq_by_cmp key_cmp (key_of (get_or links i l)) k) refl refl (sym (has_key-more links i l k within) ∙ has);
+  at = λ k has. which k (has_key (take i links) k) (eq_by_cmp key_cmp (key_passed (get_or links i l)) k) refl refl (sym (has_key-more links i l k within) ∙ has);
 }
   where
-    which : (k : Key) (a b : Bool) → has_key (take i links) k ≡ a → eq_by_cmp key_cmp (key_of (get_or links i l)) k ≡ b → (a || b) ≡ true
+    which : (k : Key) (a b : Bool) → has_key (take i links) k ≡ a → eq_by_cmp key_cmp (key_passed (get_or links i l)) k ≡ b → (a || b) ≡ true
         → IsSome (get key_cmp d.sums k)
     which k true b had tie h = keeps.at k (keys.at k had)
-    which k false true had tie h = subst (λ j. IsSome (get key_cmp d.sums j)) (keys_same (key_of (get_or links i l)) k tie) there
+    which k false true had tie h = subst (λ j. IsSome (get key_cmp d.sums j)) (keys_same (key_passed (get_or links i l)) k tie) there
     which k false false had tie h = absurd (cc)
 
 -- If an entry of zeros is made at a key that had no entry, no sum changes.

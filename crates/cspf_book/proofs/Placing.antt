@@ -1,13 +1,14 @@
 -- How placing a request changes a book.
 use Rattle.std.proofs.Common.{◌≡◌, ℕ, ◌+◌, ◌-◌, ◌*◌, ◌^◌, ◌<◌, ◌≤◌, Some, List, [], ◌∷◌, ◌++◌, length, remove, ap, subst, ◌∙◌, arith}
+use Rattle.std.proofs.lemmas.List.{length-map}
 use Rattle.cspf_model.specs.declared.limits.TheConstants.{MOST_VERSIONS}
 use Rattle.cspf_model.specs.declared.request.Request.{Request}
 use Rattle.cspf_model.specs.Best.{Answer, unknown_from, unknown_to, no_route, route}
 use Rattle.cspf_book.specs.declared.limits.TheConstants.{MOST_PLACEMENTS, MOST_ROUTES_LINKS}
 use Rattle.cspf_book.specs.declared.error.PlaceError.{PlaceError}
-use Rattle.cspf_book.specs.declared.error.PlaceError.TheVariants.{Memory, Full, TooManyLinks, Twice}
+use Rattle.cspf_book.specs.declared.error.PlaceError.TheVariants.{Memory, Full, TooManyLinks, Twice, TooLong}
 use Rattle.cspf_book.specs.declared.placement.Placement.{Placement}
-use Rattle.cspf_book.specs.Placements.{others, counted, index_of_id}
+use Rattle.cspf_book.specs.Placements.{passed_of, others, counted, index_of_id}
 use Rattle.cspf_model.specs.Database.{Database, Key}
 use Rattle.cspf_book.specs.declared.counts.Counts.{Counts}
 use Rattle.cspf_book.specs.Effective.{effective}
@@ -26,7 +27,7 @@ pub offered_of : (q : Request) (hold room : ℕ) (a : Answer) (p : Placement) �
 offered_of q hold room unknown_from p off = absurd off
 offered_of q hold room unknown_to p off = absurd off
 offered_of q hold room no_route p off = absurd off
-offered_of q hold room (route walk) p (own, its, few) = (its.request, rw its.route few)
+offered_of q hold room (route walk) p (own, its, short, few) = (its.request, rw (its.route, length-map walk passed_of) few)
 
 -- Let a placement be offered for an answer. If it replaces the placement with the same id in the
 -- book, the book changes as `IsAnswerPlaced` states.
@@ -37,8 +38,9 @@ pub answer_placed : (old new : BookState) (q : Request) (hold room : ℕ) (a : A
 answer_placed old new q hold room unknown_from p off left placements base version = absurd off
 answer_placed old new q hold room unknown_to p off left placements base version = absurd off
 answer_placed old new q hold room no_route p off left placements base version = absurd off
-answer_placed old new q hold room (route walk) p (own, its, few) left placements base version = record {
+answer_placed old new q hold room (route walk) p (own, its, short, few) left placements base version = record {
   own_keys = own;
+  short = short;
   few_links = omega (arith, left, few);
   placement = p;
   is_its = its;
@@ -55,7 +57,8 @@ pub place_error : (s : BookState) (q : Request) (room : ℕ) (why : PlaceError)
 place_error s q room Memory few left refused = few
 place_error s q room Full few left refused = absurd refused
 place_error s q room Twice few left (walk, best, own) = (few, walk, best, own)
-place_error s q room TooManyLinks few left (walk, best, own, many) = (few, walk, best, own, omega (arith, left, many))
+place_error s q room TooLong few left (walk, best, own, long) = (few, walk, best, own, long)
+place_error s q room TooManyLinks few left (walk, best, own, short, many) = (few, walk, best, own, short, omega (arith, left, many))
 
 -- If a book isn't full of placements with other ids, there is room for a placement with this id.
 pub room_for : (ps : List Placement) (id at : ℕ) → at ≡ index_of_id id ps → HaveDistinctIds ps → length ps ≤ MOST_PLACEMENTS → (at ≡ MOST_PLACEMENTS → ⊥)

@@ -5,12 +5,13 @@ use native.Mathlib.Bridge.{le_prop}
 use Rattle.std.specs.List.{AllByRecursion}
 use Rattle.std.proofs.lemmas.List.{at_drop_more, drop_all}
 use Rattle.cspf_model.specs.declared.link.Link.{Link}
+use Rattle.cspf_book.specs.declared.path.Passed.{Passed}
 use Rattle.cspf_model.specs.declared.request.Request.{Request}
-use Rattle.cspf_model.specs.Database.{Database, Key, key_of, link_at, HasReverse, HasTransit}
+use Rattle.cspf_model.specs.Database.{Database, key_of, link_at, HasReverse, HasTransit}
 use Rattle.cspf_model.specs.Admissible.{IsAdmitted, IsAdmissible, MayLeave}
 use Rattle.cspf_model.specs.Walks.{AreJoined, IsWalk}
 use Rattle.cspf_book.specs.declared.placement.Placement.{Placement}
-use Rattle.cspf_book.specs.Placements.{ends_of_link}
+use Rattle.cspf_book.specs.Placements.{passed_of, key_passed}
 use Rattle.cspf_book.specs.LostRoutes.{without_bandwidth, AdmitsRoute}
 use Rattle.cspf_book.specs.Following.{HasItsLink, MayGoOn}
 
@@ -22,18 +23,18 @@ same_request q priority two_ends =
 
 -- A walk has reached `router` over `links` links. It may continue along all links of the list, one
 -- after the other.
-abbrev pub IsFollowed : Database → Request → ℕ → ℕ → List Link → Type 0
+abbrev pub IsFollowed : Database → Request → ℕ → ℕ → List Passed → Type 0
 IsFollowed d q links router [] = Unit {0}
 IsFollowed d q links router (l ∷ ls) = MayGoOn d q links router l × IsFollowed d q (links + 1) l.to ls
 
 -- There is a walk from `router` along the links of `route`, and each of its links runs from a
 -- router that carries transit.
-record HasWalkOn (d : Database) (q : Request) (router : ℕ) (route : List Link) : Type 0 where
+record HasWalkOn (d : Database) (q : Request) (router : ℕ) (route : List Passed) : Type 0 where
   walk : List Link
   links : AllByRecursion (IsAdmissible d q) walk
   joined : AreJoined router walk
   transit : AllByRecursion (HasTransit d) (map (λ m. m.from) walk)
-  along : map ends_of_link walk ≡ map ends_of_link route
+  along : map passed_of walk ≡ route
 
 -- If a walk may leave a router after at least one link, this router carries transit.
 left_later : (d : Database) (router links : ℕ) → 0 < links → MayLeave d router links → HasTransit d router
@@ -41,21 +42,21 @@ left_later d router links some (inl transit) = transit
 left_later d router links some (inr none) = absurd (omega arith)
 
 -- Links with the same key run from the same router.
-from_same : (a b : Link) → ends_of_link a ≡ ends_of_link b → a.from ≡ b.from
-from_same a b e = ap (λ (x : Key × ℕ). x.0.0) e
+from_same : (a : Link) (b : Passed) → passed_of a ≡ b → a.from ≡ b.from
+from_same a b e = ap (λ (x : Passed). x.from) e
 
-to_same : (a b : Link) → ends_of_link a ≡ ends_of_link b → a.to ≡ b.to
-to_same a b e = ap (λ (x : Key × ℕ). x.1) e
+to_same : (a : Link) (b : Passed) → passed_of a ≡ b → a.to ≡ b.to
+to_same a b e = ap (λ (x : Passed). x.to) e
 
--- Let the first links of two lists have the same `ends_of_link`. If this is also true of all later
--- links, pair by pair, it is true of all links.
-both_ends : (a b : Link) (more rest : List Link) → ends_of_link a ≡ ends_of_link b → map ends_of_link more ≡ map ends_of_link rest
-    → map ends_of_link (a ∷ more) ≡ map ends_of_link (b ∷ rest)
+-- Let a walk's first link be the first link of a path. If the walk's later links have the rest of the
+-- path, the walk has the whole path.
+both_ends : (a : Link) (b : Passed) (more : List Link) (rest : List Passed) → passed_of a ≡ b → map passed_of more ≡ rest
+    → map passed_of (a ∷ more) ≡ b ∷ rest
 both_ends a b more rest first later = λ i. first i ∷ later i
 
 -- Let a walk have at least one link. If it can follow the links of a route from `router` on, there
 -- is a walk from `router` along these links (`HasWalkOn`).
-walk_later : (d : Database) (q : Request) (links router : ℕ) (route : List Link) → 0 < links → IsFollowed d q links router route
+walk_later : (d : Database) (q : Request) (links router : ℕ) (route : List Passed) → 0 < links → IsFollowed d q links router route
     → HasWalkOn d q router route
 walk_later d q links router [] some followed =
     record { walk = []; links = tt; joined = tt; transit = tt; along = refl }
@@ -72,15 +73,15 @@ walk_later d q links router (l ∷ ls) some (go, rest) =
 
 -- Let a walk run along the links of a route, and let each of its links run from a router that
 -- carries transit. Then the route can be followed link by link (`IsFollowed`).
-followed_later : (d : Database) (q : Request) (links router : ℕ) (walk route : List Link) → AllByRecursion (IsAdmissible d q) walk
+followed_later : (d : Database) (q : Request) (links router : ℕ) (walk : List Link) (route : List Passed) → AllByRecursion (IsAdmissible d q) walk
     → AreJoined router walk → AllByRecursion (HasTransit d) (map (λ m. m.from) walk)
-    → map ends_of_link walk ≡ map ends_of_link route → IsFollowed d q links router route
+    → map passed_of walk ≡ route → IsFollowed d q links router route
 followed_later d q links router [] [] all joined transit along = tt
 followed_later d q links router [] (l ∷ ls) all joined transit along = absurd (cc)
 followed_later d q links router (w ∷ ws) [] all joined transit along = absurd (cc)
 followed_later d q links router (w ∷ ws) (l ∷ ls) all joined transit along =
-    let alike : ends_of_link w ≡ ends_of_link l = cc in
-    let rest : map ends_of_link ws ≡ map ends_of_link ls = cc in (
+    let alike : passed_of w ≡ l = cc in
+    let rest : map passed_of ws ≡ ls = cc in (
       record {
         from = sym (from_same w l alike) ∙ joined.0;
         leaves = inl (subst (HasTransit d) joined.0 transit.0);
@@ -90,8 +91,8 @@ followed_later d q links router (w ∷ ws) (l ∷ ls) all joined transit along =
     )
 
 -- If the links of a route can be followed from the head-end, there is a walk along these links.
-walk_from : (d : Database) (q : Request) (route : List Link) → IsFollowed d q 0 q.from route
-    → (walk : List Link) × IsWalk d q walk × (map ends_of_link walk ≡ map ends_of_link route)
+walk_from : (d : Database) (q : Request) (route : List Passed) → IsFollowed d q 0 q.from route
+    → (walk : List Link) × IsWalk d q walk × (map passed_of walk ≡ route)
 walk_from d q [] followed = ([], record { links = tt; joined = tt; transit = tt }, refl)
 walk_from d q (l ∷ ls) (go, rest) =
     let found : Link = go.there.found in
@@ -106,14 +107,14 @@ walk_from d q (l ∷ ls) (go, rest) =
     )
 
 -- If there is a walk along the links of a route, the route can be followed from the head-end.
-followed_from : (d : Database) (q : Request) (walk route : List Link) → IsWalk d q walk
-    → map ends_of_link walk ≡ map ends_of_link route → IsFollowed d q 0 q.from route
+followed_from : (d : Database) (q : Request) (walk : List Link) (route : List Passed) → IsWalk d q walk
+    → map passed_of walk ≡ route → IsFollowed d q 0 q.from route
 followed_from d q [] [] is_walk along = tt
 followed_from d q [] (l ∷ ls) is_walk along = absurd (cc)
 followed_from d q (w ∷ ws) [] is_walk along = absurd (cc)
 followed_from d q (w ∷ ws) (l ∷ ls) is_walk along =
-    let alike : ends_of_link w ≡ ends_of_link l = cc in
-    let rest : map ends_of_link ws ≡ map ends_of_link ls = cc in (
+    let alike : passed_of w ≡ l = cc in
+    let rest : map passed_of ws ≡ ls = cc in (
       record {
         from = sym (from_same w l alike) ∙ is_walk.joined.0;
         leaves = inr refl;
@@ -133,16 +134,16 @@ admits_followed d p = (
 
 -- Let the database have an admitted link at the key of `l`, which runs to the same router as `l`.
 -- Then `HasItsLink` holds exactly if the database also has the reverse of this link.
-pub its_link : (d : Database) (q : Request) (l found : Link) → Some found ≡ link_at d (key_of l) → key_of found ≡ key_of l
+pub its_link : (d : Database) (q : Request) (l : Passed) (found : Link) → Some found ≡ link_at d (key_passed l) → key_of found ≡ key_passed l
     → found.to ≡ l.to → IsAdmitted q found → HasReverse d found ↔ HasItsLink d q l
 its_link d q l found is keyed to admitted = (
   λ reverse. record {
     found = found;
     admissible = record { link = ap (link_at d) keyed ∙ sym is; usable = record { admitted = admitted; reverse = reverse } };
-    alike = λ i. (keyed i, to i);
+    alike = λ i. record { from = (keyed i).0; local = (keyed i).1; to = to i };
   },
   λ its.
-      let key : key_of its.found ≡ key_of l = ap (λ (x : Key × ℕ). x.0) its.alike in
+      let key : key_of its.found ≡ key_passed l = ap key_passed its.alike in
       let same : Some found ≡ Some its.found = is ∙ ap (link_at d) (sym key) ∙ its.admissible.link in
       let one : found ≡ its.found = cc in
       subst (HasReverse d) (sym one) its.admissible.usable.reverse,
@@ -150,12 +151,12 @@ its_link d q l found is keyed to admitted = (
 
 -- In this module, `l` is the link at index i of the route. A walk along the first i links has
 -- reached `router`.
-module _ (d : Database) (q : Request) (route items : List Link) (i router : ℕ) (l : Link) (whole : items ≡ route) (within : i < length items)
+module _ (d : Database) (q : Request) (route items : List Passed) (i router : ℕ) (l : Passed) (whole : items ≡ route) (within : i < length items)
     (is : l ≡ get_or items i l) where
   first_of : IsFollowed d q i router (drop i route) ≡ IsFollowed d q i router (l ∷ drop (i + 1) route)
   first_of =
       ap (λ ls. IsFollowed d q i router (drop i ls)) (sym whole)
-      ∙ ap (IsFollowed d q i router) (at_drop_more (λ ls. ls) items i l within ∙ ap (λ (m : Link). m ∷ drop (i + 1) items) (sym is))
+      ∙ ap (IsFollowed d q i router) (at_drop_more (λ ls. ls) items i l within ∙ ap (λ (m : Passed). m ∷ drop (i + 1) items) (sym is))
       ∙ ap (λ ls. IsFollowed d q i router (l ∷ drop (i + 1) ls)) whole
 
   pub goes_on : IsFollowed d q i router (drop i route) → MayGoOn d q i router l
@@ -172,7 +173,7 @@ module _ (d : Database) (q : Request) (route items : List Link) (i router : ℕ)
   )
 
 -- Past the last link of the route, no link is left to follow.
-pub followed_all : (d : Database) (q : Request) (route items : List Link) (i router : ℕ) → items ≡ route → length items ≤ i
+pub followed_all : (d : Database) (q : Request) (route items : List Passed) (i router : ℕ) → items ≡ route → length items ≤ i
     → IsFollowed d q i router (drop i route)
 followed_all d q route items i router whole behind =
     let none : drop i route ≡ [] = ap (drop i) (sym whole) ∙ drop_all i items behind in

@@ -6,7 +6,7 @@ use Rattle.std.specs.List.{AllByRecursion}
 use Rattle.std.proofs.lemmas.Bool.{false≢true}
 use Rattle.std.proofs.lemmas.Nat.Bits.{bit_at_and, bit_at_or, same_from_bits}
 use Rattle.std.proofs.lemmas.Nat.{or_comm, and_comm, and_assoc, and_or_self, and_shr, and_mod, pow_pos, pow_below, mod_below}
-use Rattle.cspf_model.specs.declared.link.Link.{Link}
+use Rattle.cspf_book.specs.declared.path.Passed.{Passed}
 use Rattle.cspf_book.specs.declared.placement.Placement.{Placement}
 use Rattle.cspf_book.specs.RouterBits.{one_of_32, four_bits, bits_with, bits_of, IsAmong, has_quarters}
 use Rattle.cspf_book.specs.Touched.{IsCommon}
@@ -45,14 +45,14 @@ among_added bits router = and_or_self (four_bits router) bits
 
 -- If a router's bits are among `bits`, they are still among them after the bits of the links'
 -- neighbors are added.
-among_with : (bits router : ℕ) (ls : List Link) → IsAmong bits router → IsAmong (bits_with bits ls) router
+among_with : (bits router : ℕ) (ls : List Passed) → IsAmong bits router → IsAmong (bits_with bits ls) router
 among_with bits router [] is = is
 among_with bits router (l ∷ ls) is =
     among_with (bit_or bits (four_bits l.to)) router ls (among_more bits (four_bits l.to) (four_bits router) is)
 
 -- Add the bits of the links' neighbors to some bits. If a claim is true of each router whose bits
 -- are among the result, it is true of each neighbor of a link.
-off_links : (P : ℕ → Type 0) (bits : ℕ) (ls : List Link) → ((router : ℕ) → IsAmong (bits_with bits ls) router → P router)
+off_links : (P : ℕ → Type 0) (bits : ℕ) (ls : List Passed) → ((router : ℕ) → IsAmong (bits_with bits ls) router → P router)
     → AllByRecursion (λ l. P l.to) ls
 off_links P bits [] each = tt
 off_links P bits (l ∷ ls) each = (

@@ -6,6 +6,7 @@ use Rattle.std.specs.FinSet as set
 use Rattle.std.specs.List.{AllByRecursion}
 use Rattle.std.proofs.lemmas.Bool.{false≢true, false_from_ne_true, or_parts}
 use Rattle.cspf_model.specs.declared.link.Link.{Link}
+use Rattle.cspf_book.specs.declared.path.Passed.{Passed}
 use Rattle.cspf_model.specs.declared.request.Request.{Request}
 use Rattle.cspf_model.specs.declared.batch.Change.{Change}
 use Rattle.cspf_model.specs.Database.{Database, Key, key_of, link_at, AreAtTheirKeys, IsLinkOf, HasReverse}
@@ -14,6 +15,7 @@ use Rattle.cspf_model.specs.Admissible.{IsAdmitted}
 use Rattle.cspf_model.proofs.Databases.LastChanges.{link_at-after_changes}
 use Rattle.cspf_book.specs.declared.placement.Placement.{Placement}
 use Rattle.cspf_book.specs.declared.touched.Touched.{Touched}
+use Rattle.cspf_book.specs.Placements.{passed_of, key_passed}
 use Rattle.cspf_book.specs.LostRoutes.{without_bandwidth, AdmitsRoute}
 use Rattle.cspf_book.specs.Following.{HasAdmittedLink, MayGoOn}
 use Rattle.cspf_book.specs.RouterBits.{bits_of, IsAmong}
@@ -97,13 +99,13 @@ module _ (d : Database) (cs : List Change) (t : Touched) (touched : AreTouched d
 
     -- Let a walk be able to continue along an untouched link before the changes. If the request
     -- admits the link that is at its key after the changes, the walk may continue along that link.
-    pub admitted_goes_on : (q : Request) (links router : ℕ) (l : Link) → IsUntouched t l → MayGoOn d q links router l
-        → ((found m : Link) → link_at after (key_of l) ≡ Some m → (t.groups ≡ true → m.group ≡ found.group) → IsAdmitted q found → IsAdmitted q m)
+    pub admitted_goes_on : (q : Request) (links router : ℕ) (l : Passed) → IsUntouched t l → MayGoOn d q links router l
+        → ((found m : Link) → link_at after (key_passed l) ≡ Some m → (t.groups ≡ true → m.group ≡ found.group) → IsAdmitted q found → IsAdmitted q m)
         → MayGoOn after q links router l
     admitted_goes_on q links router l off old accepted =
         let found : Link = old.there.found in
-        let key : key_of found ≡ key_of l = ap (λ (x : Key × ℕ). x.0) old.there.alike in
-        let there : ¬ IsTouched t (link_key (key_of found)) found.to = λ on. off.key (subst (λ (x : Key × ℕ). IsTouched t (link_key x.0) x.1) old.there.alike on) in
+        let key : key_of found ≡ key_passed l = ap key_passed old.there.alike in
+        let there : ¬ IsTouched t (link_key (key_of found)) found.to = λ on. off.key (subst (λ (x : Passed). IsTouched t (link_key (key_passed x)) x.to) old.there.alike on) in
         let own = kept_own found old.there.admissible.link there in
         let its = keyed_after d cs keyed (key_of found) own.0 own.1 in record {
           from = old.from;
@@ -120,12 +122,12 @@ module _ (d : Database) (cs : List Change) (t : Touched) (touched : AreTouched d
                 reverse = still_reverse found own.0 its own.2 own.3 there old.there.admissible.usable.reverse;
               };
             };
-            alike = both its own.2 ∙ old.there.alike;
+            alike = both own.0 found its own.2 ∙ old.there.alike;
           };
         }
       where
-        both : {a b : Key} {x y : ℕ} → a ≡ b → x ≡ y → ◌≡◌ {A = Key × ℕ} (a, x) (b, y)
-        both k r = λ i. (k i, r i)
+        both : (a b : Link) → key_of a ≡ key_of b → a.to ≡ b.to → passed_of a ≡ passed_of b
+        both a b k r = λ i. record { from = (k i).0; local = (k i).1; to = r i }
 
   module _ (q : Request) (keyed : AreAtTheirKeys d) (fits : IsFor t q) where
     abbrev bare : Request
@@ -151,10 +153,10 @@ module _ (d : Database) (cs : List Change) (t : Touched) (touched : AreTouched d
 
     -- If a walk may continue along an untouched link before the changes, it may continue along it
     -- after them.
-    pub untouched_goes_on : (links router : ℕ) (l : Link) → IsUntouched t l → MayGoOn d bare links router l → MayGoOn after bare links router l
+    pub untouched_goes_on : (links router : ℕ) (l : Passed) → IsUntouched t l → MayGoOn d bare links router l → MayGoOn after bare links router l
     untouched_goes_on links router l off old = admitted_goes_on keyed bare links router l off old (λ found m _ same admitted. still_admitted found m same fits admitted)
 
-    untouched_followed : (bits : ℕ) → IsApart t bits → (links router : ℕ) (route : List Link) → IsAmong bits router → AllByRecursion (λ l. IsAmong bits l.to) route
+    untouched_followed : (bits : ℕ) → IsApart t bits → (links router : ℕ) (route : List Passed) → IsAmong bits router → AllByRecursion (λ l. IsAmong bits l.to) route
         → IsFollowed d bare links router route → IsFollowed after bare links router route
     untouched_followed bits apart links router [] near far old = tt
     untouched_followed bits apart links router (l ∷ ls) near far old = (
@@ -177,10 +179,10 @@ module _ (d : Database) (cs : List Change) (t : Touched) (touched : AreTouched d
       (untouched_followed p.request keyed fits (bits_of p) apart 0 p.request.from p.route parts.0 parts.1 ((admits_followed d p).1 admits))
 
 -- Along which link a walk may continue, the request admits it.
-pub admitted_if_goes_on : (d : Database) (q : Request) (links router : ℕ) (l : Link) → MayGoOn d q links router l → HasAdmittedLink d q l
+pub admitted_if_goes_on : (d : Database) (q : Request) (links router : ℕ) (l : Passed) → MayGoOn d q links router l → HasAdmittedLink d q l
 admitted_if_goes_on d q links router l goes = record {
   found = goes.there.found;
-  link = sym (ap (λ (x : Key × ℕ). link_at d x.0) goes.there.alike) ∙ goes.there.admissible.link;
+  link = sym (ap (λ (x : Passed). link_at d (key_passed x)) goes.there.alike) ∙ goes.there.admissible.link;
   admitted = goes.there.admissible.usable.admitted;
 }
 
@@ -203,7 +205,7 @@ up_to_start d e p = record {
 
 -- In this module, `l` is the link at index i of the route, and `IsFollowedUpTo` holds for the first
 -- i links.
-module _ (d e : Database) (p : Placement) (items : List Link) (i router : ℕ) (l : Link)
+module _ (d e : Database) (p : Placement) (items : List Passed) (i router : ℕ) (l : Passed)
     (whole : items ≡ p.route) (within : i < length items) (is : l ≡ get_or items i l) (so_far : IsFollowedUpTo d e p i router) where
   abbrev its : Request
   its = without_bandwidth p.request
@@ -227,7 +229,7 @@ module _ (d e : Database) (p : Placement) (items : List Link) (i router : ℕ) (
 
 -- If `d` admits the route, and `IsFollowedUpTo` holds for all links of the route, `e` also admits
 -- the route.
-pub up_to_end : (d e : Database) (p : Placement) (items : List Link) (i router : ℕ) → items ≡ p.route
+pub up_to_end : (d e : Database) (p : Placement) (items : List Passed) (i router : ℕ) → items ≡ p.route
     → length items ≤ i → IsFollowedUpTo d e p i router → AdmitsRoute d p → IsTrue true ↔ AdmitsRoute e p
 up_to_end d e p items i router whole behind so_far admits = (
   λ _. (admits_followed e p).0 ((so_far.after admits).0 (followed_all e (without_bandwidth p.request) p.route items i router whole behind)),

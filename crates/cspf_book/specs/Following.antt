@@ -2,28 +2,29 @@
 -- their routes are sorted.
 use Rattle.std.specs.Prelude.{◌≡◌, ◌≢◌, ◌-◌, ◌↔◌, ℕ, Some, List, AllPairs, Contains, map}
 use Rattle.cspf_model.specs.declared.link.Link.{Link}
+use Rattle.cspf_book.specs.declared.path.Passed.{Passed}
 use Rattle.cspf_model.specs.declared.request.Request.{Request}
-use Rattle.cspf_model.specs.Database.{Database, key_of, link_at}
+use Rattle.cspf_model.specs.Database.{Database, link_at}
 use Rattle.cspf_model.specs.Admissible.{IsAdmitted, IsAdmissible, MayLeave}
 use Rattle.cspf_book.specs.declared.placement.Placement.{Placement}
-use Rattle.cspf_book.specs.Placements.{ends_of_link, id_of}
+use Rattle.cspf_book.specs.Placements.{passed_of, key_passed, id_of}
 use Rattle.cspf_book.specs.LostRoutes.{IsLost}
 
 -- The database has an admissible link with the same key as this link, and both links run to the same router.
-pub record HasItsLink (d : Database) (q : Request) (l : Link) : Type 0 where
+pub record HasItsLink (d : Database) (q : Request) (l : Passed) : Type 0 where
   pub found : Link
   pub admissible : IsAdmissible d q found
-  pub alike : ends_of_link found ≡ ends_of_link l
+  pub alike : passed_of found ≡ l
 
 -- The database has a link with the same key as this link, and the request admits that link.
-pub record HasAdmittedLink (d : Database) (q : Request) (l : Link) : Type 0 where
+pub record HasAdmittedLink (d : Database) (q : Request) (l : Passed) : Type 0 where
   pub found : Link
-  pub link : link_at d (key_of l) ≡ Some found
+  pub link : link_at d (key_passed l) ≡ Some found
   pub admitted : IsAdmitted q found
 
 -- A walk has reached `router` over `links` links, and may continue along the database's link at the
 -- key of `l`.
-pub record MayGoOn (d : Database) (q : Request) (links router : ℕ) (l : Link) : Type 0 where
+pub record MayGoOn (d : Database) (q : Request) (links router : ℕ) (l : Passed) : Type 0 where
   pub from : l.from ≡ router
   pub leaves : MayLeave d router links
   pub there : HasItsLink d q l

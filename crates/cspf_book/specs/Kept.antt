@@ -3,7 +3,7 @@
 use Rattle.std.specs.Prelude.{◌≡◌, ◌+◌, ◌^◌, ◌<◌, ◌≤◌, ◌&&◌, ℕ, true, cond, Some, List, [], ◌∷◌, length, nat_le, slice_index, slice_index_or, unwrap_or, IsSome}
 use Rattle.std.specs.BTreeMap.{get}
 use Rattle.std.specs.Ordering.{eq_by_cmp}
-use Rattle.cspf_model.specs.declared.link.Link.{Link}
+use Rattle.cspf_book.specs.declared.path.Passed.{Passed}
 use Rattle.cspf_model.specs.Database.{Key, key_cmp}
 use Rattle.cspf_book.specs.declared.counts.Counts.{Counts}
 use Rattle.cspf_book.specs.declared.placement.Placement.{Placement}
@@ -35,7 +35,7 @@ pub record IsWithinSums (c : Counts) (p : Placement) : Type 0 where
   pub at : (k : Key) (priority : ℕ) → priority < 8 → bandwidth_on k priority p ≤ sum_at c k priority
 
 -- `c` has an entry of sums at the key of each of these links.
-pub record HasKeys (c : Counts) (links : List Link) : Type 0 where
+pub record HasKeys (c : Counts) (links : List Passed) : Type 0 where
   pub at : (k : Key) → has_key links k ≡ true → IsSome (get key_cmp c.sums k)
 
 -- If there is a placement at index `at`, `c` has an entry of sums for each link of this placement's
@@ -63,6 +63,6 @@ pub record HasMoreAt (c d : Counts) (key : Key) (hold bandwidth : ℕ) : Type 0 
 
 -- At the keys of these links, the sums of `d` are greater than the sums of `c` by `bandwidth`, at
 -- each priority from `hold` to 7. All other sums are the same.
-pub record HasMoreAlong (c d : Counts) (links : List Link) (hold bandwidth : ℕ) : Type 0 where
+pub record HasMoreAlong (c d : Counts) (links : List Passed) (hold bandwidth : ℕ) : Type 0 where
   pub at : (k : Key) (priority : ℕ) → priority < 8
       → sum_at d k priority ≡ sum_at c k priority + cond (nat_le hold priority && has_key links k) bandwidth 0

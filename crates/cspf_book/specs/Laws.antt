@@ -1,6 +1,6 @@
 -- Laws of the bandwidths that placements count, and of effective databases. An effective database
 -- is a base with the bandwidth that the placements leave on its links.
-use Rattle.std.specs.Prelude.{◌≡◌, ◌⊎◌, ℕ, zero, suc, ◌<◌, ◌≤◌, min, List, [], ◌∷◌, ◌++◌, Contains, slice_index}
+use Rattle.std.specs.Prelude.{◌≡◌, ◌⊎◌, ℕ, zero, suc, ◌<◌, ◌≤◌, min, List, [], ◌∷◌, ◌++◌, Contains, map, slice_index}
 use Rattle.std.specs.Option.{option_map}
 use Rattle.cspf_model.specs.declared.link.Link.{Link}
 use Rattle.cspf_model.specs.Database.{Database, Key, key_of, link_at, IsLinkOf}
@@ -8,7 +8,7 @@ use Rattle.cspf_model.specs.declared.batch.Change.{Change}
 use Rattle.cspf_model.specs.Changes.{after_changes}
 use Rattle.cspf_model.specs.Walks.{IsWalk}
 use Rattle.cspf_book.specs.declared.placement.Placement.{Placement}
-use Rattle.cspf_book.specs.Placements.{id_of, others, counted}
+use Rattle.cspf_book.specs.Placements.{passed_of, id_of, others, counted}
 use Rattle.cspf_book.specs.Effective.{effective_link, effective}
 use Rattle.cspf_book.specs.OverLinks.{over_at, over}
 use Rattle.cspf_book.specs.LostRoutes.{AreLost}
@@ -49,8 +49,9 @@ IsCovered placements l priority = counted placements (key_of l) priority ≤ sli
 -- placements.
 abbrev pub PlacingKeepsCovered : Type 0
 PlacingKeepsCovered =
-    (base : Database) (placements : List Placement) (p : Placement) → p.request.setup ≡ 7
-    → IsWalk (effective base (others (id_of p) placements)) p.request p.route
+    (base : Database) (placements : List Placement) (p : Placement) (walk : List Link) → p.request.setup ≡ 7
+    → p.route ≡ map passed_of walk
+    → IsWalk (effective base (others (id_of p) placements)) p.request walk
     → (l : Link) (priority : ℕ) → IsLinkOf base l → priority < 8
     → IsCovered placements l priority → IsCovered (others (id_of p) placements ++ p ∷ []) l priority
 

@@ -6,19 +6,18 @@ use Rattle.cspf_model.specs.declared.request.Request.{Request}
 use Rattle.cspf_model.specs.Database.{Database}
 use Rattle.cspf_model.specs.Walks.{IsWalk}
 use Rattle.cspf_book.specs.declared.placement.Placement.{Placement}
-use Rattle.cspf_book.specs.Placements.{ends_of_link, id_of}
+use Rattle.cspf_book.specs.Placements.{passed_of, id_of}
 
 -- the same request with bandwidth 0
 abbrev pub without_bandwidth : Request → Request
 without_bandwidth q = record q { bandwidth = 0 }
 
 -- The database admits the route of the placement: it has a walk of the placement's request with
--- bandwidth 0, along the same links. Link by link, walk and route have the same keys and the same
--- neighbors.
+-- bandwidth 0, along the links that the placement keeps of its route.
 pub record AdmitsRoute (d : Database) (p : Placement) : Type 0 where
   pub walk : List Link
   pub is_walk : IsWalk d (without_bandwidth p.request) walk
-  pub along : map ends_of_link walk ≡ map ends_of_link p.route
+  pub along : map passed_of walk ≡ p.route
 
 -- The database `before` admits the route of the placement, and the database `after` doesn't.
 pub record IsLost (before after : Database) (p : Placement) : Type 0 where

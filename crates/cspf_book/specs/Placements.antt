@@ -1,16 +1,31 @@
 -- How much bandwidth placements count on a link.
-use Rattle.std.specs.Prelude.{ℕ, Bool, ◌&&◌, not, cond, List, nat_eq, nat_le, filter, sum_by}
-use Rattle.std.specs.List.{list_any, position_or_len}
+use Rattle.std.specs.Prelude.{ℕ, Bool, ◌&&◌, not, cond, List, map, nat_eq, nat_le, filter, sum_by}
+use Rattle.std.specs.Ordering.{eq_by_cmp}
+use Rattle.std.specs.List.{list_any, position_or_len, IsDistinct}
 use Rattle.cspf_model.specs.declared.link.Link.{Link}
-use Rattle.cspf_model.specs.Database.{Key, key_of}
+use Rattle.cspf_model.specs.Database.{Key, key_of, key_cmp}
+use Rattle.cspf_book.specs.declared.path.Passed.{Passed}
 use Rattle.cspf_book.specs.declared.placement.Placement.{Placement}
 
 -- the key and the neighbor of a link
 abbrev pub ends_of_link : Link → Key × ℕ
 ends_of_link l = (key_of l, l.to)
 
+-- What a placement keeps of a link on its route: the link's key, and the router that the link leads
+-- to.
+abbrev pub passed_of : Link → Passed
+passed_of l = record { from = l.from; local = l.local; to = l.to }
+
+-- the key of a link on a path: the router at which it begins, and its interface there
+abbrev pub key_passed : Passed → Key
+key_passed l = (l.from, l.local)
+
+-- No two of the links have the same key.
+abbrev pub ArePassedOnce : List Passed → Type 0
+ArePassedOnce links = IsDistinct (eq_by_cmp key_cmp) (map key_passed links)
+
 -- One of the links has this key.
-abbrev pub has_key : List Link → Key → Bool
+abbrev pub has_key : List Passed → Key → Bool
 has_key links k = list_any (λ l. nat_eq l.from k.0 && nat_eq l.local k.1) links
 
 -- The bandwidth that a placement counts on the link with this key at a priority. A placement with

@@ -2,7 +2,7 @@
 -- that they keep their routes.
 use Rattle.std.specs.Prelude.{◌≡◌, ℕ, Bool, ◌+◌, ◌*◌, ◌/◌, ◌%◌, ◌^◌, ◌&&◌, not, List, [], ◌∷◌, nat_eq, unwrap_or}
 use Rattle.std.specs.Int.Bits.{bit_and, bit_or}
-use Rattle.cspf_model.specs.declared.link.Link.{Link}
+use Rattle.cspf_book.specs.declared.path.Passed.{Passed}
 use Rattle.cspf_model.specs.Changes.{ChangeKey}
 use Rattle.cspf_book.specs.declared.placement.Placement.{Placement}
 
@@ -21,7 +21,7 @@ unfoldable pub four_bits : ℕ → ℕ
 four_bits router = four_of (router * 2654435769)
 
 -- `bits`, together with the four bits of the neighbor of each link
-abbrev pub bits_with : ℕ → List Link → ℕ
+abbrev pub bits_with : ℕ → List Passed → ℕ
 bits_with bits [] = bits
 bits_with bits (l ∷ ls) = bits_with (bit_or bits (four_bits l.to)) ls
 

@@ -4,10 +4,12 @@ use Rattle.std.specs.Prelude.{◌≡◌, ◌||◌, ◌⊎◌, ℕ, Bool, true, f
 use Rattle.cspf_model.specs.declared.link.Link.{Link}
 use Rattle.cspf_model.specs.declared.request.Request.{Request}
 use Rattle.cspf_model.specs.declared.batch.Change.{Change}
-use Rattle.cspf_model.specs.Database.{Database, Key, key_of, link_at}
+use Rattle.cspf_model.specs.Database.{Database, Key, link_at}
 use Rattle.cspf_model.specs.Changes.{ChangeKey, link_key, mark_key, last_on, after_changes}
+use Rattle.cspf_book.specs.declared.path.Passed.{Passed}
 use Rattle.cspf_book.specs.declared.touched.Touched.{Touched}
 use Rattle.std.specs.Int.Bits.{bit_and, bit_or}
+use Rattle.cspf_book.specs.Placements.{key_passed}
 use Rattle.cspf_book.specs.RouterBits.{slot_of, four_bits, IsAmong}
 
 -- The bits in `common` are among the four bits of these two routers.
@@ -70,6 +72,6 @@ abbrev pub IsFor : Touched → Request → Type 0
 IsFor t q = (t.groups ≡ true) ⊎ HasNoAffinities q
 
 -- Neither the link's key nor the mark of its router is touched.
-pub record IsUntouched (t : Touched) (l : Link) : Type 0 where
-  pub key : ¬ IsTouched t (link_key (key_of l)) l.to
+pub record IsUntouched (t : Touched) (l : Passed) : Type 0 where
+  pub key : ¬ IsTouched t (link_key (key_passed l)) l.to
   pub mark : ¬ IsTouched t (mark_key l.from) l.from

@@ -6,9 +6,9 @@ ghost use Rattle.cspf_model.specs.Database.{key_cmp};
 ghost use Rattle.cspf_book.specs.Kept.{sums_at, sum_at, IsCountOf, AreSmall, IsWithinSums, HasKeys, KeepsKeys, HasSameSums, HasSumsAt, HasMoreAt, HasMoreAlong};
 
 use crate::counting::has_key;
+use crate::path::Passed;
 use crate::placement::Placement;
 use cspf_addr::Addr;
-use cspf_model::Link;
 use std::alloc::{AllocError, Global};
 use std::collections::BTreeMap;
 
@@ -89,7 +89,7 @@ impl Counts {
 
     /// Makes an entry of sums for each of these links whose key has no entry yet. In a new entry,
     /// all sums are 0. After an error, some of the new entries may have been made.
-    pub(crate) fn enter(&mut self, links: &[Link]) -> Result<(), AllocError>
+    pub(crate) fn enter(&mut self, links: &[Passed]) -> Result<(), AllocError>
         ensures sums { HasSameSums self.old self.new }
         ensures kept { KeepsKeys self.old self.new }
         ensures keys { OnOk result (HasKeys self.new links.now) }
@@ -115,7 +115,7 @@ impl Counts {
 
     /// For each of these links, removes the entry of its key if no bandwidth is counted there at
     /// any priority.
-    pub(crate) fn forget(&mut self, links: &[Link])
+    pub(crate) fn forget(&mut self, links: &[Passed])
         ensures { HasSameSums self.old self.new }
     {
         for link in links {

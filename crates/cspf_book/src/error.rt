@@ -2,7 +2,7 @@
 ghost use Rattle.std.specs.Prelude.{◌≡◌};
 ghost use Rattle.cspf_book.specs.declared.error.PlaceError.TheVariants as place_error;
 
-use crate::limits::{MOST_PLACEMENTS, MOST_ROUTES_LINKS};
+use crate::limits::{MOST_PLACED_LINKS, MOST_PLACEMENTS, MOST_ROUTES_LINKS};
 use std::alloc::AllocError;
 use thiserror::Error;
 
@@ -22,6 +22,9 @@ pub enum PlaceError {
     /// a link for one use only.
     #[error("a route that uses a link twice")]
     Twice,
+    /// The best route has more than `MOST_PLACED_LINKS` links.
+    #[error("a route of more than {most} links", most = MOST_PLACED_LINKS)]
+    TooLong,
 }
 
 impl From<AllocError> for PlaceError {

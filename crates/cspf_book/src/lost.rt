@@ -11,17 +11,18 @@ ghost use Rattle.cspf_book.specs.Touched.{AreTouched, IsFor, HasNoAffinities};
 use crate::after::{find_after, has_reverse_after, has_transit_after};
 use crate::changed::Changed;
 use crate::effective_links::within_limits;
+use crate::path::Passed;
 use crate::placement::Placement;
 use crate::touched::Touched;
 use cspf_addr::Addr;
 use cspf_db::Table;
 use cspf_graph::accepts;
-use cspf_model::{Change, Link, Request};
+use cspf_model::{Change, Request};
 use std::alloc::{AllocError, Global};
 
 /// Whether the base, after the changes, has an admissible link with the same key as this link, and
 /// both links run to the same router.
-fn has_its_link(base: &Table, changes: &Changed, request: &Request, link: &Link) -> bool
+fn has_its_link(base: &Table, changes: &Changed, request: &Request, link: &Passed) -> bool
     ensures { IsTrue result
         ↔ HasItsLink (after_changes base.now changes.now) request.now link.now }
 {
@@ -43,7 +44,7 @@ fn may_go_on(
     request: &Request,
     links: usize,
     router: Addr,
-    link: &Link,
+    link: &Passed,
 ) -> bool
     ensures { IsTrue result
         ↔ MayGoOn (after_changes base.now changes.now) request.now links router link.now }
@@ -88,7 +89,7 @@ fn has_no_affinities(request: &Request) -> bool
 
 /// Whether the base, after the changes, has a link with the same key as this link, and the request
 /// admits that link.
-fn has_admitted_link(base: &Table, changes: &Changed, request: &Request, link: &Link) -> bool
+fn has_admitted_link(base: &Table, changes: &Changed, request: &Request, link: &Passed) -> bool
     ensures { IsTrue result ↔ HasAdmittedLink (after_changes base.now changes.now) request.now link.now }
 {
     match find_after(base, changes, link.from, link.local) {
@@ -107,7 +108,7 @@ fn may_still_go_on(
     request: &Request,
     links: usize,
     router: Addr,
-    link: &Link,
+    link: &Passed,
 ) -> bool
     requires { AreTouched base.now changes.now moved.now }
     ensures { MayGoOn base.now request.now links router link.now

@@ -5,24 +5,26 @@ ghost use Rattle.std.specs.Prelude.{◌≡◌, ◌↔◌, ◌-◌, ◌<◌, ◌�
 ghost use Rattle.cspf_model.specs.Best.{IsBestAnswer, route};
 ghost use Rattle.cspf_model.specs.Database.{HaveOwnKeys};
 ghost use Rattle.cspf_model.specs.Outcome.{answer_of};
-ghost use Rattle.cspf_book.specs.declared.limits.TheConstants.{MOST_ROUTES_LINKS};
+ghost use Rattle.cspf_book.specs.declared.limits.TheConstants.{MOST_PLACED_LINKS, MOST_ROUTES_LINKS};
 ghost use Rattle.cspf_book.specs.BookState.{IsPlacementOf};
+ghost use Rattle.cspf_book.specs.Placements.{ArePassedOnce};
 ghost use Rattle.cspf_book.specs.Offers.{IsOffered, IsAnswerRefused, IsWalkRefused, IsOfferRefused};
 ghost use Rattle.cspf_book.specs.Kept.{HasSameSums, KeepsKeys, HasKeys};
 ghost use Rattle.cspf_book.specs.ById.{HasSameIds, HasEntered};
 
 use crate::counting::has_key;
 use crate::error::PlaceError;
-use crate::limits::MOST_ROUTES_LINKS;
+use crate::limits::{MOST_PLACED_LINKS, MOST_ROUTES_LINKS};
 use crate::moves::Held;
+use crate::path::{Passed, Path};
 use crate::placement::Placement;
-use cspf_model::{Link, Outcome, Request, Route};
+use cspf_model::{Outcome, Request, Route};
 use cspf_search::best;
-use std::alloc::{AllocError, Global};
+use std::alloc::Global;
 
 /// Whether no two of the links have the same key.
-pub(crate) fn has_own_keys(links: &[Link]) -> bool
-    ensures { IsTrue result ↔ HaveOwnKeys links.now }
+fn has_own_keys(links: &[Passed]) -> bool
+    ensures { IsTrue result ↔ ArePassedOnce links.now }
 {
     for (i, link) in links.iter().enumerate() {
         if has_key(&links[i + 1..], link.from, link.local) {
@@ -32,16 +34,8 @@ pub(crate) fn has_own_keys(links: &[Link]) -> bool
     true
 }
 
-/// A copy of the route.
-fn copy_of(alloc: Global, route: &Route) -> Result<Route, AllocError>
-    ensures { IfOk result (λ copy. copy ≡ route.now) }
-{
-    let links = Vec::from_slice(alloc, route.links())?;
-    Ok(Route::new(links, route.cost()))
-}
-
-/// The placement of a request along a route. A route is refused if it uses a link twice or has more
-/// than `room` links.
+/// The placement of a request along a route. A route is refused if it uses a link twice, has more
+/// than `MOST_PLACED_LINKS` links, or has more than `room` links.
 fn placement_on(
     alloc: Global,
     route: &Route,
@@ -52,19 +46,25 @@ fn placement_on(
     requires { hold < 8 }
     ensures own_keys { IfOk result (λ p. HaveOwnKeys route.now) }
     ensures placement { IfOk result (λ p. IsPlacementOf request.now hold route.now p) }
+    ensures short { IfOk result (λ p. length route.now ≤ MOST_PLACED_LINKS) }
     ensures room { IfOk result (λ p. length route.now ≤ room) }
     ensures refused { IfErr result (λ why. IsWalkRefused room route.now why) }
 {
-    if !has_own_keys(route.links()) {
+    let path = Path::of(alloc, route)?;
+    let links = path.links();
+    if !has_own_keys(links) {
         return Err(PlaceError::Twice);
     }
-    if route.links().len() > room {
+    if links.len() > MOST_PLACED_LINKS {
+        return Err(PlaceError::TooLong);
+    }
+    if links.len() > room {
         return Err(PlaceError::TooManyLinks);
     }
     Ok(Placement {
         request: *request,
         hold,
-        route: copy_of(alloc, route)?,
+        route: path,
     })
 }
 
@@ -81,8 +81,7 @@ fn offer_of(
     ensures same { IfOk result (λ offered. offered.0 ≡ outcome) }
     ensures placement { IfOk result (λ offered.
         IsOffered request.now hold room (answer_of outcome) offered.1) }
-    // The error says why the route isn't placed. Memory is refused only for a route that would
-    // otherwise be placed.
+    // The error says why the route isn't placed.
     ensures refused { IfErr result (IsAnswerRefused room (answer_of outcome)) }
 {
     match outcome {

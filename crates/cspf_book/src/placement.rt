@@ -1,6 +1,7 @@
 ghost use Rattle.std.specs.Prelude.{◌<◌};
 
-use cspf_model::{Request, Route};
+use crate::path::Path;
+use cspf_model::Request;
 
 /// A request that is placed. It holds its bandwidth on each link of its route.
 #[derive(Debug, Drop)]
@@ -9,8 +10,8 @@ pub struct Placement {
     pub request: Request,
     /// The holding priority, from 0 (the most important) to 7 (RFC 3209 4.7.1).
     pub hold: u8,
-    /// The route. Its links have the unreserved bandwidths of the effective database in which the
-    /// request was placed. These are the bandwidths that earlier placements left.
-    pub route: Route,
+    /// The links of the route. They are stored without the attributes that they had when the request
+    /// was placed.
+    pub route: Path,
     ghost priority: { hold < 8 },
 }

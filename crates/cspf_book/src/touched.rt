@@ -8,10 +8,11 @@ ghost use Rattle.std.specs.Prelude.{◌≡◌, length};
 
 use crate::after::{find_after, has_moved, has_other_groups};
 use crate::changed::Changed;
+use crate::path::Passed;
 use crate::router_bits::{four_bits, has_quarters, slot_of};
 use cspf_addr::Addr;
 use cspf_db::Table;
-use cspf_model::{Change, Link};
+use cspf_model::Change;
 use std::alloc::{AllocError, Global};
 
 /// The touched keys. Other keys may seem touched, too.
@@ -111,7 +112,7 @@ impl Touched {
     }
 
     /// Whether the link's key or the mark of its router may be touched.
-    pub(crate) fn may_touch(&self, link: &Link) -> bool
+    pub(crate) fn may_touch(&self, link: &Passed) -> bool
         ensures { result ≡ false → IsUntouched self.now link.now }
     {
         self.has(link.from, Some(link.local)) || self.has(link.from, None)

@@ -116,12 +116,10 @@ module _ (l : Link) (priority : ℕ) where
         let of_q : IsWalk (effective old.base (others q.id old.placements)) q walk = best.1.is_route.is_walk in
         let of_p : IsWalk (effective old.base (others p.request.id old.placements)) p.request walk =
         subst (λ (x : Request). IsWalk (effective old.base (others x.id old.placements)) x walk) (sym same) of_q in
-        let along : IsWalk (effective old.base (others p.request.id old.placements)) p.request p.route =
-        subst (λ (w : List Link). IsWalk (effective old.base (others p.request.id old.placements)) p.request w) (sym is.is_its.route) of_p in
         let there_before = rw is.base at there in
         elim (covered there_before) [
           | inl c ↦
-              let more = laws.placing old.base old.placements p (ap (λ (x : Request). x.setup) same ∙ lowest) along l priority there_before below c in
+              let more = laws.placing old.base old.placements p walk (ap (λ (x : Request). x.setup) same ∙ lowest) is.is_its.route of_p l priority there_before below c in
               inl (subst (λ (ps : List Placement). IsCovered ps l priority) (ap (λ (x : Request). others x.id old.placements ++ p ∷ []) same ∙ sym is.placements) more)
           | inr x ↦ inr x
         ]

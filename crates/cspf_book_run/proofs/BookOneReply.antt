@@ -1,5 +1,5 @@
 -- Each row of a book has only one answer.
-use Rattle.std.proofs.Common.{◌≡◌, ℕ, suc, ◌+◌, ◌<◌, ◌++◌, List, [], ◌∷◌, take, drop, IsTrue, Result, Ok, Err, inl, inr, refl, sym, ap, subst, ◌∙◌, codes, arith}
+use Rattle.std.proofs.Common.{◌≡◌, ℕ, suc, ◌+◌, ◌<◌, ◌++◌, List, [], ◌∷◌, length, take, drop, IsTrue, Result, Ok, Err, inl, inr, refl, sym, ap, subst, ◌∙◌, codes, arith}
 use Rattle.std.proofs.Math.Bridge.{le_prop}
 use Rattle.cspf_model.specs.Best.{Answer, route, IsBestAnswer}
 use Rattle.cspf_model.specs.Database.{HaveOwnKeys}
@@ -13,6 +13,7 @@ use Rattle.cspf_rows.specs.Steps.{step_of}
 use Rattle.cspf_rows.specs.declared.step.Step.{Step}
 use Rattle.cspf_rows.specs.declared.step.Step.TheVariants as step
 use Rattle.cspf_stream.proofs.BatchRefusals.{refusal_once}
+use Rattle.cspf_book.specs.declared.path.Passed.{Passed}
 use Rattle.cspf_book.specs.declared.placement.Placement.{Placement}
 use Rattle.cspf_book.specs.Placements.{has_id}
 use Rattle.cspf_book.specs.BookState.{BookState, effective_beside, IsAnswerPlaced, IsPlacedAlong, IsPlacementOf}
@@ -49,9 +50,9 @@ ask_once best reply s q l m t u a b =
 
 -- ---- `place` rows
 
--- the placement of this request along this walk, with this holding priority
-abbrev made : (q : Request) (hold : ℕ) (walk : List Link) → hold < 8 → Placement
-made q hold walk below = record { request = q; hold = hold; route = walk; priority = below }
+-- the placement of this request along this path, with this holding priority
+abbrev made : (q : Request) (hold : ℕ) (path : List Passed) → hold < 8 → Placement
+made q hold path below = record { request = q; hold = hold; route = path; priority = below }
 
 placement_once : (q : Request) (hold : ℕ) (walk : List Link) (p r : Placement) → IsPlacementOf q hold walk p → IsPlacementOf q hold walk r → p ≡ r
 placement_once q hold walk p r a b =
@@ -61,7 +62,7 @@ placement_once q hold walk p r a b =
     (λ below. ap (made p.request p.hold p.route) (le_prop p.priority below)) in
     same r.priority
     ∙ ap (λ (x : Request). made x r.hold p.route r.priority) (a.request ∙ sym b.request)
-    ∙ ap (λ (w : List Link). made r.request r.hold w r.priority) (a.route ∙ sym b.route)
+    ∙ ap (λ (w : List Passed). made r.request r.hold w r.priority) (a.route ∙ sym b.route)
 
 same_book : (a b : BookState) → a.base ≡ b.base → a.version ≡ b.version → a.placements ≡ b.placements → a ≡ b
 same_book a b base version placements = λ i. record { base = base i; version = version i; placements = placements i }
@@ -87,7 +88,8 @@ module _ (best : OneBestAnswer) (s : BookRunState) (q : Request) (hold : ℕ) wh
   not_refused : (l : List ℕ) (book : BookState) → IsPlaceAnswered s q hold l book → (why : PlaceRefusal) → IsPlaceRefusal s q why → ⊥
   not_refused l book a unplaced.Exhausted r = omega (arith, a.room, r)
   not_refused l book a unplaced.Full (room, full) = omega (arith, a.few, full)
-  not_refused l book a unplaced.Links (room, (few, walk, is, own, many)) = let placed = other_answer l book a walk is in omega (arith, placed.few_links, many)
+  not_refused l book a unplaced.Long (room, (few, walk, is, own, long)) = let placed = other_answer l book a walk is in omega (arith, placed.short, long)
+  not_refused l book a unplaced.Links (room, (few, walk, is, own, short, many)) = let placed = other_answer l book a walk is in omega (arith, placed.few_links, many)
   not_refused l book a unplaced.Twice (room, (few, walk, is, twice)) = twice (other_answer l book a walk is).own_keys
 
   walk_once : (walk other : List Link) → IsBestAnswer (effective_beside s.book q.id) q (route walk) → IsBestAnswer (effective_beside s.book q.id) q (route other) → walk ≡ other
@@ -101,8 +103,13 @@ module _ (best : OneBestAnswer) (s : BookRunState) (q : Request) (hold : ℕ) wh
   place_refusal_once unplaced.Full other (room, full) (room2, r) = absurd (omega (arith, full, r.0))
   place_refusal_once why unplaced.Full (room, r) (room2, full) = absurd (omega (arith, full, r.0))
   place_refusal_once unplaced.Links unplaced.Links a b = refl
-  place_refusal_once unplaced.Links unplaced.Twice (room, (few, walk, is, own, many)) (room2, (few2, other, is2, twice)) = absurd (twice (subst HaveOwnKeys (walk_once walk other is is2) own))
-  place_refusal_once unplaced.Twice unplaced.Links (room2, (few2, other, is2, twice)) (room, (few, walk, is, own, many)) = absurd (twice (subst HaveOwnKeys (walk_once walk other is is2) own))
+  place_refusal_once unplaced.Long unplaced.Long a b = refl
+  place_refusal_once unplaced.Links unplaced.Twice (room, (few, walk, is, own, short, many)) (room2, (few2, other, is2, twice)) = absurd (twice (subst HaveOwnKeys (walk_once walk other is is2) own))
+  place_refusal_once unplaced.Twice unplaced.Links (room2, (few2, other, is2, twice)) (room, (few, walk, is, own, short, many)) = absurd (twice (subst HaveOwnKeys (walk_once walk other is is2) own))
+  place_refusal_once unplaced.Long unplaced.Twice (room, (few, walk, is, own, long)) (room2, (few2, other, is2, twice)) = absurd (twice (subst HaveOwnKeys (walk_once walk other is is2) own))
+  place_refusal_once unplaced.Twice unplaced.Long (room2, (few2, other, is2, twice)) (room, (few, walk, is, own, long)) = absurd (twice (subst HaveOwnKeys (walk_once walk other is is2) own))
+  place_refusal_once unplaced.Links unplaced.Long (room, (few, walk, is, own, short, many)) (room2, (few2, other, is2, own2, long)) = absurd (omega (arith, ap length (walk_once walk other is is2), short, long))
+  place_refusal_once unplaced.Long unplaced.Links (room2, (few2, other, is2, own2, long)) (room, (few, walk, is, own, short, many)) = absurd (omega (arith, ap length (walk_once walk other is is2), short, long))
   place_refusal_once unplaced.Twice unplaced.Twice a b = refl
 
   answer_once : HasOneReplyLine → (l m : List ℕ) (a b : BookState) → IsPlaceAnswered s q hold l a → IsPlaceAnswered s q hold m b → (l ≡ m) × (a ≡ b)

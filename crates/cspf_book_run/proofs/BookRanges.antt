@@ -1,6 +1,6 @@
 -- Rows keep the numbers of a book in range. At each key and priority, the bandwidth that the
 -- placements count stays below 2 ^ 64.
-use Rattle.std.proofs.Common.{◌≡◌, ℕ, suc, ◌-◌, ◌+◌, ◌^◌, ◌<◌, ◌≤◌, ◌||◌, ◌&&◌, Bool, true, false, cond, nat_eq, nat_le, Option, Some, None, List, [], ◌∷◌, ◌++◌, slice_index, Result, Ok, Err, inl, inr, refl, sym, ap, subst, ◌∙◌, lit<, arith}
+use Rattle.std.proofs.Common.{◌≡◌, ℕ, suc, ◌-◌, ◌+◌, ◌^◌, ◌<◌, ◌≤◌, ◌||◌, ◌&&◌, Bool, true, false, cond, nat_eq, nat_le, Option, Some, None, List, [], ◌∷◌, ◌++◌, map, slice_index, Result, Ok, Err, inl, inr, refl, sym, ap, subst, ◌∙◌, lit<, arith}
 use Rattle.std.proofs.lemmas.List.Sums.{sum_by_push}
 use Rattle.std.specs.List.{AllByRecursion}
 use Rattle.std.specs.Option.{option_map}
@@ -24,7 +24,8 @@ use Rattle.cspf_rows.specs.Steps.{step_of}
 use Rattle.cspf_rows.specs.declared.step.Step.{Step}
 use Rattle.cspf_rows.specs.declared.step.Step.TheVariants as step
 use Rattle.cspf_book.specs.declared.placement.Placement.{Placement}
-use Rattle.cspf_book.specs.Placements.{has_key, bandwidth_on, others, counted}
+use Rattle.cspf_book.specs.declared.path.Passed.{Passed}
+use Rattle.cspf_book.specs.Placements.{passed_of, has_key, bandwidth_on, others, counted}
 use Rattle.cspf_book.specs.Effective.{effective_link, effective}
 use Rattle.cspf_book.specs.BookState.{BookState, effective_beside, IsAnswerPlaced}
 use Rattle.cspf_book.proofs.Covered.{counted-others}
@@ -94,10 +95,10 @@ record HasRoomAt (base : Database) (placements : List Placement) (q : Request) (
   room : q.bandwidth ≤ slice_index (effective_link placements link).free q.setup
 
 room_at : (base : Database) (placements : List Placement) (q : Request) (k : Key) (walk : List Link)
-    → AllByRecursion (IsAdmissible (effective base placements) q) walk → has_key walk k ≡ true → HasRoomAt base placements q k
+    → AllByRecursion (IsAdmissible (effective base placements) q) walk → has_key (map passed_of walk) k ≡ true → HasRoomAt base placements q k
 room_at base placements q k [] all has = absurd (cc)
 room_at base placements q k (m ∷ walk) all has =
-    elim (nat_eq m.from k.0 && nat_eq m.local k.1) as (λ b. (nat_eq m.from k.0 && nat_eq m.local k.1) ≡ b → (b || has_key walk k) ≡ true → HasRoomAt base placements q k) [
+    elim (nat_eq m.from k.0 && nat_eq m.local k.1) as (λ b. (nat_eq m.from k.0 && nat_eq m.local k.1) ≡ b → (b || has_key (map passed_of walk) k) ≡ true → HasRoomAt base placements q k) [
       | true ↦ λ here _.
           let key : k ≡ key_of m = keys_same k (key_of m) (same_key_test k (key_of m) ∙ here) in
           let behind = base_link placements (link_at base (key_of m)) m (sym (effective_at base placements (key_of m)) ∙ all.0.link) in
@@ -146,7 +147,7 @@ placing_small old new q hold (route walk) seven best is range small = (is.base, 
         let rest : List Placement = others q.id old.placements in
         let p : Placement = is.placement in
         let room : has_key p.route k ≡ true → (free : ℕ) × (free < 2 ^ 64) × (p.request.bandwidth ≤ free - counted rest k priority) = λ has.
-        let on_walk : has_key walk k ≡ true = subst (λ (w : List Link). has_key w k ≡ true) is.is_its.route has in
+        let on_walk : has_key (map passed_of walk) k ≡ true = subst (λ (w : List Passed). has_key w k ≡ true) is.is_its.route has in
         let left = left_for old.base rest q k priority seven below range (room_at old.base rest q k walk best.1.is_route.is_walk.links on_walk) in
         (left.0, left.1, subst (λ (x : Request). x.bandwidth ≤ left.0 - counted rest k priority) (sym is.is_its.request) left.2) in
         subst (λ (ps : List Placement). counted ps k priority < 2 ^ 64) (sym is.placements)

@@ -7,7 +7,7 @@ use Rattle.std.specs.FinMap.{get-empty, get-insert}
 use Rattle.std.specs.List.{AllByRecursion, Contains, flat_map}
 use Rattle.cspf_addr.specs.AddressText.{IsAddressTextInjective}
 use Rattle.cspf_model.specs.declared.batch.Change.{Change}
-use Rattle.cspf_model.specs.declared.batch.Change.TheVariants.{Put, Remove, Node}
+use Rattle.cspf_model.specs.declared.batch.Change.TheVariants.{Put}
 use Rattle.cspf_model.specs.declared.link.Link.{Link}
 use Rattle.cspf_model.specs.Database.{Key, key_of, key_cmp, link_at, IsLinkOf}
 use Rattle.cspf_model.specs.Changes.{after_change, no_links}

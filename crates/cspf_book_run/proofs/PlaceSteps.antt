@@ -5,7 +5,7 @@ use Rattle.cspf_model.specs.declared.request.Request.{Request}
 use Rattle.cspf_stream.specs.declared.rows.Rows.{Rows}
 use Rattle.cspf_book.specs.BookState.{BookState, effective_beside, HasRoomFor, IsAnswerPlaced, IsPlaceError}
 use Rattle.cspf_book.specs.declared.error.PlaceError.{PlaceError}
-use Rattle.cspf_book.specs.declared.error.PlaceError.TheVariants.{Memory, Full, TooManyLinks, Twice}
+use Rattle.cspf_book.specs.declared.error.PlaceError.TheVariants.{Memory, Full, TooManyLinks, Twice, TooLong}
 use Rattle.cspf_book_run.specs.declared.book_sink.BookSink.{BookSink}
 use Rattle.cspf_book_run.specs.declared.refusals.PlaceRefusal.{PlaceRefusal}
 use Rattle.cspf_book_run.specs.declared.refusals.ReleaseRefusal.{ReleaseRefusal}
@@ -24,6 +24,7 @@ refused_by s q Memory refusal is room error = absurd (cc is)
 refused_by s q Full refusal is room error = subst (IsPlaceRefusal s q) (let same : unplaced.Full ≡ refusal = cc is in same) (room, error)
 refused_by s q TooManyLinks refusal is room error = subst (IsPlaceRefusal s q) (let same : unplaced.Links ≡ refusal = cc is in same) (room, error)
 refused_by s q Twice refusal is room error = subst (IsPlaceRefusal s q) (let same : unplaced.Twice ≡ refusal = cc is in same) (room, error)
+refused_by s q TooLong refusal is room error = subst (IsPlaceRefusal s q) (let same : unplaced.Long ≡ refusal = cc is in same) (room, error)
 
 -- ---- what the book does for a row
 

@@ -38,6 +38,7 @@ place_words place.Exhausted = codes "exhausted"
 place_words place.Full = codes "full"
 place_words place.Links = codes "links"
 place_words place.Twice = codes "twice"
+place_words place.Long = codes "long"
 
 -- the line that says why the request with this id isn't placed
 abbrev pub refused_place_line : ℕ → PlaceRefusal → List ℕ

@@ -22,7 +22,7 @@ use Rattle.cspf_rows.specs.declared.step.Step.{Step}
 use Rattle.cspf_rows.specs.declared.step.Step.TheVariants as step
 use Rattle.cspf_solve.specs.declared.summary.Summary.{Summary}
 use Rattle.cspf_solve.specs.Script.{is_too_many, unended_count}
-use Rattle.cspf_book.specs.declared.error.PlaceError.TheVariants.{Full, TooManyLinks, Twice}
+use Rattle.cspf_book.specs.declared.error.PlaceError.TheVariants.{Full, TooManyLinks, Twice, TooLong}
 use Rattle.cspf_book.specs.Placements.{has_id, others}
 use Rattle.cspf_book.specs.Effective.{effective}
 use Rattle.cspf_book.specs.BookState.{BookState, effective_beside, HasRoomFor, IsAnswerPlaced, IsPlaceError}
@@ -141,6 +141,7 @@ IsPlaceRefusal s q unplaced.Exhausted = MOST_VERSIONS ≤ s.book.version
 IsPlaceRefusal s q unplaced.Full = (s.book.version < MOST_VERSIONS) × IsPlaceError s.book q Full
 IsPlaceRefusal s q unplaced.Links = (s.book.version < MOST_VERSIONS) × IsPlaceError s.book q TooManyLinks
 IsPlaceRefusal s q unplaced.Twice = (s.book.version < MOST_VERSIONS) × IsPlaceError s.book q Twice
+IsPlaceRefusal s q unplaced.Long = (s.book.version < MOST_VERSIONS) × IsPlaceError s.book q TooLong
 
 -- A `place` row is answered with the best answer in the effective database, in which the request's
 -- earlier placement isn't counted. If the answer is a route, the request is placed along this

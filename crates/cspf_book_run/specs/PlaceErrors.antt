@@ -12,3 +12,4 @@ place_refusal_of place_error.Memory = None
 place_refusal_of place_error.Full = Some unplaced.Full
 place_refusal_of place_error.TooManyLinks = Some unplaced.Links
 place_refusal_of place_error.Twice = Some unplaced.Twice
+place_refusal_of place_error.TooLong = Some unplaced.Long

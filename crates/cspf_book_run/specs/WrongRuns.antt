@@ -11,6 +11,7 @@ use Rattle.cspf_model.specs.Database.{Database, IsLinkOf}
 use Rattle.cspf_model.specs.Examples.{address, router, link, asked_fields}
 use Rattle.cspf_rows.specs.Rows.{request_with}
 use Rattle.cspf_book.specs.declared.placement.Placement.{Placement}
+use Rattle.cspf_book.specs.Placements.{passed_of}
 use Rattle.cspf_book.specs.OverLinks.{priorities, over_at}
 use Rattle.cspf_book.specs.Laws.{IsCovered}
 use Rattle.cspf_book_run.specs.BookLines.{over_line, base_line}
@@ -64,7 +65,7 @@ abbrev pub holding : ℕ → Placement
 holding id = record {
   request = request_with (record (asked_fields (router 3) []) { id = id; setup = 7; bandwidth = 600 }) (lit< tt) (eqb-false (router 1) (router 3) refl);
   hold = 0;
-  route = left_link 1000 ∷ right_link 1000 ∷ [];
+  route = passed_of (left_link 1000) ∷ passed_of (right_link 1000) ∷ [];
   priority = lit< tt;
 }
 

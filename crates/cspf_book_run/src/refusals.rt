@@ -17,6 +17,8 @@ pub enum PlaceRefusal {
     Links,
     /// The best route uses a link twice.
     Twice,
+    /// The best route has more than `MOST_PLACED_LINKS` links.
+    Long,
 }
 
 impl fmt::Display for PlaceRefusal {
@@ -31,6 +33,7 @@ impl fmt::Display for PlaceRefusal {
             PlaceRefusal::Full => f.write_str("full"),
             PlaceRefusal::Links => f.write_str("links"),
             PlaceRefusal::Twice => f.write_str("twice"),
+            PlaceRefusal::Long => f.write_str("long"),
         }
     }
 }
@@ -47,6 +50,7 @@ impl PlaceRefusal {
             PlaceError::Full => Some(PlaceRefusal::Full),
             PlaceError::TooManyLinks => Some(PlaceRefusal::Links),
             PlaceError::Twice => Some(PlaceRefusal::Twice),
+            PlaceError::TooLong => Some(PlaceRefusal::Long),
             PlaceError::Memory => None,
         }
     }

@@ -14,7 +14,7 @@ returns-then-not-may_still_go_on c =
     let d = c.args.base.now in
     let e = after_changes d c.args.changes.now in
     up_to_broken d e c.args.placement.now c.links-link-items.result.now c.loop-i.i c.loop-i.router c.link-item.result
-    c.links-link-items.ensures.value c.loop-i-test.true c.link-item.is c.loop-i.invariant
+    c.links-link-items.ensures c.loop-i-test.true c.link-item.is c.loop-i.invariant
     (λ before go. false≢true (sym c.if-not-may_still_go_on.true ∙ (c.may_still_go_on.ensures (subst (λ q. MayGoOn d q c.loop-i.i c.loop-i.router c.link-item.result) (sym c.without_bandwidth-request.ensures) before)).1 (subst (λ q. MayGoOn e q c.loop-i.i c.loop-i.router c.link-item.result) (sym c.without_bandwidth-request.ensures) go)))
 
 pub loop-i-preserved : goal.loop-i-preserved
@@ -22,7 +22,7 @@ loop-i-preserved c =
     let d = c.args.base.now in
     let e = after_changes d c.args.changes.now in
     let p = c.args.placement.now in
-    up_to_more d e p c.links-link-items.result.now c.loop-i.i c.loop-i.router c.link-item.result c.links-link-items.ensures.value c.loop-i-test.true c.link-item.is c.loop-i.invariant
+    up_to_more d e p c.links-link-items.result.now c.loop-i.i c.loop-i.router c.link-item.result c.links-link-items.ensures c.loop-i-test.true c.link-item.is c.loop-i.invariant
     (λ here. elim c.else-may_touch.branch [
       | else-may_touch-via-then-may_touch+else-not-may_still_go_on w ↦
           subst (λ q. MayGoOn e q c.loop-i.i c.loop-i.router c.link-item.result) c.without_bandwidth-request.ensures
@@ -36,4 +36,4 @@ pub returns : goal.returns
 returns c =
     let d = c.args.base.now in
     up_to_end d (after_changes d c.args.changes.now) c.args.placement.now c.links-link-items.result.now c.loop-i.i c.loop-i.router
-    c.links-link-items.ensures.value c.loop-i-test.false c.loop-i.invariant
+    c.links-link-items.ensures c.loop-i-test.false c.loop-i.invariant

@@ -1,5 +1,5 @@
 use Rattle.std.proofs.Common.{sym, ap, ◌∙◌}
-use Rattle.cspf_model.specs.Database.{key_of}
+use Rattle.cspf_book.specs.Placements.{key_passed}
 use Rattle.cspf_book.proofs.KeptSums.{more_along, more_again, keeps_keys_on}
 use Rattle.cspf_book.proofs.counts.Counts.add.Goals as goal
 use Rattle.cspf_book.proofs.counts.Counts.add.Goals.{then-not-has_key, else-not-has_key}
@@ -8,7 +8,7 @@ pub loop-i-preserved : goal.loop-i-preserved
 loop-i-preserved c =
     let l = c.index-links-i.result in
     let links = c.links-links.result.now in
-    let its = ap key_of (sym c.index-links-i.is) in
+    let its = ap key_passed (sym c.index-links-i.is) in
     elim c.if-not-has_key.branch [
       | then-not-has_key w ↦
           rw w.self-is
