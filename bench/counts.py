@@ -1,4 +1,4 @@
-"""How many instructions a request without hops takes, for bench/run --instructions."""
+"""How many instructions a request takes, for bench/run --instructions."""
 import os
 import random
 import re
@@ -14,6 +14,7 @@ from timing import say
 
 ROUTERS, LINKS = 1024, 16384  # of a network of full size
 TIMES = 5  # how often a run of each program answers the requests
+HOPS = (1, 7)  # the numbers of loose hops of one router whose instructions are counted, too
 
 
 def counted(words):
@@ -28,7 +29,7 @@ def counted(words):
 
 
 def each(program, plain, room, load, asks):
-    """Instructions of a request by `best`, by a table that may have no tree, and by the plain search, without those of reading the rows."""
+    """Instructions of a request by `best`, by a table that grows no tree, and by the plain search, without those of reading the rows."""
     journal, rows = (os.path.join(room, name) for name in ("journal", "requests"))
     for name, lines in ((journal, load), (rows, asks)):
         with open(name, "w") as file:
@@ -47,6 +48,16 @@ def each(program, plain, room, load, asks):
     return found
 
 
+def by_legs(program, room, load, asks):
+    """Instructions of a request by a table that grows no tree, without those of reading the rows."""
+    journal, rows = (os.path.join(room, name) for name in ("journal", "requests"))
+    with open(rows, "w") as file:
+        file.writelines(asks)
+    loads = str(sum(line.startswith("end,") for line in load))
+    (read, _), (count, _) = (counted([program, journal, rows, loads, search]) for search in ("nothing", "trees"))
+    return (count - read) / TIMES / len(asks)
+
+
 def instructions(program, source, names, seed, count):
     """Prints the instructions of so many requests without hops in networks of full size of these shapes."""
     if shutil.which("valgrind") is None:
@@ -63,6 +74,10 @@ def instructions(program, source, names, seed, count):
                 best, trees, *others = each(program, plain, room, load, requests(draw, ROUTERS, count, 0))
                 ratios = "".join(f"; {best / other:.2f} and {trees / other:.2f} of the plain search's {other:,.0f}" for other in others)
                 say(f"{name}, {said}: {best:,.0f} instructions a request by `best`, {trees:,.0f} by a table without trees{ratios}")
+                for hops in HOPS:
+                    legs = by_legs(program, room, load, requests(draw, ROUTERS, count, hops, True))
+                    say(f"{name}, {said}, {hops} loose hops of one router: {legs:,.0f} instructions a request by a table without trees, "
+                        f"{legs / trees / (hops + 1):.2f} of what {hops + 1} requests without hops take")
 
 
 def shapes_of(shape):

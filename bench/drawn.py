@@ -18,9 +18,10 @@ def network(draw, routers, links):
     return pairs
 
 
-def put(draw, place, pair, metrics=1000):
-    """The link of a place among the pairs; its reverse is at the place beside it, and each place has an address of its own."""
-    free = ",".join(str(draw.randrange(500, 1000) * 1_000_000) for _ in range(8))
+def put(draw, place, pair, metrics=1000, least=500):
+    """The link of a place among the pairs; its reverse is at the place beside it, and each place has an address of its own. At least so
+    many million bytes per second are free at each priority."""
+    free = ",".join(str(draw.randrange(least, 1000) * 1_000_000) for _ in range(8))
     a, b = pair
     return (f"put,{address(1, a)},{address(10, place)},{address(1, b)},{address(10, place ^ 1)},"
             f"{draw.randrange(1, metrics + 1)},0x{1 << draw.randrange(4):x},{free}\n")
@@ -30,14 +31,14 @@ def drop(place, pair):
     return f"drop,{address(1, pair[0])},{address(10, place)}\n"
 
 
-def batch(draw, pairs, number, places, metrics=1000):
-    return [put(draw, place, pairs[place], metrics) for place in places] + [f"end,{number},{len(places)}\n"]
+def batch(draw, pairs, number, places, metrics=1000, least=500):
+    return [put(draw, place, pairs[place], metrics, least) for place in places] + [f"end,{number},{len(places)}\n"]
 
 
-def loading(draw, pairs, metrics=1000):
+def loading(draw, pairs, metrics=1000, least=500):
     """The rows that load the network, in as few batches as it takes."""
     parts = [range(at, min(at + BATCH, len(pairs))) for at in range(0, len(pairs), BATCH)]
-    return [line for at, part in enumerate(parts) for line in batch(draw, pairs, at + 1, part, metrics)]
+    return [line for at, part in enumerate(parts) for line in batch(draw, pairs, at + 1, part, metrics, least)]
 
 
 def marking(routers, count, number):

@@ -1,6 +1,7 @@
 //! The rows (links) of a table, and the table's columns. A column is a list with one item for each
 //! row, or one item for each router.
-ghost use Rattle.std.specs.Prelude.{◌≡◌, [], IfOk};
+ghost use Rattle.std.specs.Prelude.{◌≡◌, ◌≤◌, [], IfOk};
+ghost use Rattle.std.specs.Vec.{vec_capacity};
 ghost use Rattle.cspf_columns.specs.Rows.{AreColumns};
 
 use crate::limits::{ROOM_FOR_LINKS, ROOM_FOR_ROUTERS};
@@ -40,4 +41,30 @@ impl Columns {
             spans: Vec::with_capacity(alloc, MOST_ROUTERS)?,
         })
     }
+
+    /// Columns of the same database, with the same capacity as `new` allocates.
+    pub fn try_clone(&self, alloc: Global) -> Result<Columns, AllocError>
+        requires { AreColumns self.now }
+        ensures columns { IfOk result AreColumns }
+        ensures rows { IfOk result (λ columns. columns.rows.items ≡ self.now.rows.items) }
+        ensures routers { IfOk result (λ columns. columns.routers.items ≡ self.now.routers.items) }
+    {
+        Ok(Columns {
+            rows: with_room(alloc, &self.rows, ROOM_FOR_LINKS)?,
+            routers: with_room(alloc, &self.routers, ROOM_FOR_ROUTERS)?,
+            ends: with_room(alloc, &self.ends, ROOM_FOR_LINKS)?,
+            reverses: with_room(alloc, &self.reverses, ROOM_FOR_LINKS)?,
+            spans: with_room(alloc, &self.spans, MOST_ROUTERS)?,
+        })
+    }
+}
+
+/// A list with these items, and with capacity for at least `room` items.
+pub fn with_room<T: Copy>(alloc: Global, items: &[T], room: usize) -> Result<Vec<T>, AllocError>
+    ensures items { IfOk result (λ list. list.items ≡ items.now) }
+    ensures room { IfOk result (λ list. room ≤ vec_capacity list) }
+{
+    let mut list = Vec::with_capacity(alloc, room)?;
+    list.extend_from_slice(items)?;
+    Ok(list)
 }

@@ -19,7 +19,7 @@ pub mod rows;
 mod scratch;
 mod spans;
 
-pub use columns::Columns;
+pub use columns::{Columns, with_room};
 pub use limits::NO_LINK;
 pub use scratch::Scratch;
 pub use spans::Span;

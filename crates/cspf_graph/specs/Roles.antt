@@ -14,6 +14,11 @@ use Rattle.cspf_graph.specs.Lists.{router_at}
 abbrev pub MayBeLeft : Database → Request → ℕ → Type 0
 MayBeLeft d q router = HasTransit d router ⊎ (router ≡ q.from)
 
+-- A way to the tail-end may lead over the router, because the router has transit, or it may end
+-- there, because the router is the tail-end.
+abbrev pub MayLeadOver : Database → Request → ℕ → Type 0
+MayLeadOver d q router = HasTransit d router ⊎ (router ≡ q.to)
+
 -- In this leg, a link may lead a route to the router: the router is inside the leg, and it has
 -- transit or is the tail-end.
 pub record MayEnter (d : Database) (q : Request) (leg router : ℕ) : Type 0 where

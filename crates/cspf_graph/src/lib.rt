@@ -2,8 +2,9 @@
 //! end, which routers a leg may visit, and what a route may do at each router in each leg. The
 //! functions `accepts`, `admissible`, `may_leave`, `may_leave_at`, `member` and `inside` decide
 //! exactly `IsAdmitted`, `IsUsable`, `MayLeave`, `IsTarget` and `IsInside` of `cspf_model`. The
-//! functions `may_be_left` and `find_roles` decide exactly `MayBeLeft`, `MayEnter` and `MayTurn`,
-//! which this crate defines. Only `find_roles` allocates memory.
+//! functions `may_be_left`, `may_lead_over` and `find_roles` decide exactly `MayBeLeft`,
+//! `MayLeadOver`, `MayEnter` and `MayTurn`, which this crate defines. Only `find_roles` allocates
+//! memory.
 #![tactic(auto)]
 
 mod admission;
@@ -16,4 +17,4 @@ pub use admission::{accepts, admissible};
 pub use lists::listed;
 pub use roles::{Role, Roles, find_roles, is_loose};
 pub use targets::{inside, member};
-pub use transit::{may_be_left, may_leave, may_leave_at};
+pub use transit::{may_be_left, may_lead_over, may_leave, may_leave_at};

@@ -1,7 +1,7 @@
 ghost use Rattle.std.specs.Prelude.{◌<◌, ◌↔◌, IsTrue, length, slice_index};
 ghost use Rattle.cspf_db.specs.Index.{router_list};
 ghost use Rattle.cspf_model.specs.Admissible.{MayLeave};
-ghost use Rattle.cspf_graph.specs.Roles.{MayBeLeft};
+ghost use Rattle.cspf_graph.specs.Roles.{MayBeLeft, MayLeadOver};
 
 use cspf_addr::Addr;
 use cspf_db::Table;
@@ -32,4 +32,14 @@ pub fn may_be_left(table: &Table, place: usize, request: &Request) -> bool
         ↔ MayBeLeft table.now request.now (slice_index (router_list table.now) place) }
 {
     table.transit_at(place) || table.routers()[place] == request.from
+}
+
+/// Whether a way to the tail-end of the request may lead over the router with the index `place` in
+/// `Table::routers`, or end there: the router has transit, or is the tail-end.
+pub fn may_lead_over(table: &Table, request: &Request, place: usize) -> bool
+    requires { place < length (router_list table.now) }
+    ensures { IsTrue result
+        ↔ MayLeadOver table.now request.now (slice_index (router_list table.now) place) }
+{
+    table.transit_at(place) || table.routers()[place] == request.to
 }

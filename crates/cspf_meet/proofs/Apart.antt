@@ -8,11 +8,11 @@ use Rattle.cspf_graph.specs.Lists.{AreListed, IsIndexOf}
 use Rattle.cspf_graph.proofs.RouterIndexes.{one_place}
 use Rattle.cspf_meet.specs.declared.labels.Labels.{Labels}
 use Rattle.cspf_meet.specs.Labels.{rank_at}
-use Rattle.cspf_meet.specs.Looks.{AreLookedAt, HasNoneWaiting}
-use Rattle.cspf_meet.specs.TightWalks.{IsWayToEnd}
-use Rattle.cspf_meet.specs.Ways.{IsWayLink, Leads, LeadsBack, link_step}
-use Rattle.cspf_meet.proofs.ShorterWays.{rest_of}
-use Rattle.cspf_meet.proofs.TightWalks.{to_place}
+use Rattle.cspf_meet.specs.Looks.{AreLookedAt, HasNoneWaiting, LeadsBack}
+use Rattle.cspf_walk.specs.TightWalks.{IsWayToEnd}
+use Rattle.cspf_walk.specs.Ways.{IsWayLink, Leads, link_step}
+use Rattle.cspf_walk.proofs.ShorterWays.{rest_of}
+use Rattle.cspf_walk.proofs.TightWalks.{to_place}
 
 module _ (d : Database) (q : Request) (listed : AreListed d) (labels : Labels) (most : ℕ) (unmet : 9007199254740992 ≤ most) (done : HasNoneWaiting labels) where
   leads_on : (l : Link) → IsWayLink d q l → (u w : ℕ) → IsIndexOf d l.from u → IsIndexOf d l.to w → Leads d q u w (link_step l)

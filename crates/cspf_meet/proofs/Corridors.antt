@@ -11,8 +11,7 @@ use Rattle.cspf_meet.specs.declared.labels.Labels.{Labels}
 use Rattle.cspf_meet.specs.Bounds.{head_bound}
 use Rattle.cspf_meet.specs.Corridors.{AreNarrowed, NoneNeedsLook, IsCorridor, NeedsNoLook, IsToDo}
 use Rattle.cspf_meet.specs.Labels.{waiting_key, rank_at}
-use Rattle.cspf_meet.specs.Looks.{AreLookedAt, AreStepsPassed}
-use Rattle.cspf_meet.specs.Ways.{LeadsBack}
+use Rattle.cspf_meet.specs.Looks.{AreLookedAt, AreStepsPassed, LeadsBack}
 use Rattle.cspf_meet.proofs.Waiting.{key_place, key_rank}
 
 only : (x y : ℕ) → Contains (x ∷ []) y → x ≡ y

@@ -1,9 +1,5 @@
-pub mod LinkRows
-pub mod RowLocals
 pub mod Falling
 pub mod RankBounds
-pub mod ShorterWays
-pub mod TightWalks
 pub mod Waiting
 pub mod Looked
 pub mod Apart

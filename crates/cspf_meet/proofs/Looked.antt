@@ -10,9 +10,12 @@ use Rattle.cspf_model.specs.Admissible.{IsAdmitted}
 use Rattle.cspf_db.specs.Index.{links_from_index, links_of, router_list, IsReverseAt}
 use Rattle.cspf_graph.specs.Lists.{AreListed, IsIndexOf}
 use Rattle.cspf_graph.proofs.RouterIndexes.{one_place}
-use Rattle.cspf_meet.specs.Looks.{MayReach}
-use Rattle.cspf_meet.specs.Ways.{Leads, LeadsBack, link_step}
-use Rattle.cspf_meet.proofs.LinkRows.{as_many, end_of_row, found_back, kept_from, reverse_of_row, some_at}
+use Rattle.cspf_meet.specs.declared.direction.Direction.{Direction}
+use Rattle.cspf_meet.specs.declared.direction.Direction.TheVariants.{Ahead, Back}
+use Rattle.cspf_walk.specs.declared.located_request.LocatedRequest.{LocatedRequest}
+use Rattle.cspf_meet.specs.Looks.{LeadsBack, MayReach, Steps, goal_of, goal_router, link_index, links_read}
+use Rattle.cspf_walk.specs.Ways.{IsLocatedRequest, Leads, link_step}
+use Rattle.cspf_graph.proofs.LinkRows.{as_many, end_of_row, found_back, kept_from, reverse_of_row, some_at}
 
 -- If a list is read at the index of a link, the result is this link.
 pub link_read : (all read : List Link) (n index : ℕ) (link l : Link) → link ≡ slice_index_or read n link → read ≡ all → n ≡ index → slice_get all index ≡ Some l → link ≡ l
@@ -30,7 +33,7 @@ module _ (d : Database) (listed : AreListed d) where
       (beside : (nth : ℕ) (e : Link) → nth < length (links_from_index d place) → IsReverseAt d (slice_index_or (links_from_index d place) nth e) (slice_index_or reverses nth 0)) (goal : ℕ) where
     -- What holds for each link from the router, if the request admits it and a way may reach the
     -- router at its end, holds for each step ahead.
-    pub steps_ahead : IsIndexOf d q.to goal → (P : ℕ → ℕ → Type 0)
+    steps_ahead : IsIndexOf d q.to goal → (P : ℕ → ℕ → Type 0)
         → ((k : ℕ) → k < length ends → (l : Link) → slice_get (links_from_index d place) k ≡ Some l → slice_index reverses k ≢ NO_LINK → IsAdmitted q l → MayReach d goal (slice_index ends k) → P (slice_index ends k) (link_step l))
         → (w step : ℕ) → Leads d q place w step → P w step
     steps_ahead is P passed w step leads =
@@ -66,3 +69,27 @@ module _ (d : Database) (listed : AreListed d) where
         let many = as_many d place ends each in
         let there = some_at (links_from_index d place) row (omega (arith, low, many)) in
         (beside row there.0 (omega (arith, low, many))).within some
+
+    -- What holds for each link that a search reads at the router, if the request admits it and a way
+    -- may reach the router at its other end, holds for each step of the search.
+    pub steps_passed : (direction : Direction) → IsIndexOf d (goal_router direction q) goal → (P : ℕ → ℕ → Type 0)
+        → ((k : ℕ) → k < length ends → (l : Link) → slice_get (links_read direction d place) (link_index direction k (slice_index reverses k)) ≡ Some l → slice_index reverses k ≢ NO_LINK → IsAdmitted q l → MayReach d goal (slice_index ends k) → P (slice_index ends k) (link_step l))
+        → (w step : ℕ) → Steps direction d q place w step → P w step
+    steps_passed Ahead is P passed w step leads = steps_ahead is P passed w step leads
+    steps_passed Back is P passed w step leads = steps_back is P passed w step leads
+
+    -- The index of a link that a search reads at the router is an index of the links that it reads.
+    pub index_within : (direction : Direction) (row : ℕ) → row < length ends → slice_index reverses row ≢ NO_LINK
+        → link_index direction row (slice_index reverses row) < length (links_read direction d place)
+    index_within Ahead row low some = omega (arith, low, as_many d place ends each)
+    index_within Back row low some = reverse_within row low some
+
+-- The router where the other search begins has the index that the search has for it.
+pub goal_is : (direction : Direction) (query : LocatedRequest) → IsLocatedRequest query → IsIndexOf query.table.now (goal_router direction query.request.now) (goal_of direction query)
+goal_is Ahead query is = is.to
+goal_is Back query is = is.from
+
+-- A step begins at a router in the list of routers.
+pub step_within : (direction : Direction) (d : Database) (q : Request) (u w step : ℕ) → Steps direction d q u w step → u < length (router_list d)
+step_within Ahead d q u w step leads = leads.from.within
+step_within Back d q u w step leads = leads.to.within

@@ -6,11 +6,11 @@ use Rattle.cspf_graph.specs.Lists.{AreListed, IsIndexOf}
 use Rattle.cspf_graph.proofs.RouterIndexes.{one_place}
 use Rattle.cspf_meet.specs.declared.bounds.HeadBounds.{HeadBounds}
 use Rattle.cspf_meet.specs.declared.labels.Labels.{Labels}
-use Rattle.cspf_meet.specs.Bounds.{AreHeadBounds, IsRankBound, head_bound}
+use Rattle.cspf_meet.specs.Bounds.{AreHeadBounds, head_bound}
 use Rattle.cspf_meet.specs.Corridors.{NoneNeedsLook}
 use Rattle.cspf_meet.specs.Labels.{IsWaiting, rank_at}
 use Rattle.cspf_meet.specs.Looks.{AreLookedAt}
-use Rattle.cspf_meet.specs.Ways.{Leads}
+use Rattle.cspf_walk.specs.Ways.{IsRankBound, Leads}
 
 module _ (d : Database) (q : Request) (listed : AreListed d) where
   -- The labels of the search from the head-end give bounds that are consistent. The edge must be at

@@ -1,12 +1,11 @@
 -- Private: lower bounds of the rank of a way from the head-end, and of a way to the tail-end.
-use Rattle.std.specs.Prelude.{◌≡◌, ℕ, ◌+◌, ◌-◌, ◌≤◌, min}
+use Rattle.std.specs.Prelude.{ℕ, ◌+◌, ◌-◌, ◌≤◌, min}
 use Rattle.cspf_model.specs.declared.request.Request.{Request}
 use Rattle.cspf_model.specs.Database.{Database}
-use Rattle.cspf_graph.specs.Lists.{IsIndexOf}
 use Rattle.cspf_meet.specs.declared.bounds.HeadBounds.{HeadBounds}
 use Rattle.cspf_meet.specs.declared.bounds.RankBounds.{RankBounds}
 use Rattle.cspf_meet.specs.Labels.{rank_at}
-use Rattle.cspf_meet.specs.Ways.{Leads}
+use Rattle.cspf_walk.specs.Ways.{Leads}
 
 -- A lower bound of the rank of a way from the head-end to the router with the index `v`.
 abbrev pub head_bound : HeadBounds → ℕ → ℕ
@@ -20,10 +19,3 @@ rank_bound bounds v = min (rank_at bounds.near.now v) ((bounds.head.most + 1) - 
 -- by at most the link's step.
 abbrev pub AreHeadBounds : Database → Request → HeadBounds → Type 0
 AreHeadBounds d q head = (u w step : ℕ) → Leads d q u w step → head_bound head w ≤ head_bound head u + step
-
--- The function gives for each index of a router a lower bound of the rank of a way from this router
--- to the tail-end: over each link that a route may use, it falls by at most the link's step, and at
--- the tail-end it is 0.
-pub record IsRankBound (d : Database) (q : Request) (bound : ℕ → ℕ) : Type 0 where
-  pub links : (u w step : ℕ) → Leads d q u w step → bound u ≤ bound w + step
-  pub end : (place : ℕ) → IsIndexOf d q.to place → bound place ≡ 0

@@ -11,8 +11,8 @@ use Rattle.cspf_meet.specs.declared.bounds.HeadBounds.{HeadBounds}
 use Rattle.cspf_meet.specs.declared.corridor.Corridor.{Corridor}
 use Rattle.cspf_meet.specs.Bounds.{head_bound}
 use Rattle.cspf_meet.specs.Labels.{RanksFall, rank_at}
-use Rattle.cspf_meet.specs.Looks.{MayReach}
-use Rattle.cspf_meet.specs.Ways.{LeadsBack, link_step}
+use Rattle.cspf_meet.specs.Looks.{LeadsBack, MayReach}
+use Rattle.cspf_walk.specs.Ways.{link_step}
 
 -- For each link that a route may use to the router with the index `v`, from a router `u`: the rank
 -- of `u` is at most `rank` plus the link's step, or a way from the head-end over this link has a

@@ -1,7 +1,5 @@
-pub mod Ways
 pub mod Labels
 pub mod Looks
 pub mod Bounds
 pub mod Corridors
 pub mod Meetings
-pub mod TightWalks

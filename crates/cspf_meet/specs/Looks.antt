@@ -6,11 +6,46 @@ use Rattle.cspf_model.specs.declared.link.Link.{Link}
 use Rattle.cspf_model.specs.declared.request.Request.{Request}
 use Rattle.cspf_model.specs.Database.{Database, HasTransit}
 use Rattle.cspf_model.specs.Admissible.{IsAdmitted}
+use Rattle.cspf_db.specs.Index.{links_from_index, links_of}
 use Rattle.cspf_graph.specs.Lists.{router_at}
 use Rattle.cspf_meet.specs.declared.limits.TheConstants.{NO_WAY}
+use Rattle.cspf_meet.specs.declared.direction.Direction.{Direction}
+use Rattle.cspf_meet.specs.declared.direction.Direction.TheVariants.{Ahead, Back}
 use Rattle.cspf_meet.specs.declared.labels.Labels.{Labels}
 use Rattle.cspf_meet.specs.Labels.{IsWaiting, rank_at}
-use Rattle.cspf_meet.specs.Ways.{link_step}
+use Rattle.cspf_walk.specs.declared.located_request.LocatedRequest.{LocatedRequest}
+use Rattle.cspf_walk.specs.Ways.{Leads, link_step}
+
+-- A link that a route may use leads to the router at the index `w` from the router at the index
+-- `u`, and adds `step` to the rank of a way.
+abbrev pub LeadsBack : Database → Request → ℕ → ℕ → ℕ → Type 0
+LeadsBack d q w u step = Leads d q u w step
+
+-- The steps of a search: along the links from the head-end, or against them from the tail-end.
+abbrev pub Steps : Direction → Database → Request → ℕ → ℕ → ℕ → Type 0
+Steps Ahead d q = Leads d q
+Steps Back d q = LeadsBack d q
+
+-- The links that a search reads when it looks at the router with the index `place`.
+abbrev pub links_read : Direction → Database → ℕ → List Link
+links_read Ahead d place = links_from_index d place
+links_read Back d place = links_of d
+
+-- The index of a link among the links that a search reads. The link is at the index `row` among the
+-- links from a router, or it is the reverse of the link there, with the index `reverse`.
+abbrev pub link_index : Direction → ℕ → ℕ → ℕ
+link_index Ahead row reverse = row
+link_index Back row reverse = reverse
+
+-- The index of the router where the other search begins.
+abbrev pub goal_of : Direction → LocatedRequest → ℕ
+goal_of Ahead query = query.to
+goal_of Back query = query.from
+
+-- The router where the other search begins.
+abbrev pub goal_router : Direction → Request → ℕ
+goal_router Ahead q = q.to
+goal_router Back q = q.from
 
 -- A way may reach the router with the index `place`: the router has transit, or `place` is `goal`.
 abbrev pub MayReach : Database → ℕ → ℕ → Type 0

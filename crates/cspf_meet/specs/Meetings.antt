@@ -1,10 +1,10 @@
 -- Private: what holds of the two searches.
 use Rattle.std.specs.Prelude.{◌≡◌}
 use Rattle.cspf_meet.specs.declared.meeting.Meeting.{Meeting}
-use Rattle.cspf_meet.specs.declared.located_request.LocatedRequest.{LocatedRequest}
+use Rattle.cspf_walk.specs.declared.located_request.LocatedRequest.{LocatedRequest}
 use Rattle.cspf_meet.specs.Labels.{rank_at}
-use Rattle.cspf_meet.specs.Looks.{AreLookedAt}
-use Rattle.cspf_meet.specs.Ways.{Leads, LeadsBack}
+use Rattle.cspf_meet.specs.Looks.{AreLookedAt, LeadsBack}
+use Rattle.cspf_walk.specs.Ways.{Leads}
 
 -- Both searches have looked at each router, or the router waits. The rank of each end in the
 -- search that begins there is 0.

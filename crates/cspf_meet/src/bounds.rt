@@ -5,6 +5,8 @@ ghost use Rattle.std.specs.Prelude.{◌≡◌, ◌≤◌, length};
 ghost use Rattle.cspf_model.specs.declared.limits.TheConstants.{MOST_ROUTERS};
 ghost use Rattle.cspf_meet.specs.declared.limits.TheConstants.{NO_WAY};
 
+use cspf_walk::LowerBounds;
+
 /// For each router, a lower bound of the rank of a way from the head-end to this router.
 #[derive(Clone, Copy)]
 pub(crate) struct HeadBounds<'a> {
@@ -43,16 +45,12 @@ pub(crate) struct RankBounds<'a> {
     ghost many: { length near.now ≡ MOST_ROUTERS },
 }
 
-impl RankBounds<'_> {
-    ghost use Rattle.std.specs.Prelude.{◌<◌, ◌+◌};
+impl LowerBounds for RankBounds<'_> {
     ghost use Rattle.cspf_meet.specs.Bounds.{rank_bound};
 
-    /// The bound of the router at the index `place`.
-    pub(crate) fn bound(&self, place: usize) -> u64
-        requires { place < MOST_ROUTERS }
-        ensures value { result ≡ rank_bound self.now place }
-        ensures small { result ≤ NO_WAY + 1 }
-    {
+    ghost bound_of = { rank_bound };
+
+    fn bound(&self, place: usize) -> u64 {
         self.near[place].min((self.head.most + 1).saturating_sub(self.head.bound(place)))
     }
 }

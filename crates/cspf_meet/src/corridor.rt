@@ -23,14 +23,13 @@ pub(crate) struct Corridor {
 }
 
 impl Corridor {
-    ghost use Rattle.std.specs.Prelude.{◌+◌, ◌<◌, ◌≤◌, ◌≢◌, ◌/◌, ◌%◌, ◌⊎◌, ℕ, IfOk, OnOk, All, Contains};
+    ghost use Rattle.std.specs.Prelude.{◌+◌, ◌<◌, ◌≤◌, ◌/◌, ◌%◌, ◌⊎◌, ℕ, IfOk, OnOk, All};
     ghost use Rattle.cspf_model.specs.declared.request.Request.{Request as Asked};
     ghost use Rattle.cspf_model.specs.Database.{Database};
     ghost use Rattle.cspf_meet.specs.Bounds.{head_bound};
     ghost use Rattle.cspf_meet.specs.Corridors.{CorridorFalls, IsCorridor, IsToDo};
     ghost use Rattle.cspf_meet.specs.Labels.{rank_at};
-    ghost use Rattle.cspf_meet.specs.Looks.{AreLookedAt};
-    ghost use Rattle.cspf_meet.specs.Ways.{LeadsBack};
+    ghost use Rattle.cspf_meet.specs.Looks.{AreLookedAt, LeadsBack};
 
     /// Lets the router at the index `place` wait, if a way over this router may have the least
     /// rank. The way from this router to the tail-end has the rank `rank`.

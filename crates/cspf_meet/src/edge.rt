@@ -1,6 +1,6 @@
 //! The bounds that follow from the search from the head-end.
 
-ghost use Rattle.std.specs.Prelude.{◌≡◌, ◌+◌, ◌/◌, ◌<◌, ◌≤◌, ℕ, All};
+ghost use Rattle.std.specs.Prelude.{◌≡◌, ◌+◌, ◌/◌, ◌<◌, ◌≤◌, All};
 ghost use Rattle.cspf_model.specs.declared.limits.TheConstants.{MOST_ROUTERS};
 ghost use Rattle.cspf_model.specs.declared.request.Request.{Request as Asked};
 ghost use Rattle.cspf_model.specs.Database.{Database};
@@ -8,7 +8,7 @@ ghost use Rattle.cspf_meet.specs.declared.limits.TheConstants.{NO_WAY};
 ghost use Rattle.cspf_meet.specs.Bounds.{AreHeadBounds};
 ghost use Rattle.cspf_meet.specs.Labels.{rank_at};
 ghost use Rattle.cspf_meet.specs.Looks.{AreLookedAt};
-ghost use Rattle.cspf_meet.specs.Ways.{Leads};
+ghost use Rattle.cspf_walk.specs.Ways.{Leads};
 ghost use Rattle.cspf_graph.specs.Lists.{AreListed};
 
 use crate::bounds::HeadBounds;

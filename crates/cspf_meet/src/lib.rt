@@ -10,15 +10,14 @@
 
 mod bounds;
 mod corridor;
+mod direction;
 mod edge;
 mod labels;
 mod limits;
-mod located_request;
 mod look;
 mod meeting;
 mod narrow;
 mod search;
 mod turn;
-mod walk;
 
 pub use search::best_from_both_ends;

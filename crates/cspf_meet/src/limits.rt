@@ -1,8 +1,4 @@
-//! The weights of cost and links in the rank of a way, and the limits of the two searches.
-
-/// The weight of one unit of cost in the rank of a way, which packs the way's cost and its number
-/// of links into one number. Each link adds 1 to the rank.
-pub(crate) const COST_WEIGHT: u64 = 1024;
+//! The limits of the two searches.
 
 /// The rank that stands for no way.
 pub(crate) const NO_WAY: u64 = 9_007_199_254_740_992;
@@ -21,6 +17,3 @@ pub(crate) const FEW: usize = 12;
 
 /// The greatest number of keys that both searches take from their heaps.
 pub(crate) const MOST_TURNS: usize = 65_536;
-
-/// The number of links for which a walk reserves room at the start.
-pub(crate) const ROOM_FOR_LINKS: usize = 16;

@@ -5,27 +5,19 @@
 ghost use Rattle.std.specs.Prelude.{◌≡◌, ◌≢◌, ◌+◌, ◌<◌, ◌≤◌, ◌^◌, ◌↔◌, ℕ, IsTrue, IfOk, OnOk, length};
 ghost use Rattle.cspf_columns.specs.declared.limits.TheConstants.{NO_LINK};
 ghost use Rattle.cspf_meet.specs.declared.limits.TheConstants.{NO_WAY};
-ghost use Rattle.cspf_db.specs.Index.{links_from_index, links_of, router_list};
-ghost use Rattle.cspf_meet.specs.Ways.{IsLocatedRequest, Leads, LeadsBack, link_step};
+ghost use Rattle.cspf_db.specs.Index.{router_list};
+ghost use Rattle.cspf_walk.specs.Ways.{IsLocatedRequest};
 ghost use Rattle.cspf_meet.specs.Labels.{LabelsFall, rank_at};
-ghost use Rattle.cspf_meet.specs.Looks.{AreLookedAt, AreStepsPassed, IsLinkOffered, MayReach};
+ghost use Rattle.cspf_meet.specs.Looks.{AreLookedAt, AreStepsPassed, IsLinkOffered, MayReach, Steps, goal_of, link_index, links_read};
 
+use crate::direction::Direction;
 use crate::labels::Labels;
-use crate::limits::{COST_WEIGHT, FARTHEST};
-use crate::located_request::LocatedRequest;
+use crate::limits::FARTHEST;
 use crate::turn::Turn;
 use cspf_db::{NO_LINK, Table};
 use cspf_graph::accepts;
-use cspf_model::Link;
+use cspf_walk::{LocatedRequest, step};
 use std::alloc::AllocError;
-
-/// How much a link adds to the rank of a way.
-pub(crate) fn step(link: &Link) -> u64
-    ensures value { result ≡ link_step link.now }
-    ensures small { result < 2 ^ 43 }
-{
-    u64::from(link.metric) * COST_WEIGHT + 1
-}
 
 /// Whether a way may reach the router at the index `place`: it has transit, or its index is `goal`.
 pub(crate) fn may_reach(table: &Table, goal: usize, place: usize) -> bool
@@ -77,40 +69,24 @@ fn pass(
     Ok(least)
 }
 
-/// Looks at the links from the router at the index `place`, whose rank is `rank`. Returns the least
-/// rank found so far of a way from the head-end to the tail-end. Before the call it is `most`.
-/// `beyond` is the least rank that waits in the other search, whose labels are `others`.
-fn look_ahead(
-    query: LocatedRequest<'_>,
-    place: usize,
-    turn: Turn<'_>,
-    most: u64,
-    labels: &mut Labels,
-) -> Result<u64, AllocError>
-    requires query { IsLocatedRequest query }
-    requires small { most ≤ NO_WAY }
-    requires within { place < length (router_list query.table.now) }
-    requires links { turn.links.now ≡ links_from_index query.table.now place }
-    requires goal { turn.goal ≡ query.to }
-    ensures falls { OnOk result (LabelsFall labels.old labels.new) }
-    ensures least { IfOk result (λ least. least ≤ most) }
-    ensures passed { IfOk result (λ least.
-        AreStepsPassed (Leads query.entry.table.now query.entry.request.now)
-        labels.new.ranks.items least turn.entry.rank place) }
+/// The index of a link among the links that a search reads. `row` is the index of the link, or of
+/// its reverse, among the links from a router, and `reverse` has the index of the reverse of the
+/// link at `row` among all links.
+#[inline(always)]
+fn index_of(direction: Direction, row: usize, reverse: u16) -> usize
+    ensures { result ≡ link_index direction row reverse }
 {
-    let ends = query.table.ends_at(place);
-    let reverses = query.table.reverses_at(place);
-    let mut least = most;
-    for row in 0..ends.len() {
-        least = pass(query, turn, row, ends[row], reverses[row], least, labels)?;
+    match direction {
+        Direction::Ahead => row,
+        Direction::Back => usize::from(reverse),
     }
-    Ok(least)
 }
 
-/// Looks at the links to the router at the index `place`, and finds these links as the reverses of
-/// the links from this router. Returns the least rank found so far of a way from the head-end to
-/// the tail-end. Before the call it is `most`.
-fn look_back(
+/// Looks at the links over which a step leads on from the router at the index `place`. Against the
+/// links, these are the reverses of the links from the router. Returns the least rank found so far
+/// of a way from the head-end to the tail-end. Before the call it is `most`.
+#[inline(always)]
+fn look(
     query: LocatedRequest<'_>,
     place: usize,
     turn: Turn<'_>,
@@ -120,12 +96,12 @@ fn look_back(
     requires query { IsLocatedRequest query }
     requires small { most ≤ NO_WAY }
     requires within { place < length (router_list query.table.now) }
-    requires links { turn.links.now ≡ links_of query.table.now }
-    requires goal { turn.goal ≡ query.from }
+    requires links { turn.links.now ≡ links_read turn.direction query.table.now place }
+    requires goal { turn.goal ≡ goal_of turn.direction query }
     ensures falls { OnOk result (LabelsFall labels.old labels.new) }
     ensures least { IfOk result (λ least. least ≤ most) }
-    ensures passed { IfOk result (λ least.
-        AreStepsPassed (LeadsBack query.entry.table.now query.entry.request.now)
+    ensures passed { IfOk result (λ least. AreStepsPassed
+        (Steps turn.entry.direction query.entry.table.now query.entry.request.now)
         labels.new.ranks.items least turn.entry.rank place) }
 {
     let ends = query.table.ends_at(place);
@@ -133,24 +109,52 @@ fn look_back(
     let mut least = most;
     for row in 0..ends.len() {
         let reverse = reverses[row];
-        least = pass(
-            query,
-            turn,
-            usize::from(reverse),
-            ends[row],
-            reverse,
-            least,
-            labels,
-        )?;
+        let at = index_of(turn.direction, row, reverse);
+        least = pass(query, turn, at, ends[row], reverse, least, labels)?;
     }
     Ok(least)
 }
 
-/// Looks at the waiting router of the least rank, in the search from the head-end. Returns the
+/// The turn at the router at the index `place`, whose rank is `rank`.
+#[inline(always)]
+fn turn_at<'a>(
+    query: LocatedRequest<'a>,
+    direction: Direction,
+    place: usize,
+    rank: u64,
+    beyond: u64,
+    others: &'a Labels,
+) -> Turn<'a>
+    requires query { IsLocatedRequest query }
+    requires within { place < length (router_list query.table.now) }
+    requires small { rank < 2 ^ 54 }
+    requires low { beyond < 2 ^ 54 }
+    ensures links { result.links.now ≡ links_read direction query.entry.table.now place }
+    ensures goal { result.goal ≡ goal_of direction query.entry }
+    ensures direction { result.direction ≡ direction }
+    ensures rank { result.rank ≡ rank }
+{
+    let (links, goal) = match direction {
+        Direction::Ahead => (query.table.out_at(place), query.to),
+        Direction::Back => (query.table.links(), query.from),
+    };
+    Turn {
+        direction,
+        links,
+        others: &others.ranks,
+        rank,
+        beyond,
+        goal,
+    }
+}
+
+/// Looks at the waiting router of the least rank, in the search of this direction. Returns the
 /// least rank found so far of a way from the head-end to the tail-end. Before the call it is
 /// `most`. `beyond` is the least rank that waits in the other search, whose labels are `others`.
-pub(crate) fn turn_ahead(
+#[inline(always)]
+pub(crate) fn turn(
     query: LocatedRequest<'_>,
+    direction: Direction,
     beyond: u64,
     most: u64,
     others: &Labels,
@@ -159,10 +163,10 @@ pub(crate) fn turn_ahead(
     requires query { IsLocatedRequest query }
     requires low { beyond < 2 ^ 54 }
     requires small { most ≤ NO_WAY }
-    requires looked { AreLookedAt (Leads query.table.now query.request.now) labels.old most }
+    requires looked { AreLookedAt (Steps direction query.table.now query.request.now) labels.old most }
     ensures least { IfOk result (λ least. least ≤ most) }
     ensures looked { IfOk result (AreLookedAt
-        (Leads query.entry.table.now query.entry.request.now) labels.new) }
+        (Steps direction query.entry.table.now query.entry.request.now) labels.new) }
     ensures lower { OnOk result ((v : ℕ)
         → rank_at labels.new.ranks.items v ≤ rank_at labels.old.ranks.items v) }
 {
@@ -173,51 +177,7 @@ pub(crate) fn turn_ahead(
     if place >= query.table.routers().len() {
         return Ok(most);
     }
-    let turn = Turn {
-        links: query.table.out_at(place),
-        others: &others.ranks,
-        rank,
-        beyond,
-        goal: query.to,
-    };
-    let least = look_ahead(query, place, turn, most, labels)?;
-    Ok(least)
-}
-
-/// Looks at the waiting router of the least rank, in the search from the tail-end. Returns the
-/// least rank found so far of a way from the head-end to the tail-end. Before the call it is
-/// `most`. `beyond` is the least rank that waits in the other search, whose labels are `others`.
-pub(crate) fn turn_back(
-    query: LocatedRequest<'_>,
-    beyond: u64,
-    most: u64,
-    others: &Labels,
-    labels: &mut Labels,
-) -> Result<u64, AllocError>
-    requires query { IsLocatedRequest query }
-    requires low { beyond < 2 ^ 54 }
-    requires small { most ≤ NO_WAY }
-    requires looked { AreLookedAt (LeadsBack query.table.now query.request.now) labels.old most }
-    ensures least { IfOk result (λ least. least ≤ most) }
-    ensures looked { IfOk result (AreLookedAt
-        (LeadsBack query.entry.table.now query.entry.request.now) labels.new) }
-    ensures lower { OnOk result ((v : ℕ)
-        → rank_at labels.new.ranks.items v ≤ rank_at labels.old.ranks.items v) }
-{
-    let Some((place, rank)) = labels.next() else {
-        return Ok(most);
-    };
-    let place = usize::from(place);
-    if place >= query.table.routers().len() {
-        return Ok(most);
-    }
-    let turn = Turn {
-        links: query.table.links(),
-        others: &others.ranks,
-        rank,
-        beyond,
-        goal: query.from,
-    };
-    let least = look_back(query, place, turn, most, labels)?;
+    let turn = turn_at(query, direction, place, rank, beyond, others);
+    let least = look(query, place, turn, most, labels)?;
     Ok(least)
 }

@@ -3,10 +3,11 @@
 ghost use Rattle.std.specs.Prelude.{◌≤◌};
 ghost use Rattle.cspf_meet.specs.declared.limits.TheConstants.{NO_WAY};
 
+use crate::direction::Direction;
 use crate::labels::Labels;
 use crate::limits::{FEW, MOST_TURNS, NO_WAY};
-use crate::located_request::LocatedRequest;
-use crate::look::{turn_ahead, turn_back};
+use crate::look::turn;
+use cspf_walk::LocatedRequest;
 use std::alloc::{AllocError, Global};
 
 /// The state of the two searches.
@@ -24,7 +25,7 @@ pub(crate) struct Meeting {
 impl Meeting {
     ghost use Rattle.std.specs.Prelude.{◌<◌, ◌^◌, IfOk, OnOk};
     ghost use Rattle.cspf_meet.specs.Meetings.{IsMeeting};
-    ghost use Rattle.cspf_meet.specs.Ways.{IsLocatedRequest};
+    ghost use Rattle.cspf_walk.specs.Ways.{IsLocatedRequest};
 
     /// The state before any link is looked at. Only the two ends wait.
     pub(crate) fn begin(alloc: Global, query: LocatedRequest<'_>) -> Result<Meeting, AllocError>
@@ -50,9 +51,23 @@ impl Meeting {
     {
         let waiting = self.back.waiting();
         if waiting > FEW && self.ahead.waiting() <= waiting {
-            self.most = turn_ahead(query, back, self.most, &self.back, &mut self.ahead)?;
+            self.most = turn(
+                query,
+                Direction::Ahead,
+                back,
+                self.most,
+                &self.back,
+                &mut self.ahead,
+            )?;
         } else {
-            self.most = turn_back(query, ahead, self.most, &self.ahead, &mut self.back)?;
+            self.most = turn(
+                query,
+                Direction::Back,
+                ahead,
+                self.most,
+                &self.ahead,
+                &mut self.back,
+            )?;
         }
         Ok(())
     }

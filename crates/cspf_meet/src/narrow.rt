@@ -2,19 +2,18 @@
 
 ghost use Rattle.std.specs.Prelude.{◌≡◌, ◌≢◌, ◌+◌, ◌<◌, ◌≤◌, ℕ, true, IfOk, OnOk, length};
 ghost use Rattle.cspf_columns.specs.declared.limits.TheConstants.{NO_LINK};
-ghost use Rattle.cspf_model.specs.declared.limits.TheConstants.{MOST_ROUTERS};
 ghost use Rattle.cspf_db.specs.Index.{links_of, router_list};
 ghost use Rattle.cspf_meet.specs.Corridors.{AreNarrowed, NoneNeedsLook, CorridorFalls, IsCorridor, IsLinkNarrowed};
 ghost use Rattle.cspf_meet.specs.Labels.{rank_at};
-ghost use Rattle.cspf_meet.specs.Ways.{IsLocatedRequest};
+ghost use Rattle.cspf_walk.specs.Ways.{IsLocatedRequest};
 
 use crate::bounds::HeadBounds;
 use crate::corridor::Corridor;
 use crate::limits::MOST_TURNS;
-use crate::located_request::LocatedRequest;
-use crate::look::{may_reach, step};
+use crate::look::may_reach;
 use cspf_db::NO_LINK;
 use cspf_graph::accepts;
+use cspf_walk::{LocatedRequest, step};
 use std::alloc::AllocError;
 
 /// Offers the router at the index `place` the way over the link at the index `reverse` of the

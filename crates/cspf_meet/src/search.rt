@@ -10,20 +10,19 @@ ghost use Rattle.cspf_meet.specs.declared.limits.TheConstants.{NO_WAY};
 ghost use Rattle.cspf_meet.specs.Labels.{rank_at};
 ghost use Rattle.cspf_meet.specs.Looks.{HasNoneWaiting};
 ghost use Rattle.cspf_meet.specs.Meetings.{IsMeeting};
-ghost use Rattle.cspf_meet.specs.Ways.{IsLocatedRequest};
+ghost use Rattle.cspf_walk.specs.Ways.{IsLocatedRequest};
 
 use crate::bounds::RankBounds;
 use crate::corridor::Corridor;
 use crate::edge::head_bounds;
 use crate::labels::Labels;
 use crate::limits::NO_WAY;
-use crate::located_request::LocatedRequest;
 use crate::meeting::Meeting;
 use crate::narrow::narrow;
-use crate::walk::follow;
 use cspf_db::Table;
 use cspf_graph::listed;
 use cspf_model::{Outcome, Request, Route, route_without_hops};
+use cspf_walk::{LocatedRequest, follow};
 use std::alloc::{AllocError, Global};
 
 /// Whether a search has found all routers that it can reach, and the router with the index `end`
@@ -76,7 +75,7 @@ fn route_of(
         head,
         near: &corridor.near,
     };
-    follow(alloc, query, bounds)
+    follow(alloc, query, &bounds)
 }
 
 /// The best outcome, if it follows from what the searches find.

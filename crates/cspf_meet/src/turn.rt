@@ -1,12 +1,16 @@
 ghost use Rattle.std.specs.Prelude.{◌≡◌, ◌<◌, ◌^◌, length};
 ghost use Rattle.cspf_model.specs.declared.limits.TheConstants.{MOST_ROUTERS};
 
+use crate::direction::Direction;
 use cspf_model::Link;
 
 /// A router that a search looks at.
 #[derive(Clone, Copy)]
 pub(crate) struct Turn<'a> {
-    /// The links among which are those of the router.
+    /// The direction of the search.
+    pub(crate) direction: Direction,
+    /// The links that the search reads: those from the router, or against the links all links of
+    /// the table.
     pub(crate) links: &'a [Link],
     /// For each router, its rank in the other search.
     pub(crate) others: &'a [u64],

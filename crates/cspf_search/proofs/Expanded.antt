@@ -1,12 +1,10 @@
 -- The walks that continue a node while labels are offered for it: by the step to the next leg, and
 -- by each link from the node's router. A node is the record of a walk, and a label holds the best
 -- walk found so far to a state.
-use Rattle.std.proofs.Common.{◌≡◌, ◌⊎◌, inl, inr, ℕ, ◌+◌, ◌-◌, ◌/◌, ◌%◌, ◌<◌, ◌≤◌, Bool, true, false, not, nat_eq, Some, None, List, [], ◌∷◌, ◌++◌, filter, length, take, slice_get, slice_index, slice_index_or, refl, sym, ap, subst, ◌∙◌, arith, rules}
-use Rattle.std.specs.List.{All, Contains}
-use Rattle.std.proofs.lemmas.Bool.{cases_lt, eqb-true, eq-eqb}
+use Rattle.std.proofs.Common.{◌≡◌, ◌⊎◌, inl, inr, ℕ, ◌+◌, ◌-◌, ◌/◌, ◌%◌, ◌<◌, ◌≤◌, not, Some, None, List, [], ◌∷◌, ◌++◌, length, take, slice_get, slice_index, slice_index_or, refl, sym, ap, subst, ◌∙◌, arith, rules}
+use Rattle.std.specs.List.{Contains}
+use Rattle.std.proofs.lemmas.Bool.{cases_lt}
 use Rattle.std.proofs.lemmas.List.{take_all}
-use Rattle.std.proofs.lemmas.List.Elements.{All-nil, All-cons, All-weaker, All-filter, All-contains, All-contains_itself, Contains-append_right, filter_passes}
-use Rattle.std.proofs.lemmas.List.Filters.{length-filter_both}
 use Rattle.std.proofs.lemmas.Option.{slice_get-get_or, slice_get_within, get_or_from_slice_get, same_Some}
 use Rattle.cspf_model.specs.declared.link.Link.{Link}
 use Rattle.cspf_model.specs.declared.request.Request.{Request}
@@ -20,46 +18,8 @@ use Rattle.cspf_search.specs.Arena.{walk_at, walks, index_of}
 use Rattle.cspf_search.specs.Rounds.{CrossesBy, Turns, CrossesFrom, CrossesBelow}
 use Rattle.cspf_search.specs.Frontier.{state_at, nowhere, IsNodeAt, NodeMayLeave, CrossesUpTo}
 use Rattle.cspf_graph.specs.Lists.{IsIndexOf}
+use Rattle.cspf_graph.proofs.LinkRows.{kept_from, kept_of, runs_from}
 use Rattle.cspf_search.proofs.Scans.{kept_link, new_link, either_link}
-
--- Lemmas on the elements that a filter keeps.
-
-pub filter_short : (p : Link → Bool) (ls : List Link) → length (filter p ls) ≤ length ls
-filter_short p ls = omega (arith, length-filter_both p (λ l. not (p l)) (λ l. refl) ls)
-
-kept_head : (p : Link → Bool) (k : Link) (ls : List Link) → p k ≡ true → Contains (filter p (k ∷ ls)) k
-kept_head p k ls e = rw e (0, omega arith, refl)
-
-kept_tail : (p : Link → Bool) (k : Link) (ls : List Link) (l : Link) → Contains (filter p ls) l → Contains (filter p (k ∷ ls)) l
-kept_tail p k ls l h =
-    elim (p k) as (λ b. p k ≡ b → Contains (filter p (k ∷ ls)) l) [
-      | true ↦ λ e. rw e (Contains-append_right (k ∷ []) (filter p ls) l h)
-      | false ↦ λ e. rw e h
-    ] refl
-
-filtered : (p : Link → Bool) (ls : List Link) → All (λ l. p l ≡ true → Contains (filter p ls) l) ls
-filtered p [] = All-nil (λ l. p l ≡ true → Contains (filter p []) l)
-filtered p (k ∷ ls) =
-    All-cons (λ l. p l ≡ true → Contains (filter p (k ∷ ls)) l) k ls (kept_head p k ls)
-    (All-weaker (λ l. p l ≡ true → Contains (filter p ls) l) (λ l. p l ≡ true → Contains (filter p (k ∷ ls)) l) (λ l h e. kept_tail p k ls l (h e)) ls (filtered p ls))
-
-module _ (d : Database) (place : ℕ) where
-  pub kept_of : (l : Link) → Contains (links_from_index d place) l → Contains (links_of d) l
-  kept_of l h =
-      All-contains (Contains (links_of d)) (links_from_index d place) l
-      (All-filter (λ k. nat_eq k.from (slice_index (router_list d) place)) (Contains (links_of d)) (links_of d) (All-contains_itself (links_of d))) h
-
-  pub kept_from : (l : Link) → Contains (links_of d) l → l.from ≡ slice_index (router_list d) place → Contains (links_from_index d place) l
-  kept_from l h from =
-      All-contains (λ l. nat_eq l.from (slice_index (router_list d) place) ≡ true → Contains (links_from_index d place) l) (links_of d) l
-      (filtered (λ k. nat_eq k.from (slice_index (router_list d) place)) (links_of d)) h (eq-eqb l.from (slice_index (router_list d) place) from)
-
-  pub runs_from : (row : ℕ) (l : Link) → slice_get (links_from_index d place) row ≡ Some l → l.from ≡ slice_index (router_list d) place
-  runs_from row l e =
-      let within = slice_get_within (links_from_index d place) row l e in
-      let passes = filter_passes (λ k. nat_eq k.from (slice_index (router_list d) place)) (links_of d) row l within in
-      let is = get_or_from_slice_get (links_from_index d place) row l l e in
-      eqb-true l.from (slice_index (router_list d) place) (rw is at passes)
 
 module _ (d : Database) (q : Request) (nodes : List Node) (at state : ℕ) (is : IsNodeAt d q nodes at state) where
   abbrev from : Node

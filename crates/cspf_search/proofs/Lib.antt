@@ -19,10 +19,7 @@ mod Lows
 pub mod Marked
 pub mod Grown
 pub mod Answered
-pub mod Reversed
 pub mod LegBounds
 mod Broken
 pub mod LegTargets
 pub mod Trees
-mod RowLocals
-pub mod TightWalks

@@ -29,7 +29,7 @@ use Rattle.cspf_search.proofs.Backs.{by_next, by_first, turned_first}
 use Rattle.cspf_search.proofs.Expanded.{there, leg, no_link_crosses, turn_state, turn_only, turn_passes, turn_within, link_index, link_state, link_only, link_passes, row_kept, row_new, row_cases}
 use Rattle.cspf_search.proofs.Ranks.{walk_short}
 use Rattle.cspf_search.proofs.Firsts.{first_both, first_same, left_first}
-use Rattle.cspf_search.proofs.Taken.{end_of_row}
+use Rattle.cspf_graph.proofs.LinkRows.{end_of_row}
 
 -- An optional index for which `is_some` is `false` is `None`.
 pub open_at : (o : Option ℕ) → is_some o ≡ false → o ≡ None

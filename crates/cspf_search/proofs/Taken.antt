@@ -2,9 +2,7 @@
 -- router. After a label is offered for this step, or the step is skipped, the labels meet
 -- `AreLabels` for this step too. A node is the record of a walk, and a label holds the best walk
 -- found so far to a state.
-use Rattle.std.proofs.Common.{◌≡◌, ◌⊎◌, inl, inr, ℕ, ◌+◌, ◌-◌, ◌*◌, ◌/◌, ◌%◌, ◌^◌, ◌<◌, ◌≤◌, ◌↔◌, IsTrue, nat_eq, Option, Some, None, List, [], ◌∷◌, ◌++◌, length, map, slice_get, slice_index, slice_index_or, refl, sym, ap, subst, ◌∙◌, arith, rules}
-use Rattle.std.specs.List.{All}
-use Rattle.std.proofs.lemmas.List.{get_or-map, length-map}
+use Rattle.std.proofs.Common.{◌≡◌, ◌⊎◌, inl, inr, ℕ, ◌+◌, ◌-◌, ◌*◌, ◌/◌, ◌%◌, ◌^◌, ◌<◌, ◌≤◌, ◌↔◌, IsTrue, nat_eq, Option, Some, None, List, [], ◌∷◌, ◌++◌, length, slice_get, slice_index, slice_index_or, refl, sym, ap, subst, ◌∙◌, arith, rules}
 use Rattle.std.proofs.lemmas.Option.{slice_get_past}
 use Rattle.cspf_model.specs.declared.link.Link.{Link}
 use Rattle.cspf_model.specs.declared.request.Request.{Request}
@@ -13,7 +11,7 @@ use Rattle.cspf_model.specs.Admissible.{IsUsable}
 use Rattle.cspf_db.specs.Index.{links_of, links_from_index, router_list}
 use Rattle.cspf_search.specs.declared.arena.Node.{Node}
 use Rattle.cspf_search.specs.declared.goal.Goal.{Goal}
-use Rattle.cspf_search.specs.declared.edge.Edge.{Edge}
+use Rattle.cspf_walk.specs.declared.edge.Edge.{Edge}
 use Rattle.cspf_search.specs.declared.frontier.Source.{Source}
 use Rattle.cspf_search.specs.declared.labels.Label.{Label}
 use Rattle.cspf_graph.specs.declared.roles.Role.{Role}
@@ -21,28 +19,15 @@ use Rattle.cspf_search.specs.States.{State}
 use Rattle.cspf_graph.specs.Roles.{MayEnter, MayTurn, IsStateIndex, IsRole}
 use Rattle.cspf_search.specs.Arena.{walk_at, walks, walk_of, state_of, index_of, AreNodes, IsNext}
 use Rattle.cspf_search.specs.Rounds.{CrossesBy, Turns, CrossesBelow}
-use Rattle.cspf_search.specs.Source.{IsEdge, IsSource}
+use Rattle.cspf_walk.specs.Edges.{IsEdge}
+use Rattle.cspf_search.specs.Source.{IsSource}
 use Rattle.cspf_search.specs.Frontier.{state_at, nowhere, node_by, node_of, IsNodeAt, NodeMayLeave, IsOffer, AreTied, StaysAt, GoesTo, HeapKey, label_at, lift, AreLabels, CrossesUpTo}
 use Rattle.cspf_graph.specs.Lists.{AreListed, IsIndexOf, router_at}
+use Rattle.cspf_graph.proofs.LinkRows.{filter_short}
 use Rattle.cspf_search.proofs.Ranks.{lift_small}
 use Rattle.cspf_search.proofs.Backs.{turned_next, by_next}
 use Rattle.cspf_search.proofs.Offered.{labels_stay, labels_offered, labels_same, lost_by_rank, tied_label, left_open, IsLost}
-use Rattle.cspf_search.proofs.Expanded.{filter_short, there, leg, turn_index, turn_state, turn_only, turn_passes, turn_within, turn_left, turn_right, turn_cases, link_index, link_state, link_only, link_passes, link_within, link_left, link_right, link_cases}
-
--- If a link has the index `i` in the list `links`, the element of `ends` at `i` is the index of the
--- router where this link ends.
-pub end_of_row : (d : Database) (ends : List ℕ) (links : List Link) → All (λ end. end < length (router_list d)) ends
-    → map (λ end. slice_index (router_list d) end) ends ≡ map (λ (l : Link). l.to) links → (i : ℕ) (l : Link) (end : ℕ) → i < length links
-    → l ≡ slice_index_or links i l → end ≡ slice_index ends i → IsIndexOf d l.to end
-end_of_row d ends links within each i l end h is at =
-    let long : i < length ends =
-    omega (arith, h, ap (λ (ns : List ℕ). length ns) each, length-map ends (λ end. slice_index (router_list d) end), length-map links (λ (l : Link). l.to)) in
-    let left = get_or-map (λ end. slice_index (router_list d) end) ends i 0 0 long in
-    let right = get_or-map (λ (l : Link). l.to) links i l 0 h in
-    record {
-      within = rw (← at) at (within i 0 long);
-      is = ap (λ e. slice_index (router_list d) e) at ∙ sym left ∙ ap (λ ns. slice_index_or ns i 0) each ∙ right ∙ ap (λ (l : Link). l.to) (sym is);
-    }
+use Rattle.cspf_search.proofs.Expanded.{there, leg, turn_index, turn_state, turn_only, turn_passes, turn_within, turn_left, turn_right, turn_cases, link_index, link_state, link_only, link_passes, link_within, link_left, link_right, link_cases}
 
 -- There are at most 16,384 links from a router, because the database has no more links.
 pub few_rows : (d : Database) → AreListed d → (place : ℕ) → length (links_from_index d place) ≤ 16384

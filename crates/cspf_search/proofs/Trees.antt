@@ -8,11 +8,13 @@ use Rattle.cspf_model.specs.Database.{Database}
 use Rattle.cspf_model.specs.Targets.{IsTarget}
 use Rattle.cspf_db.specs.Index.{router_list}
 use Rattle.cspf_graph.specs.Lists.{AreListed, IsIndexOf, router_at}
+use Rattle.cspf_graph.specs.Roles.{MayLeadOver}
 use Rattle.cspf_search.specs.declared.tree_ring.TreeRing.{TreeRing}
 use Rattle.cspf_search.specs.declared.tree.Tree.{Tree}
 use Rattle.cspf_search.specs.States.{LeadsOn}
 use Rattle.cspf_search.specs.Bounds.{IsLegBound, bound_at}
-use Rattle.cspf_search.specs.Trees.{IsInClass, IsTree, MayLeadOver, TreesAreShared, tree_bound, tree_links}
+use Rattle.cspf_search.specs.Trees.{IsInClass, IsTree, TreesAreShared, tree_bound, tree_links, tree_rank}
+use Rattle.cspf_walk.specs.Ways.{IsRankBound}
 use Rattle.cspf_search.specs.TreeSteps.{AreLinksPassed, AreTreeBounds, IsRankWithin, IsTreeRing, TreeFalls, is_settled_there}
 use Rattle.cspf_search.proofs.Cuts.{last_target}
 use Rattle.cspf_search.proofs.LegBounds.{cut_at_edge}
@@ -35,6 +37,22 @@ leg_of_tree d q tree is leg last ahead = record {
       let after : leg + 1 ≡ suc (length q.hops) = omega (arith, last) in
       let there : r ≡ q.to = subst (λ (T : Type 0). T) (last_target d q r) (subst (λ k. IsTarget d q k r) after turns.target) in
       omega (arith, is.end p (record { within = within; is = there }));
+}
+
+-- A tree gives lower bounds of the ranks of ways to the tail-end.
+pub bounds_of_tree : (d : Database) (q : Request) (tree : Tree) → IsTree d q tree → IsRankBound d q (tree_rank tree)
+bounds_of_tree d q tree is = record {
+  links = λ u w step leads.
+      let a = leads.is.admissible in
+      let class : IsInClass d q leads.link = record { link = a.link; reverse = a.usable.reverse; affinity = a.usable.admitted.affinity } in
+      let near = is.links u w leads.link class leads.is.over leads.from leads.to in
+      elim (cases_lt (tree_bound tree u) (tree_bound tree w + leads.link.metric)) [
+        | inl less ↦ omega (arith, less, leads.same)
+        | inr no_less ↦
+            let just : tree_bound tree u ≡ tree_bound tree w + leads.link.metric = omega (arith, near.0, no_less) in
+            omega (arith, just, is.fewer u w leads.link class leads.is.over leads.from leads.to just, leads.same)
+      ];
+  end = λ place there. omega (arith, is.end place there, is.end_links place there);
 }
 
 pub shared_tree : TreesAreShared

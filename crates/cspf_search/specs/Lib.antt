@@ -12,4 +12,3 @@ pub mod RoundSteps
 pub mod Source
 pub mod Trees
 pub mod TreeSteps
-pub mod TightWalks

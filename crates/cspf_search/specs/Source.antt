@@ -1,14 +1,10 @@
 -- Private: the source, which is the settled node (the record of a walk) whose walk the search with
 -- a heap continues, and the links from the source's router.
-use Rattle.std.specs.Prelude.{◌≡◌, ℕ, ◌≤◌, Some, List, slice_get, slice_index_or}
-use Rattle.cspf_model.specs.Database.{Database}
-use Rattle.cspf_db.specs.Index.{links_from_index, IsReverseAt}
-use Rattle.cspf_search.specs.declared.edge.Edge.{Edge}
+use Rattle.std.specs.Prelude.{◌≡◌, ℕ, ◌≤◌, List, slice_index_or}
 use Rattle.cspf_search.specs.declared.frontier.Source.{Source}
 use Rattle.cspf_search.specs.declared.labels.Label.{Label}
 use Rattle.cspf_search.specs.Arena.{AreNodes}
 use Rattle.cspf_search.specs.Frontier.{AreLabels, IsNodeAt, HeapKey, nowhere}
-use Rattle.cspf_graph.specs.Lists.{IsIndexOf}
 use Rattle.cspf_graph.specs.Roles.{IsStateIndex}
 use Rattle.cspf_search.specs.Query.{IsQuery, CrossesBefore, CrossesToRow}
 
@@ -23,13 +19,6 @@ pub record IsSource (source : Source) : Type 0 where
   pub arena : AreNodes source.nodes.now
   pub node : IsNodeAt source.query.table.now source.query.request.now source.nodes.now source.at source.state
   pub rank : source.rank ≡ (slice_index_or source.nodes.now source.at nowhere).rank
-
--- `edge` is a link from the router at the index `place`, with the index of the router at its end
--- and the index of its reverse.
-pub record IsEdge (d : Database) (place : ℕ) (edge : Edge) : Type 0 where
-  pub row : slice_get (links_from_index d place) edge.row ≡ Some edge.link.now
-  pub end : IsIndexOf d edge.link.now.to edge.end
-  pub reverse : IsReverseAt d edge.link.now edge.reverse
 
 -- The labels and the keys meet `AreLabels` for all steps from the nodes that precede the source.
 -- The steps from the source itself don't count yet. A node is the record of a walk, and a label

@@ -7,9 +7,10 @@ use Rattle.cspf_model.specs.Admissible.{HasAffinity}
 use Rattle.cspf_db.specs.Index.{links_of}
 use Rattle.cspf_search.specs.declared.tree_ring.TreeRing.{TreeRing}
 use Rattle.cspf_graph.specs.Lists.{IsIndexOf}
+use Rattle.cspf_graph.specs.Roles.{MayLeadOver}
 use Rattle.cspf_search.specs.Bounds.{bound_at}
 use Rattle.cspf_search.specs.Settled.{IsWithin}
-use Rattle.cspf_search.specs.Trees.{IsInClass, MayLeadOver}
+use Rattle.cspf_search.specs.Trees.{IsInClass}
 
 -- The costs and numbers of links of two routers are consistent over a link between the routers. The
 -- router at the link's start has the cost `near` to the tail-end, over `links` links. The router at

@@ -1,12 +1,15 @@
 -- Private: trees of lower bounds. Requests with the same tail-end and the same affinities share a
 -- tree.
-use Rattle.std.specs.Prelude.{◌≡◌, ℕ, ◌+◌, ◌≤◌, ◌⊎◌, min, nat_lt, if◌then◌else◌}
+use Rattle.std.specs.Prelude.{◌≡◌, ℕ, ◌+◌, ◌*◌, ◌≤◌, min, nat_lt, if◌then◌else◌}
 use Rattle.cspf_model.specs.declared.link.Link.{Link}
 use Rattle.cspf_model.specs.declared.request.Request.{Request}
-use Rattle.cspf_model.specs.Database.{Database, HasReverse, HasTransit, IsLinkOf}
+use Rattle.cspf_model.specs.Database.{Database, HasReverse, IsLinkOf}
 use Rattle.cspf_model.specs.Admissible.{HasAffinity}
+use Rattle.cspf_search.specs.declared.limits.TheConstants.{MOST_COUNTED_LINKS}
 use Rattle.cspf_search.specs.declared.tree.Tree.{Tree}
 use Rattle.cspf_graph.specs.Lists.{IsIndexOf}
+use Rattle.cspf_graph.specs.Roles.{MayLeadOver}
+use Rattle.cspf_walk.specs.declared.limits.TheConstants.{COST_WEIGHT}
 use Rattle.cspf_search.specs.Bounds.{bound_at}
 use Rattle.cspf_search.specs.Settled.{IsWithin}
 
@@ -25,11 +28,6 @@ pub record IsInClass (d : Database) (q : Request) (l : Link) : Type 0 where
   pub reverse : HasReverse d l
   pub affinity : HasAffinity q l
 
--- A way to the tail-end may lead over the router, because the router has transit, or it may end
--- there, because the router is the tail-end.
-abbrev pub MayLeadOver : Database → Request → ℕ → Type 0
-MayLeadOver d q router = HasTransit d router ⊎ (router ≡ q.to)
-
 -- A lower bound of the cost from the router at the index `place` to the tail-end: the lesser of the
 -- router's own cost in the tree and the tree's edge.
 abbrev pub tree_bound : Tree → ℕ → ℕ
@@ -40,6 +38,11 @@ tree_bound tree place = min (bound_at tree.near.items place) tree.edge
 -- settled.
 abbrev pub tree_links : Tree → ℕ → ℕ
 tree_links tree place = if nat_lt (bound_at tree.near.items place) tree.edge then bound_at tree.links.items place else 0
+
+-- A lower bound of the rank of a way from the router at the index `place` to the tail-end. The rank
+-- of a way packs its cost and its number of links into one number.
+abbrev pub tree_rank : Tree → ℕ → ℕ
+tree_rank tree place = tree_bound tree place * COST_WEIGHT + min (tree_links tree place) MOST_COUNTED_LINKS
 
 -- The tree belongs to the tail-end and the affinities of the request in the database. It gives for
 -- each router a lower bound of the cost to the tail-end, and a number of links. At the tail-end

@@ -2,15 +2,15 @@
 //! walk, and the index of the node for the walk before this link. So no walk is copied.
 
 ghost use Rattle.cspf_search.specs.declared.limits.TheConstants.{COST_WEIGHT};
-ghost use Rattle.std.specs.Prelude.{◌≡◌, ◌-◌, ◌/◌, ◌%◌, ◌<◌, IfOk, length};
+ghost use Rattle.std.specs.Prelude.{◌≡◌, ◌-◌, ◌*◌, ◌/◌, ◌%◌, ◌^◌, ◌<◌, IfOk, length};
 ghost use Rattle.cspf_model.specs.Walks.{cost_of};
 ghost use Rattle.cspf_search.specs.Settled.{locals_cmp};
 ghost use Rattle.cspf_search.specs.Arena.{AreNodes, IsNext, index_of, walk_at, walk_of, walks};
 
-use crate::last::Last;
 use crate::limits::COST_WEIGHT;
 use cspf_addr::Addr;
 use cspf_model::Link;
+use cspf_walk::Last;
 use std::alloc::{AllocError, Global};
 use std::cmp::Ordering;
 
@@ -29,6 +29,15 @@ pub(crate) struct Node<'a> {
     pub(crate) parent: u16,
     /// The leg of the request that the walk has reached. The first leg is leg 1.
     pub(crate) leg: u16,
+}
+
+/// How much a link's metric adds to the rank of a walk, which packs the walk's cost and its number
+/// of links into one number.
+pub(crate) fn weight(link: &Link) -> u64
+    ensures value { result ≡ link.now.metric * COST_WEIGHT }
+    ensures small { result < 2 ^ 46 }
+{
+    u64::from(link.metric) * COST_WEIGHT
 }
 
 /// The number of links of a walk with the rank `rank`, which packs the walk's cost and its number

@@ -3,20 +3,17 @@
 //! router in a leg, and a node is the record of a walk.
 
 ghost use Rattle.cspf_model.specs.declared.limits.TheConstants.{MOST_LINKS};
-ghost use Rattle.std.specs.Prelude.{◌≡◌, ◌+◌, ◌*◌, ◌%◌, ◌<◌, ◌≤◌, ◌⊎◌, Some, length, slice_get, slice_index_or, OnOk};
+ghost use Rattle.std.specs.Prelude.{◌≡◌, ◌+◌, ◌*◌, ◌%◌, ◌<◌, ◌≤◌, ◌⊎◌, Some, length, OnOk};
 ghost use Rattle.std.specs.BinaryHeap.{heap_items, heap_len};
-ghost use Rattle.cspf_db.specs.Index.{links_of, links_from_index};
-ghost use Rattle.cspf_search.specs.Arena.{AreNodes, AreInLegs, walk_of};
-ghost use Rattle.cspf_search.specs.Rounds.{CrossesBelow};
-ghost use Rattle.cspf_search.specs.Frontier.{AreLabels, AreTied, CrossesUpTo, GoesTo, IsNodeAt, IsOffer, NodeMayLeave, StaysAt, label_at, node_of, nowhere};
+ghost use Rattle.cspf_search.specs.Arena.{AreNodes, walk_of};
+ghost use Rattle.cspf_search.specs.Frontier.{AreLabels, AreTied, GoesTo, IsNodeAt, IsOffer, NodeMayLeave, StaysAt, label_at, node_of};
 ghost use Rattle.cspf_search.specs.Settled.{locals_cmp};
-ghost use Rattle.cspf_graph.specs.Lists.{AreListed, IsIndexOf};
-ghost use Rattle.cspf_graph.specs.Roles.{AreRoles, IsStateIndex};
-ghost use Rattle.cspf_search.specs.Source.{AreBefore, AreUpToRow, IsEdge, IsSource};
+ghost use Rattle.cspf_graph.specs.Roles.{IsStateIndex};
+ghost use Rattle.cspf_search.specs.Source.{AreBefore, AreUpToRow, IsSource};
+ghost use Rattle.cspf_walk.specs.Edges.{IsEdge};
 ghost use Rattle.cspf_search.specs.Query.{IsQuery, CrossesBefore};
 
 use crate::arena::{Node, links_at, locals};
-use crate::edge::Edge;
 use crate::goal::{Goal, lift};
 use crate::labels::{Label, Waiting, link_of, node_of, put};
 use crate::limits::COST_WEIGHT;
@@ -24,6 +21,7 @@ use crate::query::Query;
 use cspf_db::{NO_LINK, Table};
 use cspf_graph::{accepts, may_leave_at};
 use cspf_model::MOST_ROUTERS;
+use cspf_walk::Edge;
 use std::alloc::{AllocError, Global};
 use std::cmp::Ordering;
 use std::collections::BinaryHeap;

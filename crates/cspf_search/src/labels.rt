@@ -8,13 +8,12 @@ ghost use Rattle.cspf_db.specs.Index.{router_list, links_from_index};
 ghost use Rattle.cspf_search.specs.Arena.{AreNodes};
 ghost use Rattle.cspf_search.specs.Frontier.{lift, node_of, key_at, heap_key_cmp, Gains, IsKey, IsLeast, IsLive, IsOpenOf, HeapKey};
 
-use crate::arena::Node;
-use crate::edge::weight;
+use crate::arena::{Node, weight};
 use crate::goal::{Goal, lift};
-use crate::last::Last;
 use crate::limits::ROOM_FOR_WAITING;
 use cspf_db::Table;
 use cspf_model::{Link, Request};
+use cspf_walk::Last;
 use std::alloc::{AllocError, Global};
 use std::cmp::Reverse;
 use std::collections::BinaryHeap;

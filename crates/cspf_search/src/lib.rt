@@ -9,13 +9,11 @@
 
 mod arena;
 mod bounds;
-mod edge;
 mod floor;
 mod forward_star;
 mod frontier;
 mod goal;
 mod labels;
-mod last;
 mod laws;
 mod limits;
 mod query;
@@ -27,7 +25,6 @@ mod strict;
 mod tree;
 mod tree_ring;
 mod tree_steps;
-mod walk;
 
 pub use cspf_model::{MOST_ROUTE_LINKS, Outcome, Route};
 pub use laws::trees_are_shared;

@@ -26,5 +26,5 @@ pub(crate) const ROOM_FOR_WAITING: usize = 512;
 /// The number of settled nodes (records of walks) for which a search reserves room at the start.
 pub(crate) const ROOM_FOR_NODES: usize = 64;
 
-/// The number of links for which a walk reserves room at the start.
-pub(crate) const ROOM_FOR_LINKS: usize = 16;
+/// The greatest number of links of a way that counts in the rank of a tree's bound.
+pub(crate) const MOST_COUNTED_LINKS: u16 = 1023;

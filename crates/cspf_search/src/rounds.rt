@@ -3,27 +3,24 @@
 //! settled node if a lower bound shows that all nodes that this one leads to come after the best
 //! node found so far.
 
-ghost use Rattle.std.specs.Prelude.{◌≡◌, ◌⊎◌, ◌+◌, ◌-◌, ◌%◌, ◌<◌, ◌↔◌, true, Some, None, IsTrue, length, slice_get, slice_index_or};
+ghost use Rattle.std.specs.Prelude.{◌≡◌, ◌⊎◌, ◌+◌, ◌-◌, ◌%◌, ◌<◌, ◌↔◌, true, Some, None, IsTrue, length};
 ghost use Rattle.std.specs.Option.{ForSome, IsSomeAnd};
 ghost use Rattle.cspf_db.specs.Index.{links_of, links_from_index};
 ghost use Rattle.cspf_search.specs.Settled.{state_cmp};
-ghost use Rattle.cspf_search.specs.Arena.{AreNodes, AreInLegs, IsNext, state_of, index_of, walk_of};
+ghost use Rattle.cspf_search.specs.Arena.{AreNodes, IsNext, index_of, walk_of};
 ghost use Rattle.cspf_search.specs.Rounds.{CrossesFrom, IsFirst, earlier_of};
-ghost use Rattle.cspf_graph.specs.Lists.{AreListed, IsIndexOf};
-ghost use Rattle.cspf_graph.specs.Roles.{AreRoles};
-ghost use Rattle.cspf_search.specs.Frontier.{IsNodeAt, NodeMayLeave, no_rank, nowhere, state_at};
+ghost use Rattle.cspf_search.specs.Frontier.{NodeMayLeave, no_rank, state_at};
 ghost use Rattle.cspf_search.specs.Query.{CrossesBefore};
 ghost use Rattle.cspf_search.specs.RoundSteps.{AreLows, IsLook, IsRound, LeadsToRow, low_of};
-ghost use Rattle.cspf_search.specs.Source.{IsEdge};
+ghost use Rattle.cspf_walk.specs.Edges.{IsEdge};
 
-use crate::arena::{Node, links_at, locals};
-use crate::edge::{Edge, weight};
+use crate::arena::{Node, links_at, locals, weight};
 use crate::forward_star::ForwardStar;
-use crate::last::Last;
 use crate::query::Query;
 use cspf_db::{NO_LINK, Table};
 use cspf_graph::{accepts, may_leave_at};
 use cspf_model::{Link, MOST_ROUTERS, Request};
+use cspf_walk::{Edge, Last};
 use std::cmp::Ordering;
 
 /// Compares two nodes by the cost of their walks, then by the number of links, then by the leg, and

@@ -5,7 +5,6 @@ ghost use Rattle.cspf_search.specs.Bounds.{bound_at};
 ghost use Rattle.cspf_model.specs.declared.limits.TheConstants.{MOST_ROUTE_LINKS};
 ghost use Rattle.cspf_search.specs.declared.limits.TheConstants.{NO_WAY};
 ghost use Rattle.std.specs.Prelude.{◌≡◌, ◌+◌, ◌*◌, ◌<◌, ◌≤◌, ◌⊎◌, None, ◌∷◌, [], IfOk, IfSome, IfNone, OnOk, length, true};
-ghost use Rattle.cspf_model.specs.declared.link.Link.{Link as Linked};
 ghost use Rattle.cspf_model.specs.Best.{HasEnds, IsBestAnswer};
 ghost use Rattle.cspf_model.specs.Database.{IsRouterOf};
 ghost use Rattle.cspf_model.specs.Outcome.{answer_of};
@@ -28,15 +27,14 @@ use crate::forward_star::star_of;
 use crate::frontier::expand;
 use crate::goal::Goal;
 use crate::labels::{Label, OPEN, SETTLED, Waiting, drop_closed, least, node_of};
-use crate::last::Last;
 use crate::limits::{NO_WAY, ROOM_FOR_NODES, ROOM_FOR_WAITING};
 use crate::query::Query;
 use crate::rounds::{Round, first};
 use crate::tree::Tree;
-use crate::walk::walk_by_tree;
 use cspf_db::Table;
 use cspf_graph::{find_roles, listed};
 use cspf_model::{MOST_ROUTERS, Outcome, Request, Route};
+use cspf_walk::{Last, LocatedRequest, follow};
 use std::alloc::{AllocError, Global};
 use std::collections::BinaryHeap;
 
@@ -309,7 +307,16 @@ pub fn best_by_walk(
     let Some(tail_end) = table.place_of(request.to) else {
         return Ok(Some(Outcome::UnknownTo));
     };
-    let Some(route) = walk_by_tree(alloc, table, request, tree, head_end, tail_end)? else {
+    if !request.hops.is_empty() {
+        return Ok(None);
+    }
+    let query = LocatedRequest {
+        table,
+        request,
+        from: head_end,
+        to: tail_end,
+    };
+    let Some(route) = follow(alloc, query, tree)? else {
         return Ok(None);
     };
     Ok(Some(Outcome::Route(route)))

@@ -3,12 +3,14 @@
 ghost use Rattle.std.specs.Prelude.{◌≡◌, length};
 ghost use Rattle.cspf_model.specs.declared.limits.TheConstants.{MOST_ROUTERS};
 
+use crate::limits::MOST_COUNTED_LINKS;
 use crate::ring_edge::least_open;
 use crate::tree_ring::TreeRing;
 use crate::tree_steps::settle;
 use cspf_db::Table;
 use cspf_graph::listed;
 use cspf_model::{MOST_ROUTERS, Request};
+use cspf_walk::{COST_WEIGHT, LowerBounds};
 use std::alloc::{AllocError, Global};
 
 /// For each router, a lower bound of the cost from this router to one tail-end. The bound holds for
@@ -62,8 +64,8 @@ impl Tree {
         Ok(Some(Tree { near, links, edge }))
     }
 
-    /// The bound of the router at the index `place` in the list of routers.
-    pub(crate) fn bound(&self, place: usize) -> u32
+    /// The bound of the cost from the router at the index `place` in the list of routers.
+    fn least_cost(&self, place: usize) -> u32
         requires { place < MOST_ROUTERS }
         ensures { result ≡ tree_bound self.now place }
     {
@@ -73,7 +75,7 @@ impl Tree {
     /// A lower bound of the number of links of certain ways from the router at the index `place` to
     /// the tail-end: those that cost no more than the router's bound. It is 0 if the router's bound
     /// is the edge, the least cost of the routers that the search hasn't settled.
-    pub(crate) fn least_links(&self, place: usize) -> u16
+    fn least_links(&self, place: usize) -> u16
         requires { place < MOST_ROUTERS }
         ensures { result ≡ tree_links self.now place }
     {
@@ -82,5 +84,16 @@ impl Tree {
         } else {
             0
         }
+    }
+}
+
+impl LowerBounds for Tree {
+    ghost use Rattle.cspf_search.specs.Trees.{tree_rank};
+
+    ghost bound_of = { tree_rank };
+
+    fn bound(&self, place: usize) -> u64 {
+        let links = self.least_links(place).min(MOST_COUNTED_LINKS);
+        u64::from(self.least_cost(place)) * COST_WEIGHT + u64::from(links)
     }
 }

@@ -2,19 +2,18 @@
 //! direction, and settles all routers. The search uses a link only if the link has a reverse and
 //! passes the affinities.
 
-ghost use Rattle.std.specs.Prelude.{◌≡◌, ◌≢◌, ◌<◌, ◌↔◌, ℕ, IsTrue, OnOk, length, slice_index};
+ghost use Rattle.std.specs.Prelude.{◌≡◌, ◌≢◌, ◌<◌, OnOk, length};
 ghost use Rattle.cspf_columns.specs.declared.limits.TheConstants.{NO_LINK};
 ghost use Rattle.cspf_model.specs.declared.limits.TheConstants.{MOST_ROUTERS};
 ghost use Rattle.cspf_model.specs.Database.{AreLinksOf};
 ghost use Rattle.cspf_db.specs.Index.{links_of, router_list};
 ghost use Rattle.cspf_graph.specs.Lists.{AreListed};
-ghost use Rattle.cspf_search.specs.Trees.{MayLeadOver};
 ghost use Rattle.cspf_search.specs.TreeSteps.{AreLinksPassed, IsLinkPassed, IsTreeLower, IsTreeRing, TreeFalls};
 
 use crate::limits::FARTHEST;
 use crate::tree_ring::TreeRing;
 use cspf_db::{NO_LINK, Table};
-use cspf_graph::accepts;
+use cspf_graph::{accepts, may_lead_over};
 use cspf_model::{MOST_ROUTERS, Request};
 use std::alloc::AllocError;
 
@@ -74,15 +73,6 @@ fn walk(
         pass(table, any, ends[row], reverses[row], base, count, ring)?;
     }
     Ok(())
-}
-
-/// Whether a way to the tail-end may lead over the router `to` or end there.
-pub(crate) fn may_lead_over(table: &Table, any: &Request, to: usize) -> bool
-    requires { to < length (router_list table.now) }
-    ensures { IsTrue result
-        ↔ MayLeadOver table.now any.now (slice_index (router_list table.now) to) }
-{
-    table.transit_at(to) || table.routers()[to] == any.to
 }
 
 /// Looks at all links that end at the router `to`, and offers the router at the start of each link

@@ -2,7 +2,7 @@ use Rattle.std.proofs.Common.{inl, sym, ap, subst, ◌∙◌, arith}
 use Rattle.std.proofs.lemmas.Bool.{false≢true}
 use Rattle.cspf_model.specs.Admissible.{IsAdmitted}
 use Rattle.cspf_meet.specs.Looks.{MayReach}
-use Rattle.cspf_meet.specs.Ways.{link_step}
+use Rattle.cspf_walk.specs.Ways.{link_step}
 use Rattle.cspf_meet.proofs.Looked.{link_read}
 use Rattle.cspf_meet.proofs.narrow.pass.Goals as goal
 

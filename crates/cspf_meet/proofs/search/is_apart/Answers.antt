@@ -1,7 +1,7 @@
 use Rattle.std.proofs.Common.{arith}
 use Rattle.cspf_meet.proofs.Apart.{ahead_found, back_found}
-use Rattle.cspf_meet.proofs.LinkRows.{no_elements}
-use Rattle.cspf_meet.proofs.TightWalks.{route_way}
+use Rattle.cspf_graph.proofs.LinkRows.{no_elements}
+use Rattle.cspf_walk.proofs.TightWalks.{route_way}
 use Rattle.cspf_meet.proofs.search.is_apart.Goals as goal
 
 pub returns-then-is_cut : goal.returns-then-is_cut

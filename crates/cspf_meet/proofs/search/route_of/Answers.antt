@@ -1,8 +1,7 @@
 use Rattle.std.proofs.Common.{◌≡◌, sym, ap, subst, arith}
 use Rattle.cspf_meet.specs.Corridors.{NoneNeedsLook}
 use Rattle.cspf_meet.specs.Labels.{rank_at}
-use Rattle.cspf_meet.specs.Looks.{AreLookedAt}
-use Rattle.cspf_meet.specs.Ways.{LeadsBack}
+use Rattle.cspf_meet.specs.Looks.{AreLookedAt, LeadsBack}
 use Rattle.cspf_meet.proofs.RankBounds.{bound_of}
 use Rattle.cspf_meet.proofs.search.route_of.Goals as goal
 

@@ -3,7 +3,7 @@ use Rattle.cspf_db.specs.Index.{links_from_index}
 use Rattle.cspf_search.specs.Bounds.{IsPassed}
 use Rattle.cspf_graph.specs.Roles.{MayBeLeft}
 use Rattle.cspf_search.proofs.Looked.{some_at}
-use Rattle.cspf_search.proofs.Reversed.{as_many, found_back}
+use Rattle.cspf_graph.proofs.LinkRows.{as_many, found_back}
 use Rattle.cspf_search.proofs.bounds.walk.Goals as goal
 
 pub pass-requires-clause-within : goal.pass-requires-clause-within

@@ -8,8 +8,8 @@ use Rattle.cspf_search.specs.Rounds.{CrossesBelow}
 use Rattle.cspf_search.specs.Frontier.{CrossesUpTo}
 use Rattle.cspf_search.proofs.Expanded.{turn_below, below_turn, all_below, below_all}
 use Rattle.cspf_search.proofs.Offered.{labels_same}
-use Rattle.cspf_search.proofs.Reversed.{reverse_of_row}
-use Rattle.cspf_search.proofs.Taken.{end_of_row, few_rows}
+use Rattle.cspf_graph.proofs.LinkRows.{reverse_of_row, end_of_row}
+use Rattle.cspf_search.proofs.Taken.{few_rows}
 use Rattle.cspf_search.proofs.frontier.expand.Goals as goal
 
 pub offer_link-requires-clause-edge : goal.offer_link-requires-clause-edge

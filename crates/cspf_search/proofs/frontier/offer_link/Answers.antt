@@ -10,7 +10,7 @@ use Rattle.cspf_search.specs.Frontier.{nowhere, label_at}
 use Rattle.cspf_search.proofs.Expanded.{link_index}
 use Rattle.cspf_search.proofs.Heaps.{rank_read}
 use Rattle.cspf_search.proofs.Ranks.{rank_at}
-use Rattle.cspf_search.proofs.Reversed.{has_reverse}
+use Rattle.cspf_graph.proofs.LinkRows.{has_reverse}
 use Rattle.cspf_search.proofs.Taken.{few_rows, link_told, link_off, link_late, link_offer, link_tied, link_taken}
 use Rattle.cspf_search.proofs.frontier.offer_link.Goals.{then-edge-eq-NO_LINK-via-then-edge-eq-NO_LINK, then-edge-eq-NO_LINK-via-else-edge-eq-NO_LINK+then-not-accepts}
 use Rattle.cspf_search.proofs.frontier.offer_link.Goals as goal

@@ -10,7 +10,7 @@ use Rattle.cspf_search.proofs.Expanded.{link_index}
 use Rattle.cspf_search.proofs.Backs.{by_next}
 use Rattle.cspf_search.proofs.Ranks.{rank_at}
 use Rattle.cspf_search.proofs.Looked.{along, no_link, link_late, link_kept}
-use Rattle.cspf_search.proofs.Reversed.{has_reverse}
+use Rattle.cspf_graph.proofs.LinkRows.{has_reverse}
 use Rattle.cspf_search.proofs.rounds.look_at_link.Goals.{then-edge-eq-NO_LINK-via-then-edge-eq-NO_LINK, then-edge-eq-NO_LINK-via-else-edge-eq-NO_LINK+then-not-accepts}
 use Rattle.cspf_search.proofs.rounds.look_at_link.Goals as goal
 

@@ -6,7 +6,7 @@ use Rattle.cspf_search.specs.Arena.{state_of}
 use Rattle.cspf_search.specs.Frontier.{nowhere}
 use Rattle.cspf_graph.specs.Lists.{IsIndexOf}
 use Rattle.cspf_search.proofs.Looked.{row_end, row_settled, row_left}
-use Rattle.cspf_search.proofs.Reversed.{reverse_of_row}
+use Rattle.cspf_graph.proofs.LinkRows.{reverse_of_row}
 use Rattle.cspf_search.proofs.rounds.look_at_row.Goals as goal
 
 pub returns-then-marks-star : goal.returns-then-marks-star

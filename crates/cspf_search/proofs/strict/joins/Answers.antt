@@ -5,9 +5,8 @@ use Rattle.cspf_model.specs.Admissible.{IsUsable}
 use Rattle.cspf_db.specs.Index.{links_from_index}
 use Rattle.cspf_graph.specs.RoleSteps.{nothing}
 use Rattle.cspf_graph.specs.Roles.{MayTurn}
-use Rattle.cspf_search.proofs.Expanded.{kept_from}
+use Rattle.cspf_graph.proofs.LinkRows.{kept_from, end_of_row}
 use Rattle.cspf_search.proofs.LegBounds.{told_target}
-use Rattle.cspf_search.proofs.Taken.{end_of_row}
 use Rattle.cspf_search.proofs.strict.joins.Goals as goal
 use Rattle.cspf_search.proofs.strict.joins.Goals.{else-query-first-2-via-then-query-first-2+else-admissible, else-query-first-2-via-else-query-first-2}
 

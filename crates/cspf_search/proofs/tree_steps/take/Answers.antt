@@ -2,7 +2,7 @@ use Rattle.std.proofs.Common.{◌≡◌, sym, length, ap, subst, ◌∙◌, arit
 use Rattle.std.proofs.lemmas.List.{get_or_read}
 use Rattle.std.proofs.lemmas.Bool.{false≢true}
 use Rattle.cspf_search.specs.Bounds.{bound_at}
-use Rattle.cspf_search.specs.Trees.{MayLeadOver}
+use Rattle.cspf_graph.specs.Roles.{MayLeadOver}
 use Rattle.cspf_search.proofs.Trees.{fallen_tree, none_over, one_more_done}
 use Rattle.cspf_search.proofs.tree_steps.take.Goals.{then-to-routers-via-then-to-routers, then-to-routers-via-else-to-routers+then-not-may_lead_over}
 use Rattle.cspf_search.proofs.tree_steps.take.Goals as goal

@@ -2,7 +2,7 @@ use Rattle.std.proofs.Common.{◌<◌, length, slice_index, subst, arith}
 use Rattle.cspf_db.specs.Index.{links_from_index}
 use Rattle.cspf_search.specs.TreeSteps.{IsLinkPassed}
 use Rattle.cspf_search.proofs.Looked.{some_at}
-use Rattle.cspf_search.proofs.Reversed.{as_many, found_back}
+use Rattle.cspf_graph.proofs.LinkRows.{as_many, found_back}
 use Rattle.cspf_search.proofs.tree_steps.walk.Goals as goal
 
 pub pass-requires-clause-within : goal.pass-requires-clause-within

@@ -1,4 +1,5 @@
-use Rattle.cspf_meet.specs.Ways.{Leads, LeadsBack}
+use Rattle.cspf_meet.specs.Looks.{LeadsBack}
+use Rattle.cspf_walk.specs.Ways.{Leads}
 use Rattle.cspf_meet.proofs.Falling.{looked_begun}
 use Rattle.cspf_meet.proofs.meeting.Meeting.begin.Goals as goal
 

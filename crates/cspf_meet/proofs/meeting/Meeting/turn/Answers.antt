@@ -1,5 +1,6 @@
 use Rattle.std.proofs.Common.{arith}
-use Rattle.cspf_meet.specs.Ways.{Leads, LeadsBack}
+use Rattle.cspf_meet.specs.Looks.{LeadsBack}
+use Rattle.cspf_walk.specs.Ways.{Leads}
 use Rattle.cspf_meet.proofs.Falling.{looked_less}
 use Rattle.cspf_meet.proofs.meeting.Meeting.turn.Goals as goal
 

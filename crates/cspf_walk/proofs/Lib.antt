@@ -1,0 +1,2 @@
+pub mod ShorterWays
+pub mod TightWalks
