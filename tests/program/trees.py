@@ -19,7 +19,8 @@ from reference import changes, runs
 from reference.versions import Versions
 
 HERE = os.path.dirname(os.path.abspath(__file__))
-OFTEN = 20  # rounds of all requests; the sixth of one tail-end and affinities has a tree
+OFTEN = 20  # rounds of all requests at each version, in solve and serve: 800 requests pay for a first tree
+ALL_AT_ONCE = 300  # rounds of all requests, in batch and live: their requests pay for trees by each of 4 workers
 WAYS = [[], ["--trees", "0"], ["--trees", "1"], ["--trees", "1024"]]
 WRONG = ["-1", "1025", "x", "", "1.5", "65536", "18446744073709551617"]
 CLIENTS = 3
@@ -92,13 +93,14 @@ def answered(program, checks, versions, words):
         return status, joined(lines).encode(), b""
 
     checks.stream(f"solve {words}", rows.splitlines(keepends=True), lambda some: program.run(["solve", *words], "".join(some)), right)
-    lines = joined(f"version {at}" for at in range(1, last + 1)) + joined(versions.replies[last]) * OFTEN
+    many = joined(versions.asks) * ALL_AT_ONCE
+    lines = joined(f"version {at}" for at in range(1, last + 1)) + joined(versions.replies[last]) * ALL_AT_ONCE
     for workers in ("1", "4"):
-        found = program.batch(versions.texts[last], rounds, "--workers", workers, *words)
+        found = program.batch(versions.texts[last], many, "--workers", workers, *words)
         checks.same(f"batch by {workers} workers {words}", found, (0, lines.encode(), b""))
-    (status, out, err), kept = ran_live(program, versions.texts[last], rounds, "4", *words)
+    (status, out, err), kept = ran_live(program, versions.texts[last], many, "4", *words)
     replies, end = out.decode().splitlines()[:-1], out.decode().splitlines()[-1:]
-    checks.true(f"live {words}", (status, err, end) == (0, b"", [f"applied {last}"]) and len(replies) == OFTEN * len(versions.asks)
+    checks.true(f"live {words}", (status, err, end) == (0, b"", [f"applied {last}"]) and len(replies) == ALL_AT_ONCE * len(versions.asks)
                 and versions.are_right(replies), (status, err, end))
     checks.same(f"the journal of live {words}", kept, versions.texts[last].encode())
     with tempfile.TemporaryDirectory() as room, Serving(program, room, CLIENTS, *words) as run:

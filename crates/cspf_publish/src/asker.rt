@@ -4,6 +4,7 @@
 ghost use Rattle.std.specs.Prelude.{◌≡◌, ◌⊎◌, length, IfOk, IfErr};
 ghost use Rattle.std.specs.Arc.{arc_value};
 ghost use Rattle.left_right.specs.Sides.{view};
+ghost use Rattle.cspf_model.specs.Changes.{database_after};
 ghost use Rattle.cspf_publish.specs.Answers.{IsAnswerAfter};
 ghost use Rattle.cspf_publish.specs.AskerStates.{asker_with, known_of};
 ghost use Rattle.cspf_journal.specs.Histories.{BeginsWith, IsHistory};
@@ -12,11 +13,13 @@ ghost use Rattle.cspf_journal.specs.KnownBatches.{KnownBatches};
 ghost use Rattle.cspf_journal.specs.Readings.{CatchesUp};
 ghost use Rattle.cspf_publish.specs.ReplicaRule.{KnowsItsEntry};
 
-use crate::asker_seat::{AskerSeat, ReplicaReader, enter_and_search};
+use crate::asker_seat::{AskerSeat, ReplicaReader, enter_and_copy, enter_and_search};
 use crate::{Answer, AskError, Told};
 use core::mem::replace_with;
+use cspf_db::Table;
 use cspf_journal::{Known, PublishedCount, RowOfReader, SeenSteps};
 use cspf_model::Request;
+use cspf_trees::Growth;
 use std::alloc::Global;
 use std::marker::Model;
 use std::sync::Arc;
@@ -63,6 +66,7 @@ impl Asker {
             reader,
             trees: None,
             most_trees,
+            growth: Growth::AsPaid,
         };
         Asker { seat, known, count }
     }
@@ -95,6 +99,40 @@ impl Asker {
             }),
             Err(refused) => Err(AskError::from(refused)),
         }
+    }
+
+    /// Returns a copy of the table of the last published version. After the call the asker knows the
+    /// batches of that version. On `NoEntry` the asker is unchanged. On `Memory` it may know more
+    /// batches than before, and nothing else has changed.
+    pub fn table(&mut self, alloc: Global) -> Result<Table, AskError>
+        ensures source { self.new.source ≡ self.old.source }
+        ensures later { BeginsWith self.new.batches self.old.batches }
+        ensures table { IfOk result (λ table. table ≡ database_after self.new.batches) }
+        ensures no_entry { IfErr result (λ error. error ≡ AskError.NoEntry → self.new ≡ self.old) }
+        ensures trees { self.new.most_trees ≡ self.old.most_trees }
+    {
+        let entry = replace_with(&mut self.seat, alloc, enter_and_copy);
+        let Some((known, table)) = entry else {
+            return Err(AskError::NoEntry);
+        };
+        let is_later = self.known.raise(&known);
+        if !is_later {
+            return Err(AskError::NoEntry);
+        }
+        match table {
+            Ok(table) => Ok(table),
+            Err(refused) => Err(AskError::from(refused)),
+        }
+    }
+
+    /// Says when the asker (which answers requests) grows trees of lower bounds from now on, and
+    /// drops the trees that it has. Without this call trees are grown as a budget pays for them. The
+    /// answers don't depend on it.
+    pub fn set_growth(&mut self, growth: Growth)
+        ensures { self.new ≡ self.old }
+    {
+        self.seat.trees = None;
+        self.seat.growth = growth;
     }
 
     /// Learns of the batches that were published when `told` was made, if they are more than the

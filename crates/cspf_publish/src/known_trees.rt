@@ -9,7 +9,7 @@ ghost use Rattle.cspf_publish.specs.ReplicaRule.{HasItsDatabase, CountsShapeChan
 use crate::replica::Replica;
 use cspf_journal::Known;
 use cspf_model::{Outcome, Request};
-use cspf_trees::{Trees, trees_outlast_bandwidth};
+use cspf_trees::{Growth, Trees, trees_outlast_bandwidth};
 use std::alloc::{AllocError, Global};
 use std::marker::Model;
 
@@ -39,13 +39,13 @@ impl Model for KnownTrees {
 
 impl KnownTrees {
     /// Makes an empty value with capacity for at most `most` trees of lower bounds in a replica's
-    /// database.
-    pub(crate) fn new(alloc: Global, replica: &Replica, most: usize) -> KnownTrees
+    /// database. The trees are grown when `growth` says.
+    pub(crate) fn new(alloc: Global, replica: &Replica, most: usize, growth: Growth) -> KnownTrees
         requires { CountsShapeChanges replica.now }
         ensures { result ≡ asker_with replica.now.known most }
     {
         KnownTrees {
-            trees: Trees::new(alloc, most),
+            trees: Trees::with_growth(alloc, most, growth),
             known: replica.known.copy(),
             shape_changes: replica.shape_changes,
         }

@@ -28,7 +28,7 @@ pub use answer::Answer;
 pub use asker::Asker;
 pub use cspf_journal::{Known, RowOfReader, SeenSteps};
 pub use cspf_model::MOST_VERSIONS;
-pub use cspf_trees::{MOST_TREE_MEGABYTES, TREE_MEGABYTES, trees_in};
+pub use cspf_trees::{Growth, MOST_TREE_MEGABYTES, TREE_MEGABYTES, growth_for, trees_in};
 pub use errors::{ApplyError, AskError, OpenError};
 pub use limits::MOST_ASKERS;
 pub use publisher::{Publisher, open, open_over};

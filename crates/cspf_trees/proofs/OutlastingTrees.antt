@@ -14,9 +14,10 @@ use Rattle.cspf_model.specs.Admissible.{HasAffinity}
 use Rattle.cspf_db.specs.Index.{router_list}
 use Rattle.cspf_db.specs.Shapes.{shape_of, HaveOneShape, ShapesTellRouters}
 use Rattle.cspf_graph.specs.Lists.{IsIndexOf}
+use Rattle.cspf_graph.specs.Roles.{MayLeadOver}
 use Rattle.cspf_search.specs.declared.tree.Tree.{Tree}
 use Rattle.cspf_search.specs.Settled.{IsWithin}
-use Rattle.cspf_search.specs.Trees.{IsInClass, IsTree, MayLeadOver, tree_bound}
+use Rattle.cspf_search.specs.Trees.{IsInClass, IsTree, tree_bound}
 use Rattle.cspf_trees.specs.declared.owner_row.OwnerRow.{OwnerRow}
 use Rattle.cspf_trees.specs.declared.tree_row.TreeRow.{TreeRow}
 use Rattle.cspf_trees.specs.declared.trees.Trees.{Trees}

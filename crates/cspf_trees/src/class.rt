@@ -37,15 +37,19 @@ fn mixed(hash: u64, number: u32) -> u64 {
     (hash ^ u64::from(number)).wrapping_mul(0x9e37_79b9_7f4a_7c15)
 }
 
+/// A hash of a class. A class is all requests with one tail-end and the same affinities.
+pub(crate) fn hash_of(class: &Class) -> u64 {
+    let hash = mixed(0, class.to.number());
+    let hash = mixed(hash >> 8, class.exclude_any.bits());
+    let hash = mixed(hash >> 8, class.include_any.bits());
+    mixed(hash >> 8, class.include_all.bits())
+}
+
 /// The index of the first row for a class. The class may have its row here or in the next `WAYS` -
 /// 1 rows. A class is all requests with one tail-end and the same affinities.
 pub(crate) fn first_row(class: &Class) -> usize
     ensures { result + WAYS ≤ MOST_TREES }
 {
-    let hash = mixed(0, class.to.number());
-    let hash = mixed(hash >> 8, class.exclude_any.bits());
-    let hash = mixed(hash >> 8, class.include_any.bits());
-    let hash = mixed(hash >> 8, class.include_all.bits());
-    let bucket = (hash >> 40) as usize % (MOST_TREES / WAYS);
+    let bucket = (hash_of(class) >> 40) as usize % (MOST_TREES / WAYS);
     bucket * WAYS
 }

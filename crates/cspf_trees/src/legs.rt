@@ -30,7 +30,7 @@ enum LegStep {
 }
 
 /// Whether a request has hops and all of them are loose.
-fn has_loose_hops(request: &Request) -> bool
+pub(crate) fn has_loose_hops(request: &Request) -> bool
     ensures { result ≡ true → (at : ℕ) → IsLoose (slice_get request.now.hops at) }
 {
     !request.hops.is_empty() && request.hops.as_slice().iter().all(|hop| hop.loose)

@@ -10,6 +10,8 @@
 #![tactic(auto)]
 
 mod class;
+mod counting;
+mod growth;
 mod laws;
 mod leg_walk;
 mod legs;
@@ -21,7 +23,10 @@ mod tree_row;
 mod tree_table;
 mod trees;
 
+pub use counting::growth_for;
+pub use growth::Growth;
 pub use laws::trees_outlast_bandwidth;
 pub use limits::{MOST_TREE_MEGABYTES, MOST_TREES, TREE_BYTES, TREE_MEGABYTES, trees_in};
+pub use searches::best_without_tree;
 pub use tree_table::TreeTable;
 pub use trees::Trees;

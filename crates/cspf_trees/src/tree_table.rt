@@ -7,6 +7,7 @@ ghost use Rattle.cspf_model.specs.Outcome.{answer_of};
 ghost use Rattle.cspf_model.specs.Refusals.{IsRefusal};
 ghost use Rattle.cspf_trees.specs.declared.limits.TheConstants.{MOST_TREES};
 
+use crate::growth::Growth;
 use crate::limits::MOST_TREES;
 use crate::trees::Trees;
 use cspf_db::Table;
@@ -52,9 +53,18 @@ impl TreeTable {
         ensures { IfOk result (λ table.
             table ≡ record { database = no_links; most_trees = most }) }
     {
+        TreeTable::with_growth(alloc, most, Growth::AsPaid)
+    }
+
+    /// An empty table without trees, which will have at most `most` trees. They are grown when
+    /// `growth` says.
+    pub fn with_growth(alloc: Global, most: usize, growth: Growth) -> Result<TreeTable, AllocError>
+        ensures { IfOk result (λ table.
+            table ≡ record { database = no_links; most_trees = most }) }
+    {
         Ok(TreeTable {
             table: Table::new(alloc)?,
-            trees: Trees::new(alloc, most),
+            trees: Trees::with_growth(alloc, most, growth),
         })
     }
 

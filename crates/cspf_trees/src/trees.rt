@@ -4,20 +4,22 @@ ghost use Rattle.std.specs.Prelude.{◌≡◌, ◌≤◌, All};
 ghost use Rattle.cspf_trees.specs.TreeRows.{tree_count};
 
 use crate::class::{class_of, first_row};
+use crate::growth::{Budget, Growth};
 use crate::laws::trees_outlast_bandwidth;
 use crate::limits::{ASKS_FOR_A_TREE, MOST_ASKS, MOST_TREES};
 use crate::owners::Owners;
-use crate::searches::{best_with_tree, best_without_tree};
+use crate::searches::{best_after_walk, best_without_tree};
 use crate::tree_row::{TreeRow, ask, empty_rows, find, trees_of};
 use cspf_addr::{Addr, Prefix};
 use cspf_db::Table;
 use cspf_model::{Batch, Outcome, Request};
+use cspf_search::best_by_walk;
 use std::alloc::{AllocError, Global};
 
 /// Trees of one database. There are at most `MOST_TREES` trees, and no more than the limit that was
-/// given to `new`. The bounds of each tree need `TREE_BYTES` bytes. A tree is grown at the sixth
-/// request without hops for its tail-end and affinities. If no further tree is allowed, or memory
-/// is refused, requests are answered without a tree.
+/// given to `new`. The bounds of each tree need `TREE_BYTES` bytes. A `Growth` says when a tree is
+/// grown for a tail-end and affinities. If no further tree is allowed, or memory is refused,
+/// requests are answered without a tree.
 ///
 /// Each row for a class counts the requests of this class: those with one tail-end and the same
 /// affinities. These rows need 393,216 bytes, which are allocated at the first request. The rows
@@ -33,9 +35,11 @@ pub struct Trees {
     generation: u64,
     /// The greatest number of trees that is allowed.
     most: usize,
-    /// The number of requests without hops that must be counted for a class before its tree is
-    /// grown. A class is all requests with one tail-end and the same affinities.
-    due: u32,
+    /// When the tree of a class is grown. A class is all requests with one tail-end and the same
+    /// affinities.
+    growth: Growth,
+    /// What may be spent on trees, if they are grown as a budget pays for them.
+    budget: Budget,
     /// The number of trees in all rows, including rows of earlier generations. A new generation
     /// begins each time that all trees are forgotten.
     count: usize,
@@ -59,17 +63,25 @@ impl Trees {
     ghost use Rattle.cspf_trees.specs.Trees.{AreTreesOf};
 
     /// An empty set of trees, which can be used with any database. It will have at most `most`
-    /// trees. The call allocates no memory.
+    /// trees, and they are grown as a budget pays for them. The call allocates no memory.
     pub fn new(alloc: Global, most: usize) -> Trees
         ensures trees { (d : Database) → AreTreesOf d result }
         ensures most { result.most ≡ most }
     {
-        Trees::from_ask(alloc, most, ASKS_FOR_A_TREE)
+        Trees::with_growth(alloc, most, Growth::AsPaid)
     }
 
     /// Like `new`, but a tree is grown at the `due`-th request without hops for its tail-end and
-    /// affinities. A `due` above 64 counts as 64.
+    /// affinities, whatever it costs. A `due` above 64 counts as 64.
     pub fn from_ask(alloc: Global, most: usize, due: u32) -> Trees
+        ensures trees { (d : Database) → AreTreesOf d result }
+        ensures most { result.most ≡ most }
+    {
+        Trees::with_growth(alloc, most, Growth::FromAsk(due))
+    }
+
+    /// Like `new`, but trees are grown when `growth` says.
+    pub fn with_growth(alloc: Global, most: usize, growth: Growth) -> Trees
         ensures trees { (d : Database) → AreTreesOf d result }
         ensures most { result.most ≡ most }
     {
@@ -77,7 +89,8 @@ impl Trees {
             rows: Vec::new(alloc),
             generation: 0,
             most,
-            due: due.min(MOST_ASKS),
+            growth,
+            budget: Budget::new(most),
             count: 0,
             owners: Owners::new(alloc, most > 0),
         }
@@ -114,6 +127,25 @@ impl Trees {
         self.clear();
     }
 
+    /// The number of trees in memory.
+    pub fn count(&self) -> usize
+        ensures count { result ≡ self.now.count }
+        ensures most { result ≤ self.now.most }
+    {
+        self.count
+    }
+
+    /// The number of requests that must be counted for a class before its tree is grown, or `None`
+    /// if no tree may be grown now. A class is all requests with one tail-end and the same
+    /// affinities.
+    fn due(&self) -> Option<u32> {
+        match self.growth {
+            Growth::FromAsk(due) => Some(due.min(MOST_ASKS)),
+            Growth::AsPaid if self.budget.pays_for_a_tree() => Some(ASKS_FOR_A_TREE),
+            _ => None,
+        }
+    }
+
     /// Allocates the rows that count requests and keep trees, if there are none yet and trees are
     /// allowed. Returns whether there are rows.
     #[tactic(auto, unfolding(crate::specs::Trees::AreTreesOf))]
@@ -125,7 +157,7 @@ impl Trees {
         if self.rows.len() == MOST_TREES {
             return true;
         }
-        if self.most == 0 {
+        if self.most == 0 || self.growth == Growth::Never {
             return false;
         }
         match empty_rows(alloc) {
@@ -157,7 +189,7 @@ impl Trees {
         let generation = self.generation;
         let at = find(&self.rows, first_row(&class), &class, generation);
         let due = if self.count < self.most {
-            Some(self.due)
+            self.due()
         } else {
             None
         };
@@ -166,6 +198,7 @@ impl Trees {
         let asked = ask(alloc, table, request, &class, generation, due, row);
         let has = trees_of(row);
         self.count = self.count - had + has;
+        self.budget.take_tree(has > had);
         if asked { Some(at) } else { None }
     }
 
@@ -184,12 +217,23 @@ impl Trees {
         ensures best { IfOk result (λ outcome.
             IsBestAnswer table.now request.now (answer_of outcome)) }
     {
+        let is_direct = request.hops.is_empty();
+        if is_direct {
+            self.budget.add_ask();
+        }
         let Some(at) = self.ask_row(alloc, table, request) else {
             return best_without_tree(alloc, table, request);
         };
-        match &self.rows[at].tree {
-            Some(tree) => best_with_tree(alloc, table, request, tree),
-            None => best_without_tree(alloc, table, request),
+        let Some(tree) = &self.rows[at].tree else {
+            return best_without_tree(alloc, table, request);
+        };
+        let found = best_by_walk(alloc, table, request, tree)?;
+        if is_direct {
+            self.budget.add_walk(found.is_some());
+        }
+        match found {
+            Some(outcome) => Ok(outcome),
+            None => best_after_walk(alloc, table, request, tree),
         }
     }
 

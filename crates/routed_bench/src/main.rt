@@ -2,7 +2,7 @@
 //! and then a publisher and its askers. `routed_bench JOURNAL REQUESTS LOAD ROUNDS` times two
 //! searches, `best` and the search by rounds, and then the changes of a table. `routed_bench JOURNAL
 //! REQUESTS LOAD SEARCH` answers the requests several times by one search, so that its instructions
-//! can be counted: `best`, `trees` (a table with trees that may have no tree) or `nothing`.
+//! can be counted: `best`, `trees` (a table with trees that grows no tree) or `nothing`.
 //!
 //! The first LOAD batches of the journal make the network. `runs.rt` and `searches.rt` describe the
 //! measurements. `bench/run` makes the files, and reads the printed lines.

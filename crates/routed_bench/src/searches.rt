@@ -13,7 +13,7 @@
 use cspf_db::Table;
 use cspf_model::{Batch, Outcome, Request};
 use cspf_search::{best, best_by_rounds};
-use cspf_trees::TreeTable;
+use cspf_trees::{Growth, MOST_TREES, TreeTable};
 use std::alloc::{AllocError, Global};
 use std::io;
 use std::io::ErrorKind;
@@ -30,7 +30,7 @@ pub(crate) enum OneSearch {
     Nothing,
     /// The function `best`, by a table.
     Best,
-    /// A table with trees that may have no tree.
+    /// A table with trees that grows no tree.
     Trees,
 }
 
@@ -173,7 +173,7 @@ pub(crate) fn run_one<R: AllocGlobal + Print>(
     requests: &[Request],
     search: OneSearch,
 ) -> io::Result<()> {
-    let mut table = TreeTable::with_trees(rt.alloc(), 0)?;
+    let mut table = TreeTable::with_growth(rt.alloc(), MOST_TREES, Growth::Never)?;
     for batch in load {
         let _ = table.try_absorb(batch);
     }

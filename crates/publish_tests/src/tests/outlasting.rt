@@ -6,7 +6,7 @@ use super::fixtures::{ONE, Said, TWO, batch, check_versions, is_same, opened, sa
 use cspf_addr::{Addr, Hops, Mask};
 use cspf_db::Table;
 use cspf_model::{Batch, Change, Link, LinkError, Outcome, Request, RequestError};
-use cspf_publish::{Answer, ApplyError, AskError, Asker, Publisher};
+use cspf_publish::{Answer, ApplyError, AskError, Asker, Growth, Publisher};
 use cspf_search::best_by_rounds;
 use std::alloc::{AllocError, Global};
 use std::io::Write;
@@ -165,6 +165,7 @@ fn is_right_after<W: Write, R: Wait>(
 fn asked_with_trees_at_each_version(rt: HostRuntime) -> Result<(), Fail> {
     let (request, mut table) = (request()?, Table::new(rt.alloc())?);
     let (mut publisher, mut asker) = opened(&rt, rt.alloc(), Vec::<u8>::new(rt.alloc()));
+    asker.set_growth(Growth::FromAsk(6));
     let asked = check_versions(&rt, 9, |number| {
         let published = (&mut publisher, &mut table);
         is_right_after(&rt, rt.alloc(), published, (&mut asker, &request), number)
