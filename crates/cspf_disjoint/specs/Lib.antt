@@ -1,0 +1,4 @@
+pub mod Bound
+pub mod Excess
+pub mod Potentials
+pub mod Weights

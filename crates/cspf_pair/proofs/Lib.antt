@@ -1,0 +1,4 @@
+pub mod DistinctSums
+pub mod Bounds
+pub mod Ways
+pub mod Reasons
